@@ -1,0 +1,38 @@
+-- A name: the node that gave it, what it is given to, and a count of that node.
+use Rattle.std.specs.Prelude.{ℕ, ◌≤◌, ◌<◌, ◌^◌, ◌==◌, ◌&&◌, Bool, List, ◌∷◌, ◌++◌, drop, replicate}
+use Rattle.std.specs.List.{list_any}
+use Rattle.std.specs.Int.{w64, to_be_bytes}
+use Rattle.qkd_base.specs.declared.key_name.NameKind.{NameKind}
+use Rattle.qkd_base.specs.declared.key_name.NameKind.TheVariants.{Key, Stream, Note}
+
+pub record Name : Type 0 where
+  pub node : ℕ
+  pub kind : NameKind
+  pub count : ℕ
+
+-- the numbers are in their ranges
+pub record IsName (n : Name) : Type 0 where
+  pub node : n.node < 16
+  pub positive : 1 ≤ n.count
+  pub count : n.count < 2 ^ 48
+
+-- the kind's octet
+abbrev pub kind_number : NameKind → ℕ
+kind_number Key = 0
+kind_number Stream = 1
+kind_number Note = 2
+
+-- The layout of a UUID of version 8 (RFC 9562 section 5.8): custom_a is zero, then the version 8 with the node in
+-- custom_b, then the variant with the kind and the six octets of the count in custom_c.
+abbrev pub octets_of : Name → List ℕ
+octets_of n = replicate 6 0 ++ 128 ∷ n.node ∷ 128 ∷ kind_number n.kind ∷ drop 2 (to_be_bytes w64 n.count)
+
+abbrev pub kind_eq : NameKind → NameKind → Bool
+kind_eq a b = kind_number a == kind_number b
+
+abbrev pub name_eq : Name → Name → Bool
+name_eq a b = (a.node == b.node) && kind_eq a.kind b.kind && (a.count == b.count)
+
+-- the list has the name
+abbrev pub has : List Name → Name → Bool
+has ns n = list_any (λ m. name_eq m n) ns

@@ -1,0 +1,30 @@
+#![tactic(auto)]
+
+mod frame_octets;
+mod items;
+mod key_name;
+mod lane;
+mod link_no;
+mod memory;
+mod node_no;
+mod pool_no;
+mod replica;
+mod route;
+mod sae_no;
+#[cfg(test)]
+mod tests;
+mod text;
+
+pub use frame_octets::FrameOctets;
+pub use items::{Dues, Fields, Items, Keys, Lists, Names, Octets, Saes, Texts};
+pub use key_name::{KeyName, NameKind};
+pub use lane::{Lane, Way};
+pub use link_no::LinkNo;
+pub use memory::Memory;
+pub use node_no::NodeNo;
+pub use pool_no::PoolNo;
+pub use replica::Replica;
+pub use route::Route;
+pub use sae_no::SaeNo;
+pub use text::Text;
+pub use uuid;
