@@ -1,0 +1,16 @@
+-- What a write does to the bytes that a sink took, where those are known.
+use Rattle.std.specs.Prelude.{ℕ, List, take, Option, Result, MatchResult, Bool}
+use Rattle.std.specs.Bool.{MatchBool}
+use Rattle.std.specs.Io.KnownBytes.{Appends}
+
+-- known bytes grow by a prefix of bs
+abbrev pub AppendsPrefix : Option (List ℕ) → Option (List ℕ) → List ℕ → Type 0
+AppendsPrefix old new bs = (n : ℕ) × Appends old new (take n bs)
+
+-- all of bs was taken, or after a failure a prefix of it
+abbrev pub WritesAll : {T E : Type 0} → Option (List ℕ) → Option (List ℕ) → Result T E → List ℕ → Type 0
+WritesAll old new r bs = MatchResult r (λ _. Appends old new bs) (λ _. AppendsPrefix old new bs)
+
+-- all of bs was taken where the answer is yes, and else a prefix of it
+abbrev pub WritesUpTo : Option (List ℕ) → Option (List ℕ) → Bool → List ℕ → Type 0
+WritesUpTo old new all bs = MatchBool all (Appends old new bs) (AppendsPrefix old new bs)

@@ -1,0 +1,15 @@
+// A call on the outside that failed.
+use std::error::Error;
+use std::fmt;
+
+/// A read or a write that failed. The object's count of faults rose.
+#[derive(Clone, Copy, Debug, PartialEq, Eq)]
+pub struct Failed;
+
+impl fmt::Display for Failed {
+    fn fmt<W: fmt::Write>(&self, f: &mut fmt::Formatter<W>) -> fmt::Result {
+        write!(f, "the call failed")
+    }
+}
+
+impl Error for Failed {}

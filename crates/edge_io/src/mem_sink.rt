@@ -1,0 +1,78 @@
+// A sink in memory.
+ghost use Rattle.std.specs.Prelude.{◌≡◌, ◌+◌, ◌++◌, [], IfOk, OnOk, OnErr, is_err, Some, length};
+ghost use Rattle.edge_io.specs.Faults.{HasCause, one_more};
+ghost use Rattle.edge_io.specs.Writes.{WritesAll};
+ghost use Rattle.edge_io.specs.Forms.{write_fails};
+
+use crate::{Failed, Sink};
+use qkd_base::Memory;
+use std::alloc::Global;
+use std::marker::Model;
+
+/// A sink in memory, with room for so many bytes, which it takes when it is made. Calls are numbered from 0; those on
+/// a list fail, and so does one that passes the room. A call that fails takes nothing.
+#[derive(Debug, Drop)]
+pub struct MemSink {
+    bytes: Vec<u8>,
+    room: usize,
+    fails: Vec<u64>,
+    calls: u64,
+    faults: u64,
+}
+
+impl Model for MemSink {
+    ghost use Rattle.std.specs.Prelude.{◌≤◌, vec_len, vec_capacity};
+    ghost use Rattle.edge_io.specs.Forms.{SinkForm};
+
+    ghost Value = { SinkForm };
+
+    ghost view = { λ s. record { taken = s.bytes.items; room = s.room; fails = s.fails.items; calls = s.calls; faults = s.faults } };
+
+    ghost invariant = { λ s. (s.room ≤ vec_capacity s.bytes) × (vec_len s.bytes ≤ s.room) };
+}
+
+impl MemSink {
+    /// An empty sink with room for so many bytes, and with the numbers of the calls that are to fail.
+    pub fn new(alloc: Global, room: usize, fails: Vec<u64>) -> Result<Self, Memory>
+        ensures { IfOk result (λ sink. sink ≡ record { taken = []; room = room; fails = fails.items; calls = 0; faults = 0 }) }
+    {
+        let bytes = Vec::with_capacity(alloc, room)?;
+        Ok(MemSink {
+            bytes,
+            room,
+            fails,
+            calls: 0,
+            faults: 0,
+        })
+    }
+
+    /// The bytes that were taken.
+    pub fn taken(&self) -> &[u8]
+        ensures { result.now ≡ self.now.taken }
+    {
+        self.bytes.as_slice()
+    }
+}
+
+impl Sink for MemSink {
+    ghost taken = { λ s. Some s.taken };
+
+    ghost faults = { λ s. s.faults };
+
+    fn write_all(&mut self, bytes: &[u8]) -> Result<(), Failed>
+        ensures bytes { WritesAll (Some self.old.taken) (Some self.new.taken) result bytes.now }
+        ensures cause { HasCause self.old.faults self.new.faults result }
+        ensures listed { is_err result ≡ write_fails self.old (length bytes.now) }
+        ensures kept { OnErr result (self.new ≡ record self.old { calls = one_more self.old.calls; faults = one_more self.old.faults }) }
+        ensures added { OnOk result (self.new ≡ record self.old { taken = self.old.taken ++ bytes.now; calls = one_more self.old.calls }) }
+    {
+        let call = self.calls;
+        self.calls = call.saturating_add(1);
+        if self.fails.contains(&call) || bytes.len() > self.room - self.bytes.len() {
+            self.faults = self.faults.saturating_add(1);
+            return Err(Failed);
+        }
+        self.bytes.extend_from_slice(bytes).unwrap();
+        Ok(())
+    }
+}

@@ -1,0 +1,23 @@
+// Where bytes come from.
+ghost use Rattle.std.specs.Prelude.{List, ℕ, Option};
+ghost use Rattle.std.specs.Io.{ReadsAtMost};
+ghost use Rattle.std.specs.Io.KnownBytes.{ReadConsumes};
+ghost use Rattle.edge_io.specs.Faults.{HasCause};
+
+use crate::Failed;
+
+/// Where bytes come from.
+pub trait Source {
+    /// The bytes that are left, where they are told.
+    ghost left: { Self → Option (List ℕ) };
+
+    /// How often a read failed.
+    ghost faults: { Self → ℕ };
+
+    /// Moves the next bytes into the front of the buffer, and answers how many. 0 for a buffer that isn't empty is
+    /// the end of the input. A failure moves nothing.
+    fn read(&mut self, into: &mut [u8]) -> Result<usize, Failed>
+        ensures bound { ReadsAtMost result into.new }
+        ensures bytes { ReadConsumes (left self.old) (left self.new) result into.new }
+        ensures cause { HasCause (faults self.old) (faults self.new) result };
+}
