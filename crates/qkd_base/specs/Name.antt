@@ -1,7 +1,8 @@
 -- A name: the node that gave it, what it is given to, and a count of that node.
-use Rattle.std.specs.Prelude.{ℕ, ◌≤◌, ◌<◌, ◌^◌, ◌==◌, ◌&&◌, Bool, List, ◌∷◌, ◌++◌, drop, replicate}
+use Rattle.std.specs.Prelude.{ℕ, ◌≤◌, ◌<◌, ◌^◌, ◌==◌, ◌&&◌, nat_lt, nat_le, Bool, List, ◌∷◌, ◌++◌, drop, replicate, slice_index, Option, Some, None, if◌then◌else◌}
 use Rattle.std.specs.List.{list_any}
-use Rattle.std.specs.Int.{w64, to_be_bytes}
+use Rattle.std.specs.Int.{w64, to_be_bytes, from_be_bytes}
+use Rattle.std.specs.Str.{bytes_eq}
 use Rattle.qkd_base.specs.declared.key_name.NameKind.{NameKind}
 use Rattle.qkd_base.specs.declared.key_name.NameKind.TheVariants.{Key, Stream, Note}
 
@@ -36,3 +37,18 @@ name_eq a b = (a.node == b.node) && kind_eq a.kind b.kind && (a.count == b.count
 -- the list has the name
 abbrev pub has : List Name → Name → Bool
 has ns n = list_any (λ m. name_eq m n) ns
+
+-- ---- the name of octets, as a function
+
+abbrev pub is_name : Name → Bool
+is_name n = nat_lt n.node 16 && nat_le 1 n.count && nat_lt n.count (2 ^ 48)
+
+abbrev pub kind_of_octet : ℕ → NameKind
+kind_of_octet k = if k == 0 then Key else if k == 1 then Stream else Note
+
+-- the only name that may have these octets
+abbrev pub candidate : List ℕ → Name
+candidate os = record { node = slice_index os 7; kind = kind_of_octet (slice_index os 9); count = from_be_bytes w64 (replicate 2 0 ++ drop 10 os) }
+
+unfoldable pub name_at : List ℕ → Option Name
+name_at os = if is_name (candidate os) && bytes_eq os (octets_of (candidate os)) then Some (candidate os) else None

@@ -1,7 +1,7 @@
 // The names of keys, streams and notes.
 ghost use Rattle.std.specs.Prelude.{◌≡◌, ℕ, ◌≤◌, ◌<◌, ◌^◌, Some, None, IfSome, nat_lt, nat_le, ◌&&◌, if◌then◌else◌};
 ghost use Rattle.qkd_base.specs.declared.key_name.NameKind.{NameKind as NameKindValue};
-ghost use Rattle.qkd_base.specs.Name.{Name, IsName, octets_of, kind_number};
+ghost use Rattle.qkd_base.specs.Name.{Name, IsName, octets_of, kind_number, name_at};
 
 use crate::NodeNo;
 use std::marker::Model;
@@ -78,6 +78,19 @@ fn named_by(octets: &[u8; 16]) -> Option<KeyName>
     KeyName::new(node, kind, count_at(octets))
 }
 
+// The name whose octets these are.
+fn name_of(octets: &[u8; 16]) -> Option<KeyName>
+    ensures is { IfSome result (λ n. IsName n × (octets.now ≡ octets_of n)) }
+    ensures all { (n : Name) → IsName n → octets.now ≡ octets_of n → result ≡ Some n }
+{
+    let name = named_by(octets)?;
+    if name.to_octets() == *octets {
+        Some(name)
+    } else {
+        None
+    }
+}
+
 impl KeyName {
     /// The name of these parts, where the count is from 1 to 2^48 - 1.
     pub fn new(node: NodeNo, kind: NameKind, count: u64) -> Option<Self>
@@ -138,19 +151,16 @@ impl KeyName {
     pub fn from_octets(octets: &[u8; 16]) -> Option<Self>
         ensures is { IfSome result (λ n. IsName n × (octets.now ≡ octets_of n)) }
         ensures all { (n : Name) → IsName n → octets.now ≡ octets_of n → result ≡ Some n }
+        ensures name { result ≡ name_at octets.now }
     {
-        let name = named_by(octets)?;
-        if name.to_octets() == *octets {
-            Some(name)
-        } else {
-            None
-        }
+        name_of(octets)
     }
 
     /// The name of a UUID. Any other layout than that of a name is refused.
     pub fn from_uuid(uuid: Uuid) -> Option<Self>
         ensures is { IfSome result (λ n. IsName n × (uuid ≡ octets_of n)) }
         ensures all { (n : Name) → IsName n → uuid ≡ octets_of n → result ≡ Some n }
+        ensures name { result ≡ name_at uuid }
     {
         KeyName::from_octets(&uuid.into_bytes())
     }
