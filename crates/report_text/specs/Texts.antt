@@ -86,6 +86,7 @@ unfoldable pub item_text : List (List ℕ) → Item → List ℕ
 item_text nodes (items.Took link end number) = took_text link end number
 item_text nodes (items.LinkFull link end) = link_full_text link end
 item_text nodes (items.Made count first) = made_text count first
+item_text nodes items.NoRandom = codes "no-random"
 item_text nodes (items.Ticked node fresh again) = ticked_text (node_text nodes node) fresh again
 item_text nodes (items.Idle node) = codes "idle " ++ node_text nodes node
 item_text nodes (items.Sent lane number offset size) = sent_text lane number offset size

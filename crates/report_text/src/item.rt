@@ -21,6 +21,8 @@ pub enum Item {
         count: u16,
         first: KeyName,
     },
+    /// The entropy told too few octets for the keys.
+    NoRandom,
     /// A tick of a node sent new frames, and some again.
     Ticked {
         node: NodeNo,

@@ -111,6 +111,12 @@ fn made_text(alloc: Global, count: u16, first: KeyName) -> Result<String, Memory
     Ok(format!(in alloc; "made {count} {first}")?)
 }
 
+fn no_random_text(alloc: Global) -> Result<String, Memory>
+    ensures { IfOk result (λ text. string_bytes text ≡ codes "no-random") }
+{
+    Ok(String::from_str(alloc, "no-random")?)
+}
+
 #[tactic(auto, unfolding(crate::specs::Texts::ticked_text))]
 fn ticked_text(alloc: Global, node: &str, fresh: u32, again: u32) -> Result<String, Memory>
     ensures { IfOk result (λ text. string_bytes text ≡ ticked_text node.now fresh again) }
@@ -205,6 +211,7 @@ fn item_text(alloc: Global, item: &Item, nodes: &Texts) -> Result<String, Memory
         Item::Took { link, end, number } => took_text(alloc, link, end, number),
         Item::LinkFull { link, end } => link_full_text(alloc, link, end),
         Item::Made { count, first } => made_text(alloc, count, first),
+        Item::NoRandom => no_random_text(alloc),
         Item::Ticked { node, fresh, again } => {
             ticked_text(alloc, node_text(nodes, node), fresh, again)
         }

@@ -1,4 +1,5 @@
 pub mod Words
+pub mod KeySize
 pub mod Phase
 pub mod Stage
 pub mod Gives

@@ -1,5 +1,6 @@
 // What a line asks for.
-use qkd_base::{KeyName, Lane, LinkNo, NodeNo, SaeNo, Way};
+use crate::key_size::KeySize;
+use qkd_base::{KeyName, Lane, LinkNo, NodeNo, SaeNo};
 
 /// The ends of a link at which blocks are taken.
 #[derive(Clone, Copy, Debug, PartialEq, Eq)]
@@ -16,22 +17,11 @@ pub enum Command {
         ends: Ends,
         count: u32,
     },
-    /// `fill ID ID BITS COUNT`: the master's manager makes keys of a size for the slave.
+    /// `fill ID ID BITS 1`: the master's manager makes a key of a size for the slave.
     Fill {
         master: SaeNo,
         slave: SaeNo,
-        bits: u16,
-        count: u16,
-    },
-    /// `tick NAME`: a node plans, and sends what it planned.
-    Tick {
-        node: NodeNo,
-    },
-    /// `pass LINK WAY NUMBER`: a frame of a lane's wire is handed to the lane's receiver.
-    Pass {
-        link: LinkNo,
-        way: Way,
-        number: u32,
+        size: KeySize,
     },
     /// `show NAME KEY`: what a node knows of a key.
     Show {

@@ -1,9 +1,10 @@
 // The lines that ask for something.
 ghost use Rattle.std.specs.Prelude.{◌≡◌};
-ghost use Rattle.scenario_text.specs.Commanding.{way_of, name_of, is_size};
+ghost use Rattle.scenario_text.specs.Commanding.{way_of, name_of};
 
 use crate::command::{Command, Ends};
 use crate::declarations::Declarations;
+use crate::key_size::KeySize;
 use crate::line::{LineRefusal, Taken};
 use crate::words::{number, word};
 use qkd_base::uuid::Uuid;
@@ -47,17 +48,10 @@ fn first_link() -> LinkNo
     LinkNo::new(0).unwrap()
 }
 
-// Whether a key may have so many bits.
-fn is_size(bits: u32) -> bool
-    ensures { result ≡ is_size bits }
-{
-    64 <= bits && bits <= 4096 && bits % 8 == 0
-}
-
 impl Declarations {
     ghost use Rattle.std.specs.Prelude.{◌≡◌, length, Some, None, if◌then◌else◌, ◌&&◌, ◌==◌};
     ghost use Rattle.scenario_text.specs.Gives.{Gives};
-    ghost use Rattle.scenario_text.specs.Commanding.{bits_at, fill_at, tick_at, pass_at, show_at, ledger_at, end_at, sae_at_home};
+    ghost use Rattle.scenario_text.specs.Commanding.{bits_at, fill_at, show_at, ledger_at, end_at, sae_at_home};
 
     /// Takes a `bits` line.
     #[tactic(auto, unfolding(crate::specs::Commanding::bits_at))]
@@ -134,70 +128,15 @@ impl Declarations {
         let Some(phase) = self.phase().after_fill() else {
             return Err(LineRefusal::Refused);
         };
-        if rest.is_empty() && is_size(bits) && keys == 1 {
+        let Some(size) = KeySize::new(bits) else {
+            return Err(LineRefusal::Refused);
+        };
+        if rest.is_empty() && keys == 1 {
             self.go_on(phase);
             Ok(Taken::Does(Command::Fill {
                 master,
                 slave,
-                bits: bits as u16,
-                count: keys as u16,
-            }))
-        } else {
-            Err(LineRefusal::Refused)
-        }
-    }
-
-    /// Takes a `tick` line.
-    #[tactic(auto, unfolding(crate::specs::Commanding::tick_at))]
-    pub fn tick_line(&mut self, rest: &[u8]) -> Result<Taken, LineRefusal>
-        ensures { Gives self.new (tick_at self.old rest.now) result }
-    {
-        let Some((node, rest)) = word(rest) else {
-            return Err(LineRefusal::Refused);
-        };
-        let Some(node) = self.node(node) else {
-            return Err(LineRefusal::Refused);
-        };
-        let Some(phase) = self.phase().after_tick() else {
-            return Err(LineRefusal::Refused);
-        };
-        if rest.is_empty() && node.get() == 0 {
-            self.go_on(phase);
-            Ok(Taken::Does(Command::Tick { node }))
-        } else {
-            Err(LineRefusal::Refused)
-        }
-    }
-
-    /// Takes a `pass` line.
-    #[tactic(auto, unfolding(crate::specs::Commanding::pass_at))]
-    pub fn pass_line(&mut self, rest: &[u8]) -> Result<Taken, LineRefusal>
-        ensures { Gives self.new (pass_at self.old rest.now) result }
-    {
-        let Some((link, rest)) = word(rest) else {
-            return Err(LineRefusal::Refused);
-        };
-        let Some((direction, rest)) = word(rest) else {
-            return Err(LineRefusal::Refused);
-        };
-        let Some((place, rest)) = word(rest) else {
-            return Err(LineRefusal::Refused);
-        };
-        let Some(l) = number(link) else {
-            return Err(LineRefusal::Refused);
-        };
-        let Some(n) = number(place) else {
-            return Err(LineRefusal::Refused);
-        };
-        let Some(phase) = self.phase().after_other() else {
-            return Err(LineRefusal::Refused);
-        };
-        if rest.is_empty() && l == 0 && direction == b"up".as_slice() && n == 0 {
-            self.go_on(phase);
-            Ok(Taken::Does(Command::Pass {
-                link: first_link(),
-                way: Way::Up,
-                number: n,
+                size,
             }))
         } else {
             Err(LineRefusal::Refused)

@@ -75,8 +75,7 @@ fn lives_elsewhere(home: NodeNo, saes: &[Sae]) -> bool
 }
 
 impl Declarations {
-    ghost use Rattle.std.specs.Prelude.{◌≡◌, ◌==◌, ◌<◌, ◌++◌, ◌∷◌, ◌&&◌, [], true, length, nat_lt, is_none, OnOk, OnErr, slice_get};
-    ghost use Rattle.std.specs.Option.{option_map};
+    ghost use Rattle.std.specs.Prelude.{◌≡◌, ◌==◌, ◌<◌, ◌++◌, ◌∷◌, ◌&&◌, [], true, length, nat_lt, is_none, OnOk, OnErr};
     ghost use Rattle.scenario_text.specs.Stage.{first_stage, place_of, sae_of};
     ghost use Rattle.scenario_text.specs.Words.{is_name};
     ghost use Rattle.scenario_text.specs.Declaring.{is_new_sae};
@@ -115,14 +114,11 @@ impl Declarations {
         NodeNo::new(at as u8)
     }
 
-    /// The name of a node.
-    pub fn node_name(&self, node: NodeNo) -> Option<&str>
-        ensures { option_map (λ name. name.now) result ≡ slice_get self.now.nodes node }
+    /// The names of the nodes, by number.
+    pub fn nodes(&self) -> &Texts
+        ensures { result.now ≡ self.now.nodes }
     {
-        match self.nodes.get(usize::from(node.get())) {
-            Some(name) => Some(name.as_str()),
-            None => None,
-        }
+        &self.nodes
     }
 
     /// The number and the home of the application of an ID.
