@@ -1,6 +1,5 @@
 -- Walks over links that are up, and the least of them.
-use Rattle.std.specs.Prelude.{◌≡◌, ℕ, ◌-◌, ◌<◌, ◌≤◌, List, [], ◌∷◌, length, Some, IsBitSet}
-use Rattle.std.proofs.Common.{◌⊎◌}
+use Rattle.std.specs.Prelude.{◌≡◌, ◌⊎◌, ℕ, ◌-◌, ◌<◌, ◌≤◌, List, [], ◌∷◌, length, Some, IsBitSet}
 use Rattle.route_table.specs.Table.{Table, ends_of}
 
 -- a link joins two nodes, in either order

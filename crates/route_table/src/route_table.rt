@@ -11,7 +11,7 @@ use std::marker::Model;
 // Which nodes, by number.
 type Nodes = [bool; 16];
 
-/// The links of the network with their ends, at most one link for each pair of nodes. It keeps them in fixed room.
+/// The links of the network with their ends: at most 32, and at most one for each pair of nodes. They stand in fixed room, so no call takes memory.
 #[derive(Debug, Drop)]
 pub struct RouteTable {
     links: [Option<(NodeNo, NodeNo)>; 32],
@@ -69,7 +69,7 @@ impl RouteTable {
         None
     }
 
-    /// The walk from one node to another with the fewest links, and among those the first in the order of its node lists. Bit l of `up` says that link l is up.
+    /// The walk from one node to another with the fewest links, of which the first in the order of its node numbers. Bit l of `up` says that link l is up. A walk has at most 8 links. The work grows with the links of the table, and not with its walks.
     pub fn route(&self, up: u32, from: NodeNo, to: NodeNo) -> Result<Route, RouteRefusal>
         ensures same_node { (result ≡ Err RouteRefusal.SameNode) ↔ (from ≡ to) }
         ensures no_route { (result ≡ Err RouteRefusal.NoRoute) ↔ (¬ HasRoute self.now up from to) }
@@ -87,7 +87,7 @@ impl RouteTable {
         Ok(Route::new(&nodes[..links + 1]).unwrap())
     }
 
-    // For each number of links the nodes from which a walk of so many links leads to a node.
+    // For each number of links, from none to 8, the nodes from which a walk of so many leads to a node.
     fn layers(&self, up: u32, to: NodeNo) -> [Nodes; 9]
         ensures { AreLayers self.now up to result }
     {

@@ -8,13 +8,11 @@ use Rattle.std.specs.Option.{option_or}
 use Rattle.std.specs.List.{list_any, position_from, slice_get}
 use Rattle.std.specs.Str.{bytes_eq}
 use Rattle.std.specs.Ordering.{eq_by_cmp, is_eq, nat_cmp}
-use Rattle.std.specs.declared.cmp.Ordering.{Ordering}
-use Rattle.std.specs.declared.cmp.Ordering.TheVariants.{Equal}
 use Rattle.std.specs.Cmp.{IsTotalOrder, nat_cmp_total, then_total, on_total, both_tied, unsigned_ties}
-use Rattle.std.specs.FinSet.{FinSet, IsAntisymmetric, contains, insert, from_list, contains-from_list, contains-insert, same_set}
+use Rattle.std.specs.FinSet.{FinSet, IsAntisymmetric, contains, insert, from_list, contains-from_list, contains-insert, contains-empty, same_set}
 use Rattle.sae_entitlements.specs.declared.application.Application.{Application}
 use Rattle.sae_entitlements.specs.Pair.{pair_cmp}
-use Rattle.sae_entitlements.specs.Grants.{Sae, Grants, with_sae, with_pair, is_allowed, find_sae, HasDistinctIds}
+use Rattle.sae_entitlements.specs.Grants.{Sae, Grants, none, with_sae, with_pair, is_allowed, find_sae, HasDistinctIds}
 use Rattle.sae_entitlements.specs.Rows.{sae_of, slaves_of, pairs_of, grants_of, AreApplications}
 
 pair_total : IsTotalOrder pair_cmp
@@ -84,10 +82,10 @@ pairs_any (a ∷ rest) zero s =
     let own : List (ℕ × ℕ) = map (λ (y : ℕ). (0, y)) (slaves_of a.slaves) in
     let others : List (ℕ × ℕ) = map (λ (p : ℕ × ℕ). (p.0 + 1, p.1)) (pairs_of rest) in
     let here : list_any (is_pair (zero, s)) own ≡ get_or a.slaves s false =
-        any_map (is_pair (zero, s)) (λ (y : ℕ). (0, y)) (slaves_of a.slaves) ∙ slaves_any a.slaves s in
+    any_map (is_pair (zero, s)) (λ (y : ℕ). (0, y)) (slaves_of a.slaves) ∙ slaves_any a.slaves s in
     let there : list_any (is_pair (zero, s)) others ≡ false =
-        any_map (is_pair (zero, s)) (λ (p : ℕ × ℕ). (p.0 + 1, p.1)) (pairs_of rest)
-        ∙ any_none (λ (p : ℕ × ℕ). is_pair (zero, s) (p.0 + 1, p.1)) (λ p. ap (λ b. b && (s == p.1)) (never p.0)) (pairs_of rest) in
+    any_map (is_pair (zero, s)) (λ (p : ℕ × ℕ). (p.0 + 1, p.1)) (pairs_of rest)
+    ∙ any_none (λ (p : ℕ × ℕ). is_pair (zero, s) (p.0 + 1, p.1)) (λ p. ap (λ b. b && (s == p.1)) (never p.0)) (pairs_of rest) in
     list_any-append (is_pair (zero, s)) own others
     ∙ ap (λ b. b || list_any (is_pair (zero, s)) others) here
     ∙ ap (λ b. get_or a.slaves s false || b) there
@@ -96,12 +94,12 @@ pairs_any (a ∷ rest) (suc m) s =
     let own : List (ℕ × ℕ) = map (λ (y : ℕ). (0, y)) (slaves_of a.slaves) in
     let others : List (ℕ × ℕ) = map (λ (p : ℕ × ℕ). (p.0 + 1, p.1)) (pairs_of rest) in
     let here : list_any (is_pair (suc m, s)) own ≡ false =
-        any_map (is_pair (suc m, s)) (λ (y : ℕ). (0, y)) (slaves_of a.slaves)
-        ∙ any_none (λ (y : ℕ). is_pair (suc m, s) (0, y)) (λ y. ap (λ b. b && (s == y)) (not_zero m)) (slaves_of a.slaves) in
+    any_map (is_pair (suc m, s)) (λ (y : ℕ). (0, y)) (slaves_of a.slaves)
+    ∙ any_none (λ (y : ℕ). is_pair (suc m, s) (0, y)) (λ y. ap (λ b. b && (s == y)) (not_zero m)) (slaves_of a.slaves) in
     let there : list_any (is_pair (suc m, s)) others ≡ get_or (row_at rest m) s false =
-        any_map (is_pair (suc m, s)) (λ (p : ℕ × ℕ). (p.0 + 1, p.1)) (pairs_of rest)
-        ∙ any_same (λ (p : ℕ × ℕ). is_pair (suc m, s) (p.0 + 1, p.1)) (is_pair (m, s)) (λ p. ap (λ b. b && (s == p.1)) (later m p.0)) (pairs_of rest)
-        ∙ pairs_any rest m s in
+    any_map (is_pair (suc m, s)) (λ (p : ℕ × ℕ). (p.0 + 1, p.1)) (pairs_of rest)
+    ∙ any_same (λ (p : ℕ × ℕ). is_pair (suc m, s) (p.0 + 1, p.1)) (is_pair (m, s)) (λ p. ap (λ b. b && (s == p.1)) (later m p.0)) (pairs_of rest)
+    ∙ pairs_any rest m s in
     list_any-append (is_pair (suc m, s)) own others
     ∙ ap (λ b. b || list_any (is_pair (suc m, s)) others) here
     ∙ there
@@ -147,14 +145,22 @@ pub grants_after : (all : List Application) (m s : ℕ) (a : Application) → m 
 grants_after all m s a h is within =
     let after : List Application = set all m (with_slave a s) in
     let more : from_list {R = pair_cmp} (pairs_of after) ≡ insert (from_list (pairs_of all)) (m, s) =
-        same_set pair_total pair_antisymmetric _ _ (λ q.
-        contains_row after q.0 q.1
-        ∙ row_after all m s a q.0 q.1 h is within
-        ∙ ap (λ b. b || get_or (row_at all q.0) q.1 false) (same_pair q (m, s))
-        ∙ ap (λ b. eq_by_cmp pair_cmp q (m, s) || b) (sym (contains_row all q.0 q.1))
-        ∙ sym (contains-insert pair_total (from_list (pairs_of all)) (m, s) q)) in
+    same_set pair_total pair_antisymmetric _ _ (λ q.
+    contains_row after q.0 q.1
+    ∙ row_after all m s a q.0 q.1 h is within
+    ∙ ap (λ b. b || get_or (row_at all q.0) q.1 false) (same_pair q (m, s))
+    ∙ ap (λ b. eq_by_cmp pair_cmp q (m, s) || b) (sym (contains_row all q.0 q.1))
+    ∙ sym (contains-insert pair_total (from_list (pairs_of all)) (m, s) q)) in
     ap (λ (saes : List Sae). grants saes (from_list (pairs_of after))) (same_saes all m s a h is)
     ∙ ap (λ (allowed : FinSet pair_cmp). grants (map sae_of all) allowed) more
+
+pub nobody_allowed : (m s : ℕ) → is_allowed none m s ≡ false
+nobody_allowed m s = contains-empty pair_cmp (m, s)
+
+pub allowed_after : (g : Grants) (master slave m s : ℕ) → is_allowed (with_pair g master slave) m s ≡ (((m == master) && (s == slave)) || is_allowed g m s)
+allowed_after g master slave m s =
+    contains-insert pair_total g.allowed (master, slave) (m, s)
+    ∙ ap (λ b. b || is_allowed g m s) (sym (same_pair (m, s) (master, slave)))
 
 pub allowed_at : (all : List Application) (g : Grants) (m s : ℕ) (a : Application) → grants_of all ≡ g → m < length all → a ≡ get_or all m a → is_allowed g m s ≡ get_or a.slaves s false
 allowed_at all g m s a view h is =
@@ -216,9 +222,9 @@ distinct_more all more distinct unknown n s h =
     ∙ elim (at_push all more n s h) [
       | inl before ↦ ap (λ (o : Option ℕ). option_or o (cond (bytes_eq more.id s.id) (Some (length all + 0)) None)) (distinct n s before)
       | inr last ↦
-        ap (λ (o : Option ℕ). option_or o (cond (bytes_eq more.id s.id) (Some (length all + 0)) None)) (ap (λ (x : Sae). find_sae all x.id) (sym last.1) ∙ unknown)
-        ∙ ap (λ (same : Bool). cond same (Some (length all + 0)) None) ((bytes_eq-Decides more.id s.id).1 (ap (λ (x : Sae). x.id) last.1))
-        ∙ ap Some (omega (arith, last.0))
+          ap (λ (o : Option ℕ). option_or o (cond (bytes_eq more.id s.id) (Some (length all + 0)) None)) (ap (λ (x : Sae). find_sae all x.id) (sym last.1) ∙ unknown)
+          ∙ ap (λ (same : Bool). cond same (Some (length all + 0)) None) ((bytes_eq-Decides more.id s.id).1 (ap (λ (x : Sae). x.id) last.1))
+          ∙ ap Some (omega (arith, last.0))
     ]
 
 distinct_push : (all : List Application) (a : Application) → HasDistinctIds (map sae_of all) → find_sae (map sae_of all) a.id ≡ None → HasDistinctIds (map sae_of (all ++ a ∷ []))

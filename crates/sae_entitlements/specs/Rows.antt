@@ -1,8 +1,7 @@
 -- How the applications keep the pairs: each has a row with one answer for each slave.
-use Rattle.std.specs.Prelude.{◌≡◌, ℕ, zero, suc, ◌+◌, ◌≤◌, List, [], ◌∷◌, ◌++◌, length, map, Bool, true, false}
+use Rattle.std.specs.Prelude.{ℕ, ◌+◌, ◌≤◌, List, [], ◌∷◌, ◌++◌, length, map, Bool, true, false}
 use Rattle.std.specs.FinSet as set
 use Rattle.sae_entitlements.specs.declared.application.Application.{Application}
-use Rattle.sae_entitlements.specs.Pair.{pair_cmp}
 use Rattle.sae_entitlements.specs.Grants.{Sae, Grants, HasDistinctIds}
 
 abbrev pub sae_of : Application → Sae

@@ -1,5 +1,5 @@
 // Which applications there are, and which pairs of them are allowed.
-ghost use Rattle.std.specs.Prelude.{◌≡◌, ◌<◌, ◌≤◌, ◌↔◌, IfOk, IfSome, IsOk, OnOk, OnErr, IsSome, None, length, true, false};
+ghost use Rattle.std.specs.Prelude.{◌≡◌, ℕ, ◌==◌, ◌&&◌, ◌||◌, ◌<◌, ◌≤◌, ◌↔◌, IfOk, IfSome, IsOk, OnOk, OnErr, IsSome, None, length, true, false};
 ghost use Rattle.std.specs.List.{position_from};
 ghost use Rattle.std.specs.Option.{option_copied};
 ghost use Rattle.std.specs.Result.{result_ok};
@@ -35,7 +35,8 @@ impl Model for Entitlements {
 impl Entitlements {
     /// No application. It takes no memory.
     pub fn new(alloc: Global) -> Self
-        ensures { result ≡ none }
+        ensures first { result ≡ none }
+        ensures pairs { (m s : ℕ) → is_allowed result m s ≡ false }
     {
         Entitlements {
             applications: Vec::new(alloc),
@@ -81,7 +82,8 @@ impl Entitlements {
     pub fn allow(&mut self, master: SaeNo, slave: SaeNo)
         requires master { IsKnown self.old master }
         requires slave { IsKnown self.old slave }
-        ensures { self.new ≡ with_pair self.old master slave }
+        ensures after { self.new ≡ with_pair self.old master slave }
+        ensures pairs { (m s : ℕ) → is_allowed self.new m s ≡ ((m == master && s == slave) || is_allowed self.old m s) }
     {
         let application = &mut self.applications[master.get() as usize];
         application.slaves[slave.get() as usize] = true;
@@ -114,10 +116,7 @@ impl Entitlements {
         ensures node { result_ok result ≡ home_of self.now sae }
         ensures known { IsOk result ↔ IsKnown self.now sae }
     {
-        let application = self
-            .applications
-            .get(sae.get() as usize)
-            .ok_or(UnknownSae)?;
+        let application = self.applications.get(sae.get() as usize).ok_or(UnknownSae)?;
         Ok(application.home)
     }
 

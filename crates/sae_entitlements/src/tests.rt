@@ -25,7 +25,10 @@ fn pairs_are_allowed_in_one_order(rt: HostRuntime) -> Result<(), Fail> {
     }
     assert_eq!(rt; (same.find("bob"), same.find("carol")), (Some(bob), None));
     assert_eq!(rt; (same.id(alice), same.id(nobody)), (Some("alice"), None));
-    assert_eq!(rt; (same.home(bob), same.home(nobody)), (Ok(west), Err(UnknownSae)));
+    assert_eq!(rt;
+        (same.home(bob), same.home(nobody)),
+        (Ok(west), Err(UnknownSae))
+    );
     Ok(())
 }
 
@@ -39,8 +42,14 @@ fn there_is_room_for_256(rt: HostRuntime) -> Result<(), Fail> {
         let sae = SaeNo::new(number).ok_or("number")?;
         assert_eq!(rt; entitlements.add_sae(id.as_str(), home), Ok(sae));
     }
-    assert_eq!(rt; entitlements.add_sae("one more", home), Err(AddRefusal::Full));
-    assert_eq!(rt; entitlements.add_sae("application 7", home), Err(AddRefusal::Known));
+    assert_eq!(rt;
+        entitlements.add_sae("one more", home),
+        Err(AddRefusal::Full)
+    );
+    assert_eq!(rt;
+        entitlements.add_sae("application 7", home),
+        Err(AddRefusal::Known)
+    );
     let last = SaeNo::new(255).ok_or("number")?;
     assert_eq!(rt; entitlements.find("application 255"), Some(last));
     Ok(())

@@ -1,4 +1,4 @@
-use Rattle.std.proofs.Common.{◌∙◌, ap, arith}
+use Rattle.std.proofs.Common.{arith}
 use Rattle.std.proofs.lemmas.Grind.{common_steps}
 use Rattle.sae_entitlements.proofs.Pairs.{find_at}
 use Rattle.sae_entitlements.proofs.entitlements.Entitlements.find.Goals as goal
