@@ -1,5 +1,6 @@
 pub mod Sums
 pub mod Multiplication
+pub mod Products
 pub mod Division
 pub mod Reduction
 pub mod Shifts

@@ -2,17 +2,18 @@ ghost use Rattle.std.specs.Prelude.{◌≡◌, ◌↔◌, IsTrue};
 ghost use Rattle.wc_tags.specs.Tag.{hash, tag};
 
 use crate::block::first_block;
-use gf64::mul;
+use gf64::Multiples;
 
 /// The hash of a text under a key.
 pub fn hash(key: u64, text: &[u8]) -> u64
     ensures { result ≡ hash key text.now }
 {
+    let multiples = Multiples::of(key);
     let mut sum = 0;
     for i in 0..text.len().div_ceil(8) {
-        sum = mul(sum ^ first_block(&text[8 * i..]), key);
+        sum = multiples.times(sum ^ first_block(&text[8 * i..]));
     }
-    mul(sum ^ text.len() as u64, key)
+    multiples.times(sum ^ text.len() as u64)
 }
 
 /// The hash with its mask, which is to be a number that masks no other tag.

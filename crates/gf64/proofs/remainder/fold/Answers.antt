@@ -1,6 +1,6 @@
 use Rattle.std.proofs.Common.{subst, sym, ℕ, ◌<◌, ◌^◌}
 use Rattle.gf64.proofs.Reduction.{code_same, code_folds, folded_small}
-use Rattle.gf64.proofs.product.fold.Goals as goal
+use Rattle.gf64.proofs.remainder.fold.Goals as goal
 
 pub returns-clause-same : goal.returns-clause-same
 returns-clause-same c = code_same c.args.p c.requires
