@@ -2,7 +2,6 @@
 //! multiplication. bench/speed.py builds it, checks that all three print the same, and times them.
 use std::arch::x86_64::{_mm_clmulepi64_si128, _mm_cvtsi128_si64, _mm_set_epi64x, _mm_unpackhi_epi64};
 
-const FACTOR: u64 = 0xfedc_ba98_7654_3210;
 const START: u64 = 0x0123_4567_89ab_cdef;
 
 /// A shift and a branch for each bit.
@@ -38,7 +37,7 @@ fn carry_less(a: u64, b: u64) -> u64 {
 }
 
 fn last_product(mul: impl Fn(u64, u64) -> u64, count: u32) -> u64 {
-    (0..count).fold(START, |product, i| mul(product ^ u64::from(i), FACTOR))
+    (0..count).fold(START, |product, i| mul(product ^ u64::from(i), product))
 }
 
 fn hash(mul: impl Fn(u64, u64) -> u64, key: u64, text: &[u8]) -> u64 {

@@ -11,3 +11,4 @@ pub mod Maps
 pub mod Squares
 pub mod Idempotents
 pub mod Inverses
+pub mod Convolution

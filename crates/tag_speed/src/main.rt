@@ -4,14 +4,12 @@
 
 use std::{env, io};
 
-const FACTOR: u64 = 0xfedc_ba98_7654_3210;
-
 const START: u64 = 0x0123_4567_89ab_cdef;
 
 fn last_product(count: u32) -> u64 {
     let mut product = START;
     for i in 0..count {
-        product = gf64::mul(product ^ u64::from(i), FACTOR);
+        product = gf64::mul(product ^ u64::from(i), product);
     }
     product
 }
