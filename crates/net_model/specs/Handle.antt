@@ -5,6 +5,7 @@ use Rattle.qkd_base.specs.Lane.{lane_eq}
 use Rattle.qkd_base.specs.Family.{number_set}
 use Rattle.qkd_base.specs.declared.lane.Lane.{Lane}
 use Rattle.net_model.specs.declared.record.Record.{Record}
+use Rattle.net_model.specs.declared.fact.Fact.TheVariants.{Chunk}
 use Rattle.net_model.specs.declared.record.Record.TheVariants.{Learned}
 use Rattle.net_model.specs.declared.event.Event.{Event}
 use Rattle.net_model.specs.declared.event.Event.TheVariants.{Block}
@@ -20,10 +21,11 @@ use Rattle.net_model.specs.Decision.{Decision, Refuses, Does, Effect}
 use Rattle.net_model.specs.Decide.{decide, random_need}
 use Rattle.net_model.specs.Action.{Environment, Outcome, Replies, NoBlock, DeviceFailed, is_no_memory, is_entropy_fault, is_io_fault, is_device_fault}
 
--- a count past 2 ^ 48 - 1 has no name
-abbrev pub has_name : Record → Bool
-has_name (Learned f) = nat_lt (name_of f).count (2 ^ 48)
-has_name _ = true
+-- a count past 2 ^ 48 - 1 has no name, and an index past 2 ^ 32 - 1 no place in a payload
+abbrev pub is_numbered : Record → Bool
+is_numbered (Learned (Chunk name stream index route bytes)) = nat_lt name.count (2 ^ 48) && nat_lt index (2 ^ 32)
+is_numbered (Learned f) = nat_lt (name_of f).count (2 ^ 48)
+is_numbered _ = true
 
 -- new orders stand behind older ones. With none it computes to what was there
 abbrev pub with_orders : List Transmission → (Lane → List Transmission) → Lane → List Transmission
@@ -68,7 +70,7 @@ stopped w v octets effect =
 unfoldable pub perform : Network → World → ℕ → ℕ → Environment → Effect → World × Outcome
 perform net w v octets environment effect =
     let added = added_len (w.journal v).version effect.batch in
-    if is_no_memory environment || not (list_all has_name effect.batch) then (w, Replies Memory)
+    if is_no_memory environment || not (list_all is_numbered effect.batch) then (w, Replies Memory)
     else if nat_lt journal_limit ((w.journal v).length' + added) then (w, Replies (JournalFull (w.journal v).length' added))
     else if nat_lt 0 octets && (not (tells (net.entropy v) (w.drawn v + octets)) || is_entropy_fault environment) then (w, Replies NoRandom)
     else if is_io_fault environment && not (is_nil effect.batch) then (stopped w v octets effect, Replies Stopped)
