@@ -1,0 +1,4 @@
+pub mod Sums
+pub mod Multiplication
+pub mod Division
+pub mod Reduction
