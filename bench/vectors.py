@@ -105,5 +105,8 @@ print("// wc_tags: length of the text, of the octets 0, 1, 2 .., key, hash")
 for key in [1, 2, A]:
     for length in [0, 1, 7, 8, 9, 585]:
         print(f"    ({length}, 0x{key:016x}, 0x{hash_of(key, rising(length)):016x}),")
+# The header of a frame and its masked payload, of 33 octets.
+FRAME = bytes.fromhex("0100000000110000" "0000000000000008" "0300000000000080" "0080000000000000" "01")
 print("// wc_tags: single texts")
 print(f"    hash(2, [1]) = 0x{hash_of(2, bytes([1])):016x}")
+print(f"    hash(2, FRAME) = 0x{hash_of(2, FRAME):016x}")

@@ -10,7 +10,7 @@ use Rattle.gf64.proofs.Sums.{swap_middle, part_xor, part_below, part_times, coef
 
 -- ---- by halves: p * (q0 + x * q') is p * q0 + x * (p * q')
 
-double_part : (c : Bool) (p k : ℕ) → part c (p * 2 ^ suc k) ≡ 2 * part c (p * 2 ^ k)
+pub double_part : (c : Bool) (p k : ℕ) → part c (p * 2 ^ suc k) ≡ 2 * part c (p * 2 ^ k)
 double_part true p k = ap (λ (n : ℕ). p * n) (pow-succ' 2 k) ∙ omega arith
 double_part false p k = refl
 

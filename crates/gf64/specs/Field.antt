@@ -27,3 +27,8 @@ remainder (suc n) p = remainder n (bit_xor p (part (coefficient (64 + n) p) (mod
 -- the product of two elements, which are polynomials below x ^ 64
 unfoldable pub product : ℕ → ℕ → ℕ
 product a b = remainder 63 (poly_times 64 a b)
+
+-- a ^ n
+unfoldable pub power : ℕ → ℕ → ℕ
+power a zero = 1
+power a (suc n) = product (power a n) a
