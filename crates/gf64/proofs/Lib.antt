@@ -5,3 +5,8 @@ pub mod Reduction
 pub mod Shifts
 pub mod Ring
 pub mod Powers
+pub mod Quotient
+pub mod Maps
+pub mod Squares
+pub mod Idempotents
+pub mod Inverses

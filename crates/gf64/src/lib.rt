@@ -3,8 +3,11 @@
 //! A `u64` stands for the polynomial whose coefficient of x^i is its bit i. The sum is `^`.
 #![tactic(auto)]
 
+mod inversion;
+pub mod laws;
 mod product;
 
+pub use inversion::inverse;
 pub use product::{mul, square};
 
 #[cfg(test)]

@@ -1,5 +1,5 @@
 // The tables are printed by bench/vectors.py, which multiplies lists of coefficients.
-use crate::{mul, square};
+use crate::{inverse, mul, square};
 
 const PRODUCTS: [(u64, u64, u64); 11] = [
     (
@@ -150,6 +150,8 @@ fn products(rt: HostRuntime) {
     }
     for (a, b) in INVERSES {
         assert_eq!(rt; mul(a, b), 1, "{a} * {b}");
+        assert!(rt; inverse(a) == Some(b), "the inverse of {a}");
     }
+    assert!(rt; inverse(0).is_none());
     assert_eq!(rt; square(1 << 63), 0xc000_0000_0000_005a);
 }
