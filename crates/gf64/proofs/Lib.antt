@@ -1,0 +1,12 @@
+pub mod Sums
+pub mod Multiplication
+pub mod Division
+pub mod Reduction
+pub mod Shifts
+pub mod Ring
+pub mod Powers
+pub mod Quotient
+pub mod Maps
+pub mod Squares
+pub mod Idempotents
+pub mod Inverses

@@ -1,0 +1,106 @@
+-- The product of polynomials.
+use Rattle.std.proofs.Common.{◌≡◌, ℕ, zero, suc, ◌+◌, ◌*◌, ◌/◌, ◌%◌, ◌^◌, ◌<◌, ◌≤◌, Bool, true, false, eqb, refl, sym, ap, ◌∙◌, arith, add-one, lit<, bit_and}
+use Rattle.std.specs.Prelude.{bit_xor}
+use Rattle.std.proofs.Math.Nat.{pow-succ', pow-le-pow_right}
+use Rattle.std.proofs.lemmas.Nat.{xor_comm, xor_lt, pow_pos, shl_below, shl_whole}
+use Rattle.std.proofs.lemmas.Nat.Bits.{shr_and_one}
+use Rattle.std.specs.Int.Bits.{xor_assoc, xor_zero_l, xor_zero_r, xor_shifted}
+use Rattle.gf64.specs.Field.{coefficient, part, poly_times}
+use Rattle.gf64.proofs.Sums.{swap_middle, part_xor, part_below, part_times, coefficient_half, xor_shl, xor_double}
+
+-- ---- by halves: p * (q0 + x * q') is p * q0 + x * (p * q')
+
+pub double_part : (c : Bool) (p k : ℕ) → part c (p * 2 ^ suc k) ≡ 2 * part c (p * 2 ^ k)
+double_part true p k = ap (λ (n : ℕ). p * n) (pow-succ' 2 k) ∙ omega arith
+double_part false p k = refl
+
+pub times_half : (n p q : ℕ) → poly_times (suc n) p q ≡ bit_xor (part (coefficient 0 q) p) (2 * poly_times n p (q / 2))
+unfolding poly_times
+times_half zero p q =
+    let one : p * 2 ^ 0 ≡ p = omega arith in
+    xor_zero_l _ ∙ ap (part (coefficient 0 q)) one ∙ sym (xor_zero_r _)
+times_half (suc n) p q =
+    ap (λ (x : ℕ). bit_xor x (part (coefficient (suc n) q) (p * 2 ^ suc n))) (times_half n p q)
+    ∙ xor_assoc (part (coefficient 0 q) p) (2 * poly_times n p (q / 2)) (part (coefficient (suc n) q) (p * 2 ^ suc n))
+    ∙ ap (λ (x : ℕ). bit_xor (part (coefficient 0 q) p) (bit_xor (2 * poly_times n p (q / 2)) x))
+    (ap (λ (c : Bool). part c (p * 2 ^ suc n)) (coefficient_half n q) ∙ double_part (coefficient n (q / 2)) p n)
+    ∙ ap (bit_xor (part (coefficient 0 q) p)) (xor_double (poly_times n p (q / 2)) (part (coefficient n (q / 2)) (p * 2 ^ n)))
+
+-- ---- linear in the first factor
+
+pub times_xor : (n p q r : ℕ) → poly_times n (bit_xor p q) r ≡ bit_xor (poly_times n p r) (poly_times n q r)
+unfolding poly_times
+times_xor zero p q r = refl
+times_xor (suc n) p q r =
+    ap (bit_xor (poly_times n (bit_xor p q) r)) (ap (part (coefficient n r)) (sym (xor_shl p q n)) ∙ part_xor (coefficient n r) (p * 2 ^ n) (q * 2 ^ n))
+    ∙ ap (λ (x : ℕ). bit_xor x (bit_xor (part (coefficient n r) (p * 2 ^ n)) (part (coefficient n r) (q * 2 ^ n)))) (times_xor n p q r)
+    ∙ swap_middle (poly_times n p r) (poly_times n q r) (part (coefficient n r) (p * 2 ^ n)) (part (coefficient n r) (q * 2 ^ n))
+
+-- ---- a power of x as the first factor
+
+add_low : (b rest : ℕ) → rest ≡ b / 2 → bit_xor (part (coefficient 0 b) 1) (2 * rest) ≡ b
+add_low b rest e =
+    let low : part (coefficient 0 b) 1 ≡ b % 2 = ap (λ (n : ℕ). part (eqb (n % 2) 1) 1) whole ∙ bit_is (b % 2) (omega arith) in
+    let turn : bit_xor (b % 2) (2 * rest) ≡ bit_xor (rest * 2 ^ 1) (b % 2) = xor_comm (b % 2) (2 * rest) ∙ ap (λ (x : ℕ). bit_xor x (b % 2)) (omega arith) in
+    ap (λ (x : ℕ). bit_xor x (2 * rest)) low ∙ turn ∙ xor_shifted rest 1 (b % 2) (omega arith) ∙ omega (arith, e)
+  where
+    whole : b / 2 ^ 0 ≡ b
+    whole = omega arith
+
+    bit_is : (n : ℕ) → n < 2 → part (eqb n 1) 1 ≡ n
+    bit_is zero h = refl
+    bit_is (suc zero) h = refl
+    bit_is (suc (suc n)) h = absurd (omega arith)
+
+pub one_times : (n q : ℕ) → q < 2 ^ n → poly_times n 1 q ≡ q
+unfolding poly_times
+one_times zero q lt = omega (arith, lt)
+one_times (suc n) q lt =
+    let e : 2 ^ suc n ≡ 2 * 2 ^ n = pow-succ' 2 n in
+    times_half n 1 q ∙ add_low q (poly_times n 1 (q / 2)) (one_times n (q / 2) (omega (arith, lt, e)))
+
+-- the first factor times x ^ k
+pub times_shl : (n k p q : ℕ) → poly_times n (p * 2 ^ k) q ≡ poly_times n p q * 2 ^ k
+unfolding poly_times
+times_shl zero k p q = omega arith
+times_shl (suc n) k p q =
+    let swap : p * 2 ^ k * 2 ^ n ≡ p * 2 ^ n * 2 ^ k = omega arith in
+    ap (λ (x : ℕ). bit_xor x (part (coefficient n q) (p * 2 ^ k * 2 ^ n))) (times_shl n k p q)
+    ∙ ap (bit_xor (poly_times n p q * 2 ^ k)) (ap (part (coefficient n q)) swap ∙ sym (part_times (coefficient n q) (p * 2 ^ n) (2 ^ k)))
+    ∙ xor_shl (poly_times n p q) (part (coefficient n q) (p * 2 ^ n)) k
+
+pub power_times : (n k q : ℕ) → q < 2 ^ n → poly_times n (2 ^ k) q ≡ q * 2 ^ k
+power_times n k q lt =
+    let one : 1 * 2 ^ k ≡ 2 ^ k = omega arith in
+    ap (λ (p : ℕ). poly_times n p q) (sym one) ∙ times_shl n k 1 q ∙ ap (λ (m : ℕ). m * 2 ^ k) (one_times n q lt)
+
+-- ---- degrees
+
+pub times_below : (n m p q : ℕ) → p < 2 ^ suc m → poly_times n p q < 2 ^ (m + n)
+unfolding poly_times
+times_below zero m p q lt = pow_pos (m + 0)
+times_below (suc n) m p q lt =
+    let e : m + suc n ≡ suc m + n = omega arith in
+    let more : m + n ≤ m + suc n = omega arith in
+    let room : 2 ^ (m + n) ≤ 2 ^ (m + suc n) = pow-le-pow_right {n = 2} (lit< tt) {i = m + n} {j = m + suc n} more in
+    let top : p * 2 ^ n < 2 ^ (m + suc n) = rw e (shl_below p (suc m) n lt) in
+    xor_lt (m + suc n) (poly_times n p q) (part (coefficient n q) (p * 2 ^ n)) (omega (arith, times_below n m p q lt, room)) (part_below (coefficient n q) (p * 2 ^ n) (2 ^ (m + suc n)) top)
+
+-- ---- term by term
+
+pub times_none : (p q : ℕ) → 0 ≡ poly_times 0 p q
+unfolding poly_times
+times_none p q = refl
+
+pub times_more : (n p q so_far term : ℕ) → so_far ≡ poly_times n p q → term ≡ part (coefficient n q) (p * 2 ^ n) → bit_xor so_far term ≡ poly_times (n + 1) p q
+unfolding poly_times
+times_more n p q so_far term e t = rw (add-one, e, t) refl
+
+-- a term as the code computes it
+pub term_is : (a b i : ℕ) → a < 2 ^ 64 → i < 64 → a * bit_and (b / 2 ^ i) 1 * 2 ^ i % 2 ^ 128 ≡ part (coefficient i b) (a * 2 ^ i)
+term_is a b i la li = rw (shr_and_one b i) (by_bit (b / 2 ^ i % 2) (omega arith))
+  where
+    by_bit : (bit : ℕ) → bit < 2 → a * bit * 2 ^ i % 2 ^ 128 ≡ part (eqb bit 1) (a * 2 ^ i)
+    by_bit zero lt = let none : a * 0 * 2 ^ i ≡ 0 = omega arith in rw none refl
+    by_bit (suc zero) lt = let one : a * 1 ≡ a = omega arith in rw one (shl_whole a 64 i 128 la (omega (arith, li)))
+    by_bit (suc (suc n)) lt = absurd (omega arith)

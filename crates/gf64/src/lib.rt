@@ -1,0 +1,14 @@
+//! The field of 2^64 elements: polynomials over GF(2), taken modulo x^64 + x^4 + x^3 + x + 1.
+//!
+//! A `u64` stands for the polynomial whose coefficient of x^i is its bit i. The sum is `^`.
+#![tactic(auto)]
+
+mod inversion;
+pub mod laws;
+mod product;
+
+pub use inversion::inverse;
+pub use product::{mul, square};
+
+#[cfg(test)]
+mod tests;
