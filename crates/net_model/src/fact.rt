@@ -1,0 +1,124 @@
+// What the nodes of the network know.
+use qkd_base::{KeyName, Memory, Octets, Replica, Route, SaeNo};
+
+/// Something that a node makes once and that is told along a route, hop by hop (SECOQC trusted repeaters). Its name
+/// is unique in the network. Bytes are 8 to 512 octets.
+#[derive(Debug, Drop)]
+pub enum Fact {
+    /// A key of a pool: for the master at the route's first node and the slave at its last (ETSI GS QKD 014).
+    Key {
+        name: KeyName,
+        master: SaeNo,
+        slave: SaeNo,
+        route: Route,
+        bytes: Octets,
+    },
+    /// The key of a stream at an index (ETSI GS QKD 004).
+    Chunk {
+        name: KeyName,
+        stream: KeyName,
+        index: u32,
+        route: Route,
+        bytes: Octets,
+    },
+    /// The target's word that a key, chunk or part has come there, told back.
+    Stored {
+        note: KeyName,
+        about: KeyName,
+        route: Route,
+    },
+    /// A stream of chunks of so many octets (ETSI GS QKD 004, OPEN_CONNECT by the source).
+    Open {
+        stream: KeyName,
+        source: SaeNo,
+        peer: SaeNo,
+        length: u16,
+        route: Route,
+    },
+    /// The peer's word that it takes part in a stream, told back (ETSI GS QKD 004, OPEN_CONNECT by the peer).
+    Joined {
+        note: KeyName,
+        about: KeyName,
+        route: Route,
+    },
+    /// The copy of a group key for one of its slaves (ETSI GS QKD 014, additional_slave_SAE_IDs).
+    Part {
+        name: KeyName,
+        key: KeyName,
+        master: SaeNo,
+        slave: SaeNo,
+        route: Route,
+        bytes: Octets,
+    },
+}
+
+impl Replica for Fact {
+    fn copy(&self) -> Result<Self, Memory> {
+        match self {
+            Fact::Key {
+                name,
+                master,
+                slave,
+                route,
+                bytes,
+            } => Ok(Fact::Key {
+                name: *name,
+                master: *master,
+                slave: *slave,
+                route: *route,
+                bytes: bytes.copy()?,
+            }),
+            Fact::Chunk {
+                name,
+                stream,
+                index,
+                route,
+                bytes,
+            } => Ok(Fact::Chunk {
+                name: *name,
+                stream: *stream,
+                index: *index,
+                route: *route,
+                bytes: bytes.copy()?,
+            }),
+            Fact::Stored { note, about, route } => Ok(Fact::Stored {
+                note: *note,
+                about: *about,
+                route: *route,
+            }),
+            Fact::Open {
+                stream,
+                source,
+                peer,
+                length,
+                route,
+            } => Ok(Fact::Open {
+                stream: *stream,
+                source: *source,
+                peer: *peer,
+                length: *length,
+                route: *route,
+            }),
+            Fact::Joined { note, about, route } => Ok(Fact::Joined {
+                note: *note,
+                about: *about,
+                route: *route,
+            }),
+            Fact::Part {
+                name,
+                key,
+                master,
+                slave,
+                route,
+                bytes,
+            } => Ok(Fact::Part {
+                name: *name,
+                key: *key,
+                master: *master,
+                slave: *slave,
+                route: *route,
+                bytes: bytes.copy()?,
+            }),
+        }
+    }
+}

@@ -1,0 +1,20 @@
+// A lane that has too few bytes.
+use qkd_base::{Items, Lane, Memory, Replica};
+
+/// The first order of a lane for which the bytes received don't suffice: `used + need > received`.
+#[derive(Clone, Copy, Debug, PartialEq, Eq)]
+pub struct ShortOf {
+    pub lane: Lane,
+    pub used: u64,
+    pub need: u64,
+    pub received: u64,
+}
+
+/// Shorts in order.
+pub type Shorts = Items<ShortOf>;
+
+impl Replica for ShortOf {
+    fn copy(&self) -> Result<Self, Memory> {
+        Ok(*self)
+    }
+}
