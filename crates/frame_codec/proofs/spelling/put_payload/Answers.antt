@@ -1,0 +1,11 @@
+use Rattle.frame_codec.specs.Payload.{payload_octets}
+use Rattle.frame_codec.proofs.Writes.{then_puts}
+use Rattle.frame_codec.proofs.spelling.put_payload.Goals as goal
+
+pub returns-in-Told-clause-octets : goal.returns-in-Told-clause-octets
+unfolding payload_octets
+returns-in-Told-clause-octets c = rw c.in-Told.is c.put_fact.ensures.octets
+
+pub returns-in-Ack-clause-octets : goal.returns-in-Ack-clause-octets
+unfolding payload_octets
+returns-in-Ack-clause-octets c = rw c.in-Ack.is (then_puts c.put-at.ensures.octets c.put_name.ensures.octets)

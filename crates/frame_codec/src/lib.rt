@@ -1,0 +1,15 @@
+//! The spelling of payloads, both ways.
+#![tactic(auto)]
+
+mod fault;
+mod fields;
+mod payload_refusal;
+mod reading;
+mod spelling;
+#[cfg(test)]
+mod tests;
+
+pub use net_model;
+pub use payload_refusal::PayloadRefusal;
+pub use reading::read;
+pub use spelling::spell;

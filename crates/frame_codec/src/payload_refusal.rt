@@ -1,0 +1,24 @@
+// Why octets are no payload.
+use std::error::Error;
+use std::fmt;
+
+/// Why no payload was read.
+#[derive(Clone, Copy, Debug, PartialEq, Eq)]
+pub enum PayloadRefusal {
+    /// The octets aren't the spelling of a payload. The place, counted from 0, is that of the first octet of the field
+    /// that doesn't fit or is cut off, or of the first octet behind the last field.
+    NotAPayload(usize),
+    /// Want of memory, for octets that are a payload.
+    Memory,
+}
+
+impl fmt::Display for PayloadRefusal {
+    fn fmt<W: fmt::Write>(&self, f: &mut fmt::Formatter<W>) -> fmt::Result {
+        match self {
+            PayloadRefusal::NotAPayload(place) => write!(f, "no payload, from octet {place} on"),
+            PayloadRefusal::Memory => write!(f, "out of memory"),
+        }
+    }
+}
+
+impl Error for PayloadRefusal {}

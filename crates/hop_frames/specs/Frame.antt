@@ -1,0 +1,41 @@
+-- The one spelling of a frame: header, masked payload, tag. All numbers are big-endian.
+use Rattle.std.specs.Prelude.{ℕ, ◌+◌, List, [], ◌∷◌, ◌++◌, length, take, drop, bit_xor}
+use Rattle.std.specs.Int.{w16, w64, to_be_bytes, from_be_bytes}
+use Rattle.qkd_base.specs.Lane.{way_number}
+use Rattle.qkd_base.specs.declared.lane.Lane.{Lane}
+use Rattle.wc_tags.specs.Tag.{tag}
+
+-- 16 octets: version 1, link, way, 0, the payload's length in 2 octets, 0, 0, and the lane offset in 8
+abbrev pub header : Lane → ℕ → ℕ → List ℕ
+header lane offset size = 1 ∷ lane.link ∷ way_number lane.way ∷ 0 ∷ to_be_bytes w16 size ++ 0 ∷ 0 ∷ to_be_bytes w64 offset
+
+-- each octet with a lane byte (one-time pad)
+abbrev pub masked : List ℕ → List ℕ → List ℕ
+masked [] pads = []
+masked (p ∷ ps) [] = p ∷ masked ps []
+masked (p ∷ ps) (l ∷ ls) = bit_xor p l ∷ masked ps ls
+
+-- the first 8 bytes as a number
+abbrev pub number_of : List ℕ → ℕ
+number_of bytes = from_be_bytes w64 (take 8 bytes)
+
+-- a lane's hash key: its first 8 bytes
+abbrev pub hash_key : List ℕ → ℕ
+hash_key bytes = number_of bytes
+
+-- what is authenticated: header and masked payload, the payload being masked by the first pads
+abbrev pub text_of : Lane → ℕ → List ℕ → List ℕ → List ℕ
+text_of lane offset pads payload = header lane offset (length payload) ++ masked payload pads
+
+-- the octets of a tag
+abbrev pub tag_octets : ℕ → List ℕ → ℕ → List ℕ
+tag_octets key text mask = to_be_bytes w64 (tag key text mask)
+
+-- With its tag behind it, which is masked by the 8 pads behind the payload's (Wegman and Carter 1981, section 4).
+unfoldable pub framed : Lane → ℕ → ℕ → List ℕ → List ℕ → List ℕ
+framed lane offset key pads payload =
+    text_of lane offset pads payload ++ tag_octets key (text_of lane offset pads payload) (number_of (drop (length payload) pads))
+
+-- the frame of a payload's octets on a lane at an offset, given the lane's bytes
+abbrev pub spell : Lane → ℕ → List ℕ → List ℕ → List ℕ
+spell lane offset bytes payload = framed lane offset (hash_key bytes) (drop offset bytes) payload

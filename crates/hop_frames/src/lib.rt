@@ -1,0 +1,24 @@
+//! Frames of one hop: payloads masked by lane bytes, and tagged.
+#![tactic(auto)]
+
+mod header;
+mod lane_part;
+mod laws;
+mod mask;
+mod open_refusal;
+mod opened;
+mod opening;
+mod parts;
+mod sealing;
+#[cfg(test)]
+mod tests;
+
+pub use frame_codec;
+pub use laws::front_of_a_lane;
+pub use link_segments;
+pub use open_refusal::OpenRefusal;
+pub use opened::Opened;
+pub use opening::open;
+pub use pad_ledger;
+pub use sealing::seal;
+pub use wc_tags;

@@ -1,0 +1,162 @@
+// Opening frames.
+ghost use Rattle.std.specs.Prelude.{◌≡◌, ℕ, ◌+◌, ◌≤◌, ◌<◌, ◌^◌, length, take, drop, Result, Ok, IfOk};
+ghost use Rattle.net_model.specs.declared.payload.Payload.{Payload as PayloadValue};
+ghost use Rattle.frame_codec.specs.Reading.{Reads, payload_of};
+ghost use Rattle.link_segments.specs.Lanes.{lane_octets};
+ghost use Rattle.hop_frames.specs.Frame.{masked};
+ghost use Rattle.hop_frames.specs.Opening.{Opens, checked, tagged, opened_at, open_of};
+
+use crate::header::{Header, header_of, number_at, on_lane};
+use crate::lane_part::{lane_number, lane_part};
+use crate::mask::put_masked;
+use crate::parts::{behind, front};
+use crate::{OpenRefusal, Opened};
+use frame_codec::{PayloadRefusal, read};
+use link_segments::Segments;
+use net_model::Payload;
+use qkd_base::{Lane, Way};
+use std::alloc::Global;
+use wc_tags::tag;
+
+// Whether the lane's bytes reach and give the frame's tag.
+#[tactic(auto, unfolding(crate::specs::Opening::tagged))]
+fn tagged(frame: &[u8], header: Header, held: &Segments, way: Way) -> Result<Header, OpenRefusal>
+    requires size { length frame.now ≡ 24 + header.size }
+    requires offset { 8 ≤ header.offset }
+    requires fits { header.offset + header.size + 8 < 2 ^ 64 }
+    ensures tagged { result ≡ tagged (lane_octets way held.now.blocks) frame.now header }
+    ensures reach { IfOk result (λ h. (h ≡ header) × (h.offset + h.size + 8 ≤ length (lane_octets way held.now.blocks))) }
+{
+    let have = held.received(way);
+    let end = header.offset + u64::from(header.size);
+    if have < end + 8 {
+        return Err(OpenRefusal::NoBits(have));
+    }
+    let size = usize::from(header.size);
+    let given = number_at(behind(frame, 16 + size));
+    let key = lane_number(held, way, 0);
+    let mask = lane_number(held, way, end);
+    let computed = tag(key, front(frame, 16 + size), mask);
+    if given == computed {
+        Ok(header)
+    } else {
+        Err(OpenRefusal::BadTag { given, computed })
+    }
+}
+
+// The header of a frame that passes all tests but that of its payload.
+#[tactic(auto, unfolding(crate::specs::Opening::checked))]
+fn checked(lane: &Lane, frame: &[u8], held: &Segments) -> Result<Header, OpenRefusal>
+    ensures checked { result ≡ checked lane.now (lane_octets lane.now.way held.now.blocks) frame.now }
+    ensures form { IfOk result (λ h. (length frame.now ≡ 24 + h.size) × (h.offset + h.size + 8 ≤ length (lane_octets lane.now.way held.now.blocks))) }
+{
+    let header = header_of(frame)?;
+    let header = on_lane(header, lane)?;
+    tagged(frame, header, held, lane.way)
+}
+
+// Reads the payload that these octets mask.
+fn read_masked(
+    alloc: Global,
+    octets: &[u8],
+    pads: &[u8],
+    clear: &mut [u8],
+) -> Result<Payload, PayloadRefusal>
+    requires pads { length octets.now ≤ length pads.now }
+    requires room { length octets.now ≤ length clear.old }
+    ensures { Reads result (payload_of (masked octets.now pads.now)) }
+{
+    put_masked(clear, 0, octets, pads);
+    read(alloc, front(clear, octets.len()))
+}
+
+// Reads the payload that octets mask at an offset of a lane, in the room given.
+fn read_in(
+    alloc: Global,
+    octets: &[u8],
+    held: &Segments,
+    way: Way,
+    offset: u64,
+    pads: &mut [u8],
+    clear: &mut [u8],
+) -> Result<Payload, PayloadRefusal>
+    requires reach { offset + length octets.now ≤ length (lane_octets way held.now.blocks) }
+    requires pads { length octets.now ≤ length pads.old }
+    requires room { length octets.now ≤ length clear.old }
+    ensures { Reads result (payload_of (masked octets.now (drop offset (lane_octets way held.now.blocks)))) }
+{
+    let pads = &mut pads[..octets.len()];
+    lane_part(held, way, offset, pads);
+    read_masked(alloc, octets, pads, clear)
+}
+
+// Reads it where the octets may be of any number that a frame can have.
+fn read_long(
+    alloc: Global,
+    octets: &[u8],
+    held: &Segments,
+    way: Way,
+    offset: u64,
+) -> Result<Payload, PayloadRefusal>
+    requires reach { offset + length octets.now ≤ length (lane_octets way held.now.blocks) }
+    requires size { length octets.now < 65536 }
+    ensures { Reads result (payload_of (masked octets.now (drop offset (lane_octets way held.now.blocks)))) }
+{
+    let mut pads = [0u8; 65_536];
+    let mut clear = [0u8; 65_536];
+    read_in(alloc, octets, held, way, offset, &mut pads, &mut clear)
+}
+
+// Reads it where they may be a payload. These two are apart so that only long frames need the large room.
+fn read_short(
+    alloc: Global,
+    octets: &[u8],
+    held: &Segments,
+    way: Way,
+    offset: u64,
+) -> Result<Payload, PayloadRefusal>
+    requires reach { offset + length octets.now ≤ length (lane_octets way held.now.blocks) }
+    requires size { length octets.now ≤ 600 }
+    ensures { Reads result (payload_of (masked octets.now (drop offset (lane_octets way held.now.blocks)))) }
+{
+    let mut pads = [0u8; 600];
+    let mut clear = [0u8; 600];
+    read_in(alloc, octets, held, way, offset, &mut pads, &mut clear)
+}
+
+// The payload at its offset, or why there is none.
+fn opened(offset: u64, payload: Result<Payload, PayloadRefusal>) -> Result<Opened, OpenRefusal>
+    ensures { (read : Result PayloadValue ℕ) → Reads payload read → Opens result (opened_at offset read) }
+{
+    match payload {
+        Ok(payload) => Ok(Opened { offset, payload }),
+        Err(PayloadRefusal::NotAPayload(place)) => Err(OpenRefusal::NotAPayload(place)),
+        Err(PayloadRefusal::Memory) => Err(OpenRefusal::Memory),
+    }
+}
+
+/// Opens a frame that came on a lane, with the lane bytes received. The first refusal that holds is answered:
+///
+/// - `NotAFrame`, where the octets are fewer than 24 (their number), the version isn't 1 (0), octet 3 isn't 0 (3), the
+///   length is 0 or not that of the octets (4), octets 6 and 7 aren't 0 (6), or the offset is below 8 or with length and
+///   tag above 2^64 - 1 (8);
+/// - `WrongLane`, where link and way are others than the lane's;
+/// - `NoBits`, where offset, length and tag pass the bytes received;
+/// - `BadTag`, where the tag isn't the one that the lane's bytes give: of octets that nobody sealed with them, this is
+///   what Wegman and Carter 1981, section 4, bound;
+/// - `NotAPayload`, where the payload isn't in its grammar;
+/// - `Memory`, where all is right.
+#[tactic(auto, unfolding(crate::specs::Opening::open_of))]
+pub fn open(alloc: Global, lane: Lane, frame: &[u8], held: &Segments) -> Result<Opened, OpenRefusal>
+    ensures { Opens result (open_of lane (lane_octets lane.way held.now.blocks) frame.now) }
+{
+    let header = checked(&lane, frame, held)?;
+    let size = usize::from(header.size);
+    let octets = front(behind(frame, 16), size);
+    let payload = if size <= 600 {
+        read_short(alloc, octets, held, lane.way, header.offset)
+    } else {
+        read_long(alloc, octets, held, lane.way, header.offset)
+    };
+    opened(header.offset, payload)
+}

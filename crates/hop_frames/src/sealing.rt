@@ -1,0 +1,60 @@
+// Sealing frames.
+ghost use Rattle.std.specs.Prelude.{◌≡◌, ℕ, ◌+◌, ◌≤◌, ◌<◌, ◌^◌, List, length, take, drop};
+ghost use Rattle.net_model.specs.Facts.{payload_len, IsWellFormed};
+ghost use Rattle.frame_codec.specs.Payload.{IsPayload, payload_octets};
+ghost use Rattle.hop_frames.specs.Frame.{framed, hash_key, spell};
+
+use crate::header::{number_at, put_header};
+use crate::mask::{put, put_masked};
+use crate::parts::{behind, front};
+use frame_codec::spell;
+use net_model::{Payload, spelled_len};
+use pad_ledger::PadRange;
+use qkd_base::{FrameOctets, Lane};
+use wc_tags::tag;
+
+// Writes the frame of a payload's octets at the front.
+#[tactic(auto, unfolding(crate::specs::Frame::framed))]
+fn put_frame(into: &mut [u8], lane: &Lane, offset: u64, key: u64, pads: &[u8], payload: &[u8])
+    requires size { length payload.now ≤ 561 }
+    requires pads { length payload.now + 8 ≤ length pads.now }
+    requires room { 24 + length payload.now ≤ length into.old }
+    ensures { take (24 + length payload.now) into.new ≡ framed lane.now offset key pads.now payload.now }
+{
+    let size = payload.len();
+    put_header(into, lane, offset, size as u16);
+    put_masked(into, 16, payload, pads);
+    let mask = number_at(behind(pads, size));
+    let tag = tag(key, front(into, 16 + size), mask);
+    put(into, 16 + size, &tag.to_be_bytes());
+}
+
+/// Writes the frame of a payload on a lane and says its length, 41 to 585. It uses up the range: `pads` are the lane's
+/// bytes from the range's start on, which mask the payload and then its tag, and no other frame gets them (one-time
+/// pad). `key` is the number of the lane's first 8 bytes.
+pub fn seal(
+    range: PadRange,
+    lane: Lane,
+    key: u64,
+    pads: &[u8],
+    payload: &Payload,
+    into: &mut FrameOctets,
+) -> usize
+    requires formed { IsWellFormed payload.now }
+    requires size { range.len ≡ payload_len payload.now + 8 }
+    requires pads { length pads.now ≡ range.len }
+    ensures len { result ≡ 24 + payload_len payload.now }
+    // whatever the lane's other bytes are
+    ensures frame { (bytes : List ℕ) → key ≡ hash_key bytes → pads.now ≡ take range.len (drop range.start bytes)
+        → take result into.new.octets ≡ spell lane range.start bytes (payload_octets payload.now) }
+    ensures grammar { IsPayload payload.now }
+{
+    let offset = range.start();
+    range.spend();
+    let size = usize::from(spelled_len(payload));
+    let mut clear = FrameOctets::new();
+    spell(payload, &mut clear, 0);
+    let clear = front(&clear.octets, size);
+    put_frame(&mut into.octets, &lane, offset, key, pads, clear);
+    24 + size
+}
