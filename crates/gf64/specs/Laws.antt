@@ -1,5 +1,4 @@
 -- The laws of the field.
-<<<<<<< HEAD
 use Rattle.std.specs.Prelude.{◌≡◌, ℕ, zero, suc, ◌+◌, ◌-◌, ◌*◌, ◌%◌, ◌^◌, ◌<◌, ◌↔◌, ◌⊎◌, nat_le, if◌then◌else◌, bit_xor}
 use Rattle.std.specs.Int.{bit_at}
 use Rattle.gf64.specs.Field.{modulus, poly_times, product, power}
@@ -13,11 +12,6 @@ convolution (suc n) p q k = convolution n p q k + bit_at q n * (if nat_le n k th
 abbrev pub IsConvolution : Type 0
 IsConvolution = (p q k : ℕ) → bit_at (poly_times 64 p q) k ≡ convolution 64 p q k % 2
 
-=======
-use Rattle.std.specs.Prelude.{◌≡◌, ℕ, ◌^◌, ◌<◌, ◌↔◌, ◌⊎◌, bit_xor}
-use Rattle.gf64.specs.Field.{modulus, poly_times, product, power}
-
->>>>>>> ffbbd32384baa18a5ab2b901d0c2a34dd5d1c677
 -- The product is the remainder of the polynomials' product p: the one r below x ^ 64 that differs from p by a multiple of the modulus.
 abbrev pub IsRemainder : Type 0
 IsRemainder = (a b r : ℕ) → a < 2 ^ 64 → b < 2 ^ 64 → (product a b ≡ r) ↔ ((r < 2 ^ 64) × ((q : ℕ) × (poly_times 64 a b ≡ bit_xor (poly_times 63 modulus q) r)))

@@ -1,14 +1,10 @@
 // Each law is the contract of a function that does nothing.
-<<<<<<< HEAD
 ghost use Rattle.gf64.specs.Laws.{IsConvolution, IsRemainder, Commutes, Associates, Distributes, OneIsNeutral, HasNoZeroDivisors, SquaresReturn, HasTwoIdempotents};
 
 /// The polynomials' product has the coefficients of the product of two coefficient lists.
 pub fn polynomials_are_multiplied()
     ensures { IsConvolution }
 {}
-=======
-ghost use Rattle.gf64.specs.Laws.{IsRemainder, Commutes, Associates, Distributes, OneIsNeutral, HasNoZeroDivisors, SquaresReturn, HasTwoIdempotents};
->>>>>>> ffbbd32384baa18a5ab2b901d0c2a34dd5d1c677
 
 /// The product is what long division by the modulus leaves of the polynomials' product.
 pub fn product_is_a_remainder()

@@ -2,7 +2,6 @@ ghost use Rattle.std.specs.Prelude.{◌≡◌, ◌↔◌, IsTrue};
 ghost use Rattle.wc_tags.specs.Tag.{hash, tag};
 
 use crate::block::first_block;
-<<<<<<< HEAD
 use gf64::Multiples;
 
 /// The hash of a text under a key. The empty text has the hash 0 under each key.
@@ -19,33 +18,13 @@ pub fn hash(key: u64, text: &[u8]) -> u64
 
 /// The hash of a text with a mask, which is to be a number that nobody else knows and that masks no
 /// other tag.
-=======
-use gf64::mul;
-
-/// The hash of a text under a key.
-pub fn hash(key: u64, text: &[u8]) -> u64
-    ensures { result ≡ hash key text.now }
-{
-    let mut sum = 0;
-    for i in 0..text.len().div_ceil(8) {
-        sum = mul(sum ^ first_block(&text[8 * i..]), key);
-    }
-    mul(sum ^ text.len() as u64, key)
-}
-
-/// The hash with its mask, which is to be a number that masks no other tag.
->>>>>>> ffbbd32384baa18a5ab2b901d0c2a34dd5d1c677
 pub fn tag(key: u64, text: &[u8], mask: u64) -> u64
     ensures { result ≡ tag key text.now mask }
 {
     hash(key, text) ^ mask
 }
 
-<<<<<<< HEAD
 /// Whether the tag that came with a text is the one that the key and the mask give.
-=======
-/// Whether the tag that came with a text is the text's own.
->>>>>>> ffbbd32384baa18a5ab2b901d0c2a34dd5d1c677
 pub fn check(key: u64, text: &[u8], mask: u64, given: u64) -> bool
     ensures { IsTrue result ↔ (given ≡ tag key text.now mask) }
 {
