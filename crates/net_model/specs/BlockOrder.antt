@@ -48,22 +48,19 @@ is_by_lane [] = true
 is_by_lane (l ∷ []) = true
 is_by_lane (l ∷ k ∷ ls) = nat_le (lane_number l) (lane_number k) && is_by_lane (k ∷ ls)
 
+abbrev pub with_lane : Lane → Option (List Lane) → Option (List Lane)
+with_lane l None = None
+with_lane l (Some ls) = Some (l ∷ ls)
+
+-- the lanes of claims, and those of puts
 abbrev pub claim_lanes : List Action → Option (List Lane)
 claim_lanes [] = Some []
-claim_lanes (Allocate t ∷ rest) = more_lanes t.lane (claim_lanes rest)
-  where
-    more_lanes : Lane → Option (List Lane) → Option (List Lane)
-    more_lanes l None = None
-    more_lanes l (Some ls) = Some (l ∷ ls)
+claim_lanes (Allocate t ∷ rest) = with_lane t.lane (claim_lanes rest)
 claim_lanes (_ ∷ rest) = None
 
 abbrev pub put_lanes : List Action → Option (List Lane)
 put_lanes [] = Some []
-put_lanes (Transmit l j environment ∷ rest) = more_lanes l (put_lanes rest)
-  where
-    more_lanes : Lane → Option (List Lane) → Option (List Lane)
-    more_lanes l None = None
-    more_lanes l (Some ls) = Some (l ∷ ls)
+put_lanes (Transmit l j environment ∷ rest) = with_lane l (put_lanes rest)
 put_lanes (_ ∷ rest) = None
 
 abbrev pub are_by_lane : Option (List Lane) → Bool

@@ -8,6 +8,7 @@ use Rattle.net_model.specs.declared.reply.Reply.{Reply}
 use Rattle.net_model.specs.declared.reply.Reply.TheVariants.{Handed, Stream}
 use Rattle.net_model.specs.Table.{name_of, bytes_of, origin, fact_at, is_part_of, is_secret}
 use Rattle.net_model.specs.LaneBytes.{octets_from}
+use Rattle.net_model.specs.Pools.{bytes_or_none}
 use Rattle.net_model.specs.Streams.{is_chunk_at}
 use Rattle.net_model.specs.World.{Network, World}
 use Rattle.net_model.specs.Action.{Action, Ask, Outcome, Replies}
@@ -46,11 +47,7 @@ deliveries net w (a ∷ rest) = let out = step net w a in of_step w.durable.fact
 -- the one byte list of a name: that of the key or chunk, or of the parts of the group key
 abbrev pub bytes_or_parts : List Fact → Name → Option Fact → List ℕ
 bytes_or_parts facts n (Some f) = bytes_of f
-bytes_or_parts facts n None = part_bytes (find (is_part_of n) facts)
-  where
-    part_bytes : Option Fact → List ℕ
-    part_bytes None = []
-    part_bytes (Some f) = bytes_of f
+bytes_or_parts facts n None = bytes_or_none (find (is_part_of n) facts)
 
 unfoldable pub bytes_at : List Fact → Name → List ℕ
 bytes_at facts n = bytes_or_parts facts n (fact_at facts n)

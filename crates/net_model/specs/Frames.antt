@@ -1,5 +1,6 @@
 -- Frames in the world: claimed, put on a wire, and brought to a receiver as they are or changed.
 use Rattle.std.specs.Prelude.{ℕ, ◌+◌, ◌*◌, ◌-◌, ◌/◌, ◌%◌, ◌^◌, ◌==◌, ◌&&◌, ◌||◌, not, nat_lt, nat_le, Bool, true, false, List, [], ◌∷◌, ◌++◌, length, find, replicate, slice_get, slice_set, slice_index_or, bit_xor, Option, Some, None, if◌then◌else◌}
+use Rattle.std.specs.List.{list_any}
 use Rattle.qkd_base.specs.Family.{lane_set, number_set}
 use Rattle.qkd_base.specs.declared.lane.Lane.{Lane}
 use Rattle.net_model.specs.declared.payload.Payload.{Payload}
@@ -39,11 +40,7 @@ without t [] = []
 without t (x ∷ xs) = if transmission_eq t x then xs else x ∷ without t xs
 
 abbrev pub is_unclaimed : World → Transmission → Bool
-is_unclaimed w t = contains t (w.unclaimed t.lane)
-  where
-    contains : Transmission → List Transmission → Bool
-    contains t [] = false
-    contains t (x ∷ xs) = transmission_eq t x || contains t xs
+is_unclaimed w t = list_any (transmission_eq t) (w.unclaimed t.lane)
 
 -- an order gets the lane's next bytes, as many as it needs; its frame may then be put
 unfoldable pub allocate : World → Transmission → World × Outcome

@@ -1,5 +1,5 @@
 -- Journals: the octets of batches in both versions of records, and what a checkpoint makes of a journal.
-use Rattle.std.specs.Prelude.{ℕ, zero, suc, ◌+◌, ◌-◌, ◌/◌, ◌^◌, ◌==◌, ◌&&◌, ◌||◌, nat_lt, nat_le, max, Bool, true, false, List, [], ◌∷◌, ◌++◌, length, map, take, drop, sum_by, if◌then◌else◌}
+use Rattle.std.specs.Prelude.{ℕ, zero, suc, ◌+◌, ◌-◌, ◌/◌, ◌^◌, ◌==◌, ◌&&◌, ◌||◌, not, nat_lt, nat_le, max, Bool, true, false, List, [], ◌∷◌, ◌++◌, length, map, take, drop, sum_by, if◌then◌else◌}
 use Rattle.std.specs.List.{flat_map}
 use Rattle.net_model.specs.declared.fact.Fact.{Fact}
 use Rattle.net_model.specs.declared.record.Record.{Record}
@@ -70,10 +70,7 @@ lease_records p = if nat_lt 8 p.lease then Lease p.lane p.lease ∷ [] else []
 
 -- a fact whose bytes the node needs no more goes without them
 abbrev pub fact_record : View → Fact → Record
-fact_record v f = if is_secret f && not_needed v f then Bare f else Learned f
-  where
-    not_needed : View → Fact → Bool
-    not_needed v f = if is_needed v f then false else true
+fact_record v f = if is_secret f && not (is_needed v f) then Bare f else Learned f
 
 -- blocks in order of link and number, leases above the hash key's in order of lane, facts in order of learning, and marks in theirs
 unfoldable pub checkpoint_records : View → List Record
