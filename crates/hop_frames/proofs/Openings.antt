@@ -1,18 +1,14 @@
 -- A sealed frame, opened.
-use Rattle.std.proofs.Common.{◌≡◌, ℕ, ◌+◌, ◌-◌, ◌^◌, ◌<◌, ◌≤◌, Bool, true, false, eqb, ltb, ◌||◌, not, List, [], ◌∷◌, ◌++◌, length, take, drop, length-append, Result, Ok, Err, refl, sym, ap, ◌∙◌, arith}
+use Rattle.std.proofs.Common.{◌≡◌, ℕ, ◌+◌, ◌-◌, ◌^◌, ◌<◌, ◌≤◌, true, false, eqb, ltb, List, ◌++◌, length, drop, length-append, Ok, Err, refl, sym, ap, ◌∙◌, arith}
 use Rattle.std.specs.Int.{w16, w64, to_be_bytes, from_be_bytes}
-use Rattle.std.proofs.lemmas.Bool.{le-ltb, ltb-true}
+use Rattle.std.proofs.lemmas.Bool.{le-ltb}
 use Rattle.std.proofs.lemmas.List.{take_at, drop_at, drop-drop}
 use Rattle.std.proofs.lemmas.Nat.{from_be_bytes-to_be_bytes_2, from_be_bytes-to_be_bytes_8}
 use Rattle.qkd_base.specs.Lane.{way_number}
 use Rattle.qkd_base.specs.declared.lane.Lane.{Lane}
 use Rattle.net_model.specs.declared.payload.Payload.{Payload}
-use Rattle.net_model.specs.Facts.{payload_len}
-use Rattle.frame_codec.specs.Payload.{IsPayload, payload_octets}
 use Rattle.frame_codec.specs.Reading.{payload_of}
 use Rattle.hop_frames.specs.declared.header.Header.{Header}
-use Rattle.hop_frames.specs.declared.opened.Opened.{Opened}
-use Rattle.hop_frames.specs.declared.open_refusal.OpenRefusal.{OpenRefusal}
 use Rattle.hop_frames.specs.declared.open_refusal.OpenRefusal.TheVariants.{NoBits}
 use Rattle.hop_frames.specs.Frame.{header, masked, number_of, hash_key, text_of, tag_octets, framed, spell}
 use Rattle.hop_frames.specs.Opening.{◌>>=◌, fields_of, tested, header_of, on_lane, given_tag, computed_tag, tagged, unmasked, checked, opened_at, open_of}

@@ -1,4 +1,4 @@
-use Rattle.std.proofs.Common.{◌≡◌, ◌+◌, ◌^◌, ◌<◌, ◌≤◌, length, ap, ◌∙◌, arith}
+use Rattle.std.proofs.Common.{◌≡◌, ◌+◌, length, ap, ◌∙◌, arith}
 use Rattle.net_model.specs.Facts.{payload_len}
 use Rattle.frame_codec.specs.Payload.{payload_octets}
 use Rattle.hop_frames.proofs.Openings.{opened_again, few_opened, spell_length}

@@ -1,4 +1,4 @@
-use Rattle.std.proofs.Common.{refl, ap, ◌∙◌, ◌+◌, ℕ, List, length, take, arith}
+use Rattle.std.proofs.Common.{refl, ap, ◌∙◌, ℕ, List, length, take, arith}
 use Rattle.wc_tags.specs.Tag.{tag}
 use Rattle.hop_frames.specs.Frame.{number_of}
 use Rattle.hop_frames.proofs.Masks.{frame_written}

@@ -1,6 +1,6 @@
-use Rattle.std.proofs.Common.{◌≡◌, ap, ◌∙◌, ◌+◌, ℕ, List, length, take, arith}
+use Rattle.std.proofs.Common.{◌≡◌, ap, ◌∙◌, ◌+◌, ℕ, length, take, arith}
 use Rattle.frame_codec.specs.Payload.{payload_octets}
-use Rattle.hop_frames.specs.Frame.{framed, hash_key}
+use Rattle.hop_frames.specs.Frame.{framed}
 use Rattle.hop_frames.proofs.Masks.{framed_of_range}
 use Rattle.hop_frames.proofs.sealing.seal.Goals as goal
 
