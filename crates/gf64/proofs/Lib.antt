@@ -1,5 +1,6 @@
 pub mod Sums
 pub mod Multiplication
+pub mod Products
 pub mod Division
 pub mod Reduction
 pub mod Shifts
@@ -10,3 +11,4 @@ pub mod Maps
 pub mod Squares
 pub mod Idempotents
 pub mod Inverses
+pub mod Convolution

@@ -1,9 +1,8 @@
 -- The product of polynomials.
-use Rattle.std.proofs.Common.{◌≡◌, ℕ, zero, suc, ◌+◌, ◌*◌, ◌/◌, ◌%◌, ◌^◌, ◌<◌, ◌≤◌, Bool, true, false, eqb, refl, sym, ap, ◌∙◌, arith, add-one, lit<, bit_and}
+use Rattle.std.proofs.Common.{◌≡◌, ℕ, zero, suc, ◌+◌, ◌*◌, ◌/◌, ◌%◌, ◌^◌, ◌<◌, ◌≤◌, Bool, true, false, eqb, refl, sym, ap, ◌∙◌, arith, lit<}
 use Rattle.std.specs.Prelude.{bit_xor}
 use Rattle.std.proofs.Math.Nat.{pow-succ', pow-le-pow_right}
-use Rattle.std.proofs.lemmas.Nat.{xor_comm, xor_lt, pow_pos, shl_below, shl_whole}
-use Rattle.std.proofs.lemmas.Nat.Bits.{shr_and_one}
+use Rattle.std.proofs.lemmas.Nat.{xor_comm, xor_lt, pow_pos, pow-add, shr-shr, shl_below}
 use Rattle.std.specs.Int.Bits.{xor_assoc, xor_zero_l, xor_zero_r, xor_shifted}
 use Rattle.gf64.specs.Field.{coefficient, part, poly_times}
 use Rattle.gf64.proofs.Sums.{swap_middle, part_xor, part_below, part_times, coefficient_half, xor_shl, xor_double}
@@ -86,21 +85,28 @@ times_below (suc n) m p q lt =
     let top : p * 2 ^ n < 2 ^ (m + suc n) = rw e (shl_below p (suc m) n lt) in
     xor_lt (m + suc n) (poly_times n p q) (part (coefficient n q) (p * 2 ^ n)) (omega (arith, times_below n m p q lt, room)) (part_below (coefficient n q) (p * 2 ^ n) (2 ^ (m + suc n)) top)
 
--- ---- term by term
+-- ---- some terms, and then more
 
 pub times_none : (p q : ℕ) → 0 ≡ poly_times 0 p q
 unfolding poly_times
 times_none p q = refl
 
-pub times_more : (n p q so_far term : ℕ) → so_far ≡ poly_times n p q → term ≡ part (coefficient n q) (p * 2 ^ n) → bit_xor so_far term ≡ poly_times (n + 1) p q
-unfolding poly_times
-times_more n p q so_far term e t = rw (add-one, e, t) refl
+later_part : (c : Bool) (p n m : ℕ) → part c (p * 2 ^ m) * 2 ^ n ≡ part c (p * 2 ^ (n + m))
+later_part c p n m =
+    let e : p * 2 ^ m * 2 ^ n ≡ p * 2 ^ (n + m) = omega (arith, ap (λ (k : ℕ). p * k) (pow-add 2 n m)) in
+    part_times c (p * 2 ^ m) (2 ^ n) ∙ ap (part c) e
 
--- a term as the code computes it
-pub term_is : (a b i : ℕ) → a < 2 ^ 64 → i < 64 → a * bit_and (b / 2 ^ i) 1 * 2 ^ i % 2 ^ 128 ≡ part (coefficient i b) (a * 2 ^ i)
-term_is a b i la li = rw (shr_and_one b i) (by_bit (b / 2 ^ i % 2) (omega arith))
-  where
-    by_bit : (bit : ℕ) → bit < 2 → a * bit * 2 ^ i % 2 ^ 128 ≡ part (eqb bit 1) (a * 2 ^ i)
-    by_bit zero lt = let none : a * 0 * 2 ^ i ≡ 0 = omega arith in rw none refl
-    by_bit (suc zero) lt = let one : a * 1 ≡ a = omega arith in rw one (shl_whole a 64 i 128 la (omega (arith, li)))
-    by_bit (suc (suc n)) lt = absurd (omega arith)
+pub times_add : (n m p q : ℕ) → poly_times (n + m) p q ≡ bit_xor (poly_times n p q) (poly_times m p (q / 2 ^ n) * 2 ^ n)
+unfolding poly_times
+times_add n zero p q =
+    let e : n + 0 ≡ n = omega arith in
+    let none : 0 ≡ 0 * 2 ^ n = omega arith in
+    ap (λ (k : ℕ). poly_times k p q) e ∙ sym (xor_zero_r (poly_times n p q)) ∙ ap (bit_xor (poly_times n p q)) none
+times_add n (suc m) p q =
+    let e : n + suc m ≡ suc (n + m) = omega arith in
+    let here : coefficient m (q / 2 ^ n) ≡ coefficient (n + m) q = ap (λ (k : ℕ). eqb (k % 2) 1) (shr-shr q n m) in
+    ap (λ (k : ℕ). poly_times k p q) e
+    ∙ ap (λ (x : ℕ). bit_xor x (part (coefficient (n + m) q) (p * 2 ^ (n + m)))) (times_add n m p q)
+    ∙ xor_assoc (poly_times n p q) (poly_times m p (q / 2 ^ n) * 2 ^ n) (part (coefficient (n + m) q) (p * 2 ^ (n + m)))
+    ∙ ap (λ (x : ℕ). bit_xor (poly_times n p q) (bit_xor (poly_times m p (q / 2 ^ n) * 2 ^ n) x)) (ap (λ (c : Bool). part c (p * 2 ^ (n + m))) (sym here) ∙ sym (later_part (coefficient m (q / 2 ^ n)) p n m))
+    ∙ ap (bit_xor (poly_times n p q)) (xor_shl (poly_times m p (q / 2 ^ n)) (part (coefficient m (q / 2 ^ n)) (p * 2 ^ m)) n)

@@ -34,7 +34,7 @@ pub part_below : (c : Bool) (p m : ℕ) → p < m → part c p < m
 part_below true p m lt = lt
 part_below false p m lt = omega (arith, lt)
 
--- what commutes with nothing at all, commutes with a part
+-- a part, shifted, is a part of what is shifted
 pub part_times : (c : Bool) (p k : ℕ) → part c p * k ≡ part c (p * k)
 part_times true p k = refl
 part_times false p k = omega arith

@@ -1,6 +1,16 @@
 -- The laws of the field.
-use Rattle.std.specs.Prelude.{◌≡◌, ℕ, ◌^◌, ◌<◌, ◌↔◌, ◌⊎◌, bit_xor}
+use Rattle.std.specs.Prelude.{◌≡◌, ℕ, zero, suc, ◌+◌, ◌-◌, ◌*◌, ◌%◌, ◌^◌, ◌<◌, ◌↔◌, ◌⊎◌, nat_le, if◌then◌else◌, bit_xor}
+use Rattle.std.specs.Int.{bit_at}
 use Rattle.gf64.specs.Field.{modulus, poly_times, product, power}
+
+-- q0 * pk + q1 * p(k - 1) + q2 * p(k - 2) + .., over the n lowest coefficients of q
+unfoldable pub convolution : ℕ → ℕ → ℕ → ℕ → ℕ
+convolution zero p q k = 0
+convolution (suc n) p q k = convolution n p q k + bit_at q n * (if nat_le n k then bit_at p (k - n) else 0)
+
+-- The coefficients of the polynomials' product are those of a product of coefficient lists, modulo 2.
+abbrev pub IsConvolution : Type 0
+IsConvolution = (p q k : ℕ) → bit_at (poly_times 64 p q) k ≡ convolution 64 p q k % 2
 
 -- The product is the remainder of the polynomials' product p: the one r below x ^ 64 that differs from p by a multiple of the modulus.
 abbrev pub IsRemainder : Type 0

@@ -1,5 +1,10 @@
 // Each law is the contract of a function that does nothing.
-ghost use Rattle.gf64.specs.Laws.{IsRemainder, Commutes, Associates, Distributes, OneIsNeutral, HasNoZeroDivisors, SquaresReturn, HasTwoIdempotents};
+ghost use Rattle.gf64.specs.Laws.{IsConvolution, IsRemainder, Commutes, Associates, Distributes, OneIsNeutral, HasNoZeroDivisors, SquaresReturn, HasTwoIdempotents};
+
+/// The polynomials' product has the coefficients of the product of two coefficient lists.
+pub fn polynomials_are_multiplied()
+    ensures { IsConvolution }
+{}
 
 /// The product is what long division by the modulus leaves of the polynomials' product.
 pub fn product_is_a_remainder()

@@ -12,6 +12,8 @@ mod record;
 mod repeat;
 mod reply;
 mod short_of;
+#[cfg(test)]
+mod tests;
 
 pub use counts::Counts4;
 pub use event::Event;

@@ -4,8 +4,10 @@ use Rattle.std.specs.Prelude.{bit_xor}
 use Rattle.std.specs.List.{AllByRecursion}
 use Rattle.std.specs.Int.{w64, from_be_bytes}
 use Rattle.std.proofs.lemmas.Bool.{cases_lt}
+use Rattle.std.proofs.lemmas.Nat.{xor_lt}
 use Rattle.std.proofs.lemmas.List.{take-append-le, take_all, drop-append-le, append-nil, drop-drop, drop-replicate, length-drop, length-append, length-replicate}
 use Rattle.gf64.specs.Field.{product}
+use Rattle.gf64.proofs.Ring.{commutes}
 use Rattle.wc_tags.specs.Tag.{block_count, padded, numbers, blocks_of, hash}
 use Rattle.wc_tags.proofs.Horner.{horner, AreElements, from_zero, first_one, last_one}
 
@@ -98,15 +100,22 @@ start key text lk lt small =
     let octets : AreOctets (padded text) = octets_append text (replicate (8 * block_count text - length text) 0) (octets_from text small) (octets_zeros (8 * block_count text - length text)) in
     ap (horner key 0) (rest_whole text) ∙ from_zero key (numbers (block_count text) (padded text) ++ length text ∷ []) lk (elements (block_count text) (length text) (padded text) octets lt)
 
-pub step : (key sum next block i total : ℕ) (text : List ℕ) → i < block_count text → block ≡ from_be_bytes w64 (take 8 (padded (drop (8 * i) text))) → next ≡ product (bit_xor sum block) key
+-- the key's table is the first factor
+turned : (key table x : ℕ) → key < 2 ^ 64 → x < 2 ^ 64 → table ≡ key → product table x ≡ product x key
+turned key table x lk lx e = ap (λ (k : ℕ). product k x) e ∙ commutes key x lk lx
+
+pub step : (key table sum next block i total : ℕ) (text : List ℕ) → key < 2 ^ 64 → sum < 2 ^ 64 → block < 2 ^ 64 → table ≡ key → i < block_count text
+    → block ≡ from_be_bytes w64 (take 8 (padded (drop (8 * i) text))) → next ≡ product table (bit_xor sum block)
     → horner key sum (rest_of i text) ≡ total → horner key next (rest_of (i + 1) text) ≡ total
-step key sum next block i total text lt b e h =
-    ap (λ (s : ℕ). horner key s (rest_of (i + 1) text)) (e ∙ ap (λ (m : ℕ). product (bit_xor sum m) key) b)
+step key table sum next block i total text lk ls lb t lt b e h =
+    ap (λ (s : ℕ). horner key s (rest_of (i + 1) text)) (e ∙ turned key table (bit_xor sum block) lk (xor_lt 64 sum block ls lb) t ∙ ap (λ (m : ℕ). product (bit_xor sum m) key) b)
     ∙ sym (first_one key sum (from_be_bytes w64 (take 8 (padded (drop (8 * i) text)))) (rest_of (i + 1) text))
     ∙ ap (horner key sum) (sym (rest_more i text lt)) ∙ h
 
-pub done : (key sum last i total : ℕ) (text : List ℕ) → block_count text ≤ i → last ≡ product (bit_xor sum (length text)) key → horner key sum (rest_of i text) ≡ total → last ≡ total
-done key sum last i total text le e h = e ∙ sym (last_one key sum (length text)) ∙ ap (horner key sum) (sym (rest_end i text le)) ∙ h
+pub done : (key table sum last i total : ℕ) (text : List ℕ) → key < 2 ^ 64 → sum < 2 ^ 64 → length text < 2 ^ 64 → table ≡ key → block_count text ≤ i → last ≡ product table (bit_xor sum (length text))
+    → horner key sum (rest_of i text) ≡ total → last ≡ total
+done key table sum last i total text lk ls ll t le e h =
+    e ∙ turned key table (bit_xor sum (length text)) lk (xor_lt 64 sum (length text) ls ll) t ∙ sym (last_one key sum (length text)) ∙ ap (horner key sum) (sym (rest_end i text le)) ∙ h
 
 -- ---- one block
 

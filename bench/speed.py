@@ -1,0 +1,47 @@
+#!/usr/bin/env python3
+"""Times the products and the tags of crates/tag_speed against bench/speed.rs.
+
+    python3 bench/speed.py PROGRAM
+
+PROGRAM is the built tag_speed. The three forms take turns, each time is the
+least of five, and what is printed are ratios of one run on one machine.
+"""
+import pathlib
+import subprocess
+import sys
+import tempfile
+import time
+
+COUNTS = {"products": ("4000000", "0"), "tags of 585 octets": ("0", "60000")}
+
+
+def timed(words):
+    start = time.perf_counter()
+    out = subprocess.run(words, check=True, capture_output=True, text=True).stdout
+    return time.perf_counter() - start, out
+
+
+def main():
+    program = sys.argv[1]
+    source = pathlib.Path(__file__).with_name("speed.rs")
+    with tempfile.TemporaryDirectory() as folder:
+        rust = f"{folder}/speed"
+        subprocess.run(["rustc", "-O", "--edition=2024", "-o", rust, source], check=True)
+        forms = {"proved": [program], "shift loop": [rust, "shift"], "carry-less": [rust, "carry-less"]}
+        for name, counts in COUNTS.items():
+            least, outputs = {}, set()
+            for _ in range(5):
+                for form, words in forms.items():
+                    seconds, out = timed(words + list(counts))
+                    least[form] = min(least.get(form, seconds), seconds)
+                    outputs.add(out)
+            if len(outputs) != 1:
+                sys.exit(f"{name}: the forms differ: {outputs}")
+            each = 1e9 / max(int(c) for c in counts)
+            print(f"{name}: " + ", ".join(f"{form} {seconds * each:.0f} ns" for form, seconds in least.items()))
+            print(f"  shift loop / proved = {least['shift loop'] / least['proved']:.1f}")
+            print(f"  proved / carry-less = {least['proved'] / least['carry-less']:.1f}")
+
+
+if __name__ == "__main__":
+    main()

@@ -1,0 +1,60 @@
+ghost use Rattle.std.specs.Prelude.{◌≡◌, ℕ, ◌<◌, ◌^◌};
+ghost use Rattle.gf64.specs.Field.{product};
+ghost use Rattle.gf64.specs.Multiples.{AreMultiples};
+
+use crate::remainder::reduce;
+use std::marker::Model;
+
+/// An element with its products by the 16 polynomials below x^4, which make many products with it
+/// quick: each takes 16 steps.
+#[derive(Drop)]
+pub struct Multiples {
+    factor: u64,
+    products: [u128; 16],
+}
+
+impl Model for Multiples {
+    ghost Value = { ℕ };
+
+    ghost view = { λ m. m.factor };
+
+    ghost invariant = { λ m. (m.factor < 2 ^ 64) × AreMultiples m.factor 16 m.products };
+}
+
+impl Multiples {
+    /// The multiples of an element.
+    pub fn of(factor: u64) -> Self
+        ensures { result ≡ factor }
+    {
+        Multiples {
+            factor,
+            products: products_of(factor),
+        }
+    }
+
+    /// The product of the element and another one.
+    #[tactic(auto, unfolding(crate::specs::Field::product))]
+    pub fn times(&self, other: u64) -> u64
+        ensures { result ≡ product self.now other }
+    {
+        let mut sum = 0u128;
+        for i in 0..16u32 {
+            sum ^= self.products[((other >> (4 * i)) % 16) as usize] << (4 * i);
+        }
+        reduce(sum)
+    }
+}
+
+// Each number stands for a polynomial below x^4.
+fn products_of(factor: u64) -> [u128; 16]
+    ensures { AreMultiples factor 16 result }
+{
+    let mut products = [0u128; 16];
+    products[1] = u128::from(factor);
+    for i in 1..8usize {
+        let even = products[i] << 1;
+        products[2 * i] = even;
+        products[2 * i + 1] = even ^ u128::from(factor);
+    }
+    products
+}

@@ -1,0 +1,72 @@
+-- What replies hand out: which key, to whom, with which bytes, and where these come from.
+use Rattle.std.specs.Prelude.{◌≡◌, ℕ, ◌+◌, ◌≤◌, true, List, [], ◌∷◌, ◌++◌, length, map, find, slice_get, Option, Some, None}
+use Rattle.qkd_base.specs.Name.{Name}
+use Rattle.net_model.specs.declared.event.Event.{Event}
+use Rattle.net_model.specs.declared.event.Event.TheVariants.{Enc, Dec, Get, EncGroup}
+use Rattle.net_model.specs.declared.fact.Fact.{Fact}
+use Rattle.net_model.specs.declared.reply.Reply.{Reply}
+use Rattle.net_model.specs.declared.reply.Reply.TheVariants.{Handed, Stream}
+use Rattle.net_model.specs.Table.{name_of, bytes_of, origin, fact_at, is_part_of, is_secret}
+use Rattle.net_model.specs.LaneBytes.{octets_from}
+use Rattle.net_model.specs.Streams.{is_chunk_at}
+use Rattle.net_model.specs.World.{Network, World}
+use Rattle.net_model.specs.Action.{Action, Ask, Outcome, Replies}
+use Rattle.net_model.specs.Step.{step}
+
+-- a key's name, the application that got it, and the bytes in the reply
+pub record Delivery : Type 0 where
+  pub name : Name
+  pub sae : ℕ
+  pub bytes : List ℕ
+
+abbrev pub to_one : ℕ → Name × List ℕ → Delivery
+to_one sae key = record { name = key.0; sae = sae; bytes = key.1 }
+
+abbrev pub chunk_delivery : ℕ → List ℕ → Option Fact → List Delivery
+chunk_delivery sae bytes None = []
+chunk_delivery sae bytes (Some f) = record { name = name_of f; sae = sae; bytes = bytes } ∷ []
+
+-- what the reply to an event hands out. A chunk is named by its stream and index
+abbrev pub delivered : List Fact → Event → Reply → List Delivery
+delivered facts (Enc m s n bits) (Handed keys) = map (to_one m) keys
+delivered facts (Dec s m names) (Handed keys) = map (to_one s) keys
+delivered facts (EncGroup m slaves n bits) (Handed keys) = map (to_one m) keys
+delivered facts (Get caller stream index) (Stream status named place (b ∷ bytes)) = chunk_delivery caller (b ∷ bytes) (find (is_chunk_at stream index) facts)
+delivered facts event reply = []
+
+abbrev pub of_step : List Fact → Action → Outcome → List Delivery
+of_step facts (Ask v event environment) (Replies reply) = delivered facts event reply
+of_step facts action outcome = []
+
+-- what the replies of a run hand out, in order
+unfoldable pub deliveries : Network → World → List Action → List Delivery
+deliveries net w [] = []
+deliveries net w (a ∷ rest) = let out = step net w a in of_step w.durable.facts a out.1 ++ deliveries net out.0 rest
+
+-- the one byte list of a name: that of the key or chunk, or of the parts of the group key
+abbrev pub bytes_or_parts : List Fact → Name → Option Fact → List ℕ
+bytes_or_parts facts n (Some f) = bytes_of f
+bytes_or_parts facts n None = part_bytes (find (is_part_of n) facts)
+  where
+    part_bytes : Option Fact → List ℕ
+    part_bytes None = []
+    part_bytes (Some f) = bytes_of f
+
+unfoldable pub bytes_at : List Fact → Name → List ℕ
+bytes_at facts n = bytes_or_parts facts n (fact_at facts n)
+
+-- a reply hands out the bytes of the name
+abbrev pub IsTrueDelivery : List Fact → Delivery → Type 0
+IsTrueDelivery facts d = d.bytes ≡ bytes_at facts d.name
+
+-- the bytes of a key, chunk or part are octets that its origin's entropy gave
+pub record IsDrawn (net : Network) (w : World) (f : Fact) : Type 0 where
+  pub place : ℕ
+  pub bytes : bytes_of f ≡ octets_from (net.entropy (origin f)).octet place (length (bytes_of f))
+  pub within : place + length (bytes_of f) ≤ w.drawn (origin f)
+
+-- all that replies handed out so far was marked, with the bytes of its name; and all bytes were drawn at their origins
+pub record AreTrueDeliveries (net : Network) (w : World) (ds : List Delivery) : Type 0 where
+  pub marked : (n : ℕ) (d : Delivery) → slice_get ds n ≡ Some d → (k : ℕ) × (slice_get w.durable.handed k ≡ Some (d.name, d.sae))
+  pub bytes : (n : ℕ) (d : Delivery) → slice_get ds n ≡ Some d → IsTrueDelivery w.durable.facts d
+  pub drawn : (n : Name) (f : Fact) → fact_at w.durable.facts n ≡ Some f → is_secret f ≡ true → IsDrawn net w f

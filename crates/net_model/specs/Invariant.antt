@@ -1,0 +1,55 @@
+-- What every action keeps: the conserved properties of the network.
+use Rattle.std.specs.Prelude.{◌≡◌, ℕ, ◌<◌, ◌≤◌, Bool, true, false, List, [], ◌∷◌, ◌⊎◌, slice_get, Some, if◌then◌else◌}
+use Rattle.qkd_base.specs.Name.{Name}
+use Rattle.qkd_base.specs.declared.lane.Lane.{Lane}
+use Rattle.net_model.specs.declared.fact.Fact.{Fact}
+use Rattle.net_model.specs.declared.placing.Placing.{Placing}
+use Rattle.net_model.specs.Site.{Site, sender, receiver, count_up}
+use Rattle.net_model.specs.World.{Network, World, Durable, Allocation, Transmission, Owner, Journal, no_doubt, no_volatile, received}
+use Rattle.net_model.specs.Journal.{journal_limit}
+use Rattle.net_model.specs.Records.{replay}
+use Rattle.net_model.specs.Ownership.{IsOwned, HasRoom, IsWired}
+use Rattle.net_model.specs.Knowledge.{IsTable, OneChunkEach, IsGroups, IsKnowledge, IsCarried, IsMarked, IsStoredOnce}
+use Rattle.net_model.specs.Handings.{IsHanded}
+use Rattle.net_model.specs.Windows.{IsVolatile, IsPlaced, IsPosted}
+
+-- said of just the families that it looks at, so that a world which differs elsewhere keeps it by the same proof
+pub record InvariantOf (s : Site) (facts : List Fact) (handed : List (Name × ℕ)) (known acked : ℕ → List Name)
+    (own : Lane → List Owner) (lease : Lane → ℕ) (frames : Lane → List Allocation) (unclaimed : Lane → List Transmission) (got : Lane → ℕ) : Type 0 where
+  pub owned : (l : Lane) → IsOwned facts (own l) (frames l) (got l)
+  pub room : (l : Lane) → HasRoom facts (own l) (unclaimed l) (lease l) (got l)
+  pub table : IsTable s facts known
+  pub chunks : OneChunkEach facts
+  pub groups : IsGroups facts
+  pub knowledge : IsKnowledge facts known
+  pub carried : (l : Lane) → IsCarried facts known (sender s l) (receiver s l) (frames l) (unclaimed l)
+  pub marked : IsMarked facts known acked
+  pub stored : IsStoredOnce facts known
+  pub handings : IsHanded s facts known handed
+
+abbrev pub Invariant : Site → Durable → (Lane → List Allocation) → (Lane → List Transmission) → Type 0
+Invariant s d frames unclaimed = InvariantOf s d.facts d.handed d.known d.acked d.own d.lease frames unclaimed (received d)
+
+-- the durable part once the batches in doubt of some nodes are made
+abbrev pub with_doubts : Site → World → (ℕ → Bool) → List ℕ → Durable → Durable
+with_doubts s w made [] d = d
+with_doubts s w made (v ∷ vs) d = with_doubts s w made vs (if made v then replay s v (w.in_doubt v).batch d else d)
+
+-- nothing before the first start, then at least a header and a gate, and never past the limit
+abbrev pub IsJournal : Journal → Type 0
+IsJournal j = (j.length' ≡ 0) ⊎ ((17 ≤ j.length') × (j.length' ≤ journal_limit) × (j.start < j.length'))
+
+pub record Conserved (net : Network) (w : World) : Type 0 where
+  pub now : Invariant net.site w.durable w.frames w.unclaimed
+  -- it holds as well once the batches in doubt of any nodes are made
+  pub doubts : (made : ℕ → Bool) → Invariant net.site (with_doubts net.site w made (count_up net.site.nodes) w.durable) w.frames w.unclaimed
+  -- only a manager that is down has a batch in doubt, and it keeps nothing of its life
+  pub doubtful : (v : ℕ) → w.up v ≡ true → w.in_doubt v ≡ no_doubt
+  pub resting : (v : ℕ) → w.up v ≡ false → w.volatile v ≡ no_volatile
+  pub volatile : (v : ℕ) → IsVolatile net w v (w.volatile v)
+  pub placed : (v n : ℕ) (p : Placing) → slice_get (w.placings v) n ≡ Some p → IsPlaced net w v p
+  pub posted : (l : Lane) → IsPosted l (w.unclaimed l) (w.outgoing l)
+  pub wired : (l : Lane) → IsWired (w.frames l) (w.wire l) (w.outgoing l)
+  pub journals : (v : ℕ) → IsJournal (w.journal v)
+  pub low_blocks : (l : ℕ) → w.durable.low_blocks l ≤ 1024
+  pub high_blocks : (l : ℕ) → w.durable.high_blocks l ≤ 1024

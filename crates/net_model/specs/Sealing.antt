@@ -1,0 +1,42 @@
+-- How a payload becomes a frame on a lane and back. The network looks at a frame only through these two.
+use Rattle.std.specs.Prelude.{◌≡◌, ℕ, ◌+◌, ◌^◌, ◌≤◌, ◌<◌, List, ◌++◌, length}
+use Rattle.qkd_base.specs.declared.lane.Lane.{Lane}
+use Rattle.net_model.specs.declared.payload.Payload.{Payload}
+use Rattle.net_model.specs.declared.reply.Reply.{Reply}
+use Rattle.net_model.specs.declared.reply.Reply.TheVariants.{NoBits}
+use Rattle.net_model.specs.Facts.{payload_len, IsWellFormed}
+use Rattle.net_model.specs.Ranges.{IsOctets, IsRanged}
+
+-- what opening octets over received lane bytes gives: a payload at an offset; a refusal, which is BadFrame, WrongLane, NoBits or
+-- BadTag in this order; or a right tag over octets that are no payload, and the place of the first that isn't
+pub data Opened : Type 0 where
+  Opens : (offset : ℕ) (payload : Payload) → Opened
+  Rejected : (reply : Reply) → Opened
+  Forged : (place : ℕ) → Opened
+
+-- a lane, its bytes, and the offset and payload or the frame's octets
+pub record Sealing : Type 0 where
+  pub seal : Lane → List ℕ → ℕ → Payload → List ℕ
+  pub unseal : Lane → List ℕ → List ℕ → Opened
+
+-- a payload that these lane bytes reach for, behind the hash key
+pub record IsSealable (l : Lane) (bytes : List ℕ) (offset : ℕ) (p : Payload) : Type 0 where
+  pub link : l.link < 32
+  pub octets : IsOctets bytes
+  pub size : length bytes < 2 ^ 63
+  pub formed : IsWellFormed p
+  pub ranged : IsRanged p
+  pub start : 8 ≤ offset
+  pub reach : offset + payload_len p + 8 ≤ length bytes
+
+-- What the frames of a network are: octets, 24 more than the payload; the same with more lane bytes; opened where they were sealed as soon
+-- as the bytes received suffice, and refused for want of bytes before.
+pub record IsSealing (f : Sealing) : Type 0 where
+  pub size : (l : Lane) (bytes : List ℕ) (offset : ℕ) (p : Payload) → IsSealable l bytes offset p → length (f.seal l bytes offset p) ≡ payload_len p + 24
+  pub octets : (l : Lane) (bytes : List ℕ) (offset : ℕ) (p : Payload) → IsSealable l bytes offset p → IsOctets (f.seal l bytes offset p)
+  pub longer : (l : Lane) (bytes more : List ℕ) (offset : ℕ) (p : Payload) → IsSealable l bytes offset p →
+      f.seal l (bytes ++ more) offset p ≡ f.seal l bytes offset p
+  pub opens : (l : Lane) (bytes : List ℕ) (offset : ℕ) (p : Payload) → IsSealable l bytes offset p →
+      f.unseal l bytes (f.seal l bytes offset p) ≡ Opens offset p
+  pub too_few : (l : Lane) (bytes more : List ℕ) (offset : ℕ) (p : Payload) → IsSealable l (bytes ++ more) offset p →
+      length bytes < offset + payload_len p + 8 → f.unseal l bytes (f.seal l (bytes ++ more) offset p) ≡ Rejected (NoBits (length bytes))

@@ -1,0 +1,91 @@
+-- Starts: a journal is read back, what was in doubt is settled, and each lane goes on at its leased end.
+use Rattle.std.specs.Prelude.{ℕ, ◌-◌, ◌==◌, ◌&&◌, ◌||◌, not, Bool, true, false, List, ◌++◌, length, replicate, is_none, Option, Some, None, if◌then◌else◌}
+use Rattle.qkd_base.specs.Family.{number_set}
+use Rattle.net_model.specs.Site.{Site, sender}
+use Rattle.net_model.specs.World.{Network, World, Durable, Owner, Burnt, Journal, InDoubt, no_doubt, no_volatile}
+use Rattle.net_model.specs.Needed.{view_of}
+use Rattle.net_model.specs.Records.{replay}
+use Rattle.net_model.specs.Journal.{added_len, is_nil, is_blank, new_journal, extended, checkpoint_need, is_checkpoint_due, checkpointed, recovered_journal}
+use Rattle.net_model.specs.Action.{Recovery, Recovers, Interrupted, NoMemory, Foreign, Outcome, Started, WasUp, StartStopped, StartMemory, ForeignAt}
+
+-- the batch in doubt is made durable or not
+abbrev pub resolved_durable : Site → World → ℕ → Bool → Durable
+resolved_durable site w v committed = if committed then replay site v (w.in_doubt v).batch w.durable else w.durable
+
+-- the journal as it is read: a first start makes one, and a batch in doubt adds its octets once
+abbrev pub resolved_journal : World → ℕ → Bool → Journal
+resolved_journal w v committed =
+    if is_blank (w.journal v) then new_journal
+    else extended (w.journal v) (if committed && is_none (w.in_doubt v).checkpointed then added_len (w.journal v).version (w.in_doubt v).batch else 0)
+
+abbrev pub resolved : Site → World → ℕ → Bool → World
+resolved site w v committed = record w { durable = resolved_durable site w v committed; journal = number_set w.journal v (resolved_journal w v committed) }
+
+-- the octets of the checkpoint that a start over this world makes
+abbrev pub need_at : Network → World → ℕ → ℕ
+need_at net w v = checkpoint_need (view_of net w v)
+
+-- the bytes up to the leased end, but those that are owned, are given up
+abbrev pub burnt_to : ℕ → List Owner → List Owner
+burnt_to lease own = own ++ replicate (lease - length own) Burnt
+
+-- a manager is up again, with nothing but what its journal says; a checkpoint is made where one is due
+unfoldable pub restarted : Network → World → ℕ → World
+restarted net w v =
+    record w {
+      durable = record (w.durable) { own = λ l. if sender net.site l == v then burnt_to (w.durable.lease l) (w.durable.own l) else w.durable.own l };
+      recovered = λ l. if sender net.site l == v then w.durable.lease l else w.recovered l;
+      up = number_set w.up v true;
+      journal = number_set w.journal v (recovered_journal (w.journal v) (need_at net w v));
+      in_doubt = number_set w.in_doubt v no_doubt;
+      volatile = number_set w.volatile v no_volatile;
+    }
+
+-- A stopped start leaves the manager down. A checkpoint that it had made stays, and settles what is in doubt. On a blank disk it may
+-- leave a header that is no header.
+abbrev pub interrupted_start : Network → World → ℕ → Option Bool → World
+interrupted_start net w v None = record w { interrupted = number_set w.interrupted v (w.interrupted v || is_blank (w.journal v)) }
+interrupted_start net w v (Some committed) =
+    let next = resolved net.site w v committed in
+    record w {
+      journal = number_set w.journal v (checkpointed (next.journal v) (need_at net next v));
+      in_doubt = number_set w.in_doubt v (record (w.in_doubt v) { checkpointed = Some committed });
+    }
+
+abbrev pub recovers : Network → World → ℕ → Recovery → World × Outcome
+recovers net w v (Recovers committed) = (restarted net (resolved net.site w v committed) v, Started)
+recovers net w v (Interrupted made) = (interrupted_start net w v made, StartStopped)
+recovers net w v NoMemory = (w, StartMemory)
+recovers net w v Foreign = (w, ForeignAt 16)
+
+unfoldable pub start : Network → World → ℕ → Recovery → World × Outcome
+start net w v recovery = if w.up v then (w, WasUp) else recovers net w v recovery
+
+-- which answers a start may get
+
+abbrev pub agrees : Option Bool → Bool → Bool → Bool
+agrees None has_batch committed = not committed || has_batch
+agrees (Some true) has_batch committed = committed
+agrees (Some false) has_batch committed = not committed
+
+-- a batch in doubt is committed only where there is one, and as a checkpoint that was made has it
+abbrev pub may_resolve : InDoubt → Bool → Bool
+may_resolve d committed = agrees d.checkpointed (not (is_nil d.batch)) committed
+
+-- a stopped start made a checkpoint only where one was due
+abbrev pub may_checkpoint : Network → World → ℕ → Bool → Bool
+may_checkpoint net w v committed =
+    let next = resolved net.site w v committed in
+    not (is_blank (w.journal v)) && is_checkpoint_due (next.journal v) (need_at net next v)
+
+unfoldable pub may_recover : Network → World → ℕ → Recovery → Bool
+may_recover net w v (Recovers committed) = may_resolve (w.in_doubt v) committed
+may_recover net w v (Interrupted None) = true
+may_recover net w v (Interrupted (Some committed)) = may_resolve (w.in_doubt v) committed && may_checkpoint net w v committed
+may_recover net w v NoMemory = true
+may_recover net w v Foreign = is_blank (w.journal v) && w.interrupted v
+
+-- a manager that is up asks its disk nothing
+abbrev pub is_plain : Recovery → Bool
+is_plain (Recovers false) = true
+is_plain _ = false

@@ -1,0 +1,137 @@
+-- Streams of chunks between a source and a peer (ETSI GS QKD 004: OPEN_CONNECT, GET_KEY, CLOSE).
+use Rattle.std.specs.Prelude.{ℕ, zero, suc, ◌+◌, ◌*◌, ◌/◌, ◌%◌, ◌==◌, ◌&&◌, ◌||◌, not, nat_lt, nat_le, Bool, false, List, [], ◌∷◌, find, take, drop, reverse, count_by, Option, Some, None, if◌then◌else◌}
+use Rattle.std.specs.List.{list_any}
+use Rattle.qkd_base.specs.Name.{Name, name_eq}
+use Rattle.qkd_base.specs.declared.key_name.NameKind.TheVariants.{Key as KeyKind, Stream as StreamKind, Note as NoteKind}
+use Rattle.net_model.specs.declared.fact.Fact.{Fact}
+use Rattle.net_model.specs.declared.fact.Fact.TheVariants.{Chunk, Open, Joined}
+use Rattle.net_model.specs.declared.record.Record.{Record}
+use Rattle.net_model.specs.declared.record.Record.TheVariants.{Learned, Handed, Closed}
+use Rattle.net_model.specs.declared.reply.Reply.{Reply}
+use Rattle.net_model.specs.declared.reply.Reply.TheVariants.{Stream, MadeKeys, NoRoute, PoolFull, UnknownStream}
+use Rattle.net_model.specs.Table.{name_of, bytes_of, fact_at, was_handed, is_joined_about}
+use Rattle.net_model.specs.Site.{Site}
+use Rattle.net_model.specs.Routes.{route}
+use Rattle.net_model.specs.View.{View}
+use Rattle.net_model.specs.Decision.{Decision, Refuses, answers, makes, fresh_name, is_confirmed}
+use Rattle.net_model.specs.Pools.{is_entitled}
+
+-- 64 to 4,096 bits in steps of 8
+abbrev pub is_size : ℕ → Bool
+is_size bits = nat_le 64 bits && nat_le bits 4096 && (bits % 8 == 0)
+
+-- a status alone
+abbrev pub only_status : ℕ → Reply
+only_status n = Stream n None 0 []
+
+-- the application's end of a stream is here and isn't closed
+abbrev pub has_end : Site → View → Name → ℕ → Bool
+has_end site v stream sae = (site.home sae == v.me) && not (was_handed v.closed stream sae)
+
+-- the stream, where this node has an end of it that isn't closed
+abbrev pub open_end : Site → View → Option Fact → Option Fact
+open_end site v (Some (Open stream source peer size way)) =
+    if has_end site v stream source || has_end site v stream peer then Some (Open stream source peer size way) else None
+open_end site v _ = None
+
+abbrev pub stream_here : Site → View → Name → Option Fact
+stream_here site v n = open_end site v (fact_at v.facts n)
+
+-- the peer's Joined note is known here
+abbrev pub has_joined : View → Name → Bool
+has_joined v n = list_any (is_joined_about n) v.facts
+
+-- open, at the source's home: 8 not allowed or not at home, 7 size, 4 no route, 1 opened and not joined yet
+
+abbrev pub opened : View → ℕ → ℕ → ℕ → Option (List ℕ) → Decision
+opened v source peer bits None = answers v (only_status 4)
+opened v source peer bits (Some way) =
+    makes v (Learned (Open (fresh_name v StreamKind 0) source peer (bits / 8) way) ∷ []) (Stream 1 (Some (fresh_name v StreamKind 0)) 0 [])
+
+unfoldable pub open_stream : Site → (ℕ → Bool) → View → ℕ → ℕ → ℕ → Decision
+open_stream site up v source peer bits =
+    if not (is_entitled site v source source peer) then answers v (only_status 8)
+    else if not (is_size bits) then answers v (only_status 7)
+    else opened v source peer bits (route site up v.me (site.home peer))
+
+-- join: 9 no such stream open here, 5 by the source or by a peer that has joined, 8 by others or not at the peer's home, 7 another
+-- size, 0 joined
+abbrev pub joins : Site → View → ℕ → ℕ → ℕ → Option Fact → Decision
+joins site v caller other bits (Some (Open stream source peer size way)) =
+    if (caller == source) || ((caller == peer) && has_joined v stream) then answers v (only_status 5)
+    else if not ((caller == peer) && (other == source) && (site.home peer == v.me)) then answers v (only_status 8)
+    else if not (8 * size == bits) then answers v (only_status 7)
+    else makes v (Learned (Joined (fresh_name v NoteKind 0) stream (reverse way)) ∷ []) (Stream 0 (Some stream) 0 [])
+joins site v caller other bits _ = answers v (only_status 9)
+
+unfoldable pub join_stream : Site → View → ℕ → ℕ → Name → ℕ → Decision
+join_stream site v caller other stream bits = joins site v caller other bits (stream_here site v stream)
+
+-- the common part of get and close: 9 where no such stream is open here, or its peer here hasn't joined; 8 where the caller is
+-- neither end here
+abbrev pub at_end : Site → View → ℕ → Option Fact → (Name → ℕ → Decision) → Decision
+at_end site v caller (Some (Open stream source peer size way)) then' =
+    if (site.home peer == v.me) && not (has_joined v stream) then answers v (only_status 9)
+    else if not (((caller == source) && (site.home source == v.me)) || ((caller == peer) && (site.home peer == v.me))) then answers v (only_status 8)
+    else then' stream source
+at_end site v caller _ then' = answers v (only_status 9)
+
+abbrev pub is_chunk_of : Name → Fact → Bool
+is_chunk_of s (Chunk name stream index way bytes) = name_eq stream s
+is_chunk_of s _ = false
+
+abbrev pub is_chunk_at : Name → ℕ → Fact → Bool
+is_chunk_at s i (Chunk name stream index way bytes) = name_eq stream s && (index == i)
+is_chunk_at s i _ = false
+
+abbrev pub chunk_at : View → Name → ℕ → Option Fact
+chunk_at v s i = find (is_chunk_at s i) v.facts
+
+-- 10 given already, 2 not confirmed to the source or not known to the peer, 0 with the bytes
+abbrev pub gives_chunk : View → ℕ → ℕ → Bool → Option Fact → Decision
+gives_chunk v caller index at_source None = answers v (only_status 2)
+gives_chunk v caller index at_source (Some f) =
+    if was_handed v.handed (name_of f) caller then answers v (only_status 10)
+    else if at_source && not (is_confirmed v (name_of f)) then answers v (only_status 2)
+    else makes v (Handed (name_of f) caller ∷ []) (Stream 0 None index (bytes_of f))
+
+-- 3 where the source hasn't learned that the peer joined
+unfoldable pub get_chunk : Site → View → ℕ → Name → ℕ → Decision
+get_chunk site v caller stream index =
+    at_end site v caller (stream_here site v stream) (λ s source.
+    if (caller == source) && not (has_joined v s) then answers v (only_status 3)
+    else gives_chunk v caller index (caller == source) (chunk_at v s index))
+
+unfoldable pub close_stream : Site → View → ℕ → Name → Decision
+close_stream site v caller stream =
+    at_end site v caller (stream_here site v stream) (λ s source. makes v (Closed s caller ∷ []) (only_status 0))
+
+-- feed: chunks with the next indexes from 0
+
+abbrev pub new_chunks : View → Name → List ℕ → ℕ → ℕ → List ℕ → ℕ → ℕ → List Record
+new_chunks v stream way size next random more zero = []
+new_chunks v stream way size next random more (suc k) =
+    Learned (Chunk (fresh_name v KeyKind more) stream (next + more) way (take size random)) ∷ new_chunks v stream way size next (drop size random) (more + 1) k
+
+-- the chunks that the source hasn't got
+abbrev pub waiting : View → Name → ℕ → ℕ
+waiting v stream source = count_by (λ f. is_chunk_of stream f && not (was_handed v.handed (name_of f) source)) v.facts
+
+abbrev pub fed : View → Name → ℕ → ℕ → ℕ → List ℕ → Option (List ℕ) → Decision
+fed v stream source size count random None = Refuses NoRoute
+fed v stream source size count random (Some way) =
+    if nat_lt 4096 (waiting v stream source + count) then Refuses PoolFull
+    else makes v (new_chunks v stream way size (count_by (is_chunk_of stream) v.facts) random 0 count) (MadeKeys count (fresh_name v KeyKind 0))
+
+abbrev pub fed_stream : Site → (ℕ → Bool) → View → ℕ → List ℕ → Option Fact → Decision
+fed_stream site up v count random (Some (Open stream source peer size way)) =
+    if has_end site v stream source then fed v stream source size count random (route site up v.me (site.home peer)) else Refuses UnknownStream
+fed_stream site up v count random _ = Refuses UnknownStream
+
+unfoldable pub feed : Site → (ℕ → Bool) → View → Name → ℕ → List ℕ → Decision
+feed site up v stream count random = fed_stream site up v count random (fact_at v.facts stream)
+
+-- the octets of one chunk of a stream
+abbrev pub chunk_size : Option Fact → ℕ
+chunk_size (Some (Open stream source peer size way)) = size
+chunk_size _ = 0

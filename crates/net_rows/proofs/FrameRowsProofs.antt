@@ -1,0 +1,15 @@
+use Rattle.std.proofs.Common.{refl}
+use Rattle.net_rows.specs.FrameRows.{Tampered, ForgedFrames, Blocks}
+use Rattle.net_rows.proofs.Opened.{opened}
+
+pub tampered : Tampered
+unfolding opened
+tampered = refl
+
+pub forged_frames : ForgedFrames
+unfolding opened
+forged_frames = refl
+
+pub blocks : Blocks
+unfolding opened
+blocks = refl

@@ -1,0 +1,31 @@
+use Rattle.std.proofs.Common.{refl}
+use Rattle.net_rows.specs.JournalRows.{Checkpoints, CheckpointInDoubt, Migration, CheckpointOnce, FullJournal, HandingRuns, UsedKeys}
+use Rattle.net_rows.proofs.Opened.{opened}
+
+pub checkpoints : Checkpoints
+unfolding opened
+checkpoints = refl
+
+pub checkpoint_in_doubt : CheckpointInDoubt
+unfolding opened
+checkpoint_in_doubt = refl
+
+pub migration : Migration
+unfolding opened
+migration = refl
+
+pub checkpoint_once : CheckpointOnce
+unfolding opened
+checkpoint_once = refl
+
+pub full_journal : FullJournal
+unfolding opened
+full_journal = refl
+
+pub handing_runs : HandingRuns
+unfolding opened
+handing_runs = refl
+
+pub used_keys : UsedKeys
+unfolding opened
+used_keys = refl

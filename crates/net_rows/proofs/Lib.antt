@@ -1,0 +1,12 @@
+pub mod Opened
+pub mod TickRowsProofs
+pub mod RelayRowsProofs
+pub mod KeyRowsProofs
+pub mod StreamRowsProofs
+pub mod StartRowsProofs
+pub mod GroupRowsProofs
+pub mod FrameRowsProofs
+pub mod JournalRowsProofs
+pub mod WorldRowsProofs
+pub mod ManagerRowsProofs
+pub mod PartRowsProofs

@@ -1,0 +1,31 @@
+-- All definitions that a worked scenario computes with.
+use Rattle.net_model.specs.Site.{outgoing_lanes}
+use Rattle.net_model.specs.Routes.{walks, route_from, route}
+use Rattle.net_model.specs.LaneBytes.{octets_from, first_blocks, lane_octets}
+use Rattle.net_model.specs.World.{first}
+use Rattle.net_model.specs.Needed.{is_needed, masked, view_of}
+use Rattle.net_model.specs.Records.{block_taken, apply_record, replay}
+use Rattle.net_model.specs.Journal.{spelled_after, body_len, checkpoint_records, batches_of, checkpoint_need, checkpoint_place, is_checkpoint_due, checkpointed}
+use Rattle.net_model.specs.Fold.{view_record, view_records, view_after, view_restarted, recovered_view}
+use Rattle.net_model.specs.Decision.{last_count}
+use Rattle.net_model.specs.Window.{acknowledge, repeats_on, complete_one, complete}
+use Rattle.net_model.specs.Pools.{pool, unhanded, fill, enc, dec, status}
+use Rattle.net_model.specs.Groups.{unhanded_group, group, fill_group, enc_group}
+use Rattle.net_model.specs.Streams.{open_stream, join_stream, get_chunk, close_stream, feed}
+use Rattle.net_model.specs.Relay.{owed, receive_fact, receive_ack}
+use Rattle.net_model.specs.Plan.{wanted_on, orders_on, plan}
+use Rattle.net_model.specs.Show.{show}
+use Rattle.net_model.specs.Events.{is_valid_event}
+use Rattle.net_model.specs.Decide.{decide, random_need}
+use Rattle.net_model.specs.Handle.{commit, stopped, perform, handle, take_block}
+use Rattle.net_model.specs.Frames.{allocate, transmit, deliver_frame, deliver, tampered, flip}
+use Rattle.net_model.specs.Start.{restarted, start, may_recover}
+use Rattle.net_model.specs.Step.{step, is_enabled, run, outcomes, is_run}
+use Rattle.net_model.specs.Ledger.{ledger}
+use Rattle.net_model.specs.Tick.{tick_order}
+use Rattle.net_rows.specs.Follow.{follow, followed}
+use Rattle.net_rows.specs.Driver.{report_of, report_down, report}
+
+unfoldable pub opened : Unit {0}
+unfolding outgoing_lanes walks route_from route octets_from first_blocks lane_octets first is_needed masked view_of block_taken apply_record replay spelled_after body_len checkpoint_records batches_of checkpoint_need checkpoint_place is_checkpoint_due checkpointed view_record view_records view_after view_restarted recovered_view last_count acknowledge repeats_on complete_one complete pool unhanded fill enc dec status unhanded_group group fill_group enc_group open_stream join_stream get_chunk close_stream feed owed receive_fact receive_ack wanted_on orders_on plan show is_valid_event decide random_need commit stopped perform handle take_block allocate transmit deliver_frame deliver tampered flip restarted start may_recover step is_enabled run outcomes is_run ledger tick_order report_of report_down report follow followed
+opened = tt

@@ -1,0 +1,23 @@
+use Rattle.std.proofs.Common.{refl}
+use Rattle.net_rows.specs.PartRows.{TwoPlans, AckedMeanwhile, FullPools, Walks, LaneBytes}
+use Rattle.net_rows.proofs.Opened.{opened}
+
+pub two_plans : TwoPlans
+unfolding opened
+two_plans = refl
+
+pub acked_meanwhile : AckedMeanwhile
+unfolding opened
+acked_meanwhile = refl
+
+pub full_pools : FullPools
+unfolding opened
+full_pools = refl
+
+pub walks : Walks
+unfolding opened
+walks = refl
+
+pub lane_bytes : LaneBytes
+unfolding opened
+lane_bytes = refl

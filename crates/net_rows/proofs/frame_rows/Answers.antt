@@ -1,0 +1,11 @@
+use Rattle.net_rows.proofs.FrameRowsProofs.{tampered, forged_frames, blocks}
+use Rattle.net_rows.proofs.frame_rows.Goals as goal
+
+pub returns-clause-tampered : goal.returns-clause-tampered
+returns-clause-tampered c = tampered
+
+pub returns-clause-forged_frames : goal.returns-clause-forged_frames
+returns-clause-forged_frames c = forged_frames
+
+pub returns-clause-blocks : goal.returns-clause-blocks
+returns-clause-blocks c = blocks

@@ -1,0 +1,8 @@
+use Rattle.net_rows.proofs.StreamRowsProofs.{streams, joining}
+use Rattle.net_rows.proofs.stream_rows.Goals as goal
+
+pub returns-clause-streams : goal.returns-clause-streams
+returns-clause-streams c = streams
+
+pub returns-clause-joining : goal.returns-clause-joining
+returns-clause-joining c = joining

@@ -1,0 +1,16 @@
+pub mod Lines
+pub mod Driver
+pub mod Runs
+pub mod Follow
+pub mod Numbers
+pub mod TickRows
+pub mod RelayRows
+pub mod KeyRows
+pub mod StreamRows
+pub mod StartRows
+pub mod GroupRows
+pub mod FrameRows
+pub mod JournalRows
+pub mod WorldRows
+pub mod ManagerRows
+pub mod PartRows

@@ -1,0 +1,12 @@
+//! The run of a scenario over the network, and its report.
+#![tactic(auto)]
+
+mod network;
+mod run;
+
+pub use edge_io;
+pub use net_model;
+pub use network::Network;
+pub use report_text;
+pub use run::{RunRefusal, run_scenario};
+pub use scenario_text;

@@ -1,0 +1,61 @@
+// The words that the program was called with.
+use qkd_base::{Items, Memory, Text, Texts};
+use std::alloc::Global;
+use std::env::{Env, FillError};
+use std::str;
+
+/// What the words ask of the program itself, or the words for the top call.
+#[derive(Debug, Drop)]
+pub enum Request {
+    Help,
+    Version,
+    Words(Texts),
+}
+
+// A word that no form has stands for one that is too long or no text.
+const FAULTY: &str = "\u{fffd}";
+
+// The text of a word's octets.
+fn text(alloc: Global, octets: &[u8]) -> Result<Text, Memory> {
+    let string = match str::from_utf8(octets) {
+        Ok(word) => String::from_str(alloc, word)?,
+        Err(_) => String::from_str(alloc, FAULTY)?,
+    };
+    Ok(Text::from_string(string))
+}
+
+// The word at a place, if there is one.
+fn word_at(rt: &HostRuntime, place: usize) -> Result<Option<Text>, Memory> {
+    let mut buffer = [0u8; 64];
+    match rt.arg(place, &mut buffer) {
+        Err(FillError::NotPresent) => Ok(None),
+        Err(FillError::TooLong) => Ok(Some(text(rt.alloc(), FAULTY.as_bytes())?)),
+        Ok(size) => Ok(Some(text(rt.alloc(), &buffer[..size])?)),
+    }
+}
+
+// Whether this is the sole word.
+fn is_sole(words: &Texts, word: &str) -> bool {
+    match words.get(0) {
+        Some(first) => words.len() == 1 && first.as_str() == word,
+        None => false,
+    }
+}
+
+/// Reads the words behind the program's name.
+pub fn read_request(rt: &HostRuntime) -> Result<Request, Memory> {
+    let mut words: Texts = Items::new(rt.alloc());
+    for place in 1..usize::MAX {
+        match word_at(rt, place)? {
+            Some(word) => words.push(word)?,
+            None => break,
+        }
+    }
+    if is_sole(&words, "--help") {
+        Ok(Request::Help)
+    } else if is_sole(&words, "--version") {
+        Ok(Request::Version)
+    } else {
+        Ok(Request::Words(words))
+    }
+}

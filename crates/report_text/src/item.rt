@@ -1,0 +1,73 @@
+// What a report tells.
+use crate::{Counts, End, Held};
+use qkd_base::{KeyName, Lane, LinkNo, NodeNo, Octets};
+
+/// What happened at a line of a scenario.
+#[derive(Debug, Drop)]
+pub enum Item {
+    /// An end of a link took the block of this number.
+    Took {
+        link: LinkNo,
+        end: End,
+        number: u32,
+    },
+    /// An end of a link holds 1,024 blocks, and takes no more.
+    LinkFull {
+        link: LinkNo,
+        end: End,
+    },
+    /// Keys were made; the first has this name.
+    Made {
+        count: u16,
+        first: KeyName,
+    },
+    /// The entropy told too few octets for the keys.
+    NoRandom,
+    /// A tick of a node sent new frames, and some again.
+    Ticked {
+        node: NodeNo,
+        fresh: u32,
+        again: u32,
+    },
+    /// A tick of a node had nothing to send.
+    Idle {
+        node: NodeNo,
+    },
+    /// A frame stands on a lane's wire. Its payload has so many octets.
+    Sent {
+        lane: Lane,
+        number: u64,
+        offset: u64,
+        length: u16,
+    },
+    /// A frame of a lane's wire told a key to the receiver, to whom it was new or not.
+    Passed {
+        lane: Lane,
+        number: u32,
+        fresh: bool,
+        name: KeyName,
+    },
+    /// A lane's wire has so many frames, and none of this number.
+    NoFrame {
+        lane: Lane,
+        number: u32,
+        count: u64,
+    },
+    /// A node knows no key of this name.
+    Absent {
+        node: NodeNo,
+        name: KeyName,
+    },
+    /// A node knows a key, and needs its bytes.
+    Shown {
+        node: NodeNo,
+        name: KeyName,
+        held: Held,
+        bytes: Octets,
+    },
+    /// The bytes of a lane at its sender.
+    Counted {
+        lane: Lane,
+        counts: Counts,
+    },
+}

@@ -1,0 +1,4 @@
+pub mod Walks
+pub mod Layers
+pub mod Tables
+pub mod Least

@@ -1,0 +1,211 @@
+// The links of the network, and the least walks over those that are up.
+ghost use Rattle.std.specs.Prelude.{◌≡◌, ◌≢◌, ℕ, ◌+◌, ◌<◌, ◌≤◌, ◌==◌, ◌&&◌, ◌||◌, ◌↔◌, IfOk, IfSome, IfNone, Some, None, true, false, take};
+ghost use Rattle.route_table.specs.Table.{no_links, ends_of, lower_then_higher, with_link, AreApart, IsTable};
+ghost use Rattle.route_table.specs.Walk.{links_of, IsLeastWalk, HasRoute};
+ghost use Rattle.route_table.specs.Layer.{has_node, leads, is_reached, IsNextTo, AreNextTo, AreLayers, IsFirstStep, IsFirstWalk};
+
+use crate::RouteRefusal;
+use qkd_base::{LinkNo, Memory, NodeNo, Replica, Route};
+use std::marker::Model;
+
+// Which nodes, by number.
+type Nodes = [bool; 16];
+
+/// The links of the network with their ends: at most 32, and at most one for each pair of nodes. They stand in fixed room, so no call takes memory.
+#[derive(Debug, Drop)]
+pub struct RouteTable {
+    links: [Option<(NodeNo, NodeNo)>; 32],
+}
+
+impl Model for RouteTable {
+    ghost use Rattle.route_table.specs.Table.{Table, IsTable};
+
+    ghost Value = { Table };
+
+    ghost view = { λ r. r.links };
+
+    ghost invariant = { λ r. IsTable r.links };
+}
+
+impl RouteTable {
+    /// No link.
+    pub fn new() -> Self
+        ensures { result ≡ no_links }
+    {
+        RouteTable { links: [None; 32] }
+    }
+
+    /// Adds a link between two nodes. `ends` and `link_between` tell whether it may be added.
+    pub fn add_link(&mut self, link: LinkNo, a: NodeNo, b: NodeNo)
+        requires differ { a ≢ b }
+        requires free { ends_of self.old link ≡ None }
+        requires apart { AreApart self.old a b }
+        ensures { self.new ≡ with_link self.old link a b }
+    {
+        self.links[link.get() as usize] = Some(in_order(a, b));
+    }
+
+    /// The lower and the higher node of a link, where it is there.
+    pub fn ends(&self, link: LinkNo) -> Option<(NodeNo, NodeNo)>
+        ensures ends { result ≡ ends_of self.now link }
+
+        // What holds of the links at any time.
+        ensures table { IsTable self.now }
+    {
+        self.links[link.get() as usize]
+    }
+
+    /// The link between two nodes, where there is one.
+    pub fn link_between(&self, a: NodeNo, b: NodeNo) -> Option<LinkNo>
+        ensures link { IfSome result (λ link. ends_of self.now link ≡ Some (lower_then_higher a b)) }
+        ensures none { IfNone result (AreApart self.now a b) }
+    {
+        let (low, high) = in_order(a, b);
+        for (number, ends) in self.links.iter().enumerate() {
+            if *ends == Some((low, high)) {
+                return LinkNo::new(number as u8);
+            }
+        }
+        None
+    }
+
+    /// The walk from one node to another with the fewest links, of which the first in the order of its node numbers. Bit l of `up` says that link l is up. A walk has at most 8 links. The work grows with the links of the table, and not with its walks.
+    pub fn route(&self, up: u32, from: NodeNo, to: NodeNo) -> Result<Route, RouteRefusal>
+        ensures same_node { (result ≡ Err RouteRefusal.SameNode) ↔ (from ≡ to) }
+        ensures no_route { (result ≡ Err RouteRefusal.NoRoute) ↔ (¬ HasRoute self.now up from to) }
+        ensures least { IfOk result (λ walk. IsLeastWalk self.now up from to walk) }
+        ensures short { IfOk result (λ walk. links_of walk ≤ 8) }
+    {
+        if from == to {
+            return Err(RouteRefusal::SameNode);
+        }
+        let layers = self.layers(up, to);
+        let Some(links) = fewest_links(&layers, from) else {
+            return Err(RouteRefusal::NoRoute);
+        };
+        let nodes = self.first_walk(up, from, to, links, &layers);
+        Ok(Route::new(&nodes[..links + 1]).unwrap())
+    }
+
+    // For each number of links, from none to 8, the nodes from which a walk of so many leads to a node.
+    fn layers(&self, up: u32, to: NodeNo) -> [Nodes; 9]
+        ensures { AreLayers self.now up to result }
+    {
+        let mut layers = [only(to); 9];
+        for links in 0..8 {
+            layers[links + 1] = self.next_to(up, &layers[links]);
+        }
+        layers
+    }
+
+    // The nodes from which one link that is up leads to one of these.
+    fn next_to(&self, up: u32, near: &Nodes) -> Nodes
+        ensures { AreNextTo self.now up near.now result }
+    {
+        let mut far = [false; 16];
+        for (link, ends) in self.links.iter().enumerate() {
+            cross(*ends, up & (1 << link) != 0, near, &mut far);
+        }
+        far
+    }
+
+    // The first walk of so many links. The layers are those of its end, with which the room begins filled.
+    fn first_walk(
+        &self,
+        up: u32,
+        from: NodeNo,
+        to: NodeNo,
+        links: usize,
+        layers: &[Nodes; 9],
+    ) -> [NodeNo; 9]
+        requires layers { AreLayers self.now up to layers.now }
+        requires short { links ≤ 8 }
+        requires reached { is_reached layers.now links from ≡ true }
+        ensures { IsFirstWalk self.now up from to links (take (links + 1) result) }
+    {
+        let mut nodes = [to; 9];
+        let mut here = from;
+        for step in 0..links {
+            nodes[step] = here;
+            here = self.first_step(up, here, &layers[links - 1 - step]);
+        }
+        nodes
+    }
+
+    // The first of these nodes to which a link that is up leads from here.
+    fn first_step(&self, up: u32, here: NodeNo, near: &Nodes) -> NodeNo
+        requires { IsNextTo self.now up near.now here }
+        ensures { IsFirstStep self.now up near.now here result }
+    {
+        let around = self.next_to(up, &only(here));
+        first_of_both(&around, near).unwrap_or(here)
+    }
+}
+
+// The lower node, and then the higher.
+fn in_order(a: NodeNo, b: NodeNo) -> (NodeNo, NodeNo)
+    ensures order { result ≡ lower_then_higher a b }
+    ensures a_below { a < 16 }
+    ensures b_below { b < 16 }
+{
+    if a.get() < b.get() { (a, b) } else { (b, a) }
+}
+
+// One node.
+fn only(node: NodeNo) -> Nodes
+    ensures { (v : ℕ) → has_node result v ≡ (v == node) }
+{
+    let mut nodes = [false; 16];
+    nodes[node.get() as usize] = true;
+    nodes
+}
+
+// Both ways over one link.
+fn cross(ends: Option<(NodeNo, NodeNo)>, is_up: bool, near: &Nodes, far: &mut Nodes)
+    ensures { (v : ℕ) → has_node far.new v ≡ (has_node far.old v || (is_up && leads ends near.now v)) }
+{
+    if !is_up {
+        return;
+    }
+    if let Some((low, high)) = ends {
+        let (low, high) = (low.get() as usize, high.get() as usize);
+        far[high] = far[high] || near[low];
+        far[low] = far[low] || near[high];
+    }
+}
+
+// The first node that is in both.
+fn first_of_both(some: &Nodes, others: &Nodes) -> Option<NodeNo>
+    ensures first { IfSome result (λ v. has_node some.now v && has_node others.now v ≡ true) }
+    ensures before { IfSome result (λ v. (w : ℕ) → has_node some.now w && has_node others.now w ≡ true → v ≤ w) }
+    ensures none { IfNone result ((w : ℕ) → has_node some.now w && has_node others.now w ≡ false) }
+{
+    for number in 0..16u8 {
+        if some[number as usize] && others[number as usize] {
+            return NodeNo::new(number);
+        }
+    }
+    None
+}
+
+// The least number of links, from 1 on, with which a node is reached.
+fn fewest_links(layers: &[Nodes; 9], from: NodeNo) -> Option<usize>
+    ensures reached { IfSome result (λ links. (0 < links) × (links ≤ 8) × (is_reached layers.now links from ≡ true)) }
+    ensures fewest { IfSome result (λ links. (fewer : ℕ) → 0 < fewer → fewer < links → is_reached layers.now fewer from ≡ false) }
+    ensures none { IfNone result ((links : ℕ) → 0 < links → links ≤ 8 → is_reached layers.now links from ≡ false) }
+{
+    for links in 1..9 {
+        if layers[links][from.get() as usize] {
+            return Some(links);
+        }
+    }
+    None
+}
+
+impl Replica for RouteTable {
+    fn copy(&self) -> Result<Self, Memory> {
+        let mut links = [None; 32];
+        links.copy_from_slice(&self.links);
+        Ok(RouteTable { links })
+    }
+}

@@ -1,0 +1,11 @@
+// One application.
+
+use qkd_base::{NodeNo, Text};
+
+/// An application (SAE) with its home, and for each number whether it may have keys for that slave.
+#[derive(Drop)]
+pub struct Application {
+    pub id: Text,
+    pub home: NodeNo,
+    pub slaves: [bool; 256],
+}

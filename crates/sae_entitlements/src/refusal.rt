@@ -1,0 +1,70 @@
+// Why a call on entitlements is refused.
+ghost use Rattle.std.specs.Prelude.{◌≡◌};
+ghost use Rattle.sae_entitlements.specs.declared.refusal.AddRefusal.TheVariants.{Memory};
+
+use qkd_base::Memory;
+use std::error::Error;
+use std::fmt;
+
+/// Why an application isn't added. The cases are tried in this order.
+#[derive(Clone, Copy, Debug, PartialEq, Eq)]
+pub enum AddRefusal {
+    /// An application of this ID is there.
+    Known,
+    /// 256 applications are there.
+    Full,
+    /// Memory is wanting.
+    Memory,
+}
+
+impl From<Memory> for AddRefusal {
+    ghost from_gives = { λ _ e. e ≡ Memory };
+
+    fn from(_: Memory) -> Self {
+        AddRefusal::Memory
+    }
+}
+
+impl fmt::Display for AddRefusal {
+    fn fmt<W: fmt::Write>(&self, f: &mut fmt::Formatter<W>) -> fmt::Result {
+        match self {
+            AddRefusal::Known => write!(f, "the application is known"),
+            AddRefusal::Full => write!(f, "256 applications are known"),
+            AddRefusal::Memory => write!(f, "out of memory"),
+        }
+    }
+}
+
+impl Error for AddRefusal {}
+
+/// Why a master gets no key for a slave. The cases are tried in this order.
+#[derive(Clone, Copy, Debug, PartialEq, Eq)]
+pub enum EntitlementRefusal {
+    /// One of both isn't known.
+    UnknownSae,
+    /// The pair isn't allowed in this order.
+    NotAllowed,
+}
+
+impl fmt::Display for EntitlementRefusal {
+    fn fmt<W: fmt::Write>(&self, f: &mut fmt::Formatter<W>) -> fmt::Result {
+        match self {
+            EntitlementRefusal::UnknownSae => write!(f, "unknown application"),
+            EntitlementRefusal::NotAllowed => write!(f, "the pair isn't allowed"),
+        }
+    }
+}
+
+impl Error for EntitlementRefusal {}
+
+/// No application has this number.
+#[derive(Clone, Copy, Debug, PartialEq, Eq)]
+pub struct UnknownSae;
+
+impl fmt::Display for UnknownSae {
+    fn fmt<W: fmt::Write>(&self, f: &mut fmt::Formatter<W>) -> fmt::Result {
+        write!(f, "unknown application")
+    }
+}
+
+impl Error for UnknownSae {}

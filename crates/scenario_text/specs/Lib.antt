@@ -1,0 +1,9 @@
+pub mod Words
+pub mod KeySize
+pub mod Phase
+pub mod Stage
+pub mod Gives
+pub mod Declaring
+pub mod Commanding
+pub mod Line
+pub mod Text
