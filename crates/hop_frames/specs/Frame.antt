@@ -1,5 +1,5 @@
 -- The one spelling of a frame: header, masked payload, tag. All numbers are big-endian.
-use Rattle.std.specs.Prelude.{ℕ, ◌+◌, List, [], ◌∷◌, ◌++◌, length, take, drop, bit_xor}
+use Rattle.std.specs.Prelude.{ℕ, List, [], ◌∷◌, ◌++◌, length, take, drop, bit_xor}
 use Rattle.std.specs.Int.{w16, w64, to_be_bytes, from_be_bytes}
 use Rattle.qkd_base.specs.Lane.{way_number}
 use Rattle.qkd_base.specs.declared.lane.Lane.{Lane}

@@ -10,8 +10,7 @@ fn counts(received: u64, unused: u64, spent: u64, burnt: u64) -> Counts {
     }
 }
 
-// The numbers are those of a lane of one block: a frame of 58 octets of payload, one of 462 behind one of 530, and a
-// restart at the leased end.
+// A lane of one block: a claim for a payload of 58 octets and one for 17, which is burnt, then a restart at the end.
 #[test]
 fn bytes_are_claimed_in_order(rt: HostRuntime) -> Result<(), Fail> {
     let mut ledger = PadLedger::new();

@@ -1,4 +1,4 @@
-use Rattle.std.proofs.Common.{◌≡◌, ◌+◌, ◌++◌, take, length}
+use Rattle.std.proofs.Common.{◌≡◌, ◌+◌, ◌++◌, take}
 use Rattle.hop_frames.specs.Frame.{masked}
 use Rattle.hop_frames.proofs.mask.put_masked.Given as goal
 
