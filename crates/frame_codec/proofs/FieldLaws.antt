@@ -1,6 +1,6 @@
 -- A field that is read is the one that was spelled, and what was spelled is read again.
-use Rattle.std.proofs.Common.{◌≡◌, ℕ, zero, suc, ◌+◌, ◌-◌, ◌*◌, ◌/◌, ◌%◌, ◌^◌, ◌<◌, ◌≤◌, Bool, true, false, cond, ltb, leb, ◌&&◌, List, [], ◌∷◌, ◌++◌, length, get_or, take, drop, replicate, Option, Some, None, Result, Ok, Err, refl, sym, ap, subst, ◌∙◌, append_assoc, arith, inl, inr}
-use Rattle.std.specs.Int.{Width, w16, w32, w64, from_be_bytes, to_be_bytes}
+use Rattle.std.proofs.Common.{◌≡◌, ℕ, suc, ◌+◌, ◌-◌, ◌/◌, ◌%◌, ◌^◌, ◌<◌, ◌≤◌, Bool, true, false, cond, ltb, leb, ◌&&◌, List, [], ◌∷◌, ◌++◌, length, take, drop, replicate, Option, Some, None, Result, Ok, Err, refl, sym, ap, subst, ◌∙◌, arith, inl, inr}
+use Rattle.std.specs.Int.{w16, w32, w64, from_be_bytes, to_be_bytes}
 use Rattle.std.specs.Str.{bytes_eq}
 use Rattle.std.proofs.lemmas.Bool.{cases_lt, ltb-false, le-ltb}
 use Rattle.std.proofs.lemmas.List.{take_at, drop_at, take-append-drop, length-append, length-take, get_or-drop, get_or-take, get_or_past}
@@ -73,7 +73,7 @@ front_takes n value test text Fits octets x is fits e =
     let p = passing_ok test (length octets) (value (take n octets)) b.0 b.1 in
     let t = is (take n octets) b.0 (omega (arith, length-take n octets, long_enough)) (AreOctets-take n octets fits) p.0 p.1 in
     subst (λ y. Takes octets (text y.0) y.1 × Fits y.0) (ok_is (b.0, drop n octets) x b.2)
-      (record { parts = sym (take-append-drop n octets) ∙ ap (λ (l : List ℕ). l ++ drop n octets) t.0; rest_fits = AreOctets-drop n octets fits }, t.1)
+    (record { parts = sym (take-append-drop n octets) ∙ ap (λ (l : List ℕ). l ++ drop n octets) t.0; rest_fits = AreOctets-drop n octets fits }, t.1)
 
 front_again : {A : Type 0} (n : ℕ) (value : List ℕ → Option A) (test : A → Bool) (text rest : List ℕ) (a : A) → length text ≡ n → value text ≡ Some a → test a ≡ true → front n value test (text ++ rest) ≡ Ok (a, rest)
 front_again n value test text rest a len is passes =
@@ -202,9 +202,6 @@ size_takes octets x fits e = front_takes 2 (number_at w16) (λ n. leb 8 n && leb
 pub size_again : (n : ℕ) (rest : List ℕ) → IsSize n → size (short n ++ rest) ≡ Ok (n, rest)
 unfolding size
 size_again n rest h = front_again 2 (number_at w16) (λ m. leb 8 m && leb m 512) (short n) rest n refl (ap Some (short_back n (omega (arith, h.1)))) (size_test n h)
-
-
-
 
 four_below : (os : List ℕ) (n : ℕ) → length os ≡ 4 → AreOctets os → number_at w32 os ≡ Some n → n < 2 ^ 32
 four_below os n len fits e =

@@ -1,6 +1,5 @@
 -- A payload that is read is the one that was spelled, and what was spelled is read again, kind by kind.
-use Rattle.std.proofs.Common.{◌≡◌, ℕ, suc, ◌+◌, ◌^◌, ◌<◌, Bool, true, false, cond, eqb, List, [], ◌∷◌, ◌++◌, length, Result, Ok, Err, refl, sym, ap, subst, ◌∙◌, ◌⊎◌, inl, inr, arith}
-use Rattle.std.specs.Prelude.{IfOk, nat_le}
+use Rattle.std.proofs.Common.{◌≡◌, ℕ, suc, ◌+◌, ◌^◌, ◌<◌, Bool, true, false, cond, eqb, List, [], ◌∷◌, ◌++◌, length, Result, Ok, Err, refl, sym, ap, subst, ◌∙◌, ◌⊎◌, inl, inr}
 use Rattle.std.proofs.lemmas.Bool.{eqb-true}
 use Rattle.std.proofs.lemmas.List.{append-nil, nil_from_length}
 use Rattle.qkd_base.specs.declared.key_name.NameKind.{NameKind}
@@ -12,7 +11,7 @@ use Rattle.net_model.specs.declared.payload.Payload.{Payload}
 use Rattle.net_model.specs.declared.payload.Payload.TheVariants.{Told, Ack}
 use Rattle.net_model.specs.Facts.{IsSize}
 use Rattle.frame_codec.specs.Payload.{IsNameOf, IsSae, IsWay, IsSecret, IsFact, IsPayload, AreOctets, fields, short, long, way, fact_octets, payload_octets}
-use Rattle.frame_codec.specs.Reading.{◌>>=◌, named, of_kind, any_kind, sae, size, index, route, last, key_of, note_of, stored_of, joined_of, open_of, chunk_of, part_of, ack_of, told, acked, of_kind_octet, payload_left, place_in, payload_of}
+use Rattle.frame_codec.specs.Reading.{◌>>=◌, named, of_kind, any_kind, sae, size, index, route, last, key_of, note_of, stored_of, joined_of, open_of, chunk_of, part_of, ack_of, told, acked, payload_left, place_in, payload_of}
 use Rattle.frame_codec.proofs.FieldLaws.{bind_ok, ok_is, named_takes, named_again, any_takes, any_again, sae_takes, sae_again, size_takes, size_again, index_takes, index_again, route_takes, route_again, last_takes, last_again}
 
 size_of : {n m : ℕ} → IsSize n → m ≡ n → IsSize m
@@ -52,8 +51,15 @@ key_parts octets g f fits e =
     let b5 = bind_ok (last b3.0.0 b4.0.1) (λ bytes. g b0.0.0 b1.0.0 b2.0.0 b4.0.0 bytes) f b4.2 in
     let t5 = last_takes b3.0.0 b4.0.1 b5.0 b5.1 in
     record {
-      name = b0.0.0; master = b1.0.0; slave = b2.0.0; nodes = b4.0.0; bytes = b5.0;
-      is_name = t0.1; is_master = t1.1; is_slave = t2.1; is_way = t4.1;
+      name = b0.0.0;
+      master = b1.0.0;
+      slave = b2.0.0;
+      nodes = b4.0.0;
+      bytes = b5.0;
+      is_name = t0.1;
+      is_master = t1.1;
+      is_slave = t2.1;
+      is_way = t4.1;
       is_secret = (size_of t3.1 t5.1, octets_are t5.0 t4.0.rest_fits);
       parts = t0.0.parts ∙ ap (λ (l : List ℕ). octets_of b0.0.0 ++ l) (t1.0.parts ∙ ap (λ (l : List ℕ). short b1.0.0 ++ l) (t2.0.parts ∙ ap (λ (l : List ℕ). short b2.0.0 ++ l) (t3.0.parts ∙ ap (λ (l : List ℕ). short b3.0.0 ++ l) (t4.0.parts ∙ ap (λ (l : List ℕ). way b4.0.0 ++ l) (t5.0)) ∙ ap (λ (m : ℕ). short m ++ (way b4.0.0 ++ b5.0)) (sym t5.1))));
       gives = b5.2;
@@ -64,7 +70,7 @@ unfolding key_of
 key_takes octets f fits e =
     let k = key_parts octets (λ name master slave nodes bytes. Ok (Key name master slave nodes bytes)) f fits e in
     subst (λ y. IsFact y × (1 ∷ octets ≡ fact_octets y)) (ok_is (Key k.name k.master k.slave k.nodes k.bytes) f k.gives)
-      ((k.is_name, k.is_master, k.is_slave, k.is_way, k.is_secret), ap (λ (l : List ℕ). 1 ∷ l) k.parts)
+    ((k.is_name, k.is_master, k.is_slave, k.is_way, k.is_secret), ap (λ (l : List ℕ). 1 ∷ l) k.parts)
 
 part_takes : (octets : List ℕ) (f : Fact) → AreOctets octets → part_of octets ≡ Ok f → IsFact f × (7 ∷ octets ≡ fact_octets f)
 unfolding part_of
@@ -73,7 +79,7 @@ part_takes octets f fits e =
     let t = named_takes KeyKind octets b.0 fits b.1 in
     let k = key_parts b.0.1 (λ key master slave nodes bytes. Ok (Part b.0.0 key master slave nodes bytes)) f t.0.rest_fits b.2 in
     subst (λ y. IsFact y × (7 ∷ octets ≡ fact_octets y)) (ok_is (Part b.0.0 k.name k.master k.slave k.nodes k.bytes) f k.gives)
-      ((t.1, k.is_name, k.is_master, k.is_slave, k.is_way, k.is_secret), ap (λ (l : List ℕ). 7 ∷ l) (t.0.parts ∙ ap (λ (l : List ℕ). octets_of b.0.0 ++ l) k.parts))
+    ((t.1, k.is_name, k.is_master, k.is_slave, k.is_way, k.is_secret), ap (λ (l : List ℕ). 7 ∷ l) (t.0.parts ∙ ap (λ (l : List ℕ). octets_of b.0.0 ++ l) k.parts))
 
 open_takes : (octets : List ℕ) (f : Fact) → AreOctets octets → open_of octets ≡ Ok f → IsFact f × (4 ∷ octets ≡ fact_octets f)
 unfolding open_of

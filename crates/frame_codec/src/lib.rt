@@ -3,12 +3,14 @@
 
 mod fault;
 mod fields;
+mod laws;
 mod payload_refusal;
 mod reading;
 mod spelling;
 #[cfg(test)]
 mod tests;
 
+pub use laws::{read_is_spelled, spelled_is_read};
 pub use net_model;
 pub use payload_refusal::PayloadRefusal;
 pub use reading::read;

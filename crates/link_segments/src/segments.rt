@@ -92,7 +92,6 @@ impl Segments {
     pub fn received(&self, way: Way) -> u64
         ensures length { result ≡ length (lane_octets way self.now.blocks) }
         ensures number { result ≡ lane_len way (length self.now.blocks) }
-        ensures bound { result ≤ 524288 }
     {
         let blocks = self.blocks.len() + 1 - first_place(way);
         1024 * (blocks / 2) as u64

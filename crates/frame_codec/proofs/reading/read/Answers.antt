@@ -1,4 +1,4 @@
-use Rattle.std.proofs.Common.{ap, subst, sym, ◌∙◌, arith}
+use Rattle.std.proofs.Common.{ap, subst, ◌∙◌, arith}
 use Rattle.frame_codec.specs.Reading.{Reads, payload_of}
 use Rattle.frame_codec.proofs.Reader.{is_found}
 use Rattle.frame_codec.proofs.KindLaws.{payload_again}

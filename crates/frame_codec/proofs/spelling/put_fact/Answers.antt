@@ -18,4 +18,3 @@ returns-in-Chunk-clause-octets c = rw c.in-Chunk.is (then_puts c.put-at-in-Chunk
 
 pub returns-in-Part-clause-octets : goal.returns-in-Part-clause-octets
 returns-in-Part-clause-octets c = rw c.in-Part.is (then_puts c.put-at-in-Part.ensures.octets (then_puts c.put_name-at.ensures.octets c.put_key-in-Part.ensures.octets))
-

@@ -1,4 +1,4 @@
-use Rattle.std.proofs.Common.{◌≡◌, ◌+◌, ◌++◌, ◌∷◌, take, length}
+use Rattle.std.proofs.Common.{◌≡◌, ◌+◌, ◌++◌, take}
 use Rattle.frame_codec.proofs.spelling.put_route.Given as goal
 
 abbrev pub invariant-loop-i : goal.invariant-loop-i

@@ -1,4 +1,4 @@
-use Rattle.std.proofs.Common.{ap, ◌∙◌, ◌+◌, ℕ, take, arith}
+use Rattle.std.proofs.Common.{ap, ◌∙◌, ℕ, take, arith}
 use Rattle.frame_codec.proofs.Writes.{payload_length}
 use Rattle.frame_codec.proofs.spelling.spell.Goals as goal
 

@@ -8,5 +8,5 @@ use Rattle.hop_frames.proofs.opening.read_in.Goals as goal
 pub returns : goal.returns
 returns c =
     subst (λ m. Reads c.read_masked.result (payload_of m))
-      (masked_part c.args.octets.now c.lane_part.new.into (drop c.args.offset (lane_octets c.args.way c.args.held.now.blocks)) _ c.lane_part.ensures (omega (arith, length-take (length c.args.octets.now) c.args.pads.now)))
-      c.read_masked.ensures
+    (masked_part c.args.octets.now c.lane_part.new.into (drop c.args.offset (lane_octets c.args.way c.args.held.now.blocks)) _ c.lane_part.ensures (omega (arith, length-take (length c.args.octets.now) c.args.pads.now)))
+    c.read_masked.ensures
