@@ -5,6 +5,7 @@ use Rattle.qkd_base.specs.declared.lane.Way.TheVariants.{Up}
 use Rattle.qkd_base.specs.Name.{Name, name_eq}
 use Rattle.net_model.specs.declared.fact.Fact.{Fact}
 use Rattle.net_model.specs.declared.fact.Fact.TheVariants.{Key}
+use Rattle.net_model.specs.Table.{name_of}
 use Rattle.net_model.specs.Facts.{fact_len}
 use Rattle.link_segments.specs.Lanes.{lane_len}
 use Rattle.report_text.specs.declared.end.End.{End}
@@ -47,18 +48,15 @@ abbrev pub next_name : List Fact → Name
 next_name known = record { node = 0; kind = KeyKind; count = length known + 1 }
 
 -- a new key for a master and a slave: its bytes are the next octets of the entropy
-abbrev pub new_key : List ℕ → World → ℕ → ℕ → ℕ → Fact
-new_key entropy w master slave bits = Key (next_name w.low_known) master slave (0 ∷ 1 ∷ []) (take (bits / 8) (drop w.drawn entropy))
+abbrev pub new_key : List ℕ → List Fact → ℕ → ℕ → ℕ → ℕ → Fact
+new_key entropy known drawn master slave bits = Key (next_name known) master slave (0 ∷ 1 ∷ []) (take (bits / 8) (drop drawn entropy))
 
--- what a fill of one key reports and leaves
-unfoldable pub filled : List ℕ → World → ℕ → ℕ → ℕ → Item × World
-filled entropy w master slave bits =
-    if nat_lt (length entropy) (w.drawn + bits / 8) then (items.NoRandom, w)
-    else (items.Made 1 (next_name w.low_known), record w { low_known = w.low_known ++ new_key entropy w master slave bits ∷ []; drawn = w.drawn + bits / 8 })
-
--- what a node knows: the lower node has number 0
-abbrev pub known : World → ℕ → List Fact
-known w v = if v == 0 then w.low_known else w.high_known
+-- What a fill of one key reports, what the lower node then knows, and how many octets were drawn: of what it knew, and of
+-- how many were drawn before.
+unfoldable pub filled : List ℕ → List Fact → ℕ → ℕ → ℕ → ℕ → Item × List Fact × ℕ
+filled entropy known drawn master slave bits =
+    if nat_lt (length entropy) (drawn + bits / 8) then (items.NoRandom, known, drawn)
+    else (items.Made 1 (next_name known), known ++ new_key entropy known drawn master slave bits ∷ [], drawn + bits / 8)
 
 abbrev pub is_key_named : Name → Fact → Bool
 is_key_named n (Key name master slave route bytes) = name_eq name n
@@ -73,8 +71,9 @@ abbrev pub shown : ℕ → Name → Option Fact → Item
 shown v n (Some (Key name master slave route bytes)) = items.Shown v n (state_at v) bytes
 shown v n _ = items.Absent v n
 
-unfoldable pub shown_at : World → ℕ → Name → Item
-shown_at w v n = shown v n (find (is_key_named n) (known w v))
+-- what a node shows, of what the lower node knows, which has number 0, and of what the higher one knows
+unfoldable pub shown_at : List Fact → List Fact → ℕ → Name → Item
+shown_at low high v n = shown v n (find (is_key_named n) (if v == 0 then low else high))
 
 -- ---- frames
 
@@ -91,19 +90,18 @@ ticked_with w v (Some fact) =
 unfoldable pub ticked : World → ℕ → List Item × World
 ticked w v = ticked_with w v (slice_get w.low_known (length w.frames))
 
--- the receiver learns a key, or knows it already
-abbrev pub learns : World → ℕ → Fact → Bool → Name → Item × World
-learns w number fact true name = (items.Passed up_lane number false name, w)
-learns w number fact false name = (items.Passed up_lane number true name, record w { high_known = w.high_known ++ fact ∷ [] })
+-- What is reported of a frame that tells a fact, and what its receiver then knows: a fact of a new name is taken.
+abbrev pub learnt_named : List Fact → ℕ → Fact → Name → Item × List Fact
+learnt_named known number fact name =
+    if is_some (find (is_key_named name) known) then (items.Passed up_lane number false name, known)
+    else (items.Passed up_lane number true name, known ++ fact ∷ [])
 
-abbrev pub handed_fact : World → ℕ → Fact → Item × World
-handed_fact w number (Key name master slave route bytes) =
-    learns w number (Key name master slave route bytes) (is_some (find (is_key_named name) w.high_known)) name
-handed_fact w number _ = (items.NoFrame up_lane number (length w.frames), w)
+unfoldable pub learnt : List Fact → ℕ → Fact → Item × List Fact
+learnt known number fact = learnt_named known number fact (name_of fact)
 
 abbrev pub handed : World → ℕ → Option Claim → Item × World
 handed w number None = (items.NoFrame up_lane number (length w.frames), w)
-handed w number (Some c) = handed_fact w number c.fact
+handed w number (Some c) = let x = learnt w.high_known number c.fact in (x.0, record w { high_known = x.1 })
 
 -- a frame of the wire is handed to the higher node
 unfoldable pub passed : World → ℕ → Item × World
@@ -114,16 +112,19 @@ passed w number = handed w number (slice_get w.frames number)
 abbrev pub lanes_after : World → List Item × Lanes → List Item × World
 lanes_after w x = (x.0, record w { lanes = x.1 })
 
+abbrev pub after_fill : World → Item × List Fact × ℕ → List Item × World
+after_fill w x = (x.0 ∷ [], record w { low_known = x.1; drawn = x.2 })
+
 abbrev pub one : Item × World → List Item × World
 one x = (x.0 ∷ [], x.1)
 
 -- What a command reports and leaves, over what the device and the lower node's entropy tell.
 abbrev pub line_run : List ℕ → List ℕ → World → Command → List Item × World
 line_run device entropy w (Bits link ends count) = lanes_after w (bits_run device link count w.lanes)
-line_run device entropy w (Fill master slave bits) = one (filled entropy w master slave bits)
+line_run device entropy w (Fill master slave bits) = after_fill w (filled entropy w.low_known w.drawn master slave bits)
 line_run device entropy w (Tick v) = ticked w v
 line_run device entropy w (Pass link way number) = one (passed w number)
-line_run device entropy w (Show v n) = (shown_at w v n ∷ [], w)
+line_run device entropy w (Show v n) = (shown_at w.low_known w.high_known v n ∷ [], w)
 line_run device entropy w (Ledger lane) = (items.Counted lane (counts_of w.lanes lane.way) ∷ [], w)
 
 -- From old, a command reports these items and goes on to new.

@@ -3,6 +3,7 @@ ghost use Rattle.std.specs.Prelude.{◌≡◌, ◌+◌, ◌*◌, ◌≤◌, ◌<
 ghost use Rattle.qkd_base.specs.declared.lane.Way.TheVariants.{Up as UpWay};
 ghost use Rattle.link_segments.specs.Lanes.{lane_octets, lane_len};
 ghost use Rattle.hop_frames.specs.Frame.{hash_key};
+ghost use Rattle.net_world.specs.Held.{block_at};
 
 use hop_frames::seal;
 use link_segments::{Segments, TakeRefusal};
@@ -60,15 +61,68 @@ fn take_next(held: &mut Segments, number: u32, block: &[u8; 1024])
     }
 }
 
+// What stands behind so many octets.
+fn behind(octets: &[u8], size: usize) -> &[u8]
+    requires { size ≤ length octets.now }
+    ensures { result.now ≡ drop size octets.now }
+{
+    &octets[size..]
+}
+
+// The first 1,024 octets.
+fn first_block(octets: &[u8]) -> [u8; 1024]
+    requires { 1024 ≤ length octets.now }
+    ensures { result ≡ take 1024 octets.now }
+{
+    let mut block = [0u8; 1024];
+    block.copy_from_slice(&octets[..1024]);
+    block
+}
+
+// The block of this number in a device's list.
+fn block_of(device: &[u8], number: u32) -> [u8; 1024]
+    requires { 1024 * number + 1024 ≤ length device.now }
+    ensures { result ≡ block_at number device.now }
+{
+    first_block(behind(device, 1024 * number as usize))
+}
+
+// The lane has its first block.
+fn receive_first(up: &mut PadLedger)
+    requires none { up.old.got ≡ 0 }
+    ensures { up.new ≡ record { used = 8; end = 1024; got = 1024; burnt = up.old.burnt } }
+{
+    up.receive(1024);
+    up.raise(1024);
+}
+
 // The lane has one more block.
-fn receive(up: &mut PadLedger)
+fn receive_more(up: &mut PadLedger)
+    requires some { 0 < up.old.got }
     requires end { up.old.end ≡ up.old.got }
     requires fits { up.old.got + 1024 < 2 ^ 32 }
-    ensures { up.new ≡ record { used = if up.old.got == 0 then 8 else up.old.used; end = up.old.got + 1024; got = up.old.got + 1024; burnt = up.old.burnt } }
+    ensures { up.new ≡ record { used = up.old.used; end = up.old.got + 1024; got = up.old.got + 1024; burnt = up.old.burnt } }
 {
     up.receive(1024);
     let got = up.counts().received;
     up.raise(got);
+}
+
+// The lane's bytes after one more block of the link, of which so many were there.
+fn receive(up: &mut PadLedger, blocks: u32)
+    requires few { blocks < 1024 }
+    requires end { up.old.end ≡ lane_len UpWay blocks }
+    requires got { up.old.got ≡ lane_len UpWay blocks }
+    ensures used { up.new.used ≡ (if blocks == 0 then 8 else up.old.used) }
+    ensures end { up.new.end ≡ lane_len UpWay (blocks + 1) }
+    ensures got { up.new.got ≡ lane_len UpWay (blocks + 1) }
+    ensures burnt { up.new.burnt ≡ up.old.burnt }
+{
+    if blocks == 0 {
+        receive_first(up);
+    } else if blocks % 2 == 0 {
+        receive_more(up);
+    }
 }
 
 // The bytes of the lane up from an offset on, as many as there is room for.
@@ -94,7 +148,7 @@ fn key(held: &Segments) -> u64
 }
 
 impl Link {
-    ghost use Rattle.std.specs.Prelude.{ℕ, List, ◌≡◌, ◌+◌, ◌*◌, ◌≤◌, ◌<◌, ◌-◌, ◌==◌, if◌then◌else◌, nat_lt, nat_le, ◌&&◌, [], length, take, OnOk, OnErr, IfOk, IfErr};
+    ghost use Rattle.std.specs.Prelude.{ℕ, List, ◌≡◌, ◌+◌, ◌*◌, ◌≤◌, ◌<◌, ◌-◌, ◌==◌, if◌then◌else◌, nat_lt, nat_le, not, ◌&&◌, [], length, take, OnOk, OnErr, IfOk, IfErr};
     ghost use Rattle.qkd_base.specs.declared.lane.Way.TheVariants.{Up as UpWay, Down as DownWay};
     ghost use Rattle.net_model.specs.Facts.{payload_len, IsWellFormed};
     ghost use Rattle.frame_codec.specs.Payload.{IsPayload, payload_octets};
@@ -123,6 +177,22 @@ impl Link {
         self.blocks
     }
 
+    /// How many bytes of the lane up its sender received.
+    pub fn received(&self) -> u64
+        ensures length { result ≡ length (lane_octets UpWay self.now.low) }
+        ensures number { result ≡ lane_len UpWay (length self.now.low) }
+        ensures most { length self.now.low ≤ 1024 }
+    {
+        self.low.received(Way::Up)
+    }
+
+    /// Whether the device's list has no further block, or there is no room for it.
+    pub fn is_at_end(&self, device: &[u8]) -> bool
+        ensures { result ≡ not (nat_lt (length self.now.low) 1024 && nat_le (1024 * (length self.now.low + 1)) (length device.now)) }
+    {
+        !(self.blocks < 1024 && 1024 * (self.blocks as usize + 1) <= device.len())
+    }
+
     /// What the higher node received.
     pub fn high(&self) -> &Segments
         ensures { result.now.blocks ≡ self.now.high }
@@ -134,19 +204,17 @@ impl Link {
     pub fn take(&mut self, device: &[u8]) -> Result<(), Memory>
         requires few { length self.old.low < 1024 }
         requires has { 1024 * (length self.old.low + 1) ≤ length device.now }
-        ensures ok { OnOk result (self.new ≡ held_more device.now self.old) }
+        ensures low { OnOk result (self.new.low ≡ (held_more device.now self.old).low) }
+        ensures high { OnOk result (self.new.high ≡ (held_more device.now self.old).high) }
+        ensures used { OnOk result (self.new.used ≡ (held_more device.now self.old).used) }
         ensures err { OnErr result (self.new ≡ self.old) }
     {
         self.low.room(1)?;
         self.high.room(1)?;
-        let mut block = [0u8; 1024];
-        let at = 1024 * self.blocks as usize;
-        block.copy_from_slice(&device[at..at + 1024]);
+        let block = block_of(device, self.blocks);
         take_next(&mut self.low, self.blocks, &block);
         take_next(&mut self.high, self.blocks, &block);
-        if self.blocks % 2 == 0 {
-            receive(&mut self.up);
-        }
+        receive(&mut self.up, self.blocks);
         self.blocks += 1;
         Ok(())
     }
