@@ -1,2 +1,4 @@
-pub mod Blocks
+pub mod Taking
+pub mod Frames
+pub mod Performs
 pub mod Running

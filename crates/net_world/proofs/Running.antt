@@ -11,7 +11,10 @@ use Rattle.report_text.specs.declared.item.Item.{Item}
 use Rattle.report_text.specs.Texts.{text_of}
 use Rattle.scenario_text.specs.declared.scenario.Line.{Line}
 use Rattle.net_world.specs.World.{World, first_world}
-use Rattle.net_world.specs.Steps.{LineRun}
+use Rattle.net_world.specs.Wire.{wire_octets}
+use Rattle.net_world.specs.Steps.{LineRun, line_run}
+use Rattle.net_world.specs.declared.network.Network.{Network}
+use Rattle.net_world.specs.Stands.{Stands, Did}
 use Rattle.net_world.specs.Run.{Given, Entry, numbered, entry_text, report_of, Runs, RunsWhole, StopsShort}
 
 -- ---- what was taken
@@ -82,7 +85,7 @@ pub record RunSoFar (g : Given) (lines : List Line) (i : ℕ) (now : World) (old
 pub run_none : (g : Given) (lines : List Line) (old : Option (List ℕ)) → RunSoFar g lines 0 first_world old old
 run_none g lines old = record { entries = []; continues = λ more rest last h. h; taken = Appends-nil old }
 
-pub run_more : (g : Given) (lines : List Line) (i : ℕ) (line d : Line) (is all : List Item) (now next : World) (old mid new : Option (List ℕ)) → i < length lines → line ≡ get_or lines i d → all ≡ is → LineRun g.entropy now line.command is next
+pub run_more : (g : Given) (lines : List Line) (i : ℕ) (line d : Line) (is all : List Item) (now next : World) (old mid new : Option (List ℕ)) → i < length lines → line ≡ get_or lines i d → all ≡ is → LineRun g.device g.entropy now line.command is next
     → RunSoFar g lines i now old mid → Appends mid new (flat_map (text_of g.nodes line.number) all) → RunSoFar g lines (i + 1) next old new
 run_more g lines i line d is all now next old mid new lt e same run s w = record {
   entries = s.entries ++ numbered line.number is;
@@ -93,16 +96,19 @@ run_more g lines i line d is all now next old mid new lt e same run s w = record
   taken = subst (Appends old new) (sym (flat_map-append (entry_text g) s.entries (numbered line.number is))) (Appends-trans old mid new _ _ s.taken (subst (λ (l : List ℕ). Appends mid new l) (ap (flat_map (text_of g.nodes line.number)) same ∙ sym (numbered_texts g line.number is)) w));
 }
 
-pub run_done : (g : Given) (lines : List Line) (i : ℕ) (now : World) (old new : Option (List ℕ)) → length lines ≤ i → RunSoFar g lines i now old new → RunsWhole g lines old new now
-run_done g lines i now old new le s = record {
+pub run_done : (g : Given) (lines : List Line) (i : ℕ) (now : World) (old new : Option (List ℕ)) (wire : List ℕ) → length lines ≤ i → RunSoFar g lines i now old new → wire ≡ wire_octets g.device now.frames → RunsWhole g lines old new wire
+run_done g lines i now old new wire le s on_wire = record {
   entries = s.entries;
+  last = now;
+  on_wire = on_wire;
   runs = let here = s.continues [] [] now (refl, refl) in rw (append-nil, append-nil, take_all i lines le) at here;
   taken = s.taken;
 }
 
 -- want of memory before a line was done
-pub run_stopped : (g : Given) (lines : List Line) (i : ℕ) (now : World) (old new : Option (List ℕ)) → RunSoFar g lines i now old new → StopsShort g lines old new
-run_stopped g lines i now old new s = record {
+pub run_stopped : (g : Given) (lines : List Line) (i : ℕ) (now : World) (old new : Option (List ℕ)) (wire : List ℕ) → RunSoFar g lines i now old new → wire ≡ wire_octets g.device now.frames → StopsShort g lines old new wire
+run_stopped g lines i now old new wire s on_wire = record {
+  on_wire = on_wire;
   count = i;
   entries = s.entries;
   last = now;
@@ -111,9 +117,10 @@ run_stopped g lines i now old new s = record {
 }
 
 -- a failure while a line was reported
-pub run_failed : (g : Given) (lines : List Line) (i : ℕ) (line d : Line) (is all : List Item) (now next : World) (old mid new : Option (List ℕ)) → i < length lines → line ≡ get_or lines i d → all ≡ is → LineRun g.entropy now line.command is next
-    → RunSoFar g lines i now old mid → AppendsPrefix mid new (flat_map (text_of g.nodes line.number) all) → StopsShort g lines old new
-run_failed g lines i line d is all now next old mid new lt e same run s w = record {
+pub run_failed : (g : Given) (lines : List Line) (i : ℕ) (line d : Line) (is all : List Item) (now next : World) (old mid new : Option (List ℕ)) (wire : List ℕ) → i < length lines → line ≡ get_or lines i d → all ≡ is → LineRun g.device g.entropy now line.command is next
+    → RunSoFar g lines i now old mid → AppendsPrefix mid new (flat_map (text_of g.nodes line.number) all) → wire ≡ wire_octets g.device next.frames → StopsShort g lines old new wire
+run_failed g lines i line d is all now next old mid new wire lt e same run s w on_wire = record {
+  on_wire = on_wire;
   count = i + 1;
   entries = s.entries ++ numbered line.number is;
   last = next;
@@ -124,3 +131,18 @@ run_failed g lines i line d is all now next old mid new lt e same run s w = reco
       subst (λ (es : List Entry). Runs g first_world (take (i + 1) lines) es next) (sym tail) (rw front here);
   taken = subst (AppendsPrefix old new) (sym (flat_map-append (entry_text g) s.entries (numbered line.number is))) (prefix_after old mid new _ _ s.taken (subst (λ (l : List ℕ). AppendsPrefix mid new l) (ap (flat_map (text_of g.nodes line.number)) same ∙ sym (numbered_texts g line.number is)) w));
 }
+
+-- ---- lines that a state did
+
+pub did_more : (g : Given) (lines : List Line) (i : ℕ) (line d : Line) (before all shown : List Item) (now : World) (net : Network) (wire : List ℕ) (old mid new : Option (List ℕ)) → i < length lines → line ≡ get_or lines i d → shown ≡ all → before ≡ []
+    → Did g.device (line_run g.device g.entropy now line.command) net wire before all → RunSoFar g lines i now old mid → Appends mid new (flat_map (text_of g.nodes line.number) shown)
+    → (next : World) × Stands g.device net wire next × RunSoFar g lines (i + 1) next old new
+did_more g lines i line d before all shown now net wire old mid new lt e same none did s w =
+    let x = line_run g.device g.entropy now line.command in
+    (x.1, did.1, run_more g lines i line d x.0 shown now x.1 old mid new lt e (same ∙ did.0 ∙ ap (λ (l : List Item). l ++ x.0) none) refl s w)
+
+pub did_failed : (g : Given) (lines : List Line) (i : ℕ) (line d : Line) (before all shown : List Item) (now : World) (net : Network) (wire : List ℕ) (old mid new : Option (List ℕ)) → i < length lines → line ≡ get_or lines i d → shown ≡ all → before ≡ []
+    → Did g.device (line_run g.device g.entropy now line.command) net wire before all → RunSoFar g lines i now old mid → AppendsPrefix mid new (flat_map (text_of g.nodes line.number) shown) → StopsShort g lines old new wire
+did_failed g lines i line d before all shown now net wire old mid new lt e same none did s w =
+    let x = line_run g.device g.entropy now line.command in
+    run_failed g lines i line d x.0 shown now x.1 old mid new wire lt e (same ∙ did.0 ∙ ap (λ (l : List Item). l ++ x.0) none) refl s w did.1.on_wire

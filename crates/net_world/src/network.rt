@@ -1,60 +1,45 @@
 // The network of two nodes and one link.
-ghost use Rattle.std.specs.Prelude.{◌≡◌, ◌≤◌, ◌-◌, ◌+◌, ◌∷◌, [], IfOk, find};
+ghost use Rattle.std.specs.Prelude.{◌≡◌, ℕ, ◌∷◌, [], List, Ok, IfOk, length, find};
 ghost use Rattle.std.specs.Option.{option_copied};
 ghost use Rattle.qkd_base.specs.declared.key_name.NameKind.TheVariants.{Key as KeyKind};
-ghost use Rattle.net_world.specs.Steps.{is_key_named};
+ghost use Rattle.qkd_base.specs.declared.lane.Way.TheVariants.{Up as UpWay};
+ghost use Rattle.net_model.specs.declared.payload.Payload.TheVariants.{Told};
+ghost use Rattle.net_model.specs.declared.fact.Fact.{Fact as FactValue};
+ghost use Rattle.link_segments.specs.Lanes.{lane_octets};
+ghost use Rattle.hop_frames.specs.Opening.{open_of};
+ghost use Rattle.net_world.specs.Wire.{up_lane};
+ghost use Rattle.net_world.specs.Steps.{is_key_named, next_name};
 
-use net_model::Fact;
+use crate::blocks::take_blocks;
+use crate::link::{Link, up_lane};
+use frame_codec::spelled_is_read;
+use hop_frames::{OpenRefusal, Opened, front_of_a_lane, open, sealed_is_opened};
+use link_segments::Segments;
+use net_model::{Fact, Payload, spelled_len};
 use qkd_base::{
-    Items, KeyName, LinkNo, Memory, NameKind, NodeNo, Octets, Replica, Route, SaeNo, Way,
+    FrameOctets, Items, KeyName, Lists, Memory, NameKind, NodeNo, Octets, Replica, Route, SaeNo,
 };
-use report_text::{Counts, End, Held, Item};
+use report_text::{Held, Item};
 use scenario_text::{Command, KeySize};
 use std::alloc::Global;
-use std::marker::Model;
 
-/// The blocks taken at each end, the bytes used of each lane, what each node knows, and how many octets of the lower
-/// node's entropy were drawn.
+/// The link, what each node knows, how many octets of the lower node's entropy were drawn, and the frames on the wire
+/// of the lane up.
 #[derive(Debug, Drop)]
 pub struct Network {
-    alloc: Global,
-    low: u32,
-    high: u32,
-    up: u64,
-    down: u64,
-    low_known: Items<Fact>,
-    high_known: Items<Fact>,
-    drawn: usize,
+    pub alloc: Global,
+    pub link: Link,
+    pub low_known: Items<Fact>,
+    pub high_known: Items<Fact>,
+    pub drawn: usize,
+    pub sent: Lists,
 }
 
-impl Model for Network {
-    ghost use Rattle.std.specs.Prelude.{◌≤◌, ◌+◌, ◌*◌, ◌/◌, replicate};
-    ghost use Rattle.net_world.specs.World.{World, Owner, HashKey};
-
-    ghost Value = { World };
-
-    ghost view = { λ w. record { low = w.low; high = w.high; up = replicate w.up HashKey; down = replicate w.down HashKey; low_known = w.low_known; high_known = w.high_known; drawn = w.drawn } };
-
-    ghost invariant = { λ w. (w.low ≤ 1024) × (w.high ≤ 1024) × (w.up ≤ 1024 * ((w.low + 1) / 2)) × (w.down ≤ 1024 * (w.high / 2)) };
-}
-
-// The bytes of a lane, of which so many are spent.
-fn split(received: u64, spent: u64) -> Counts
-    requires { spent ≤ received }
-    ensures { result ≡ record { received = received; unused = received - spent; spent = spent; burnt = 0 } }
+// The name of the lower node's next key. Counts end at 2^48 - 1.
+fn next_name(known: &[Fact]) -> Result<KeyName, Memory>
+    ensures { IfOk result (λ name. name ≡ next_name known.now) }
 {
-    Counts {
-        received,
-        unused: received - spent,
-        spent,
-        burnt: 0,
-    }
-}
-
-// The name of the lower node's next key, after so many. Counts end at 2^48 - 1.
-fn next_name(made: usize) -> Result<KeyName, Memory>
-    ensures { IfOk result (λ name. name ≡ record { node = 0; kind = KeyKind; count = made + 1 }) }
-{
+    let made = known.len();
     if made >= (1 << 48) - 1 {
         return Err(Memory);
     }
@@ -85,72 +70,41 @@ fn find_key<'a>(known: &'a [Fact], name: KeyName) -> Option<&'a Fact>
     None
 }
 
+// The fact of a frame that tells one.
+fn opened_fact(alloc: Global, frame: &[u8], high: &Segments) -> Result<Fact, Memory>
+    requires { (offset : ℕ) × (fact : FactValue) × (open_of up_lane (lane_octets UpWay high.now.blocks) frame.now ≡ Ok (record { offset = offset; payload = Told fact })) }
+    ensures { IfOk result (λ fact. (offset : ℕ) × (open_of up_lane (lane_octets UpWay high.now.blocks) frame.now ≡ Ok (record { offset = offset; payload = Told fact }))) }
+{
+    match open(alloc, up_lane(), frame, high) {
+        Ok(Opened {
+            offset: _,
+            payload: Payload::Told(fact),
+        }) => Ok(fact),
+        Err(OpenRefusal::Memory) => Err(Memory),
+        _ => unreachable!(),
+    }
+}
+
 impl Network {
-    ghost use Rattle.std.specs.Prelude.{◌≡◌, ◌++◌, ◌∷◌, [], List, OnOk, OnErr, IfOk};
+    ghost use Rattle.std.specs.Prelude.{◌≡◌, ◌≤◌, ◌/◌, ◌++◌, ◌∷◌, [], ℕ, List, OnOk, OnErr, IfOk};
+    ghost use Rattle.net_model.specs.Facts.{IsWellFormed};
     ghost use Rattle.report_text.specs.declared.item.Item.{Item};
-    ghost use Rattle.net_world.specs.World.{first_world, counts_of};
-    ghost use Rattle.net_world.specs.Steps.{take_at, BitsRun, filled, shown_at, LineRun};
+    ghost use Rattle.net_world.specs.World.{World, first_world};
+    ghost use Rattle.net_world.specs.Steps.{filled, shown_at, learnt, ticked, passed, line_run};
+    ghost use Rattle.net_world.specs.Stands.{Stands, Did, IsMade, Tells};
 
     /// Nothing has happened.
     pub fn new(alloc: Global) -> Self
-        ensures { result ≡ first_world }
+        ensures { (device : List ℕ) → Stands device result [] first_world }
     {
         Network {
             alloc,
-            low: 0,
-            high: 0,
-            up: 0,
-            down: 0,
+            link: Link::new(alloc),
             low_known: Items::new(alloc),
             high_known: Items::new(alloc),
             drawn: 0,
+            sent: Items::new(alloc),
         }
-    }
-
-    // Takes a block at an end.
-    #[tactic(auto, unfolding(crate::specs::Steps::take_at))]
-    fn block(&mut self, link: LinkNo, end: End) -> Item
-        ensures { (result, self.new) ≡ take_at link self.old end }
-    {
-        match end {
-            End::Low => {
-                if self.low < 1024 {
-                    let number = self.low;
-                    if number == 0 {
-                        self.up = 8;
-                    }
-                    self.low += 1;
-                    Item::Took { link, end, number }
-                } else {
-                    Item::LinkFull { link, end }
-                }
-            }
-            End::High => {
-                if self.high < 1024 {
-                    let number = self.high;
-                    if number == 1 {
-                        self.down = 8;
-                    }
-                    self.high += 1;
-                    Item::Took { link, end, number }
-                } else {
-                    Item::LinkFull { link, end }
-                }
-            }
-        }
-    }
-
-    // Gives both ends block after block, the low end first.
-    fn bits(&mut self, link: LinkNo, count: u32, items: &mut Vec<Item>) -> Result<(), Memory>
-        ensures { OnOk result ((is : List Item) × (items.new.items ≡ items.old.items ++ is) × BitsRun link count self.old is self.new) }
-    {
-        for _ in 0..count {
-            let low = self.block(link, End::Low);
-            let high = self.block(link, End::High);
-            items.push(low)?;
-            items.push(high)?;
-        }
-        Ok(())
     }
 
     // Makes a key at the lower node. An `Err` changes nothing.
@@ -162,14 +116,16 @@ impl Network {
         slave: SaeNo,
         size: KeySize,
     ) -> Result<Item, Memory>
-        ensures { IfOk result (λ item. (item, self.new) ≡ filled entropy.now self.old master slave size) }
+        ensures filled { IfOk result (λ item. ((item, self.new.low_known, self.new.drawn) ≡ filled entropy.now self.old.low_known self.old.drawn master slave size)
+            × (self.new ≡ record self.old { low_known = self.new.low_known; drawn = self.new.drawn })) }
+        ensures size { (8 ≤ size / 8) × (size / 8 ≤ 512) }
     {
-        let rest = &entropy[self.drawn.min(entropy.len())..];
         let octets = size.octets();
+        let rest = &entropy[self.drawn.min(entropy.len())..];
         if rest.len() < octets {
             return Ok(Item::NoRandom);
         }
-        let name = next_name(self.low_known.len())?;
+        let name = next_name(self.low_known.as_slice())?;
         let bytes = Octets::from_slice(self.alloc, &rest[..octets])?;
         self.low_known.push(Fact::Key {
             name,
@@ -188,7 +144,7 @@ impl Network {
     // What a node shows of a key.
     #[tactic(auto, unfolding(crate::specs::Steps::shown_at))]
     fn show(&self, node: NodeNo, name: KeyName) -> Result<Item, Memory>
-        ensures { IfOk result (λ item. item ≡ shown_at self.now node name) }
+        ensures { IfOk result (λ item. item ≡ shown_at self.now.low_known self.now.high_known node name) }
     {
         let (known, held) = if node.get() == 0 {
             (self.low_known.as_slice(), Held::Made)
@@ -206,38 +162,159 @@ impl Network {
         }
     }
 
-    // A lane's bytes, by what became of them.
-    #[tactic(auto, unfolding(crate::specs::World::counts_of))]
-    fn counts(&self, way: Way) -> Counts
-        ensures { result ≡ counts_of self.now way }
+    // Puts the frame of a payload on the wire, or says how far the lane's bytes reach.
+    fn tell(
+        &mut self,
+        node: NodeNo,
+        payload: &Payload,
+        wire: &mut Octets,
+        items: &mut Vec<Item>,
+    ) -> Result<(), Memory>
+        requires formed { IsWellFormed payload.now }
+        ensures ok { OnOk result (Tells node payload.now self.old self.new wire.old wire.new items.old.items items.new.items) }
+        ensures err { OnErr result (wire.new ≡ wire.old) }
     {
-        match way {
-            Way::Up => split(1024 * ((u64::from(self.low) + 1) / 2), self.up),
-            Way::Down => split(1024 * (u64::from(self.high) / 2), self.down),
+        let length = spelled_len(payload);
+        let mut into = FrameOctets::new();
+        let number = self.sent.len() as u64;
+        let lane = up_lane();
+        match self.link.emit(payload, &mut into) {
+            Ok(offset) => {
+                let octets = &into.octets[..24 + usize::from(length)];
+                items.push(Item::Ticked {
+                    node,
+                    fresh: 1,
+                    again: 0,
+                })?;
+                items.push(Item::Sent {
+                    lane,
+                    number,
+                    offset,
+                    length,
+                })?;
+                let frame = Octets::from_slice(self.alloc, octets)?;
+                self.sent.push(frame)?;
+                wire.extend(octets)
+            }
+            Err(short) => {
+                items.push(Item::Ticked {
+                    node,
+                    fresh: 0,
+                    again: 0,
+                })?;
+                items.push(Item::Short {
+                    lane,
+                    used: short.used,
+                    need: u64::from(length) + 8,
+                    received: short.end,
+                })?;
+                Ok(())
+            }
         }
     }
 
-    /// Does what a command asks for, and adds what is reported.
+    // Tells the first fact that no frame tells yet.
+    fn tick(
+        &mut self,
+        device: &[u8],
+        node: NodeNo,
+        wire: &mut Octets,
+        items: &mut Vec<Item>,
+    ) -> Result<(), Memory>
+        requires stands { (w : World) × Stands device.now self.old wire.old w }
+        ensures ok { (w : World) → Stands device.now self.old wire.old w → OnOk result (Did device.now (ticked w node) self.new wire.new items.old.items items.new.items) }
+        ensures err { OnErr result (wire.new ≡ wire.old) }
+    {
+        let _have = self.link.received();
+        spelled_is_read();
+        front_of_a_lane();
+        let payload = match self.low_known.get(self.sent.len()) {
+            Some(fact) => Payload::Told(fact.copy()?),
+            None => {
+                items.push(Item::Idle { node })?;
+                return Ok(());
+            }
+        };
+        self.tell(node, &payload, wire, items)
+    }
+
+    // The higher node learns a key, if it doesn't know it yet.
+    #[tactic(auto, unfolding(crate::specs::Steps::learnt))]
+    fn learn(&mut self, number: u32, fact: Fact) -> Result<Item, Memory>
+        requires { IsMade fact }
+        ensures { IfOk result (λ item. ((item, self.new.high_known) ≡ learnt self.old.high_known number fact) × (self.new ≡ record self.old { high_known = self.new.high_known })) }
+    {
+        let name = match &fact {
+            Fact::Key { name, .. } => *name,
+            _ => unreachable!(),
+        };
+        let fresh = find_key(self.high_known.as_slice(), name).is_none();
+        if fresh {
+            self.high_known.push(fact)?;
+        }
+        Ok(Item::Passed {
+            lane: up_lane(),
+            number,
+            fresh,
+            name,
+        })
+    }
+
+    // Hands a frame of the wire to the higher node.
+    fn pass(&mut self, device: &[u8], wire: &[u8], number: u32) -> Result<Item, Memory>
+        requires stands { (w : World) × Stands device.now self.old wire.now w }
+        ensures { (w : World) → Stands device.now self.old wire.now w → IfOk result (λ item. (item ≡ (passed w number).0) × Stands device.now self.new wire.now (passed w number).1) }
+    {
+        let count = self.sent.len() as u64;
+        let _have = self.link.received();
+        spelled_is_read();
+        sealed_is_opened();
+        front_of_a_lane();
+        match self.sent.get(number as usize) {
+            None => Ok(Item::NoFrame {
+                lane: up_lane(),
+                number,
+                count,
+            }),
+            Some(frame) => {
+                let fact = opened_fact(self.alloc, frame.as_slice(), self.link.high())?;
+                self.learn(number, fact)
+            }
+        }
+    }
+
+    /// Does what a command asks for over what the device and the lower node's entropy tell, and adds what is reported.
+    /// An `Err` leaves the wire as it was.
     pub fn perform(
         &mut self,
+        device: &[u8],
         entropy: &[u8],
+        wire: &mut Octets,
         command: Command,
         items: &mut Vec<Item>,
     ) -> Result<(), Memory>
-        ensures { OnOk result ((is : List Item) × (items.new.items ≡ items.old.items ++ is) × LineRun entropy.now self.old command is self.new) }
+        requires stands { (w : World) × Stands device.now self.old wire.old w }
+        ensures ok { (w : World) → Stands device.now self.old wire.old w → OnOk result (Did device.now (line_run device.now entropy.now w command) self.new wire.new items.old.items items.new.items) }
+        ensures err { OnErr result (wire.new ≡ wire.old) }
     {
         match command {
             Command::Bits {
                 link,
                 ends: _,
                 count,
-            } => self.bits(link, count, items),
+            } => take_blocks(&mut self.link, device, link, count, items),
             Command::Fill {
                 master,
                 slave,
                 size,
             } => {
                 let item = self.fill(entropy, master, slave, size)?;
+                items.push(item)?;
+                Ok(())
+            }
+            Command::Tick { node } => self.tick(device, node, wire, items),
+            Command::Pass { number, .. } => {
+                let item = self.pass(device, wire.as_slice(), number)?;
                 items.push(item)?;
                 Ok(())
             }
@@ -249,7 +326,7 @@ impl Network {
             Command::Ledger { lane } => {
                 items.push(Item::Counted {
                     lane,
-                    counts: self.counts(lane.way),
+                    counts: self.link.counts(lane.way),
                 })?;
                 Ok(())
             }

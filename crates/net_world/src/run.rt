@@ -1,12 +1,12 @@
 // The run of a scenario.
-ghost use Rattle.std.specs.Prelude.{◌≡◌, ◌≤◌, MatchResult, IsErrOf};
+ghost use Rattle.std.specs.Prelude.{◌≡◌, ◌≤◌, [], MatchResult, IsErrOf};
 ghost use Rattle.edge_io.specs.Faults.{Rose};
 ghost use Rattle.net_world.specs.declared.run.RunRefusal.TheVariants.{WriteFault};
 ghost use Rattle.net_world.specs.Run.{given, WritesItems, RunsWhole, StopsShort};
 
 use crate::network::Network;
 use edge_io::{Failed, Sink};
-use qkd_base::{Memory, Texts};
+use qkd_base::{Memory, Octets, Texts};
 use report_text::{Item, line_text};
 use scenario_text::Line;
 use std::alloc::Global;
@@ -45,25 +45,29 @@ fn write_items<W: Sink>(
     Ok(())
 }
 
-/// Runs the lines of a scenario in order over what the lower node's entropy tells, and writes the report, a piece for
-/// each item. The names of the nodes stand in the report.
+/// Runs the lines of a scenario in order over what the link's device and the lower node's entropy tell, and writes the
+/// report, a piece for each item. The names of the nodes stand in the report. The wire of the lane up begins empty and
+/// gets the frames, one behind another.
 pub fn run_scenario<W: Sink>(
     alloc: Global,
     nodes: &Texts,
     lines: &[Line],
+    device: &[u8],
     entropy: &[u8],
+    wire: &mut Octets,
     sink: &mut W,
-) -> Result<Network, RunRefusal>
+) -> Result<(), RunRefusal>
+    requires empty { wire.old ≡ [] }
     ensures whole { MatchResult result
-        (λ last. RunsWhole (given nodes.now entropy.now) lines.now (W.taken sink.old) (W.taken sink.new) last)
-        (λ _. StopsShort (given nodes.now entropy.now) lines.now (W.taken sink.old) (W.taken sink.new)) }
+        (λ _. RunsWhole (given nodes.now device.now entropy.now) lines.now (W.taken sink.old) (W.taken sink.new) wire.new)
+        (λ _. StopsShort (given nodes.now device.now entropy.now) lines.now (W.taken sink.old) (W.taken sink.new) wire.new) }
     ensures fault { IsErrOf result WriteFault → Rose (W.faults sink.old) (W.faults sink.new) }
     ensures later { W.faults sink.old ≤ W.faults sink.new }
 {
     let mut network = Network::new(alloc);
     for line in lines {
         let mut items = Vec::new(alloc);
-        match network.perform(entropy, line.command, &mut items) {
+        match network.perform(device, entropy, wire, line.command, &mut items) {
             Ok(()) => {}
             Err(Memory) => return Err(RunRefusal::Memory),
         }
@@ -72,5 +76,5 @@ pub fn run_scenario<W: Sink>(
             Err(refusal) => return Err(refusal),
         }
     }
-    Ok(network)
+    Ok(())
 }

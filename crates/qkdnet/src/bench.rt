@@ -6,14 +6,26 @@ use std::alloc::Global;
 /// The lists that the outside of a run tells.
 #[derive(Debug, Drop)]
 pub struct Bench {
+    /// What the device of each link tells, by the link's number.
+    pub devices: Lists,
     /// What the entropy of each node tells, by the node's number.
     pub entropies: Lists,
+    /// The octets of the frames on each lane's wire, one frame behind another: the lane up of link l at 2l, the lane
+    /// down at 2l + 1.
+    pub wires: Lists,
 }
 
-/// The bench of the program: 65,536 octets for the lower node, from a generator.
+/// The bench of the program: 1,048,576 octets for the link and 65,536 for the lower node, from a generator.
 pub fn generated(alloc: Global) -> Result<Bench, Memory> {
+    let mut devices: Lists = Items::new(alloc);
+    let bits = octets(alloc, b'L', 0, 1048576)?;
+    devices.push(bits)?;
     let mut entropies: Lists = Items::new(alloc);
     let told = octets(alloc, b'E', 0, 65536)?;
     entropies.push(told)?;
-    Ok(Bench { entropies })
+    Ok(Bench {
+        devices,
+        entropies,
+        wires: Items::new(alloc),
+    })
 }

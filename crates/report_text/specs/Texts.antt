@@ -36,6 +36,9 @@ fresh_text false = codes "again"
 abbrev pub full_text : List ℕ
 full_text = codes "link-full 1024"
 
+abbrev pub end_of_list : List ℕ
+end_of_list = codes "no-bits"
+
 abbrev pub lane_text : Lane → List ℕ
 lane_text l = decimal l.link ++ codes " " ++ way_text l.way
 
@@ -57,11 +60,17 @@ took_text link end number = codes "bits " ++ decimal link ++ codes " " ++ end_te
 unfoldable pub link_full_text : ℕ → End → List ℕ
 link_full_text link end = codes "bits " ++ decimal link ++ codes " " ++ end_text end ++ codes " " ++ full_text
 
+unfoldable pub no_bits_text : ℕ → End → List ℕ
+no_bits_text link end = codes "bits " ++ decimal link ++ codes " " ++ end_text end ++ codes " " ++ end_of_list
+
 unfoldable pub made_text : ℕ → Name → List ℕ
 made_text count first = codes "made " ++ decimal count ++ codes " " ++ name_text first
 
 unfoldable pub ticked_text : List ℕ → ℕ → ℕ → List ℕ
 ticked_text node fresh again = codes "tick " ++ node ++ codes " new " ++ decimal fresh ++ codes " again " ++ decimal again
+
+unfoldable pub short_text : Lane → ℕ → ℕ → ℕ → List ℕ
+short_text lane used need received = codes "short " ++ lane_text lane ++ codes " " ++ decimal used ++ codes " " ++ decimal need ++ codes " " ++ decimal received
 
 unfoldable pub sent_text : Lane → ℕ → ℕ → ℕ → List ℕ
 sent_text lane number offset size = codes "sent " ++ lane_text lane ++ codes " " ++ decimal number ++ codes " " ++ decimal offset ++ codes " " ++ decimal size
@@ -85,10 +94,12 @@ counted_text lane counts = codes "ledger " ++ lane_text lane ++ codes " " ++ cou
 unfoldable pub item_text : List (List ℕ) → Item → List ℕ
 item_text nodes (items.Took link end number) = took_text link end number
 item_text nodes (items.LinkFull link end) = link_full_text link end
+item_text nodes (items.NoBits link end) = no_bits_text link end
 item_text nodes (items.Made count first) = made_text count first
 item_text nodes items.NoRandom = codes "no-random"
 item_text nodes (items.Ticked node fresh again) = ticked_text (node_text nodes node) fresh again
 item_text nodes (items.Idle node) = codes "idle " ++ node_text nodes node
+item_text nodes (items.Short lane used need received) = short_text lane used need received
 item_text nodes (items.Sent lane number offset size) = sent_text lane number offset size
 item_text nodes (items.Passed lane number fresh name) = passed_text lane number fresh name
 item_text nodes (items.NoFrame lane number count) = no_frame_text lane number count

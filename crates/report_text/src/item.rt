@@ -16,6 +16,11 @@ pub enum Item {
         link: LinkNo,
         end: End,
     },
+    /// The list of a link has no further block for this end.
+    NoBits {
+        link: LinkNo,
+        end: End,
+    },
     /// Keys were made; the first has this name.
     Made {
         count: u16,
@@ -32,6 +37,13 @@ pub enum Item {
     /// A tick of a node had nothing to send.
     Idle {
         node: NodeNo,
+    },
+    /// A lane's received bytes don't reach for a frame that needs so many, behind the used ones.
+    Short {
+        lane: Lane,
+        used: u64,
+        need: u64,
+        received: u64,
     },
     /// A frame stands on a lane's wire. Its payload has so many octets.
     Sent {

@@ -1,7 +1,7 @@
 // The text of an item.
 ghost use Rattle.std.specs.Prelude.{◌≡◌, ◌++◌, IfOk};
 ghost use Rattle.std.specs.String.{string_bytes};
-ghost use Rattle.report_text.specs.Texts.{end_text, way_text, held_text, fresh_text, full_text, node_text, lane_text, name_text, counts_text, took_text, link_full_text, made_text, ticked_text, sent_text, passed_text, no_frame_text, absent_text, shown_text, counted_text, item_text, text_of};
+ghost use Rattle.report_text.specs.Texts.{end_text, way_text, held_text, fresh_text, full_text, end_of_list, node_text, lane_text, name_text, counts_text, took_text, link_full_text, no_bits_text, made_text, ticked_text, short_text, sent_text, passed_text, no_frame_text, absent_text, shown_text, counted_text, item_text, text_of};
 ghost use lib.Chars.{codes};
 
 use crate::{Counts, End, Held, Item};
@@ -45,6 +45,12 @@ fn full_text() -> &'static str
     ensures { result.now ≡ full_text }
 {
     "link-full 1024"
+}
+
+fn end_of_list() -> &'static str
+    ensures { result.now ≡ end_of_list }
+{
+    "no-bits"
 }
 
 // The name of a node, or nothing where it is none of those declared.
@@ -103,6 +109,16 @@ fn link_full_text(alloc: Global, link: LinkNo, end: End) -> Result<String, Memor
     Ok(format!(in alloc; "bits {link} {end} {refusal}")?)
 }
 
+#[tactic(auto, unfolding(crate::specs::Texts::no_bits_text))]
+fn no_bits_text(alloc: Global, link: LinkNo, end: End) -> Result<String, Memory>
+    ensures { IfOk result (λ text. string_bytes text ≡ no_bits_text link end) }
+{
+    let link = link.get();
+    let end = end_text(end);
+    let refusal = end_of_list();
+    Ok(format!(in alloc; "bits {link} {end} {refusal}")?)
+}
+
 #[tactic(auto, unfolding(crate::specs::Texts::made_text))]
 fn made_text(alloc: Global, count: u16, first: KeyName) -> Result<String, Memory>
     ensures { IfOk result (λ text. string_bytes text ≡ made_text count first) }
@@ -128,6 +144,20 @@ fn idle_text(alloc: Global, node: &str) -> Result<String, Memory>
     ensures { IfOk result (λ text. string_bytes text ≡ codes "idle " ++ node.now) }
 {
     Ok(format!(in alloc; "idle {node}")?)
+}
+
+#[tactic(auto, unfolding(crate::specs::Texts::short_text))]
+fn short_text(
+    alloc: Global,
+    lane: Lane,
+    used: u64,
+    need: u64,
+    received: u64,
+) -> Result<String, Memory>
+    ensures { IfOk result (λ text. string_bytes text ≡ short_text lane used need received) }
+{
+    let lane = lane_text(alloc, lane)?;
+    Ok(format!(in alloc; "short {lane} {used} {need} {received}")?)
 }
 
 #[tactic(auto, unfolding(crate::specs::Texts::sent_text))]
@@ -210,12 +240,19 @@ fn item_text(alloc: Global, item: &Item, nodes: &Texts) -> Result<String, Memory
     match *item {
         Item::Took { link, end, number } => took_text(alloc, link, end, number),
         Item::LinkFull { link, end } => link_full_text(alloc, link, end),
+        Item::NoBits { link, end } => no_bits_text(alloc, link, end),
         Item::Made { count, first } => made_text(alloc, count, first),
         Item::NoRandom => no_random_text(alloc),
         Item::Ticked { node, fresh, again } => {
             ticked_text(alloc, node_text(nodes, node), fresh, again)
         }
         Item::Idle { node } => idle_text(alloc, node_text(nodes, node)),
+        Item::Short {
+            lane,
+            used,
+            need,
+            received,
+        } => short_text(alloc, lane, used, need, received),
         Item::Sent {
             lane,
             number,

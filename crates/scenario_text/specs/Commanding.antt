@@ -6,14 +6,14 @@ use Rattle.uuid.specs.Text.{parsed, hyphenated_text, lower}
 use Rattle.qkd_base.specs.declared.lane.Way.{Way}
 use Rattle.qkd_base.specs.declared.lane.Way.TheVariants.{Up, Down}
 use Rattle.qkd_base.specs.Name.{Name, octets_of, name_at}
-use Rattle.scenario_text.specs.declared.command.Command.TheVariants.{Bits, Fill, Show, Ledger}
+use Rattle.scenario_text.specs.declared.command.Command.TheVariants.{Bits, Fill, Tick, Pass, Show, Ledger}
 use Rattle.scenario_text.specs.declared.command.Ends.TheVariants.{Both}
 use Rattle.scenario_text.specs.declared.declarations.Sae.{Sae}
 use Rattle.scenario_text.specs.declared.line.Taken.{Taken}
 use Rattle.scenario_text.specs.declared.line.Taken.TheVariants.{Does, Ends}
 use Rattle.scenario_text.specs.KeySize.{is_size}
 use Rattle.scenario_text.specs.Words.{◌>>=◌, word_at, is_end, number_of}
-use Rattle.scenario_text.specs.Phase.{after_bits, after_fill, after_other}
+use Rattle.scenario_text.specs.Phase.{after_bits, after_fill, after_tick, after_other}
 use Rattle.scenario_text.specs.Stage.{Stage, place_of, sae_of}
 
 abbrev pub way_of : List ℕ → Option Way
@@ -58,6 +58,26 @@ fill_at s rest = do
   phase ← after_fill s.phase
   if is_end count.1 && is_size bits && k == 1
       then Some (record s { phase = phase }, Does (Fill m n bits)) else None
+
+-- `tick NAME`, of the lower node
+unfoldable pub tick_at : Stage → List ℕ → Option (Stage × Taken)
+tick_at s rest = do
+  node ← word_at rest
+  v ← place_of node.0 s.nodes
+  phase ← after_tick s.phase
+  if is_end node.1 && v == 0 then Some (record s { phase = phase }, Does (Tick v)) else None
+
+-- `pass 0 up 0`
+unfoldable pub pass_at : Stage → List ℕ → Option (Stage × Taken)
+pass_at s rest = do
+  link ← word_at rest
+  way ← word_at link.1
+  number ← word_at way.1
+  l ← number_of link.0
+  n ← number_of number.0
+  phase ← after_other s.phase
+  if is_end number.1 && l == 0 && bytes_eq way.0 (codes "up") && n == 0
+      then Some (record s { phase = phase }, Does (Pass l Up n)) else None
 
 -- `show NAME KEY`
 unfoldable pub show_at : Stage → List ℕ → Option (Stage × Taken)

@@ -8,7 +8,7 @@ use Rattle.scenario_text.specs.declared.line.Taken.TheVariants.{Skipped}
 use Rattle.scenario_text.specs.Words.{◌>>=◌, word_at, is_blank, is_space}
 use Rattle.scenario_text.specs.Stage.{Stage}
 use Rattle.scenario_text.specs.Declaring.{node_at, link_at, sae_at, allow_at}
-use Rattle.scenario_text.specs.Commanding.{bits_at, fill_at, show_at, ledger_at, end_at}
+use Rattle.scenario_text.specs.Commanding.{bits_at, fill_at, tick_at, pass_at, show_at, ledger_at, end_at}
 
 -- a line that begins with this word
 unfoldable pub declaration_at : Stage → List ℕ → List ℕ → Option (Stage × Taken)
@@ -23,6 +23,8 @@ unfoldable pub command_at : Stage → List ℕ → List ℕ → Option (Stage ×
 command_at s word rest =
     if bytes_eq word (codes "bits") then bits_at s rest
     else if bytes_eq word (codes "fill") then fill_at s rest
+    else if bytes_eq word (codes "tick") then tick_at s rest
+    else if bytes_eq word (codes "pass") then pass_at s rest
     else if bytes_eq word (codes "show") then show_at s rest
     else if bytes_eq word (codes "ledger") then ledger_at s rest
     else if bytes_eq word (codes "end") then end_at s rest

@@ -1,6 +1,6 @@
 // What a line asks for.
 use crate::key_size::KeySize;
-use qkd_base::{KeyName, Lane, LinkNo, NodeNo, SaeNo};
+use qkd_base::{KeyName, Lane, LinkNo, NodeNo, SaeNo, Way};
 
 /// The ends of a link at which blocks are taken.
 #[derive(Clone, Copy, Debug, PartialEq, Eq)]
@@ -22,6 +22,16 @@ pub enum Command {
         master: SaeNo,
         slave: SaeNo,
         size: KeySize,
+    },
+    /// `tick NAME`: a node plans, and sends what it planned.
+    Tick {
+        node: NodeNo,
+    },
+    /// `pass LINK WAY NUMBER`: a frame of a lane's wire is handed to the lane's receiver.
+    Pass {
+        link: LinkNo,
+        way: Way,
+        number: u32,
     },
     /// `show NAME KEY`: what a node knows of a key.
     Show {

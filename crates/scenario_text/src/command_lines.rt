@@ -51,7 +51,7 @@ fn first_link() -> LinkNo
 impl Declarations {
     ghost use Rattle.std.specs.Prelude.{◌≡◌, length, Some, None, if◌then◌else◌, ◌&&◌, ◌==◌};
     ghost use Rattle.scenario_text.specs.Gives.{Gives};
-    ghost use Rattle.scenario_text.specs.Commanding.{bits_at, fill_at, show_at, ledger_at, end_at, sae_at_home};
+    ghost use Rattle.scenario_text.specs.Commanding.{bits_at, fill_at, tick_at, pass_at, show_at, ledger_at, end_at, sae_at_home};
 
     /// Takes a `bits` line.
     #[tactic(auto, unfolding(crate::specs::Commanding::bits_at))]
@@ -137,6 +137,63 @@ impl Declarations {
                 master,
                 slave,
                 size,
+            }))
+        } else {
+            Err(LineRefusal::Refused)
+        }
+    }
+
+    /// Takes a `tick` line.
+    #[tactic(auto, unfolding(crate::specs::Commanding::tick_at))]
+    pub fn tick_line(&mut self, rest: &[u8]) -> Result<Taken, LineRefusal>
+        ensures { Gives self.new (tick_at self.old rest.now) result }
+    {
+        let Some((node, rest)) = word(rest) else {
+            return Err(LineRefusal::Refused);
+        };
+        let Some(node) = self.node(node) else {
+            return Err(LineRefusal::Refused);
+        };
+        let Some(phase) = self.phase().after_tick() else {
+            return Err(LineRefusal::Refused);
+        };
+        if rest.is_empty() && node.get() == 0 {
+            self.go_on(phase);
+            Ok(Taken::Does(Command::Tick { node }))
+        } else {
+            Err(LineRefusal::Refused)
+        }
+    }
+
+    /// Takes a `pass` line.
+    #[tactic(auto, unfolding(crate::specs::Commanding::pass_at))]
+    pub fn pass_line(&mut self, rest: &[u8]) -> Result<Taken, LineRefusal>
+        ensures { Gives self.new (pass_at self.old rest.now) result }
+    {
+        let Some((link, rest)) = word(rest) else {
+            return Err(LineRefusal::Refused);
+        };
+        let Some((direction, rest)) = word(rest) else {
+            return Err(LineRefusal::Refused);
+        };
+        let Some((place, rest)) = word(rest) else {
+            return Err(LineRefusal::Refused);
+        };
+        let Some(l) = number(link) else {
+            return Err(LineRefusal::Refused);
+        };
+        let Some(n) = number(place) else {
+            return Err(LineRefusal::Refused);
+        };
+        let Some(phase) = self.phase().after_other() else {
+            return Err(LineRefusal::Refused);
+        };
+        if rest.is_empty() && l == 0 && direction == b"up".as_slice() && n == 0 {
+            self.go_on(phase);
+            Ok(Taken::Does(Command::Pass {
+                link: first_link(),
+                way: Way::Up,
+                number: n,
             }))
         } else {
             Err(LineRefusal::Refused)

@@ -99,6 +99,10 @@ impl Declarations {
             self.bits_line(rest)
         } else if word == b"fill".as_slice() {
             self.fill_line(rest)
+        } else if word == b"tick".as_slice() {
+            self.tick_line(rest)
+        } else if word == b"pass".as_slice() {
+            self.pass_line(rest)
         } else if word == b"show".as_slice() {
             self.show_line(rest)
         } else if word == b"ledger".as_slice() {

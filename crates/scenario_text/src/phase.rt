@@ -1,9 +1,9 @@
 // The order of the lines.
 ghost use Rattle.std.specs.Prelude.{◌≡◌};
-ghost use Rattle.scenario_text.specs.Phase.{after_node, after_link, after_sae, after_allow, after_bits, after_fill, after_other};
+ghost use Rattle.scenario_text.specs.Phase.{after_node, after_link, after_sae, after_allow, after_bits, after_fill, after_tick, after_other};
 
-/// Which line may come next: the declarations and the link's blocks in one order, then at most one `fill`, then any
-/// others.
+/// Which line may come next: the declarations and the link's blocks in one order, then at most one `fill`, then at
+/// most one `tick`, then any others.
 #[derive(Clone, Copy, Debug, PartialEq, Eq)]
 pub enum Phase {
     FirstNode,
@@ -14,6 +14,7 @@ pub enum Phase {
     Allow,
     Bits,
     Fill,
+    Tick,
     Others,
 }
 
@@ -75,17 +76,29 @@ impl Phase {
         ensures { result ≡ after_fill self }
     {
         match self {
-            Phase::Fill => Some(Phase::Others),
+            Phase::Fill => Some(Phase::Tick),
             _ => None,
         }
     }
 
-    /// What follows a `show` or `ledger` line, and where `end` may stand.
+    /// What follows a `tick` line.
+    pub fn after_tick(self) -> Option<Phase>
+        ensures { result ≡ after_tick self }
+    {
+        match self {
+            Phase::Fill => Some(Phase::Others),
+            Phase::Tick => Some(Phase::Others),
+            _ => None,
+        }
+    }
+
+    /// What follows a `pass`, `show` or `ledger` line, and where `end` may stand.
     pub fn after_other(self) -> Option<Phase>
         ensures { result ≡ after_other self }
     {
         match self {
             Phase::Fill => Some(Phase::Others),
+            Phase::Tick => Some(Phase::Others),
             Phase::Others => Some(Phase::Others),
             _ => None,
         }
