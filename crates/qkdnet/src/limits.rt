@@ -18,10 +18,10 @@ fn status_of(rt: &HostRuntime, text: String) -> Result<Status, Fail> {
     let mut words: Texts = Items::new(alloc);
     words.push(Text::from_string(String::from_str(alloc, "run")?))?;
     words.push(Text::from_string(String::from_str(alloc, "1")?))?;
-    let bench = generated(alloc)?;
+    let mut bench = generated(alloc)?;
     let mut source = MemSource::new(text.into_bytes(), Vec::new(alloc));
     let mut sink = MemSink::new(alloc, 65536, Vec::new(alloc))?;
-    Ok(network(alloc, &words, &mut source, &mut sink, &bench))
+    Ok(network(alloc, &words, &mut source, &mut sink, &mut bench))
 }
 
 #[test]
