@@ -129,9 +129,9 @@ puts device old new wire wire_new w v fact before all front lengths len most mad
     let bytes : length (lane_octets Up (first_blocks w.lanes.blocks device)) ≡ lane_len Up w.lanes.blocks = ap (λ (bs : List (List ℕ)). length (lane_octets Up bs)) (sym s.link.low) ∙ len ∙ ap (lane_len Up) n in
     let within : length w.lanes.up + need fact ≤ lane_len Up w.lanes.blocks = subst (λ (k : ℕ). k + need fact ≤ lane_len Up w.lanes.blocks) u (subst (λ (k : ℕ). old.link.used + need fact ≤ lane_len Up k) n p.reach) in
     let spelled : p.frame ≡ frame_octets device c = p.spelled
-        ∙ ap (λ (k : ℕ). spell up_lane k (lane_octets Up old.link.low) (payload_octets (Told fact))) u
-        ∙ ap (λ (bs : List (List ℕ)). spell up_lane (length w.lanes.up) (lane_octets Up bs) (payload_octets (Told fact))) s.link.low
-        ∙ sym (received_frame device w.lanes.blocks c front lengths (subst (λ (k : ℕ). k ≤ 1024) n most) (subst (λ (k : ℕ). length w.lanes.up + need fact ≤ k) (sym bytes) within)) in
+    ∙ ap (λ (k : ℕ). spell up_lane k (lane_octets Up old.link.low) (payload_octets (Told fact))) u
+    ∙ ap (λ (bs : List (List ℕ)). spell up_lane (length w.lanes.up) (lane_octets Up bs) (payload_octets (Told fact))) s.link.low
+    ∙ sym (received_frame device w.lanes.blocks c front lengths (subst (λ (k : ℕ). k ≤ 1024) n most) (subst (λ (k : ℕ). length w.lanes.up + need fact ≤ k) (sym bytes) within)) in
     subst (λ (net : Network). Stands device net wire_new (claimed w fact)) (sym p.state) (record {
       link = record {
         low = s.link.low;
@@ -161,8 +161,8 @@ tells device old new wire wire_new w v fact before all front lengths len most s 
     let test : ltb (lane_len Up w.lanes.blocks) (length w.lanes.up + need fact) ≡ true = grind (arith, few) in
     let next = next_fact device old wire w (Some fact) s e in
     let said : all ≡ before ++ items.Ticked v 0 0 ∷ items.Short up_lane (length w.lanes.up) (need fact) (lane_len Up w.lanes.blocks) ∷ [] = p.items
-        ∙ ap (λ (k : ℕ). before ++ items.Ticked v 0 0 ∷ items.Short up_lane k (need fact) (lane_len Up (length old.link.low)) ∷ []) u
-        ∙ ap (λ (k : ℕ). before ++ items.Ticked v 0 0 ∷ items.Short up_lane (length w.lanes.up) (need fact) (lane_len Up k) ∷ []) n in
+    ∙ ap (λ (k : ℕ). before ++ items.Ticked v 0 0 ∷ items.Short up_lane k (need fact) (lane_len Up (length old.link.low)) ∷ []) u
+    ∙ ap (λ (k : ℕ). before ++ items.Ticked v 0 0 ∷ items.Short up_lane (length w.lanes.up) (need fact) (lane_len Up k) ∷ []) n in
     let stands : Stands device new wire_new w = subst (λ (x : List ℕ). Stands device new x w) (sym p.wire) (subst (λ (net : Network). Stands device net wire w) (sym p.state) s) in
     subst (λ x. Did device x new wire_new before all) (sym (ticks w v (Some fact) next)) (rw test (said, stands))
 tells device old new wire wire_new w v fact before all front lengths len most s e (inr p) =
@@ -173,8 +173,8 @@ tells device old new wire wire_new w v fact before all front lengths len most s 
     let next = next_fact device old wire w (Some fact) s e in
     let made : IsMade fact = all_at IsMade w.low_known (length w.frames) fact s.made next in
     let said : all ≡ before ++ items.Ticked v 1 0 ∷ items.Sent up_lane (length w.frames) (length w.lanes.up) (fact_len fact) ∷ [] = p.items
-        ∙ ap (λ (k : ℕ). before ++ items.Ticked v 1 0 ∷ items.Sent up_lane k old.link.used (fact_len fact) ∷ []) (told_already device old wire w s)
-        ∙ ap (λ (k : ℕ). before ++ items.Ticked v 1 0 ∷ items.Sent up_lane (length w.frames) k (fact_len fact) ∷ []) u in
+    ∙ ap (λ (k : ℕ). before ++ items.Ticked v 1 0 ∷ items.Sent up_lane k old.link.used (fact_len fact) ∷ []) (told_already device old wire w s)
+    ∙ ap (λ (k : ℕ). before ++ items.Ticked v 1 0 ∷ items.Sent up_lane (length w.frames) k (fact_len fact) ∷ []) u in
     subst (λ x. Did device x new wire_new before all) (sym (ticks w v (Some fact) next)) (rw test (said, puts device old new wire wire_new w v fact before all front lengths len most made s p))
 
 -- ---- a pass

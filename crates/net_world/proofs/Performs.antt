@@ -44,16 +44,19 @@ framed_more a b (c ∷ cs) le all =
 
 pub blocks_did : (device : List ℕ) (old : Network) (wire : List ℕ) (w : World) (link n : ℕ) (held : Held) (before all : List Item) → Stands device old wire w → BitsDid device (bits_run device link n w.lanes) held before all
     → Did device (lanes_after w (bits_run device link n w.lanes)) (record old { link = held }) wire before all
-blocks_did device old wire w link n held before all s d = (d.0, record {
-  link = d.1;
-  low_known = s.low_known;
-  high_known = s.high_known;
-  made = s.made;
-  drawn = s.drawn;
-  sent = s.sent;
-  framed = framed_more w.lanes.blocks _ w.frames (grows device link n w.lanes) s.framed;
-  on_wire = s.on_wire;
-})
+blocks_did device old wire w link n held before all s d = (
+  d.0,
+  record {
+    link = d.1;
+    low_known = s.low_known;
+    high_known = s.high_known;
+    made = s.made;
+    drawn = s.drawn;
+    sent = s.sent;
+    framed = framed_more w.lanes.blocks _ w.frames (grows device link n w.lanes) s.framed;
+    on_wire = s.on_wire;
+  },
+)
 
 -- ---- keys
 

@@ -76,10 +76,12 @@ fn opened_fact(alloc: Global, frame: &[u8], high: &Segments) -> Result<Fact, Mem
     ensures { IfOk result (λ fact. (offset : ℕ) × (open_of up_lane (lane_octets UpWay high.now.blocks) frame.now ≡ Ok (record { offset = offset; payload = Told fact }))) }
 {
     match open(alloc, up_lane(), frame, high) {
-        Ok(Opened {
-            offset: _,
-            payload: Payload::Told(fact),
-        }) => Ok(fact),
+        Ok(
+            Opened {
+                offset: _,
+                payload: Payload::Told(fact),
+            },
+        ) => Ok(fact),
         Err(OpenRefusal::Memory) => Err(Memory),
         _ => unreachable!(),
     }

@@ -16,4 +16,4 @@ tell-requires c =
 pub returns-clause-ok : goal.returns-clause-ok
 returns-clause-ok c = λ w s.
     on_done c.tell.result c.tell.ensures.ok (λ t. tells c.args.device.now c.args.self.now c.tell.new.self c.args.wire.now c.tell.new.wire w c.args.node c.in_ok-copy-in-Some.field-0 c.args.items.now.items c.tell.new.items.items c.front_of_a_lane.ensures c.spelled_is_read.ensures.len (sym c.received-have.ensures.length ∙ c.received-have.ensures.number) c.received-have.ensures.most s
-        (ap (slice_get c.args.self.now.low_known) (sym c.len.ensures) ∙ sym c.get.ensures ∙ ap option_copied c.in-Some.is ∙ ap Some (sym c.in_ok-copy-in-Some.ensures)) t)
+    (ap (slice_get c.args.self.now.low_known) (sym c.len.ensures) ∙ sym c.get.ensures ∙ ap option_copied c.in-Some.is ∙ ap Some (sym c.in_ok-copy-in-Some.ensures)) t)
