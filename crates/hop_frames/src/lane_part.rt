@@ -1,6 +1,6 @@
 // Parts of a lane that was received.
 ghost use Rattle.std.specs.Prelude.{◌≡◌, ◌+◌, ◌≤◌, length, take, drop};
-ghost use Rattle.link_segments.specs.Lanes.{lane_octets};
+ghost use Rattle.qkd_base.specs.LaneBytes.{lane_octets};
 ghost use Rattle.hop_frames.specs.Frame.{number_of};
 
 use link_segments::Segments;

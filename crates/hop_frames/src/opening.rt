@@ -2,7 +2,7 @@
 ghost use Rattle.std.specs.Prelude.{◌≡◌, ℕ, ◌+◌, ◌≤◌, ◌<◌, ◌^◌, length, take, drop, Result, Ok, IfOk};
 ghost use Rattle.net_model.specs.declared.payload.Payload.{Payload as PayloadValue};
 ghost use Rattle.frame_codec.specs.Reading.{Reads, payload_of};
-ghost use Rattle.link_segments.specs.Lanes.{lane_octets};
+ghost use Rattle.qkd_base.specs.LaneBytes.{lane_octets};
 ghost use Rattle.hop_frames.specs.Frame.{masked};
 ghost use Rattle.hop_frames.specs.Opening.{Opens, checked, tagged, opened_at, open_of};
 

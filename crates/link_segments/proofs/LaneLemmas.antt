@@ -4,7 +4,8 @@ use Rattle.std.specs.List.{AllByRecursion}
 use Rattle.std.proofs.lemmas.List.{get_or_append_left, get_or-append_right, get_or-drop, take_more, take_more_set, length-drop}
 use Rattle.qkd_base.specs.declared.lane.Way.{Way}
 use Rattle.qkd_base.specs.declared.lane.Way.TheVariants.{Up, Down}
-use Rattle.link_segments.specs.Lanes.{lane_octets, lane_len, first_place, AreBlocks}
+use Rattle.qkd_base.specs.LaneBytes.{lane_octets, lane_len}
+use Rattle.link_segments.specs.Lanes.{first_place, AreBlocks}
 
 abbrev Whole : List (List ℕ) → Type 0
 Whole bs = AllByRecursion (λ b. length b ≡ 1024) bs

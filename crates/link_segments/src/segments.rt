@@ -1,6 +1,7 @@
 // A link's blocks at one of its ends.
 ghost use Rattle.std.specs.Prelude.{◌≡◌, ◌+◌, ◌<◌, ◌≤◌, ◌↔◌, [], ◌∷◌, ◌++◌, length, take, drop, IsOk, OnOk, OnErr, IfErr};
-ghost use Rattle.link_segments.specs.Lanes.{lane_octets, lane_len, first_place, AreBlocks, Refuses};
+ghost use Rattle.qkd_base.specs.LaneBytes.{lane_octets, lane_len};
+ghost use Rattle.link_segments.specs.Lanes.{first_place, AreBlocks, Refuses};
 
 use crate::{NoBits, TakeRefusal};
 use qkd_base::{Memory, Way};

@@ -7,7 +7,7 @@ use Rattle.net_model.specs.declared.fact.Fact.{Fact}
 use Rattle.net_model.specs.declared.reply.Reply.{Reply}
 use Rattle.net_model.specs.declared.reply.Reply.TheVariants.{Handed, Stream}
 use Rattle.net_model.specs.Table.{name_of, bytes_of, origin, fact_at, is_part_of, is_secret}
-use Rattle.net_model.specs.LaneBytes.{octets_from}
+use Rattle.net_model.specs.Told.{octets_from}
 use Rattle.net_model.specs.Pools.{bytes_or_none}
 use Rattle.net_model.specs.Streams.{is_chunk_at}
 use Rattle.net_model.specs.World.{Network, World}

@@ -10,7 +10,7 @@ use Rattle.net_model.specs.declared.record.Record.{Record}
 use Rattle.net_model.specs.declared.record.Record.TheVariants.{Block, Lease, Learned, Acked, Handed, Closed, Bare}
 use Rattle.net_model.specs.Table.{name_of, origin, target, learned, was_handed}
 use Rattle.net_model.specs.Site.{Site, outgoing_lanes}
-use Rattle.net_model.specs.LaneBytes.{lane_len}
+use Rattle.qkd_base.specs.LaneBytes.{lane_len}
 use Rattle.net_model.specs.World.{Transmission, no_volatile, needs}
 use Rattle.net_model.specs.View.{View, Port, received_of}
 use Rattle.net_model.specs.Needed.{is_owed, masked}

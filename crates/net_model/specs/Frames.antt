@@ -8,7 +8,8 @@ use Rattle.net_model.specs.declared.placing.Placing.{Placing}
 use Rattle.net_model.specs.declared.reply.Reply.TheVariants.{Down, NoBits}
 use Rattle.net_model.specs.Item.{item_name, need, payload}
 use Rattle.net_model.specs.Site.{of_way, sender, receiver}
-use Rattle.net_model.specs.LaneBytes.{first_blocks, lane_octets}
+use Rattle.qkd_base.specs.LaneBytes.{lane_octets}
+use Rattle.net_model.specs.Told.{first_blocks}
 use Rattle.net_model.specs.Sealing.{Opened, Opens, Rejected, Forged}
 use Rattle.net_model.specs.World.{Network, World, Allocation, Transmission, Outgoing, Frame, received_there}
 use Rattle.net_model.specs.Needed.{view_of}

@@ -12,7 +12,7 @@ use Rattle.net_model.specs.declared.event.Event.TheVariants.{Block}
 use Rattle.net_model.specs.declared.reply.Reply.TheVariants.{Down, Stopped, Memory, JournalFull, NoRandom, LinkFull}
 use Rattle.net_model.specs.Table.{name_of}
 use Rattle.net_model.specs.Site.{Site, of_way, outgoing_way}
-use Rattle.net_model.specs.LaneBytes.{tells, octets_from, block_at}
+use Rattle.net_model.specs.Told.{tells, octets_from, block_at}
 use Rattle.net_model.specs.World.{Network, World, Allocation, Transmission, Entry, Outgoing, no_volatile}
 use Rattle.net_model.specs.Needed.{view_of}
 use Rattle.net_model.specs.Records.{replay}

@@ -3,7 +3,7 @@ pub mod Table
 pub mod Item
 pub mod Site
 pub mod Routes
-pub mod LaneBytes
+pub mod Told
 pub mod Sealing
 pub mod World
 pub mod View

@@ -7,7 +7,7 @@ use Rattle.net_model.specs.declared.fact.Fact.{Fact}
 use Rattle.net_model.specs.Table.{PartOf, part_of, parts_of, name_of, route_of, origin, target, without_bytes, was_handed, sae_at}
 use Rattle.net_model.specs.Site.{outgoing_lanes, of_way}
 use Rattle.qkd_base.specs.declared.lane.Lane.{Lane}
-use Rattle.net_model.specs.LaneBytes.{first_blocks}
+use Rattle.net_model.specs.Told.{first_blocks}
 use Rattle.net_model.specs.World.{World, Network, planned}
 use Rattle.net_model.specs.Table.{facts_of}
 use Rattle.net_model.specs.View.{View, Port, handed_at}

@@ -1,7 +1,7 @@
 -- What a network must be for the definitions to hold their promises: a site in its limits, frames that open as they were sealed, and
 -- devices and entropies that tell octets.
 use Rattle.std.specs.Prelude.{◌≡◌, ◌≢◌, ℕ, ◌<◌, ◌≤◌, true}
-use Rattle.net_model.specs.LaneBytes.{Told}
+use Rattle.net_model.specs.Told.{Told}
 use Rattle.net_model.specs.Sealing.{IsSealing}
 use Rattle.net_model.specs.Site.{Site}
 use Rattle.net_model.specs.World.{Network}

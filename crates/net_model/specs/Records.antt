@@ -7,7 +7,7 @@ use Rattle.net_model.specs.declared.record.Record.{Record}
 use Rattle.net_model.specs.declared.record.Record.TheVariants.{Block, Lease, Learned, Acked, Handed, Closed, Bare}
 use Rattle.net_model.specs.Table.{learned, name_of}
 use Rattle.net_model.specs.Site.{Site, lane_of, outgoing_way}
-use Rattle.net_model.specs.LaneBytes.{lane_len}
+use Rattle.qkd_base.specs.LaneBytes.{lane_len}
 use Rattle.net_model.specs.World.{Durable, Owner, HashKey}
 
 -- the sender's first block of a lane brings its hash key, the first 8 bytes

@@ -4,7 +4,7 @@ use Rattle.qkd_base.specs.Name.{Name}
 use Rattle.qkd_base.specs.declared.lane.Lane.{Lane}
 use Rattle.net_model.specs.declared.fact.Fact.{Fact}
 use Rattle.net_model.specs.Site.{Site}
-use Rattle.net_model.specs.LaneBytes.{lane_len, lane_octets}
+use Rattle.qkd_base.specs.LaneBytes.{lane_len, lane_octets}
 use Rattle.net_model.specs.World.{Volatile}
 
 -- One end of a link: the lane that leaves it, the blocks taken here, the leased end and the planned end of that lane, and

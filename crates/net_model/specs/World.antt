@@ -7,7 +7,8 @@ use Rattle.net_model.specs.declared.record.Record.{Record}
 use Rattle.net_model.specs.declared.placing.Placing.{Placing}
 use Rattle.net_model.specs.Item.{Item, need}
 use Rattle.net_model.specs.Site.{Site, of_way}
-use Rattle.net_model.specs.LaneBytes.{Told, lane_len}
+use Rattle.qkd_base.specs.LaneBytes.{lane_len}
+use Rattle.net_model.specs.Told.{Told}
 use Rattle.net_model.specs.Sealing.{Sealing}
 
 -- what a network is given once: its site, its frames, and what the device of each link and the entropy of each node tell

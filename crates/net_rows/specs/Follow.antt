@@ -6,7 +6,7 @@ use Rattle.net_model.specs.declared.event.Event.TheVariants.{Block, Note}
 use Rattle.net_model.specs.declared.reply.Reply.TheVariants.{Stopped, Memory, NoRandom, JournalFull, Down, NoBits, LinkFull}
 use Rattle.net_model.specs.Item.{payload}
 use Rattle.net_model.specs.Site.{receiver}
-use Rattle.net_model.specs.LaneBytes.{octets_from, block_at}
+use Rattle.net_model.specs.Told.{octets_from, block_at}
 use Rattle.net_model.specs.World.{Network, World, Allocation, first, no_volatile}
 use Rattle.net_model.specs.View.{View}
 use Rattle.net_model.specs.Needed.{view_of}

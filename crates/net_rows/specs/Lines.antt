@@ -11,7 +11,7 @@ use Rattle.net_model.specs.declared.counts.Counts4.{Counts4}
 use Rattle.net_model.specs.declared.reply.Reply.TheVariants.{BadTag, Took}
 use Rattle.net_model.specs.Facts.{payload_len}
 use Rattle.net_model.specs.Site.{Site}
-use Rattle.net_model.specs.LaneBytes.{told_list}
+use Rattle.net_model.specs.Told.{told_list}
 use Rattle.net_model.specs.Sealing.{Sealing, Rejected, Forged}
 use Rattle.net_model.specs.World.{Network}
 use Rattle.net_model.specs.Action.{Environment, Action, Outcome, Replies}

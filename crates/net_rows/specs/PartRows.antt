@@ -14,7 +14,8 @@ use Rattle.net_model.specs.declared.reply.Reply.TheVariants.{MadeKeys, Planned, 
 use Rattle.net_model.specs.Item.{DataItem}
 use Rattle.net_model.specs.Site.{count_up}
 use Rattle.net_model.specs.Routes.{route}
-use Rattle.net_model.specs.LaneBytes.{first_blocks, lane_octets}
+use Rattle.qkd_base.specs.LaneBytes.{lane_octets}
+use Rattle.net_model.specs.Told.{first_blocks}
 use Rattle.net_model.specs.Needed.{view_of}
 use Rattle.net_model.specs.View.{View}
 use Rattle.net_model.specs.World.{Network, Transmission, first}

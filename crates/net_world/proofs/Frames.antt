@@ -15,7 +15,7 @@ use Rattle.net_model.specs.declared.payload.Payload.{Payload}
 use Rattle.net_model.specs.declared.payload.Payload.TheVariants.{Told, Ack}
 use Rattle.net_model.specs.Facts.{payload_len, fact_len, IsWellFormed}
 use Rattle.frame_codec.specs.Payload.{IsPayload, payload_octets}
-use Rattle.link_segments.specs.Lanes.{lane_octets, lane_len}
+use Rattle.qkd_base.specs.LaneBytes.{lane_octets, lane_len}
 use Rattle.hop_frames.specs.Frame.{spell}
 use Rattle.hop_frames.specs.Opening.{open_of}
 use Rattle.hop_frames.specs.declared.opened.Opened.{Opened}

@@ -7,7 +7,7 @@ use Rattle.qkd_base.specs.declared.lane.Way.TheVariants.{Up, Down}
 use Rattle.qkd_base.specs.Name.{Name}
 use Rattle.net_model.specs.declared.fact.Fact.{Fact}
 use Rattle.net_model.specs.Facts.{IsSize}
-use Rattle.link_segments.specs.Lanes.{lane_len}
+use Rattle.qkd_base.specs.LaneBytes.{lane_len}
 use Rattle.report_text.specs.declared.counts.Counts.{Counts}
 use Rattle.report_text.specs.declared.item.Item.{Item}
 use Rattle.report_text.specs.declared.item.Item.TheVariants as items

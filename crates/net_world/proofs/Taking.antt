@@ -5,7 +5,7 @@ use Rattle.std.specs.List.{count_by, flat_map}
 use Rattle.std.proofs.lemmas.List.{drop-drop}
 use Rattle.std.proofs.lemmas.List.Concat.{flat_map-append}
 use Rattle.qkd_base.specs.declared.lane.Way.TheVariants.{Up}
-use Rattle.link_segments.specs.Lanes.{even_places, lane_octets}
+use Rattle.qkd_base.specs.LaneBytes.{even_places, lane_octets}
 use Rattle.report_text.specs.declared.end.End.TheVariants.{Low, High}
 use Rattle.report_text.specs.declared.item.Item.{Item}
 use Rattle.report_text.specs.declared.item.Item.TheVariants as items

@@ -7,7 +7,7 @@ use Rattle.net_model.specs.declared.fact.Fact.{Fact}
 use Rattle.net_model.specs.declared.fact.Fact.TheVariants.{Key}
 use Rattle.net_model.specs.Facts.{IsSize, payload_len}
 use Rattle.frame_codec.specs.Payload.{IsFact, IsPayload, payload_octets}
-use Rattle.link_segments.specs.Lanes.{lane_len, lane_octets}
+use Rattle.qkd_base.specs.LaneBytes.{lane_len, lane_octets}
 use Rattle.report_text.specs.declared.item.Item.{Item}
 use Rattle.report_text.specs.declared.item.Item.TheVariants as items
 use Rattle.net_model.specs.declared.payload.Payload.{Payload}

@@ -7,7 +7,7 @@ use Rattle.net_model.specs.declared.fact.Fact.{Fact}
 use Rattle.net_model.specs.declared.fact.Fact.TheVariants.{Key}
 use Rattle.net_model.specs.Table.{name_of}
 use Rattle.net_model.specs.Facts.{fact_len}
-use Rattle.link_segments.specs.Lanes.{lane_len}
+use Rattle.qkd_base.specs.LaneBytes.{lane_len}
 use Rattle.report_text.specs.declared.end.End.{End}
 use Rattle.report_text.specs.declared.end.End.TheVariants.{Low, High}
 use Rattle.report_text.specs.declared.held.Held.{Held}

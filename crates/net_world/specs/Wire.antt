@@ -5,7 +5,7 @@ use Rattle.qkd_base.specs.declared.lane.Way.TheVariants.{Up}
 use Rattle.qkd_base.specs.declared.lane.Lane.{Lane}
 use Rattle.net_model.specs.declared.payload.Payload.TheVariants.{Told}
 use Rattle.frame_codec.specs.Payload.{payload_octets}
-use Rattle.link_segments.specs.Lanes.{lane_octets}
+use Rattle.qkd_base.specs.LaneBytes.{lane_octets}
 use Rattle.hop_frames.specs.Frame.{spell}
 use Rattle.net_world.specs.World.{Claim}
 

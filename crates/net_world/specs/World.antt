@@ -5,7 +5,7 @@ use Rattle.qkd_base.specs.declared.lane.Way.{Way}
 use Rattle.qkd_base.specs.declared.lane.Way.TheVariants.{Up, Down}
 use Rattle.net_model.specs.declared.fact.Fact.{Fact}
 use Rattle.net_model.specs.Facts.{fact_len}
-use Rattle.link_segments.specs.Lanes.{lane_len}
+use Rattle.qkd_base.specs.LaneBytes.{lane_len}
 use Rattle.report_text.specs.declared.counts.Counts.{Counts}
 
 -- who a byte of a lane went to

@@ -1,7 +1,7 @@
 // The link of two nodes.
 ghost use Rattle.std.specs.Prelude.{◌≡◌, ◌+◌, ◌*◌, ◌≤◌, ◌<◌, ◌==◌, ◌^◌, if◌then◌else◌, ◌++◌, ◌∷◌, [], length, take, drop};
 ghost use Rattle.qkd_base.specs.declared.lane.Way.TheVariants.{Up as UpWay};
-ghost use Rattle.link_segments.specs.Lanes.{lane_octets, lane_len};
+ghost use Rattle.qkd_base.specs.LaneBytes.{lane_octets, lane_len};
 ghost use Rattle.hop_frames.specs.Frame.{hash_key};
 ghost use Rattle.net_world.specs.Held.{block_at};
 
@@ -26,7 +26,7 @@ pub struct Link {
 impl Model for Link {
     ghost use Rattle.std.specs.Prelude.{◌≡◌, ◌≤◌, ◌+◌, ◌*◌, ◌/◌, length};
     ghost use Rattle.qkd_base.specs.declared.lane.Way.TheVariants.{Up as UpWay};
-    ghost use Rattle.link_segments.specs.Lanes.{lane_len};
+    ghost use Rattle.qkd_base.specs.LaneBytes.{lane_len};
     ghost use Rattle.net_world.specs.Held.{Held};
 
     ghost Value = { Held };
@@ -152,7 +152,7 @@ impl Link {
     ghost use Rattle.qkd_base.specs.declared.lane.Way.TheVariants.{Up as UpWay, Down as DownWay};
     ghost use Rattle.net_model.specs.Facts.{payload_len, IsWellFormed};
     ghost use Rattle.frame_codec.specs.Payload.{IsPayload, payload_octets};
-    ghost use Rattle.link_segments.specs.Lanes.{lane_octets, lane_len};
+    ghost use Rattle.qkd_base.specs.LaneBytes.{lane_octets, lane_len};
     ghost use Rattle.hop_frames.specs.Frame.{spell};
     ghost use Rattle.net_world.specs.Held.{held_more};
     ghost use Rattle.net_world.specs.Wire.{up_lane};

@@ -5,7 +5,7 @@ ghost use Rattle.qkd_base.specs.declared.key_name.NameKind.TheVariants.{Key as K
 ghost use Rattle.qkd_base.specs.declared.lane.Way.TheVariants.{Up as UpWay};
 ghost use Rattle.net_model.specs.declared.payload.Payload.TheVariants.{Told};
 ghost use Rattle.net_model.specs.declared.fact.Fact.{Fact as FactValue};
-ghost use Rattle.link_segments.specs.Lanes.{lane_octets};
+ghost use Rattle.qkd_base.specs.LaneBytes.{lane_octets};
 ghost use Rattle.hop_frames.specs.Opening.{open_of};
 ghost use Rattle.net_world.specs.Wire.{up_lane};
 ghost use Rattle.net_world.specs.Steps.{is_key_named, next_name};

@@ -1,9 +1,9 @@
-// The number of a application (SAE).
+// The number of an application (SAE).
 ghost use Rattle.std.specs.Prelude.{◌≡◌, ◌<◌, Some, None, nat_lt, if◌then◌else◌};
 
 use std::marker::Model;
 
-/// The number of a application (SAE), below 256. Contracts see it as a number.
+/// The number of an application (SAE), below 256. Contracts see it as a number.
 #[derive(Clone, Copy, Debug, PartialEq, Eq, PartialOrd, Ord, Hash)]
 pub struct SaeNo {
     number: u16,

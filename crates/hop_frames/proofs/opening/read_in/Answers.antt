@@ -1,7 +1,7 @@
 use Rattle.std.proofs.Common.{subst, arith, length, drop}
 use Rattle.std.proofs.lemmas.List.{length-take}
 use Rattle.frame_codec.specs.Reading.{Reads, payload_of}
-use Rattle.link_segments.specs.Lanes.{lane_octets}
+use Rattle.qkd_base.specs.LaneBytes.{lane_octets}
 use Rattle.hop_frames.proofs.Masks.{masked_part}
 use Rattle.hop_frames.proofs.opening.read_in.Goals as goal
 

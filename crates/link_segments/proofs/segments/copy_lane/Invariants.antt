@@ -1,5 +1,5 @@
 use Rattle.std.proofs.Common.{◌≡◌, take, drop}
-use Rattle.link_segments.specs.Lanes.{lane_octets}
+use Rattle.qkd_base.specs.LaneBytes.{lane_octets}
 use Rattle.link_segments.proofs.segments.copy_lane.Given as goal
 
 abbrev pub invariant-loop-i : goal.invariant-loop-i

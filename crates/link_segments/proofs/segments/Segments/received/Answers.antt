@@ -1,5 +1,6 @@
 use Rattle.std.proofs.Common.{◌∙◌, ◌+◌, ◌-◌, ◌*◌, ◌/◌, ap, List, ℕ, length}
-use Rattle.link_segments.specs.Lanes.{Held, lane_octets}
+use Rattle.qkd_base.specs.LaneBytes.{lane_octets}
+use Rattle.link_segments.specs.Lanes.{Held}
 use Rattle.link_segments.proofs.LaneLemmas.{received_len}
 use Rattle.link_segments.proofs.segments.Segments.received.Goals as goal
 

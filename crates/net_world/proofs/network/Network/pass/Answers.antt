@@ -2,7 +2,7 @@ use Rattle.std.proofs.Common.{Some, sym, ap, subst, ◌∙◌}
 use Rattle.std.specs.Option.{option_copied}
 use Rattle.qkd_base.specs.declared.lane.Way.TheVariants.{Up}
 use Rattle.qkd_base.specs.declared.lane.Lane.{Lane}
-use Rattle.link_segments.specs.Lanes.{lane_octets}
+use Rattle.qkd_base.specs.LaneBytes.{lane_octets}
 use Rattle.report_text.specs.declared.item.Item.TheVariants.{NoFrame}
 use Rattle.net_world.specs.Wire.{up_lane}
 use Rattle.net_world.specs.Stands.{IsMade}
