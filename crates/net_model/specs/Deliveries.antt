@@ -1,15 +1,15 @@
--- What replies hand out: which key, to whom, with which bytes, and where these come from.
-use Rattle.std.specs.Prelude.{◌≡◌, ℕ, ◌+◌, ◌≤◌, true, List, [], ◌∷◌, ◌++◌, length, map, find, slice_get, Option, Some, None}
+-- What replies hand out: which key, to whom, with which bytes.
+use Rattle.std.specs.Prelude.{◌≡◌, ℕ, List, [], ◌∷◌, ◌++◌, map, find, slice_get, Option, Some, None}
 use Rattle.qkd_base.specs.Name.{Name}
 use Rattle.net_model.specs.declared.event.Event.{Event}
 use Rattle.net_model.specs.declared.event.Event.TheVariants.{Enc, Dec, Get, EncGroup}
 use Rattle.net_model.specs.declared.fact.Fact.{Fact}
 use Rattle.net_model.specs.declared.reply.Reply.{Reply}
 use Rattle.net_model.specs.declared.reply.Reply.TheVariants.{Handed, Stream}
-use Rattle.net_model.specs.Table.{name_of, bytes_of, origin, fact_at, is_part_of, is_secret}
-use Rattle.net_model.specs.Told.{octets_from}
+use Rattle.net_model.specs.Table.{name_of, bytes_of, fact_at, is_part_of}
 use Rattle.net_model.specs.Pools.{bytes_or_none}
 use Rattle.net_model.specs.Streams.{is_chunk_at}
+use Rattle.net_model.specs.Handings.{PairsDiffer}
 use Rattle.net_model.specs.World.{Network, World}
 use Rattle.net_model.specs.Action.{Action, Ask, Outcome, Replies}
 use Rattle.net_model.specs.Step.{step}
@@ -56,14 +56,18 @@ bytes_at facts n = bytes_or_parts facts n (fact_at facts n)
 abbrev pub IsTrueDelivery : List Fact → Delivery → Type 0
 IsTrueDelivery facts d = d.bytes ≡ bytes_at facts d.name
 
--- the bytes of a key, chunk or part are octets that its origin's entropy gave
-pub record IsDrawn (net : Network) (w : World) (f : Fact) : Type 0 where
-  pub place : ℕ
-  pub bytes : bytes_of f ≡ octets_from (net.entropy (origin f)).octet place (length (bytes_of f))
-  pub within : place + length (bytes_of f) ≤ w.drawn (origin f)
+-- the pairs that were handed out
+abbrev pub pairs_of : List Delivery → List (Name × ℕ)
+pairs_of ds = map (λ (d : Delivery). (d.name, d.sae)) ds
 
--- all that replies handed out so far was marked, with the bytes of its name; and all bytes were drawn at their origins
-pub record AreTrueDeliveries (net : Network) (w : World) (ds : List Delivery) : Type 0 where
-  pub marked : (n : ℕ) (d : Delivery) → slice_get ds n ≡ Some d → (k : ℕ) × (slice_get w.durable.handed k ≡ Some (d.name, d.sae))
+-- a list stands in another, in order
+pub data IsWithin {A : Type 0} : List A → List A → Type 0 where
+  Empty : (ys : List A) → IsWithin [] ys
+  Next : (x : A) (xs ys : List A) → IsWithin xs ys → IsWithin (x ∷ xs) (x ∷ ys)
+  Skip : (y : A) (xs ys : List A) → IsWithin xs ys → IsWithin xs (y ∷ ys)
+
+-- all that replies handed out so far was marked, each pair once, and with the bytes of its name
+pub record AreTrueDeliveries (w : World) (ds : List Delivery) : Type 0 where
+  pub marked : IsWithin (pairs_of ds) w.durable.handed
+  pub once : PairsDiffer (pairs_of ds)
   pub bytes : (n : ℕ) (d : Delivery) → slice_get ds n ≡ Some d → IsTrueDelivery w.durable.facts d
-  pub drawn : (n : Name) (f : Fact) → fact_at w.durable.facts n ≡ Some f → is_secret f ≡ true → IsDrawn net w f

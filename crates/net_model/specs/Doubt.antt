@@ -1,6 +1,6 @@
 -- What a batch in doubt rests on: each of its records may be made in the world as it is, whatever others do meanwhile.
-use Rattle.std.specs.Prelude.{◌≡◌, ℕ, ◌≤◌, true, false, List, [], ◌∷◌, Some, None, ◌⊎◌}
-use Rattle.qkd_base.specs.Name.{Name, has}
+use Rattle.std.specs.Prelude.{◌≡◌, ◌≢◌, ℕ, ◌<◌, ◌≤◌, true, false, List, [], ◌∷◌, Some, None, ◌⊎◌}
+use Rattle.qkd_base.specs.Name.{Name, IsName, has}
 use Rattle.qkd_base.specs.declared.lane.Lane.{Lane}
 use Rattle.net_model.specs.declared.fact.Fact.{Fact}
 use Rattle.net_model.specs.declared.fact.Fact.TheVariants.{Stored}
@@ -8,11 +8,12 @@ use Rattle.net_model.specs.declared.record.Record.{Record}
 use Rattle.net_model.specs.declared.record.Record.TheVariants.{Block, Lease, Learned, Acked, Handed, Closed, Bare}
 use Rattle.net_model.specs.Facts.{IsWellFormedFact}
 use Rattle.net_model.specs.Ranges.{IsRangedFact}
-use Rattle.net_model.specs.Table.{PartOf, part_of, name_of, route_of, origin, fact_at, is_stored_about, was_handed}
-use Rattle.net_model.specs.Site.{Site, sender, is_incident}
+use Rattle.net_model.specs.Table.{PartOf, part_of, name_of, route_of, origin, fact_at, has_fact, facts_of, is_stored_about, was_handed}
+use Rattle.net_model.specs.Site.{Site, sender, is_incident, of_way, outgoing_way}
+use Rattle.net_model.specs.Streams.{is_chunk_at}
 use Rattle.net_model.specs.World.{Durable, received}
 use Rattle.net_model.specs.Records.{apply_record}
-use Rattle.net_model.specs.Knowledge.{IsEntitled, IsOn, PredecessorKnows, IsAdjacent, IsTargetOf}
+use Rattle.net_model.specs.Knowledge.{IsEntitled, IsOn, PredecessorKnows, IsAdjacent, IsTargetOf, chunks_known}
 use Rattle.net_model.specs.Handings.{MayHave}
 
 -- a fact of the table that the node before it knows
@@ -28,6 +29,17 @@ abbrev pub MayNote : List Fact → (ℕ → List Name) → ℕ → Fact → Type
 MayNote facts known v (Stored note about route) = IsTargetOf v (fact_at facts about) × (has (known v) about ≡ true) × NoStoredBy v facts about
 MayNote facts known v _ = Unit {0}
 
+-- A new part beside the facts that its node made: its group key's name is the node's own and no fact's, and other parts of that key have
+-- its bytes and its master, and other slaves.
+pub record IsPartAmong (facts : List Fact) (v : ℕ) (f : Fact) (p : PartOf) : Type 0 where
+  pub mine : p.key.node ≡ v
+  pub name : IsName p.key
+  pub free : has_fact facts p.key ≡ false
+  pub apart : p.key ≢ name_of f
+  pub bytes : (m : Name) (g : Fact) (q : PartOf) → m.node ≡ v → fact_at facts m ≡ Some g → part_of g ≡ Some q → q.key ≡ p.key → q.bytes ≡ p.bytes
+  pub master : (m : Name) (g : Fact) (q : PartOf) → m.node ≡ v → fact_at facts m ≡ Some g → part_of g ≡ Some q → q.key ≡ p.key → q.master ≡ p.master
+  pub slave : (m : Name) (g : Fact) (q : PartOf) → m.node ≡ v → fact_at facts m ≡ Some g → part_of g ≡ Some q → q.key ≡ p.key → q.slave ≢ p.slave
+
 -- a new fact of the node's own
 pub record MayBeMade (s : Site) (facts : List Fact) (known : ℕ → List Name) (handed : List (Name × ℕ)) (v : ℕ) (f : Fact) : Type 0 where
   pub formed : IsWellFormedFact f
@@ -38,11 +50,20 @@ pub record MayBeMade (s : Site) (facts : List Fact) (known : ℕ → List Name) 
   pub on : IsOn (route_of f) v
   pub entitled : IsEntitled s facts f
   pub note : MayNote facts known v f
+  -- no group key of this node has its name
+  pub unused : (m : Name) (g : Fact) (p : PartOf) → m.node ≡ v → fact_at facts m ≡ Some g → part_of g ≡ Some p → p.key ≢ name_of f
+  -- a chunk has its stream's next index
+  pub next : (stream : Name) (index : ℕ) → is_chunk_at stream index f ≡ true → index ≡ chunks_known facts (known v) stream
+  pub part : (p : PartOf) → part_of f ≡ Some p → IsPartAmong facts v f p
   -- no part comes to a group key that was handed out here
   pub unhanded : (p : PartOf) → part_of f ≡ Some p → (sae : ℕ) → s.home sae ≡ v → was_handed handed p.key sae ≡ false
 
+-- the blocks taken at a node's end of a link
+abbrev pub blocks_of_end : Site → Durable → ℕ → ℕ → ℕ
+blocks_of_end s d v link = of_way (outgoing_way s v link) (d.low_blocks link) (d.high_blocks link)
+
 abbrev pub MayApply : Site → Durable → ℕ → Record → Type 0
-MayApply s d v (Block link number bytes) = is_incident s v link ≡ true
+MayApply s d v (Block link number bytes) = (is_incident s v link ≡ true) × (number ≡ blocks_of_end s d v link) × (number < 1024)
 MayApply s d v (Lease lane end) = (sender s lane ≡ v) × (d.lease lane ≤ end) × (end ≤ received d lane)
 MayApply s d v (Learned f) = (has (d.known v) (name_of f) ≡ false) × (MayBeTold d.facts d.known v f ⊎ MayBeMade s d.facts d.known d.handed v f)
 MayApply s d v (Acked n) = (u : ℕ) × IsAdjacent d.facts d.known u v u n
@@ -61,6 +82,7 @@ pub record ExtendsOf (s : Site) (v : ℕ) (facts facts' : List Fact) (known know
   pub mine : (n : Name) → n.node ≡ v → fact_at facts' n ≡ fact_at facts n
   pub more : (u : ℕ) (n : Name) → has (known u) n ≡ true → has (known' u) n ≡ true
   pub here : known' v ≡ known v
+  pub seen : facts_of facts' (known' v) ≡ facts_of facts (known v)
   pub hands : (n : Name) (sae : ℕ) → s.home sae ≡ v → was_handed handed' n sae ≡ was_handed handed n sae
   pub leases : (l : Lane) → sender s l ≡ v → lease' l ≡ lease l
   pub lows : (l : ℕ) → s.low l ≡ v → low' l ≡ low l

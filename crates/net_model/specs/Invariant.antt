@@ -1,16 +1,18 @@
 -- What every action keeps: the conserved properties of the network.
-use Rattle.std.specs.Prelude.{◌≡◌, ℕ, ◌<◌, ◌≤◌, Bool, true, false, List, [], ◌∷◌, ◌⊎◌, slice_get, Some, if◌then◌else◌}
+use Rattle.std.specs.Prelude.{◌≡◌, ℕ, ◌+◌, ◌<◌, ◌≤◌, Bool, true, false, List, [], ◌∷◌, ◌⊎◌, slice_get, Some, None, if◌then◌else◌}
 use Rattle.qkd_base.specs.Name.{Name}
 use Rattle.qkd_base.specs.declared.lane.Lane.{Lane}
 use Rattle.net_model.specs.declared.fact.Fact.{Fact}
 use Rattle.net_model.specs.declared.placing.Placing.{Placing}
-use Rattle.net_model.specs.Site.{Site, sender, receiver, count_up}
-use Rattle.net_model.specs.World.{Network, World, Durable, Allocation, Transmission, Owner, Journal, no_doubt, no_volatile, received}
-use Rattle.net_model.specs.Journal.{journal_limit}
+use Rattle.net_model.specs.Site.{Site, sender, receiver}
+use Rattle.net_model.specs.World.{Network, World, Durable, Allocation, Transmission, Owner, Journal, InDoubt, no_doubt, no_volatile, received}
+use Rattle.net_model.specs.Journal.{journal_limit, added_len, is_blank}
 use Rattle.net_model.specs.Records.{replay}
 use Rattle.net_model.specs.Ownership.{IsOwned, HasRoom, IsWired}
-use Rattle.net_model.specs.Knowledge.{IsTable, OneChunkEach, IsGroups, IsKnowledge, IsCarried, IsMarked, IsStoredOnce}
+use Rattle.net_model.specs.Knowledge.{IsTable, IsStreams, IsGroups, IsKnowledge, IsCarried, IsMarked, IsStoredOnce}
 use Rattle.net_model.specs.Handings.{IsHanded}
+use Rattle.net_model.specs.Doubt.{MayReplay}
+use Rattle.net_model.specs.Drawn.{AreDrawn}
 use Rattle.net_model.specs.Windows.{IsVolatile, IsPlaced, IsPosted}
 
 -- said of just the families that it looks at, so that a world which differs elsewhere keeps it by the same proof
@@ -19,7 +21,7 @@ pub record InvariantOf (s : Site) (facts : List Fact) (handed : List (Name × �
   pub owned : (l : Lane) → IsOwned facts (own l) (frames l) (got l)
   pub room : (l : Lane) → HasRoom facts (own l) (unclaimed l) (lease l) (got l)
   pub table : IsTable s facts known
-  pub chunks : OneChunkEach facts
+  pub streams : IsStreams facts known
   pub groups : IsGroups facts
   pub knowledge : IsKnowledge facts known
   pub carried : (l : Lane) → IsCarried facts known (sender s l) (receiver s l) (frames l) (unclaimed l)
@@ -39,10 +41,14 @@ with_doubts s w made (v ∷ vs) d = with_doubts s w made vs (if made v then repl
 abbrev pub IsJournal : Journal → Type 0
 IsJournal j = (j.length' ≡ 0) ⊎ ((17 ≤ j.length') × (j.length' ≤ journal_limit) × (j.start < j.length'))
 
+-- what is in doubt has its room in the journal, unless a checkpoint has settled it
+abbrev pub HasRoomFor : Journal → InDoubt → Type 0
+HasRoomFor j d = d.checkpointed ≡ None → j.length' + added_len j.version d.batch ≤ journal_limit
+
 pub record Conserved (net : Network) (w : World) : Type 0 where
   pub now : Invariant net.site w.durable w.frames w.unclaimed
-  -- it holds as well once the batches in doubt of any nodes are made
-  pub doubts : (made : ℕ → Bool) → Invariant net.site (with_doubts net.site w made (count_up net.site.nodes) w.durable) w.frames w.unclaimed
+  -- what is in doubt may be made, whatever others do meanwhile
+  pub doubts : (v : ℕ) → MayReplay net.site w.durable v (w.in_doubt v).batch
   -- only a manager that is down has a batch in doubt, and it keeps nothing of its life
   pub doubtful : (v : ℕ) → w.up v ≡ true → w.in_doubt v ≡ no_doubt
   pub resting : (v : ℕ) → w.up v ≡ false → w.volatile v ≡ no_volatile
@@ -51,5 +57,8 @@ pub record Conserved (net : Network) (w : World) : Type 0 where
   pub posted : (l : Lane) → IsPosted l (w.unclaimed l) (w.outgoing l)
   pub wired : (l : Lane) → IsWired (w.frames l) (w.wire l) (w.outgoing l)
   pub journals : (v : ℕ) → IsJournal (w.journal v)
+  pub started : (v : ℕ) → w.up v ≡ true → is_blank (w.journal v) ≡ false
+  pub doubt_room : (v : ℕ) → HasRoomFor (w.journal v) (w.in_doubt v)
+  pub drawn : AreDrawn net w
   pub low_blocks : (l : ℕ) → w.durable.low_blocks l ≤ 1024
   pub high_blocks : (l : ℕ) → w.durable.high_blocks l ≤ 1024

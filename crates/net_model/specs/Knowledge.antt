@@ -1,5 +1,5 @@
 -- Who knows what: facts spread along their routes alone, hop by hop.
-use Rattle.std.specs.Prelude.{◌≡◌, ℕ, ◌==◌, true, false, List, [], ◌∷◌, slice_get, Option, Some, None, ◌⊎◌}
+use Rattle.std.specs.Prelude.{◌≡◌, ℕ, ◌<◌, ◌==◌, true, false, List, [], ◌∷◌, slice_get, count_by, Option, Some, None, ◌⊎◌}
 use Rattle.std.specs.List.{list_any}
 use Rattle.qkd_base.specs.Name.{Name, IsName, has}
 use Rattle.qkd_base.specs.Route.{first_of, last_of, next_after}
@@ -7,10 +7,10 @@ use Rattle.net_model.specs.declared.fact.Fact.{Fact}
 use Rattle.net_model.specs.declared.fact.Fact.TheVariants.{Key, Chunk, Stored, Open, Joined, Part}
 use Rattle.net_model.specs.Facts.{IsWellFormedFact}
 use Rattle.net_model.specs.Ranges.{IsRangedFact}
-use Rattle.net_model.specs.Table.{PartOf, part_of, name_of, route_of, origin, target, is_secret, fact_at, has_fact, is_stored_about}
+use Rattle.net_model.specs.Table.{PartOf, part_of, name_of, route_of, origin, target, is_secret, fact_at, has_fact, facts_of, is_stored_about}
 use Rattle.net_model.specs.Item.{Item, DataItem, AckItem}
 use Rattle.net_model.specs.Site.{Site}
-use Rattle.net_model.specs.Streams.{is_chunk_at}
+use Rattle.net_model.specs.Streams.{is_chunk_of, is_chunk_at}
 use Rattle.net_model.specs.World.{Allocation, Transmission}
 
 -- the table
@@ -45,11 +45,16 @@ pub record IsFactOf (s : Site) (facts : List Fact) (known : ℕ → List Name) (
 abbrev pub IsTable : Site → List Fact → (ℕ → List Name) → Type 0
 IsTable s facts known = (n : Name) (f : Fact) → fact_at facts n ≡ Some f → IsFactOf s facts known n f
 
--- one chunk for each stream and index
-abbrev pub OneChunkEach : List Fact → Type 0
-OneChunkEach facts =
-    (n m : Name) (f g : Fact) (stream : Name) (index : ℕ) → fact_at facts n ≡ Some f → fact_at facts m ≡ Some g →
-    is_chunk_at stream index f ≡ true → is_chunk_at stream index g ≡ true → n ≡ m
+-- the chunks of a stream among the facts of these names
+abbrev pub chunks_known : List Fact → List Name → Name → ℕ
+chunks_known facts ns stream = count_by (is_chunk_of stream) (facts_of facts ns)
+
+-- a stream's chunks have different indexes, below the number of those that its source's home knows
+pub record IsStreams (facts : List Fact) (known : ℕ → List Name) : Type 0 where
+  pub differ : (n m : Name) (f g : Fact) (stream : Name) (index : ℕ) → fact_at facts n ≡ Some f → fact_at facts m ≡ Some g →
+      is_chunk_at stream index f ≡ true → is_chunk_at stream index g ≡ true → n ≡ m
+  pub below : (n : Name) (f : Fact) (stream : Name) (index : ℕ) → fact_at facts n ≡ Some f → is_chunk_at stream index f ≡ true →
+      index < chunks_known facts (known n.node) stream
 
 -- two parts of one group key: made for different slaves, and else alike
 pub record AreParts (f g : Fact) (p q : PartOf) : Type 0 where

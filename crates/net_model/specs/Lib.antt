@@ -34,6 +34,7 @@ pub mod Handings
 pub mod Windows
 pub mod Invariant
 pub mod Doubt
+pub mod Drawn
 pub mod Faults
 pub mod BlockOrder
 pub mod Formed

@@ -1,6 +1,7 @@
 -- What one life keeps: entries are frames of the node's lanes, and each received frame has one acknowledgement.
 use Rattle.std.specs.Prelude.{◌≡◌, ℕ, ◌==◌, ◌&&◌, Bool, true, false, List, [], ◌∷◌, ◌++◌, map, filter_map, slice_get, take, Option, Some, None}
 use Rattle.std.specs.List.{list_any}
+use Rattle.qkd_base.specs.Name.{name_eq}
 use Rattle.qkd_base.specs.Lane.{lane_eq, reverse_lane}
 use Rattle.qkd_base.specs.declared.lane.Lane.{Lane}
 use Rattle.net_model.specs.declared.placing.Placing.{Placing}
@@ -9,6 +10,7 @@ use Rattle.net_model.specs.Site.{sender, receiver}
 use Rattle.net_model.specs.World.{Network, World, Transmission, Entry, PendingAck, Outgoing, Volatile}
 use Rattle.net_model.specs.Window.{is_pending_of}
 use Rattle.net_model.specs.Frames.{frame_octets}
+use Rattle.net_model.specs.Events.{is_lane}
 use Rattle.net_model.specs.Knowledge.{IsAdjacent}
 
 -- it stands on the wire, if it has a number there
@@ -23,6 +25,7 @@ IsShaped t = t.item ≡ item_of t.received_offset (item_name t.item)
 -- an entry is a frame of a lane that leaves the node, with its octets and its number on the wire
 pub record IsEntry (net : Network) (w : World) (v : ℕ) (e : Entry) : Type 0 where
   pub shaped : IsShaped e.transmission
+  pub site : is_lane net.site e.transmission.lane ≡ true
   pub lane : sender net.site e.transmission.lane ≡ v
   pub number : ℕ
   pub frame : slice_get (w.frames e.transmission.lane) number ≡ Some (record { offset = e.offset; item = e.transmission.item })
@@ -31,6 +34,7 @@ pub record IsEntry (net : Network) (w : World) (v : ℕ) (e : Entry) : Type 0 wh
 
 -- what became of a frame: it is a frame of a lane that leaves the node, with its octets and its number on the wire
 pub record IsPlaced (net : Network) (w : World) (v : ℕ) (p : Placing) : Type 0 where
+  pub site : is_lane net.site p.lane ≡ true
   pub lane : sender net.site p.lane ≡ v
   pub number : ℕ
   pub frame : slice_get (w.frames p.lane) number ≡ Some (record { offset = p.offset; item = item_of p.ack_of p.name })
@@ -69,9 +73,13 @@ answered vol =
     map (λ (a : PendingAck). (a.lane, a.offset)) vol.pending_acks ++
     filter_map (λ (e : Entry). answered_at e.transmission.lane e.transmission.received_offset) vol.window
 
+-- a transmission that acknowledges is a pending acknowledgement
+abbrev pub is_same_ack : Transmission → PendingAck → Bool
+is_same_ack t a = is_pending_of t a && name_eq a.name (item_name t.item)
+
 abbrev pub IsAwaitedAck : Volatile → Transmission → Option ℕ → Type 0
 IsAwaitedAck vol t None = Unit {0}
-IsAwaitedAck vol t (Some offset) = list_any (is_pending_of t) vol.pending_acks ≡ true
+IsAwaitedAck vol t (Some offset) = list_any (is_same_ack t) vol.pending_acks ≡ true
 
 pub record IsVolatile (net : Network) (w : World) (v : ℕ) (vol : Volatile) : Type 0 where
   pub entries : (n : ℕ) (e : Entry) → slice_get vol.window n ≡ Some e → IsEntry net w v e
