@@ -3,10 +3,12 @@ ghost use Rattle.std.specs.Prelude.{◌≡◌, ℕ, ◌+◌, ◌≤◌, ◌<◌,
 ghost use Rattle.qkd_base.specs.declared.lane.Lane.{Lane as LaneValue};
 ghost use Rattle.net_model.specs.declared.payload.Payload.{Payload as PayloadValue};
 ghost use Rattle.net_model.specs.Facts.{payload_len};
+ghost use Rattle.net_model.specs.Sealing.{IsSealing};
 ghost use Rattle.frame_codec.specs.Payload.{IsPayload, payload_octets};
 ghost use Rattle.hop_frames.specs.declared.open_refusal.OpenRefusal.TheVariants.{NoBits};
 ghost use Rattle.hop_frames.specs.Frame.{spell};
 ghost use Rattle.hop_frames.specs.Opening.{open_of};
+ghost use Rattle.hop_frames.specs.Sealing.{hop_sealing};
 
 use frame_codec::spelled_is_read;
 
@@ -26,4 +28,14 @@ pub fn sealed_is_opened()
     ensures len { (lane : LaneValue) (bytes : List ℕ) (offset : ℕ) (p : PayloadValue) → length (spell lane offset bytes (payload_octets p)) ≡ 24 + payload_len p }
 {
     spelled_is_read();
+}
+
+/// These frames are what the abstract network asks of frames: octets, 24 more than the payload, the same with more lane
+/// bytes, opened where they were sealed, and refused while too few lane bytes have come.
+pub fn frames_of_a_network()
+    ensures { IsSealing hop_sealing }
+{
+    spelled_is_read();
+    front_of_a_lane();
+    sealed_is_opened();
 }
