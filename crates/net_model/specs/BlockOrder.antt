@@ -1,14 +1,16 @@
 -- A block of lines that several workers do at once is one run: each manager's history in order of node, then the claims, then the
 -- puts, then the notes.
-use Rattle.std.specs.Prelude.{◌≡◌, ℕ, ◌+◌, ◌*◌, ◌==◌, ◌&&◌, nat_le, Bool, true, false, List, [], ◌∷◌, ◌++◌, length, map, Option, Some, None}
+use Rattle.std.specs.Prelude.{◌≡◌, ℕ, ◌+◌, ◌*◌, ◌==◌, ◌&&◌, nat_le, Bool, true, false, List, [], ◌∷◌, ◌++◌, length, map, count_by, Option, Some, None, if◌then◌else◌}
 use Rattle.std.specs.List.{list_all, flat_map}
-use Rattle.qkd_base.specs.Lane.{way_number}
+use Rattle.qkd_base.specs.Lane.{way_number, lane_eq}
 use Rattle.qkd_base.specs.declared.lane.Lane.{Lane}
 use Rattle.net_model.specs.declared.event.Event.{Event}
 use Rattle.net_model.specs.declared.event.Event.TheVariants.{Fill, Feed, Plan, Enc, Dec, Status, Open, Join, Get, Close, FillGroup, EncGroup}
 use Rattle.net_model.specs.Site.{Site, receiver, count_up}
-use Rattle.net_model.specs.World.{Network, World}
-use Rattle.net_model.specs.Action.{Action, Ask, Allocate, Transmit, Complete, Deliver}
+use Rattle.net_model.specs.World.{Network, World, Transmission, Outgoing}
+use Rattle.net_model.specs.Window.{transmission_eq}
+use Rattle.net_model.specs.Events.{is_lane}
+use Rattle.net_model.specs.Action.{Environment, Ok, OutOfMemory, IoFault, Action, Ask, Allocate, Transmit, Complete, Deliver}
 use Rattle.net_model.specs.Step.{run, IsRun}
 
 -- a list is a merge of lists: each keeps its order
@@ -88,15 +90,45 @@ abbrev pub AreChains : Network → World → ℕ → List (List Action) → Type
 AreChains net w v [] = Unit {0}
 AreChains net w v (h ∷ hs) = (list_all (is_turn_of net.site v) h ≡ true) × IsRun net w h × AreChains net w (v + 1) hs
 
--- The claims of the histories' orders, the puts of these and of the histories' repeats, and the notes go on behind the histories. The
--- whole is then a run from the block's start: no turn of a block looks at another manager, at a claim or at a put.
+-- what claims take of a lane's orders, and puts of what may be put there
+abbrev pub claimed_on : Lane → List Action → List Transmission
+claimed_on l [] = []
+claimed_on l (Allocate t ∷ rest) = if lane_eq t.lane l then t ∷ claimed_on l rest else claimed_on l rest
+claimed_on l (_ ∷ rest) = claimed_on l rest
+
+abbrev pub put_on : Lane → List Action → List ℕ
+put_on l [] = []
+put_on l (Transmit k j environment ∷ rest) = if lane_eq k l then j ∷ put_on l rest else put_on l rest
+put_on l (_ ∷ rest) = put_on l rest
+
+-- a wire takes a frame, or refuses it for a fault or for want of memory
+abbrev pub is_wire_answer : Environment → Bool
+is_wire_answer Ok = true
+is_wire_answer OutOfMemory = true
+is_wire_answer IoFault = true
+is_wire_answer _ = false
+
+abbrev pub is_claim : Site → Action → Bool
+is_claim s (Allocate t) = is_lane s t.lane
+is_claim s _ = false
+
+abbrev pub is_put : Site → Action → Bool
+is_put s (Transmit l j environment) = is_lane s l && is_wire_answer environment
+is_put s _ = false
+
+-- Behind the histories each order is claimed once, lane by lane, and behind these each frame that may be put is put once, lane by lane.
 pub record IsBlock (net : Network) (w : World) (p : Parts) : Type 0 where
   pub nodes : length p.histories ≡ net.site.nodes
   pub chains : AreChains net w 0 p.histories
-  pub claims : are_by_lane (claim_lanes p.claims) ≡ true
-  pub puts : are_by_lane (put_lanes p.puts) ≡ true
-  pub rest : IsRun net (run net w (all_histories p)) (p.claims ++ p.puts ++ completions net)
+  pub claims : list_all (is_claim net.site) p.claims ≡ true
+  pub claim_order : are_by_lane (claim_lanes p.claims) ≡ true
+  pub claimed : (l : Lane) (t : Transmission) →
+      count_by (transmission_eq t) (claimed_on l p.claims) ≡ count_by (transmission_eq t) ((run net w (all_histories p)).unclaimed l)
+  pub puts : list_all (is_put net.site) p.puts ≡ true
+  pub put_order : are_by_lane (put_lanes p.puts) ≡ true
+  pub put : (l : Lane) (j : ℕ) →
+      count_by (λ i. i == j) (put_on l p.puts) ≡ count_by (λ (o : Outgoing). o.frame == j) ((run net w (all_histories p ++ p.claims)).outgoing l)
 
--- what then holds
+-- The whole is then a run from the block's start: no turn of a block looks at another manager, at a claim or at a put.
 abbrev pub BlockIsRun : Network → World → Parts → Type 0
 BlockIsRun net w p = IsBlock net w p → IsRun net w (block_actions net p)

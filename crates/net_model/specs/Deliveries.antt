@@ -1,15 +1,15 @@
 -- What replies hand out: which key, to whom, with which bytes.
-use Rattle.std.specs.Prelude.{◌≡◌, ℕ, List, [], ◌∷◌, ◌++◌, map, find, slice_get, Option, Some, None}
-use Rattle.qkd_base.specs.Name.{Name}
+use Rattle.std.specs.Prelude.{◌≡◌, ℕ, List, [], ◌∷◌, ◌++◌, ◌&&◌, ◌||◌, Bool, true, map, find, slice_get, Option, Some, None}
+use Rattle.qkd_base.specs.Name.{Name, name_eq}
 use Rattle.net_model.specs.declared.event.Event.{Event}
 use Rattle.net_model.specs.declared.event.Event.TheVariants.{Enc, Dec, Get, EncGroup}
 use Rattle.net_model.specs.declared.fact.Fact.{Fact}
 use Rattle.net_model.specs.declared.reply.Reply.{Reply}
 use Rattle.net_model.specs.declared.reply.Reply.TheVariants.{Handed, Stream}
 use Rattle.net_model.specs.Table.{name_of, bytes_of, fact_at, is_part_of}
-use Rattle.net_model.specs.Pools.{bytes_or_none}
 use Rattle.net_model.specs.Streams.{is_chunk_at}
-use Rattle.net_model.specs.Handings.{PairsDiffer}
+use Rattle.net_model.specs.Handings.{PairsDiffer, is_single}
+use Rattle.net_model.specs.Needed.{view_of}
 use Rattle.net_model.specs.World.{Network, World}
 use Rattle.net_model.specs.Action.{Action, Ask, Outcome, Replies}
 use Rattle.net_model.specs.Step.{step}
@@ -27,7 +27,7 @@ abbrev pub chunk_delivery : ℕ → List ℕ → Option Fact → List Delivery
 chunk_delivery sae bytes None = []
 chunk_delivery sae bytes (Some f) = record { name = name_of f; sae = sae; bytes = bytes } ∷ []
 
--- what the reply to an event hands out. A chunk is named by its stream and index
+-- What the reply to an event hands out, by the facts that the manager knows. A chunk is named by its stream and index.
 abbrev pub delivered : List Fact → Event → Reply → List Delivery
 delivered facts (Enc m s n bits) (Handed keys) = map (to_one m) keys
 delivered facts (Dec s m names) (Handed keys) = map (to_one s) keys
@@ -35,26 +35,26 @@ delivered facts (EncGroup m slaves n bits) (Handed keys) = map (to_one m) keys
 delivered facts (Get caller stream index) (Stream status named place (b ∷ bytes)) = chunk_delivery caller (b ∷ bytes) (find (is_chunk_at stream index) facts)
 delivered facts event reply = []
 
-abbrev pub of_step : List Fact → Action → Outcome → List Delivery
-of_step facts (Ask v event environment) (Replies reply) = delivered facts event reply
-of_step facts action outcome = []
+abbrev pub of_step : Network → World → Action → Outcome → List Delivery
+of_step net w (Ask v event environment) (Replies reply) = delivered (view_of net w v).facts event reply
+of_step net w action outcome = []
 
 -- what the replies of a run hand out, in order
 unfoldable pub deliveries : Network → World → List Action → List Delivery
 deliveries net w [] = []
-deliveries net w (a ∷ rest) = let out = step net w a in of_step w.durable.facts a out.1 ++ deliveries net out.0 rest
+deliveries net w (a ∷ rest) = let out = step net w a in of_step net w a out.1 ++ deliveries net out.0 rest
 
--- the one byte list of a name: that of the key or chunk, or of the parts of the group key
-abbrev pub bytes_or_parts : List Fact → Name → Option Fact → List ℕ
-bytes_or_parts facts n (Some f) = bytes_of f
-bytes_or_parts facts n None = bytes_or_none (find (is_part_of n) facts)
+-- the fact is the key or chunk of this name, or a part of its group key
+abbrev pub is_of_name : Name → Fact → Bool
+is_of_name n f = (is_single f && name_eq (name_of f) n) || is_part_of n f
 
-unfoldable pub bytes_at : List Fact → Name → List ℕ
-bytes_at facts n = bytes_or_parts facts n (fact_at facts n)
-
--- a reply hands out the bytes of the name
-abbrev pub IsTrueDelivery : List Fact → Delivery → Type 0
-IsTrueDelivery facts d = d.bytes ≡ bytes_at facts d.name
+-- a delivery has the bytes of each fact of its name, and there is one
+pub record IsTrueDelivery (facts : List Fact) (d : Delivery) : Type 0 where
+  pub name : Name
+  pub fact : Fact
+  pub there : fact_at facts name ≡ Some fact
+  pub is : is_of_name d.name fact ≡ true
+  pub bytes : (m : Name) (f : Fact) → fact_at facts m ≡ Some f → is_of_name d.name f ≡ true → d.bytes ≡ bytes_of f
 
 -- the pairs that were handed out
 abbrev pub pairs_of : List Delivery → List (Name × ℕ)

@@ -1,7 +1,9 @@
 -- Starts: a journal is read back, what was in doubt is settled, and each lane goes on at its leased end.
 use Rattle.std.specs.Prelude.{ℕ, ◌-◌, ◌==◌, ◌&&◌, ◌||◌, not, Bool, true, false, List, ◌++◌, length, replicate, is_none, Option, Some, None, if◌then◌else◌}
 use Rattle.qkd_base.specs.Family.{number_set}
+use Rattle.qkd_base.specs.declared.lane.Lane.{Lane}
 use Rattle.net_model.specs.Site.{Site, sender}
+use Rattle.net_model.specs.Events.{is_lane}
 use Rattle.net_model.specs.World.{Network, World, Durable, Owner, Burnt, Journal, InDoubt, no_doubt, no_volatile}
 use Rattle.net_model.specs.Needed.{view_of}
 use Rattle.net_model.specs.Records.{replay}
@@ -29,12 +31,16 @@ need_at net w v = checkpoint_need (view_of net w v)
 abbrev pub burnt_to : ℕ → List Owner → List Owner
 burnt_to lease own = own ++ replicate (lease - length own) Burnt
 
+-- a lane of the network leaves this node
+abbrev pub leaves : Site → ℕ → Lane → Bool
+leaves site v l = is_lane site l && (sender site l == v)
+
 -- a manager is up again, with nothing but what its journal says; a checkpoint is made where one is due
 unfoldable pub restarted : Network → World → ℕ → World
 restarted net w v =
     record w {
-      durable = record (w.durable) { own = λ l. if sender net.site l == v then burnt_to (w.durable.lease l) (w.durable.own l) else w.durable.own l };
-      recovered = λ l. if sender net.site l == v then w.durable.lease l else w.recovered l;
+      durable = record (w.durable) { own = λ l. if leaves net.site v l then burnt_to (w.durable.lease l) (w.durable.own l) else w.durable.own l };
+      recovered = λ l. if leaves net.site v l then w.durable.lease l else w.recovered l;
       up = number_set w.up v true;
       journal = number_set w.journal v (recovered_journal (w.journal v) (need_at net w v));
       in_doubt = number_set w.in_doubt v no_doubt;
