@@ -1,0 +1,13 @@
+pub mod Base
+pub mod Tables
+pub mod Grow
+pub mod Knowing
+pub mod Learning
+pub mod Chunks
+pub mod Parts
+pub mod Blocks
+pub mod Keeping
+pub mod Extending
+pub mod Growing
+pub mod Later
+pub mod Doubts

@@ -1,0 +1,46 @@
+//! Laws of the durable part of the network: what its records keep.
+#![tactic(auto)]
+
+ghost use Rattle.std.specs.Prelude.{◌≡◌, ◌≢◌, ◌≤◌, ℕ, Bool, true, List, Some};
+ghost use Rattle.qkd_base.specs.Name.{Name, has};
+ghost use Rattle.qkd_base.specs.declared.lane.Lane.{Lane};
+ghost use Rattle.net_model.specs.declared.fact.Fact.{Fact};
+ghost use Rattle.net_model.specs.declared.record.Record.{Record};
+ghost use Rattle.net_model.specs.Table.{fact_at};
+ghost use Rattle.net_model.specs.Site.{Site, count_up};
+ghost use Rattle.net_model.specs.World.{World, Durable, Allocation, Transmission};
+ghost use Rattle.net_model.specs.Records.{replay};
+ghost use Rattle.net_model.specs.Doubt.{MayReplay};
+ghost use Rattle.net_model.specs.Invariant.{Invariant, with_doubts};
+
+/// A batch whose records may be made keeps the invariant.
+pub fn law_records_keep()
+    ensures { (s : Site) (d : Durable) (frames : Lane → List Allocation) (unclaimed : Lane → List Transmission) → Invariant s d frames unclaimed →
+        (v : ℕ) (batch : List Record) → MayReplay s d v batch → Invariant s (replay s v batch d) frames unclaimed }
+{}
+
+/// Records only add to the table and to what nodes know.
+pub fn law_records_add()
+    ensures facts { (s : Site) (d : Durable) (v : ℕ) (batch : List Record) (n : Name) (f : Fact) → fact_at d.facts n ≡ Some f →
+        fact_at (replay s v batch d).facts n ≡ Some f }
+    ensures known { (s : Site) (d : Durable) (v : ℕ) (batch : List Record) (u : ℕ) (n : Name) → has (d.known u) n ≡ true →
+        has ((replay s v batch d).known u) n ≡ true }
+{}
+
+/// What a node may make, it may still make once another node made what it may.
+pub fn law_doubts_stay()
+    ensures { (s : Site) (d : Durable) (frames : Lane → List Allocation) (unclaimed : Lane → List Transmission) → Invariant s d frames unclaimed →
+        (u v : ℕ) → u ≢ v → (other batch : List Record) → MayReplay s d v other → MayReplay s d u batch → MayReplay s (replay s v other d) u batch }
+{}
+
+/// Whichever of the batches in doubt are made, the invariant holds.
+pub fn law_doubts_made()
+    ensures { (s : Site) (w : World) → Invariant s w.durable w.frames w.unclaimed → ((v : ℕ) → MayReplay s w.durable v (w.in_doubt v).batch) →
+        (made : ℕ → Bool) (n : ℕ) → Invariant s (with_doubts s w made (count_up n) w.durable) w.frames w.unclaimed }
+{}
+
+/// No end of a link gets more than 1,024 blocks.
+pub fn law_blocks_few()
+    ensures { (s : Site) (d : Durable) (v : ℕ) (batch : List Record) → MayReplay s d v batch → ((l : ℕ) → (d.low_blocks l ≤ 1024) × (d.high_blocks l ≤ 1024)) →
+        (l : ℕ) → ((replay s v batch d).low_blocks l ≤ 1024) × ((replay s v batch d).high_blocks l ≤ 1024) }
+{}
