@@ -1,0 +1,4 @@
+pub mod Shortest
+pub mod Masked
+pub mod Seen
+pub mod Views
