@@ -1,0 +1,9 @@
+pub mod Supply
+pub mod Made
+pub mod Only
+pub mod Names
+pub mod Fills
+pub mod Hands
+pub mod Streams
+pub mod Feeds
+pub mod Pairs
