@@ -1,0 +1,7 @@
+pub mod Allocating
+pub mod Blocks
+pub mod Growth
+pub mod Lasting
+pub mod Lists
+pub mod Owners
+pub mod Transmitting
