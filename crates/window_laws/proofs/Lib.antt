@@ -1,0 +1,11 @@
+pub mod Acknowledging
+pub mod Completing
+pub mod Entries
+pub mod Leases
+pub mod Noting
+pub mod Orders
+pub mod Outgoing
+pub mod Places
+pub mod Planning
+pub mod Seen
+pub mod Wanted

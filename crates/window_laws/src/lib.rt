@@ -1,0 +1,70 @@
+//! Laws of plans and windows: plans keep to the bytes received, and what one life of a manager keeps stays true as it plans, receives, and
+//! notes what became of its frames.
+#![tactic(auto)]
+
+ghost use Rattle.std.specs.Prelude.{◌≡◌, ℕ};
+ghost use Rattle.qkd_base.specs.Name.{Name};
+ghost use Rattle.qkd_base.specs.declared.lane.Lane.{Lane as LaneValue};
+ghost use Rattle.net_model.specs.Site.{sender, receiver};
+ghost use Rattle.net_model.specs.World.{Network, World, Volatile};
+ghost use Rattle.net_model.specs.Ownership.{IsWired};
+ghost use Rattle.net_model.specs.Knowledge.{IsAdjacent};
+ghost use Rattle.net_model.specs.Windows.{IsPosted, IsVolatile};
+ghost use Rattle.net_model.specs.Premises.{IsNetwork};
+ghost use Rattle.net_model.specs.Needed.{view_of};
+ghost use Rattle.net_model.specs.Window.{acknowledge, cleared};
+ghost use Rattle.net_model.specs.Plan.{plan};
+ghost use Rattle.net_model.specs.Records.{replay};
+ghost use Rattle.net_model.specs.Doubt.{MayReplay};
+ghost use Rattle.net_model.specs.Handle.{with_orders, with_repeats};
+ghost use Rattle.net_model.specs.Step.{complete_node};
+ghost use Rattle.net_model.specs.Invariant.{Invariant, Conserved};
+
+/// Where a node notes what became of its frames, all that is conserved stays so.
+pub fn law_complete_keeps()
+    ensures { (net : Network) (w : World) (v : ℕ) → IsNetwork net → Conserved net w → Conserved net (complete_node net w v).0 }
+{}
+
+/// The leases of a plan may be made: none goes down, and none past the bytes received.
+pub fn law_plan_may()
+    ensures { (net : Network) (w : World) (v : ℕ) → Conserved net w → MayReplay net.site w.durable v (plan net.site w.link_up (view_of net w v)).batch }
+{}
+
+/// Its orders have room under the leases, and may be carried.
+pub fn law_plan_fits()
+    ensures { (net : Network) (w : World) (v : ℕ) → Conserved net w →
+        Invariant net.site (replay net.site v (plan net.site w.link_up (view_of net w v)).batch w.durable) w.frames w.unclaimed →
+        Invariant net.site (replay net.site v (plan net.site w.link_up (view_of net w v)).batch w.durable) w.frames
+        (with_orders (plan net.site w.link_up (view_of net w v)).orders w.unclaimed) }
+{}
+
+/// A plan changes a window only in ages; its new orders are on lanes of the node, and acknowledge what is pending.
+pub fn law_plan_volatile()
+    ensures { (net : Network) (w : World) (v : ℕ) → Conserved net w → IsVolatile net w v (plan net.site w.link_up (view_of net w v)).volatile }
+{}
+
+/// What may be put behind a plan is a frame of its lane, with the item that it says.
+pub fn law_plan_wired()
+    ensures { (net : Network) (w : World) (v : ℕ) → Conserved net w → (l : LaneValue) →
+        IsWired (w.frames l) (w.wire l) (with_repeats (plan net.site w.link_up (view_of net w v)).repeats w.frames w.outgoing l) }
+{}
+
+/// What is ordered and may be put behind a plan is on its lane.
+pub fn law_plan_posted()
+    ensures { (net : Network) (w : World) (v : ℕ) → Conserved net w → (l : LaneValue) →
+        IsPosted l (with_orders (plan net.site w.link_up (view_of net w v)).orders w.unclaimed l)
+        (with_repeats (plan net.site w.link_up (view_of net w v)).repeats w.frames w.outgoing l) }
+{}
+
+/// Each received frame is acknowledged once, however often it comes.
+pub fn law_acknowledge_keeps()
+    ensures { (net : Network) (w : World) (v : ℕ) (vol : Volatile) (l : LaneValue) (offset : ℕ) (n : Name) →
+        receiver net.site l ≡ v → IsAdjacent w.durable.facts w.durable.known v (sender net.site l) v n →
+        IsVolatile net w v vol → IsVolatile net w v (acknowledge vol l offset n) }
+{}
+
+/// The entries of an acknowledged fact may go.
+pub fn law_cleared_keeps()
+    ensures { (net : Network) (w : World) (v : ℕ) (vol : Volatile) (l : LaneValue) (n : Name) →
+        IsVolatile net w v vol → IsVolatile net w v (record vol { window = cleared l n vol.window }) }
+{}
