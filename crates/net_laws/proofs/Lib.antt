@@ -1,0 +1,13 @@
+pub mod Journals
+pub mod Volatiles
+pub mod Lives
+pub mod Effects
+pub mod Quiet
+pub mod Starting
+pub mod Deciding
+pub mod Taking
+pub mod Receiving
+pub mod Delivering
+pub mod Draws
+pub mod Asking
+pub mod Steps

@@ -1,0 +1,30 @@
+//! Laws of the whole network: every action keeps all that is conserved, so every run does.
+#![tactic(auto)]
+
+ghost use Rattle.std.specs.Prelude.{◌≡◌, List};
+ghost use Rattle.net_model.specs.World.{Network, World, first};
+ghost use Rattle.net_model.specs.Premises.{IsNetwork};
+ghost use Rattle.net_model.specs.Action.{Action, Outcome};
+ghost use Rattle.net_model.specs.Step.{step, IsStep, run, IsRun};
+ghost use Rattle.net_model.specs.Invariant.{Conserved};
+
+/// The world before any start has all that is conserved.
+pub fn law_first_conserved()
+    ensures { (net : Network) → Conserved net first }
+{}
+
+/// Each action that may happen keeps it, whatever the outside answers.
+pub fn law_step_keeps()
+    ensures { (net : Network) (w : World) (a : Action) → IsNetwork net → IsStep net w a → Conserved net w → Conserved net (step net w a).0 }
+{}
+
+/// So it holds after every run.
+pub fn law_run_keeps()
+    ensures { (net : Network) (actions : List Action) → IsNetwork net → IsRun net first actions → Conserved net (run net first actions) }
+{}
+
+/// For a world, an action and what the outside answers in it there is one new world and one outcome.
+pub fn law_one_outcome()
+    ensures { (net : Network) (w new other : World) (a : Action) (said told : Outcome) → step net w a ≡ (new, said) → step net w a ≡ (other, told) →
+        (new ≡ other) × (said ≡ told) }
+{}
