@@ -1,0 +1,8 @@
+pub mod Bytes
+pub mod Chunks
+pub mod Success
+pub mod Marks
+pub mod Tells
+pub mod Silent
+pub mod Replies
+pub mod Rooms

@@ -1,0 +1,3 @@
+pub mod Truth
+pub mod Known
+pub mod Room
