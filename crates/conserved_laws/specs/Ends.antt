@@ -1,0 +1,34 @@
+-- Who stands before whom on a route, and whose a key is.
+use Rattle.std.specs.Prelude.{◌≡◌, ℕ, ◌==◌, Bool, true, false, List, [], ◌∷◌, Some, ◌⊎◌, if◌then◌else◌}
+use Rattle.std.specs.List.{list_any}
+use Rattle.qkd_base.specs.Name.{Name, has}
+use Rattle.qkd_base.specs.Route.{first_of, last_of}
+use Rattle.net_model.specs.declared.fact.Fact.{Fact}
+use Rattle.net_model.specs.Table.{route_of, fact_at}
+use Rattle.net_model.specs.Deliveries.{is_of_name}
+use Rattle.net_model.specs.Handings.{KnowsStored}
+use Rattle.net_model.specs.Site.{Site}
+
+-- a node stands somewhere before another on a route
+abbrev pub stands_before : List ℕ → ℕ → ℕ → Bool
+stands_before [] u v = false
+stands_before (a ∷ rest) u v = if a == u then list_any (λ x. x == v) rest else stands_before rest u v
+
+-- the target's word that it came is known at a node, for each fact of this name
+abbrev pub AreConfirmed : List Fact → List Name → Name → Type 0
+AreConfirmed facts known n = (m : Name) (f : Fact) → fact_at facts m ≡ Some f → is_of_name n f ≡ true → KnowsStored facts known m
+
+-- An application is an end of an allowed pair: the fact of this name, or of a part of this group key, goes from the home of the one to that of
+-- the other, and the application's home knows it. The first one, a master or source, has the key only where all of it is confirmed.
+pub record IsEntitledEnd (s : Site) (facts : List Fact) (known : ℕ → List Name) (n : Name) (sae : ℕ) : Type 0 where
+  pub first : ℕ
+  pub last : ℕ
+  pub allowed : s.allowed first last ≡ true
+  pub is_end : ((first ≡ sae) × AreConfirmed facts (known (s.home sae)) n) ⊎ (last ≡ sae)
+  pub name : Name
+  pub fact : Fact
+  pub there : fact_at facts name ≡ Some fact
+  pub is : is_of_name n fact ≡ true
+  pub from : first_of (route_of fact) ≡ s.home first
+  pub to : last_of (route_of fact) ≡ s.home last
+  pub knows : has (known (s.home sae)) name ≡ true
