@@ -1,0 +1,7 @@
+pub mod Asking
+pub mod Cuts
+pub mod Effects
+pub mod Laid
+pub mod Names
+pub mod Receiving
+pub mod Steps
