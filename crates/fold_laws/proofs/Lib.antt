@@ -1,0 +1,17 @@
+pub mod Shapes
+pub mod Staying
+pub mod Following
+pub mod Learning
+pub mod Ends
+pub mod Taken
+pub mod Batches
+pub mod Commits
+pub mod Decided
+pub mod Closing
+pub mod Planned
+pub mod Asked
+pub mod Arriving
+pub mod Starting
+pub mod Doubtful
+pub mod Empty
+pub mod Turns
