@@ -1,0 +1,10 @@
+pub mod Chains
+pub mod Claims
+pub mod Completions
+pub mod Counting
+pub mod Durables
+pub mod Performs
+pub mod Puts
+pub mod Runs
+pub mod Turns
+pub mod Views
