@@ -1,0 +1,65 @@
+-- A network that meets the premises of the laws, with runs and a block of it.
+use Rattle.std.specs.Prelude.{◌≡◌, true, List, [], ◌∷◌, ◌++◌, length, None}
+use Rattle.qkd_base.specs.declared.lane.Way.TheVariants.{Up, Down}
+use Rattle.net_model.specs.declared.event.Event.TheVariants.{Fill, Enc, Dec, Plan}
+use Rattle.net_model.specs.World.{Network, World, first}
+use Rattle.net_model.specs.Action.{Action, Ok, IoFault, Ask, Allocate, Transmit, Start, Recovers}
+use Rattle.net_model.specs.Step.{IsRun, run}
+use Rattle.net_model.specs.Deliveries.{deliveries, pairs_of}
+use Rattle.net_model.specs.BlockOrder.{Parts, IsBlock}
+use Rattle.hop_frames.specs.Sealing.{hop_sealing}
+use Rattle.net_rows.specs.Lines.{Command, Bits, Asks, Do, two_nodes, lane, key}
+use Rattle.net_rows.specs.Runs.{done, one_key}
+use Rattle.net_rows.specs.WorldRows.{first_order}
+
+-- two nodes and a link, with entropies that tell sevens without an end
+abbrev pub sevens : Network
+sevens = record (two_nodes []) { entropy = λ v. record { octet = λ i. 7; end = None } }
+
+-- the same with real frames
+abbrev pub here : Network
+here = record sevens { sealing = hop_sealing }
+
+-- what a worked scenario does
+abbrev pub actions_of : List Command → List Action
+actions_of lines = (done sevens lines).actions
+
+abbrev pub after : List Command → World
+after lines = run here first (actions_of lines)
+
+-- a key is made, told and confirmed
+abbrev pub Runs : Type 0
+Runs = IsRun here first (actions_of one_key)
+
+-- and handed to both applications
+abbrev pub handed_lines : List Command
+handed_lines = one_key ++ Asks 0 (Enc 0 1 1 256) Ok ∷ Asks 1 (Dec 1 0 (key 1 ∷ [])) Ok ∷ []
+
+abbrev pub Hands : Type 0
+Hands = IsRun here first (actions_of handed_lines) × (pairs_of (deliveries here first (actions_of handed_lines)) ≡ (key 1, 0) ∷ (key 1, 1) ∷ [])
+
+-- or its handing is stopped, in doubt, and found by the next start
+abbrev pub stopped_lines : List Command
+stopped_lines = one_key ++ Asks 0 (Enc 0 1 1 256) IoFault ∷ []
+
+abbrev pub Doubts : Type 0
+Doubts = IsRun here first (actions_of (stopped_lines ++ Do (Start 0 (Recovers true)) ∷ [])) × (length ((after stopped_lines).in_doubt 0).batch ≡ 1)
+
+-- two frames on each wire, and two facts
+abbrev pub Tells : Type 0
+Tells = let end = after one_key in
+    length (end.wire (lane 0 Up)) ∷ length (end.wire (lane 0 Down)) ∷ length end.durable.facts ∷ [] ≡ 2 ∷ 2 ∷ 2 ∷ []
+
+-- a block in which a manager plans, and its one order is claimed and put
+abbrev pub block_start : World
+block_start = after (Bits 0 true true 2 ∷ Asks 0 (Fill 0 1 256 1) Ok ∷ [])
+
+abbrev pub parts : Parts
+parts = record {
+  histories = (Ask 0 Plan Ok ∷ []) ∷ [] ∷ [];
+  claims = Allocate first_order ∷ [];
+  puts = Transmit (lane 0 Up) 0 Ok ∷ [];
+}
+
+abbrev pub Blocks : Type 0
+Blocks = IsBlock here block_start parts
