@@ -1,0 +1,12 @@
+pub mod Ending
+pub mod Lines
+pub mod Planned
+pub mod Planning
+pub mod Reaching
+pub mod Running
+pub mod Sending
+pub mod Starting
+pub mod TickIdle
+pub mod TickLine
+pub mod TickSent
+pub mod Wiring

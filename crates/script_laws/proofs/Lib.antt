@@ -1,0 +1,12 @@
+pub mod Agreement
+pub mod BlockLine
+pub mod Counting
+pub mod Filling
+pub mod Joining
+pub mod Owning
+pub mod PassLine
+pub mod Passing
+pub mod Performing
+pub mod Showing
+pub mod Taking
+pub mod Telling

@@ -1,0 +1,2 @@
+pub mod AbstractRun
+pub mod Script
