@@ -1,0 +1,18 @@
+// What the laws of runs say of scenarios.
+ghost use Rattle.qkdnet.specs.Laws.{Laws};
+
+use line_laws::law_network_of_a_scenario;
+use net_laws::law_run_keeps;
+use run_laws::{law_first_lines_run_on_the_network, law_runs_on_the_network};
+use script_laws::law_run_is_one_list;
+
+/// A scenario's run is one of the abstract network, and all is conserved behind it.
+pub fn laws_of_runs()
+    ensures { Laws }
+{
+    law_runs_on_the_network();
+    law_first_lines_run_on_the_network();
+    law_run_is_one_list();
+    law_network_of_a_scenario();
+    law_run_keeps();
+}
