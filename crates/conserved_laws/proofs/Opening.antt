@@ -6,14 +6,11 @@ use Rattle.qkd_base.specs.Name.{IsName}
 use Rattle.qkd_base.specs.declared.lane.Lane.{Lane}
 use Rattle.qkd_base.specs.declared.lane.Way.{Way}
 use Rattle.qkd_base.specs.declared.lane.Way.TheVariants.{Up, Down}
-use Rattle.net_model.specs.declared.fact.Fact.{Fact}
-use Rattle.net_model.specs.declared.fact.Fact.TheVariants.{Key, Chunk, Stored, Open, Joined, Part}
 use Rattle.net_model.specs.declared.payload.Payload.{Payload}
 use Rattle.net_model.specs.declared.payload.Payload.TheVariants.{Told, Ack}
 use Rattle.net_model.specs.declared.reply.Reply.TheVariants.{NoBits}
 use Rattle.net_model.specs.Facts.{payload_len, IsWellFormed}
-use Rattle.net_model.specs.Ranges.{IsRangedFact, IsRanged}
-use Rattle.net_model.specs.Table.{name_of}
+use Rattle.net_model.specs.Ranges.{IsRanged}
 use Rattle.net_model.specs.Item.{Item, DataItem, AckItem, told_of, payload, need}
 use Rattle.net_model.specs.Site.{of_way, sender, receiver}
 use Rattle.net_model.specs.Sealing.{Opens, Rejected, IsSealable}
@@ -23,17 +20,9 @@ use Rattle.net_model.specs.Frames.{octets_sent, octets_received, sealed, frame_o
 use Rattle.net_model.specs.Knowledge.{MayCarry}
 use Rattle.net_model.specs.Premises.{IsNetwork}
 use Rattle.net_model.specs.Invariant.{Conserved}
-use Rattle.record_laws.proofs.Tables.{found_name}
+use Rattle.record_laws.proofs.Tables.{found_name, ranged_name}
 use Rattle.lane_laws.proofs.Blocks.{lane_grows, lane_length, lane_small, lane_are_octets}
 use Rattle.lane_laws.proofs.Growth.{sealable}
-
-ranged_name : (f : Fact) → IsRangedFact f → IsName (name_of f)
-ranged_name (Key name master slave route bytes) h = h.0
-ranged_name (Chunk name stream index route bytes) h = h.0
-ranged_name (Stored note about route) h = h.0
-ranged_name (Open stream source peer size route) h = h.0
-ranged_name (Joined note about route) h = h.0
-ranged_name (Part name key master slave route bytes) h = h.0
 
 -- a frame's payload is well formed and in its ranges
 record IsFormed (p : Payload) : Type 0 where

@@ -1,33 +1,27 @@
 -- Over steps: facts stay, and marks are added at the end.
-use Rattle.std.proofs.Common.{◌≡◌, ℕ, List, [], ◌∷◌, ◌++◌, refl, sym, ◌∙◌, ap, append_assoc, Some}
+use Rattle.std.proofs.Common.{◌≡◌, ℕ, List, [], ◌∷◌, ◌++◌, sym, ◌∙◌, ap, append_assoc, Some}
 use Rattle.std.proofs.lemmas.List.{append-nil}
 use Rattle.qkd_base.specs.Name.{Name}
-use Rattle.qkd_base.specs.declared.lane.Way.{Way}
-use Rattle.qkd_base.specs.declared.lane.Way.TheVariants.{Up, Down}
 use Rattle.net_model.specs.declared.fact.Fact.{Fact}
 use Rattle.net_model.specs.declared.record.Record.{Record}
 use Rattle.net_model.specs.declared.record.Record.TheVariants.{Block, Lease, Learned, Acked, Handed, Closed, Bare}
 use Rattle.net_model.specs.Table.{fact_at}
 use Rattle.net_model.specs.Site.{Site, outgoing_way}
 use Rattle.net_model.specs.World.{Network, World, Durable}
-use Rattle.net_model.specs.Records.{block_taken, apply_record, replay}
+use Rattle.net_model.specs.Records.{apply_record, replay}
 use Rattle.net_model.specs.Action.{Action}
 use Rattle.net_model.specs.Step.{step}
 use Rattle.record_laws.proofs.Tables.{learned_keeps}
 use Rattle.record_laws.proofs.Grow.{Grows}
 use Rattle.reply_laws.proofs.Marks.{marks, replay_marks}
 use Rattle.delivery_laws.proofs.Steps.{keeps_step}
+use Rattle.record_laws.proofs.Growing.{taken_facts}
 
 -- facts stay
 
-block_facts : (way : Way) (link : ℕ) (d : Durable) → (block_taken way link d).facts ≡ d.facts
-unfolding block_taken
-block_facts Up link d = refl
-block_facts Down link d = refl
-
 grows_record : (s : Site) (v : ℕ) (r : Record) (d : Durable) (n : Name) (f : Fact) → fact_at d.facts n ≡ Some f → fact_at (apply_record s v r d).facts n ≡ Some f
 unfolding apply_record
-grows_record s v (Block link number bytes) d n f h = ap (λ (T : List Fact). fact_at T n) (block_facts (outgoing_way s v link) link d) ∙ h
+grows_record s v (Block link number bytes) d n f h = ap (λ (T : List Fact). fact_at T n) (taken_facts (outgoing_way s v link) link d) ∙ h
 grows_record s v (Lease lane end') d n f h = h
 grows_record s v (Learned g) d n f h = learned_keeps d.facts g n f h
 grows_record s v (Acked m) d n f h = h

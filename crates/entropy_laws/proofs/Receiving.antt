@@ -1,20 +1,18 @@
 -- Frames that come, blocks and notes make no secret, so they keep places.
-use Rattle.std.proofs.Common.{not, ◌≡◌, ℕ, zero, suc, ◌+◌, ◌*◌, ◌<◌, ◌≤◌, Bool, true, false, ◌&&◌, List, [], ◌∷◌, length, refl, ◌∙◌, ap, subst, arith, Option, Some, None, inl}
-use Rattle.std.specs.Prelude.{◌==◌, nat_lt, nat_le, slice_get, find, reverse, if◌then◌else◌}
+use Rattle.std.proofs.Common.{not, ◌≡◌, ℕ, zero, suc, ◌+◌, ◌*◌, ◌<◌, ◌≤◌, Bool, true, false, List, [], ◌∷◌, length, refl, ◌∙◌, ap, subst, arith, Option, Some, None, inl}
+use Rattle.std.specs.Prelude.{◌==◌, nat_lt, nat_le, slice_get, find, if◌then◌else◌}
 use Rattle.std.proofs.lemmas.Bool.Decides.{nat_tests}
 use Rattle.qkd_base.specs.Name.{Name, has}
 use Rattle.qkd_base.specs.declared.lane.Way.{Way}
 use Rattle.qkd_base.specs.declared.lane.Way.TheVariants.{Up, Down}
 use Rattle.qkd_base.specs.declared.lane.Lane.{Lane}
-use Rattle.qkd_base.specs.declared.key_name.NameKind.TheVariants.{Note as NoteKind}
 use Rattle.net_model.specs.declared.event.Event.TheVariants.{Block, Note}
 use Rattle.net_model.specs.declared.fact.Fact.{Fact}
-use Rattle.net_model.specs.declared.fact.Fact.TheVariants.{Stored}
 use Rattle.net_model.specs.declared.payload.Payload.{Payload}
 use Rattle.net_model.specs.declared.payload.Payload.TheVariants.{Told, Ack}
 use Rattle.net_model.specs.declared.record.Record.TheVariants.{Block as Block', Learned, Acked}
 use Rattle.net_model.specs.declared.reply.Reply.TheVariants.{LinkFull, Took}
-use Rattle.net_model.specs.Table.{name_of, route_of, fact_at, is_secret, target}
+use Rattle.net_model.specs.Table.{name_of, fact_at}
 use Rattle.net_model.specs.Item.{Item, DataItem, AckItem, need, payload, told_of}
 use Rattle.net_model.specs.Site.{sender, receiver, of_way, outgoing_way, is_incident}
 use Rattle.net_model.specs.Told.{tells, block_at}
@@ -23,7 +21,7 @@ use Rattle.net_model.specs.World.{Network, World, Allocation, received_there}
 use Rattle.net_model.specs.View.{View, port_of, blocks_of}
 use Rattle.net_model.specs.Needed.{masked, view_of}
 use Rattle.net_model.specs.Relay.{owed, stored_note, receive_fact, receive_ack, receive}
-use Rattle.net_model.specs.Decision.{Refuses, makes, knows, fresh_name}
+use Rattle.net_model.specs.Decision.{Refuses, makes, knows}
 use Rattle.net_model.specs.Decide.{decide, random_need}
 use Rattle.net_model.specs.Invariant.{Conserved}
 use Rattle.net_model.specs.Action.{Environment, Outcome, Ok, is_device_fault}
@@ -35,6 +33,7 @@ use Rattle.record_laws.proofs.Tables.{found_name}
 use Rattle.event_laws.specs.May.{decided}
 use Rattle.event_laws.proofs.Decisions.{receive_may}
 use Rattle.entropy_laws.proofs.Effects.{AreLaid, TellsOnly, MayResolve, perform_lays, handle_lays}
+use Rattle.net_laws.proofs.Receiving.{note_not_secret}
 
 module _ (net : Network) (w : World) (c : Conserved net w) (laid : AreLaid net w) (l : Lane) (environment : Environment) where
   abbrev see : View
@@ -45,24 +44,13 @@ module _ (net : Network) (w : World) (c : Conserved net w) (laid : AreLaid net w
 
   -- what came is of the table, and its note is no secret
 
-  note_not_secret : (f g : Fact) (n : ℕ) → slice_get (stored_note see f) n ≡ Some (Learned g) → is_secret g ≡ true → ⊥
-  note_not_secret f g n at secret = by_cases (is_secret f && (target f == see.me)) n at
-    where
-      note : Fact
-      note = Stored (fresh_name see NoteKind 0) (name_of f) (reverse (route_of f))
-
-      by_cases : (t : Bool) (n : ℕ) → slice_get (if t then Learned note ∷ [] else []) n ≡ Some (Learned g) → ⊥
-      by_cases true zero h = let same : note ≡ g = cc in let no : is_secret note ≡ true = ap is_secret same ∙ secret in cc
-      by_cases true (suc n) h = cc
-      by_cases false n h = cc
-
   fact_told : (offset : ℕ) (f : Fact) → fact_at w.durable.facts (name_of f) ≡ Some f → TellsOnly w (receive_fact see l offset f)
   unfolding receive_fact
   fact_told offset f there n g at secret = by_cases (not (knows see (name_of f))) n at
     where
       by_cases : (t : Bool) (n : ℕ) → slice_get (if t then Learned f ∷ stored_note see f else []) n ≡ Some (Learned g) → fact_at w.durable.facts (name_of g) ≡ Some g
       by_cases true zero h = let same : f ≡ g = cc in subst (λ (x : Fact). fact_at w.durable.facts (name_of x) ≡ Some x) same there
-      by_cases true (suc n) h = absurd (note_not_secret f g n h secret)
+      by_cases true (suc n) h = absurd (note_not_secret see f g n h secret)
       by_cases false n h = cc
 
   ack_told : (n : Name) → TellsOnly w (receive_ack see l (sender net.site l) n)

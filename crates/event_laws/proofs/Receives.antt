@@ -3,17 +3,16 @@ use Rattle.std.proofs.Common.{not, ◌≡◌, ℕ, ◌<◌, true, false, ◌&&�
 use Rattle.std.specs.Prelude.{◌==◌, nat_lt, if◌then◌else◌}
 use Rattle.std.specs.List.{list_all, list_any}
 use Rattle.std.proofs.lemmas.Bool.Decides.{nat_tests}
-use Rattle.qkd_base.specs.Name.{Name, IsName, name_eq, has}
+use Rattle.qkd_base.specs.Name.{Name, name_eq, has}
 use Rattle.qkd_base.specs.Route.{next_after, are_nodes}
 use Rattle.qkd_base.specs.declared.key_name.NameKind.TheVariants.{Key as KeyKind, Note as NoteKind}
 use Rattle.qkd_base.specs.declared.lane.Lane.{Lane}
 use Rattle.net_model.specs.declared.fact.Fact.{Fact}
-use Rattle.net_model.specs.declared.fact.Fact.TheVariants.{Key, Chunk, Stored, Open, Joined, Part}
+use Rattle.net_model.specs.declared.fact.Fact.TheVariants.{Key, Chunk, Stored, Part}
 use Rattle.net_model.specs.declared.payload.Payload.{Payload}
 use Rattle.net_model.specs.declared.payload.Payload.TheVariants.{Told, Ack}
 use Rattle.net_model.specs.declared.record.Record.TheVariants.{Learned, Acked}
 use Rattle.net_model.specs.Facts.{IsWellFormedFact}
-use Rattle.net_model.specs.Ranges.{IsRangedFact}
 use Rattle.net_model.specs.Table.{name_of, route_of, target, is_secret, fact_at, learned, is_stored_about}
 use Rattle.net_model.specs.Item.{Item, DataItem, AckItem, payload, told_of}
 use Rattle.net_model.specs.Site.{Site, sender}
@@ -27,7 +26,7 @@ use Rattle.net_model.specs.Relay.{owed, stored_note, receive_fact, receive_ack, 
 use Rattle.net_model.specs.View.{View}
 use Rattle.net_model.specs.Handle.{is_numbered}
 use Rattle.record_laws.proofs.Base.{name_eq_from, eq_from, eq_same, and_left, and_right, or_cases, or_left, or_right, not_false, not_both, was_not, number_set_same}
-use Rattle.record_laws.proofs.Tables.{found_name, has-push, has_last, is_some_of_some, learned_there}
+use Rattle.record_laws.proofs.Tables.{found_name, has-push, has_last, is_some_of_some, learned_there, ranged_name}
 use Rattle.view_laws.proofs.Seen.{Sees, seen_there}
 use Rattle.pair_laws.proofs.Made.{IsBelow, is_below, ranged_route, made_may}
 use Rattle.pair_laws.proofs.Only.{fresh_is}
@@ -76,14 +75,6 @@ secret_name (Key name master slave route bytes) e h = h.0
 secret_name (Chunk name stream index route bytes) e h = h.0
 secret_name (Part name key master slave route bytes) e h = h.0
 secret_name _ e h = cc
-
-pub ranged_name : (f : Fact) → IsRangedFact f → IsName (name_of f)
-ranged_name (Key name master slave route bytes) h = h.0
-ranged_name (Chunk name stream index route bytes) h = h.0
-ranged_name (Stored note about route) h = h.0
-ranged_name (Open stream source peer size route) h = h.0
-ranged_name (Joined note about route) h = h.0
-ranged_name (Part name key master slave route bytes) h = h.0
 
 knows_more : (s : Site) (d : Durable) (v : ℕ) (f : Fact) → has ((apply_record s v (Learned f) d).known v) (name_of f) ≡ true
 unfolding apply_record

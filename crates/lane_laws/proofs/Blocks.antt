@@ -12,13 +12,9 @@ use Rattle.net_model.specs.Told.{Told, octets_from, block_at, first_blocks}
 use Rattle.net_model.specs.Ranges.{IsOctets}
 use Rattle.net_model.specs.Premises.{TellsOctets}
 use Rattle.record_laws.proofs.Base.{and_both}
+use Rattle.record_laws.proofs.Octets.{length-octets_from}
 
 -- blocks
-
-from_length : (octet : ℕ → ℕ) (place n : ℕ) → length (octets_from octet place n) ≡ n
-unfolding octets_from
-from_length octet place zero = refl
-from_length octet place (suc n) = ap suc (from_length octet (place + 1) n)
 
 from_octets : (octet : ℕ → ℕ) → ((i : ℕ) → octet i < 256) → (place n : ℕ) → IsOctets (octets_from octet place n)
 unfolding octets_from
@@ -106,7 +102,7 @@ way_length Down bs w = length_down bs w
 
 pub lane_length : (way : Way) (t : Told) (n : ℕ) → length (lane_octets way (first_blocks t n)) ≡ lane_len way n
 lane_length way t n =
-    way_length way (first_blocks t n) (all_blocks IsWhole t (λ k. from_length t.octet (1024 * k) 1024) n) ∙ ap (lane_len way) (count_blocks t n)
+    way_length way (first_blocks t n) (all_blocks IsWhole t (λ k. length-octets_from t.octet (1024 * k) 1024) n) ∙ ap (lane_len way) (count_blocks t n)
 
 -- at most half of a link's blocks
 pub lane_small : (way : Way) (n : ℕ) → n ≤ 1024 → lane_len way n ≤ 524288

@@ -8,13 +8,12 @@ use Rattle.qkd_base.specs.declared.lane.Way.{Way}
 use Rattle.qkd_base.specs.declared.lane.Way.TheVariants.{Up, Down}
 use Rattle.qkd_base.specs.LaneBytes.{lane_len}
 use Rattle.net_model.specs.declared.fact.Fact.{Fact}
-use Rattle.net_model.specs.declared.fact.Fact.TheVariants.{Key, Chunk, Stored, Open, Joined, Part}
 use Rattle.net_model.specs.declared.payload.Payload.{Payload}
 use Rattle.net_model.specs.declared.payload.Payload.TheVariants.{Told, Ack}
 use Rattle.net_model.specs.declared.placing.Placing.{Placing}
 use Rattle.net_model.specs.Facts.{payload_len, IsWellFormed}
-use Rattle.net_model.specs.Ranges.{IsRanged, IsRangedFact}
-use Rattle.net_model.specs.Table.{fact_at, name_of, origin}
+use Rattle.net_model.specs.Ranges.{IsRanged}
+use Rattle.net_model.specs.Table.{fact_at, origin}
 use Rattle.net_model.specs.Item.{Item, DataItem, AckItem, payload, need}
 use Rattle.net_model.specs.Site.{sender, receiver, of_way}
 use Rattle.net_model.specs.Sealing.{IsSealable}
@@ -26,7 +25,7 @@ use Rattle.net_model.specs.Frames.{octets_sent, sealed, frame_octets}
 use Rattle.net_model.specs.Windows.{IsOnWire, IsEntry, IsPlaced, IsPending, IsVolatile}
 use Rattle.net_model.specs.Drawn.{IsDrawn, AreDrawn}
 use Rattle.net_model.specs.Invariant.{Conserved}
-use Rattle.record_laws.proofs.Tables.{found_name}
+use Rattle.record_laws.proofs.Tables.{found_name, ranged_name}
 use Rattle.record_laws.proofs.Grow.{Grows, KnownGrows, adjacent_grows}
 use Rattle.lane_laws.proofs.Blocks.{lane_grows, lane_length, lane_small, lane_are_octets}
 use Rattle.lane_laws.proofs.Owners.{within_owned, behind_key}
@@ -39,14 +38,6 @@ pub record Outgrows (w w' : World) : Type 0 where
   pub high : (l : ℕ) → w.durable.high_blocks l ≤ w'.durable.high_blocks l
   pub frames : (l : Lane) (j : ℕ) (a : Allocation) → slice_get (w.frames l) j ≡ Some a → slice_get (w'.frames l) j ≡ Some a
   pub wire : (l : Lane) (n j : ℕ) → slice_get (w.wire l) n ≡ Some j → slice_get (w'.wire l) n ≡ Some j
-
-ranged_name : (f : Fact) → IsRangedFact f → IsName (name_of f)
-ranged_name (Key name master slave route bytes) h = h.0
-ranged_name (Chunk name stream index route bytes) h = h.0
-ranged_name (Stored note about route) h = h.0
-ranged_name (Open stream source peer size route) h = h.0
-ranged_name (Joined note about route) h = h.0
-ranged_name (Part name key master slave route bytes) h = h.0
 
 -- a payload that is well formed and in its ranges, of an item that may be carried
 record IsSpelled (facts : List Fact) (i : Item) : Type 0 where

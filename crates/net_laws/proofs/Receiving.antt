@@ -39,6 +39,18 @@ use Rattle.window_laws.proofs.Acknowledging.{acknowledge_keeps}
 use Rattle.window_laws.proofs.Entries.{cleared_keeps}
 use Rattle.net_laws.proofs.Effects.{MayTake, IsDrawnOrTold, commit_more, perform_keeps}
 
+-- a Stored note is no secret
+pub note_not_secret : (see : View) (f g : Fact) (n : ℕ) → slice_get (stored_note see f) n ≡ Some (Learned g) → is_secret g ≡ true → ⊥
+note_not_secret see f g n at secret = by_cases (is_secret f && (target f == see.me)) n at
+  where
+    note : Fact
+    note = Stored (fresh_name see NoteKind 0) (name_of f) (reverse (route_of f))
+
+    by_cases : (t : Bool) (n : ℕ) → slice_get (if t then Learned note ∷ [] else []) n ≡ Some (Learned g) → ⊥
+    by_cases true zero h = let same : note ≡ g = cc in let no : is_secret note ≡ true = ap is_secret same ∙ secret in cc
+    by_cases true (suc n) h = cc
+    by_cases false n h = cc
+
 module _ (net : Network) (w : World) (network : IsNetwork net) (c : Conserved net w) (l : Lane) (offset : ℕ) where
   abbrev v : ℕ
   v = receiver net.site l
@@ -82,17 +94,6 @@ module _ (net : Network) (w : World) (network : IsNetwork net) (c : Conserved ne
   unfolding view_of masked
   batch_may item p carried e = received_may net.site w.durable w.frames w.unclaimed c.now see (bare_view net w v) (view_sees net w v) l offset item p carried e
 
-  note_not_secret : (f g : Fact) (n : ℕ) → slice_get (stored_note see f) n ≡ Some (Learned g) → is_secret g ≡ true → ⊥
-  note_not_secret f g n at secret = by_cases (is_secret f && (target f == see.me)) n at
-    where
-      note : Fact
-      note = Stored (fresh_name see NoteKind 0) (name_of f) (reverse (route_of f))
-
-      by_cases : (t : Bool) (n : ℕ) → slice_get (if t then Learned note ∷ [] else []) n ≡ Some (Learned g) → ⊥
-      by_cases true zero h = let same : note ≡ g = cc in let no : is_secret note ≡ true = ap is_secret same ∙ secret in cc
-      by_cases true (suc n) h = cc
-      by_cases false n h = cc
-
   -- what it learns is the fact that came, which the table has, and a note
   fact_told : (f : Fact) → fact_at w.durable.facts (name_of f) ≡ Some f → (n : ℕ) (g : Fact) → slice_get (receive_fact see l offset f).batch n ≡ Some (Learned g) →
       is_secret g ≡ true → IsDrawnOrTold net w v 0 g
@@ -101,7 +102,7 @@ module _ (net : Network) (w : World) (network : IsNetwork net) (c : Conserved ne
     where
       by_cases : (t : Bool) (n : ℕ) → slice_get (if t then Learned f ∷ stored_note see f else []) n ≡ Some (Learned g) → IsDrawnOrTold net w v 0 g
       by_cases true zero h = let same : f ≡ g = cc in inl (subst (λ (x : Fact). fact_at w.durable.facts (name_of x) ≡ Some x) same there)
-      by_cases true (suc n) h = absurd (note_not_secret f g n h secret)
+      by_cases true (suc n) h = absurd (note_not_secret see f g n h secret)
       by_cases false n h = cc
 
   -- the fact is known here now, and came from the node before

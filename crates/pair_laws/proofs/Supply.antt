@@ -8,11 +8,7 @@ use Rattle.net_model.specs.Facts.{IsSize}
 use Rattle.net_model.specs.Ranges.{IsOctets}
 use Rattle.net_model.specs.Streams.{is_size}
 use Rattle.record_laws.proofs.Base.{and_both}
-
-pub drawn_len : (octet : ℕ → ℕ) (place n : ℕ) → length (octets_from octet place n) ≡ n
-unfolding octets_from
-drawn_len octet place zero = refl
-drawn_len octet place (suc n) = ap suc (drawn_len octet (place + 1) n)
+use Rattle.record_laws.proofs.Octets.{length-octets_from}
 
 pub drawn_octets : (octet : ℕ → ℕ) → ((i : ℕ) → octet i < 256) → (place n : ℕ) → IsOctets (octets_from octet place n)
 unfolding octets_from
@@ -54,7 +50,7 @@ supply octet place size (suc k) n h =
     )
 
 pub bytes_len : (octet : ℕ → ℕ) (place size : ℕ) (bytes : List ℕ) → bytes ≡ octets_from octet place size → length bytes ≡ size
-bytes_len octet place size bytes h = ap length h ∙ drawn_len octet place size
+bytes_len octet place size bytes h = ap length h ∙ length-octets_from octet place size
 
 pub bytes_octets : (octet : ℕ → ℕ) → ((i : ℕ) → octet i < 256) → (place size : ℕ) (bytes : List ℕ) → bytes ≡ octets_from octet place size → IsOctets bytes
 bytes_octets octet h place size bytes is = ap (list_all (λ b. nat_lt b 256)) is ∙ drawn_octets octet h place size

@@ -116,7 +116,7 @@ replay_few s v (r ∷ rs) d m few = replay_few s v rs (apply_record s v r d) m.1
 
 -- a fact of the table behind a batch was there, or the batch has it
 
-taken_facts : (way : Way) (link : ℕ) (d : Durable) → (block_taken way link d).facts ≡ d.facts
+pub taken_facts : (way : Way) (link : ℕ) (d : Durable) → (block_taken way link d).facts ≡ d.facts
 unfolding block_taken
 taken_facts Up link d = refl
 taken_facts Down link d = refl

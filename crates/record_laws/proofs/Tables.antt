@@ -3,8 +3,10 @@ use Rattle.std.proofs.Common.{◌≡◌, Bool, true, false, ◌||◌, List, [], 
 use Rattle.std.specs.Prelude.{is_some, if◌then◌else◌}
 use Rattle.std.proofs.lemmas.List.Folds.{find-append}
 use Rattle.std.proofs.lemmas.List.Elements.{filter_map-append}
-use Rattle.qkd_base.specs.Name.{Name, name_eq, has}
+use Rattle.qkd_base.specs.Name.{Name, IsName, name_eq, has}
 use Rattle.net_model.specs.declared.fact.Fact.{Fact}
+use Rattle.net_model.specs.declared.fact.Fact.TheVariants.{Key, Chunk, Stored, Open, Joined, Part}
+use Rattle.net_model.specs.Ranges.{IsRangedFact}
 use Rattle.net_model.specs.Table.{name_of, fact_at, has_fact, learned, facts_of}
 use Rattle.record_laws.proofs.Base.{name_eq_from, name_eq_same, or_right}
 
@@ -89,3 +91,12 @@ facts_of-push facts ns n = filter_map-append (fact_at facts) ns (n ∷ [])
 
 pub facts_of_one : (facts : List Fact) (n : Name) (f : Fact) → fact_at facts n ≡ Some f → facts_of facts (n ∷ []) ≡ f ∷ []
 facts_of_one facts n f h = rw h refl
+
+-- a fact in its ranges has a name in its
+pub ranged_name : (f : Fact) → IsRangedFact f → IsName (name_of f)
+ranged_name (Key name master slave route bytes) h = h.0
+ranged_name (Chunk name stream index route bytes) h = h.0
+ranged_name (Stored note about route) h = h.0
+ranged_name (Open stream source peer size route) h = h.0
+ranged_name (Joined note about route) h = h.0
+ranged_name (Part name key master slave route bytes) h = h.0

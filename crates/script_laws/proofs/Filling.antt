@@ -39,7 +39,7 @@ use Rattle.script_laws.specs.AbstractRun.{Performs}
 use Rattle.script_laws.proofs.Agreement.{Reach, NoKey, HasKey, key_name, key, Agrees, IsFresh, IsSent, IsEarly}
 use Rattle.script_laws.proofs.Performing.{done, asked, takes_place}
 use Rattle.script_laws.proofs.Showing.{seen, view_low}
-use Rattle.script_laws.proofs.Owning.{from_length}
+use Rattle.record_laws.proofs.Octets.{length-octets_from}
 use Rattle.script_laws.proofs.Telling.{told_octets}
 
 -- the route over the one link
@@ -134,7 +134,7 @@ module _ (site : Stage) (device entropy : List ℕ) (room : ℕ) (few : room + 6
 
   drawn_size : length drawn_bytes ≡ bits / 8
   drawn_size =
-      let all : length (octets_from (told_list entropy).octet (w.drawn 0) octets) ≡ octets = from_length (told_list entropy).octet (w.drawn 0) octets in
+      let all : length (octets_from (told_list entropy).octet (w.drawn 0) octets) ≡ octets = length-octets_from (told_list entropy).octet (w.drawn 0) octets in
       length-take-le (bits / 8) (octets_from (told_list entropy).octet (w.drawn 0) octets) (omega arith)
 
   fill_fits : (w.journal 0).length' + added_len (w.journal 0).version (making (w.volatile 0) master slave drawn_bytes).batch ≤ journal_limit

@@ -7,10 +7,11 @@ use Rattle.qkd_base.specs.declared.lane.Way.TheVariants.{Up, Down}
 use Rattle.net_model.specs.declared.record.Record.TheVariants.{Block}
 use Rattle.net_model.specs.World.{Owner}
 use Rattle.net_model.specs.Records.{keyed_own}
-use Rattle.net_model.specs.Told.{Told, octets_from, block_at}
+use Rattle.net_model.specs.Told.{Told, block_at}
 use Rattle.net_model.specs.Journal.{spelled_after, body_len, added_len}
 use Rattle.net_world.specs.World.{Owner as SmallOwner, hash_key}
 use Rattle.script_laws.proofs.Agreement.{owner}
+use Rattle.record_laws.proofs.Octets.{length-octets_from}
 
 some_up : (k : ℕ) → (lane_len Up (suc k) == 0) ≡ false
 some_up k = ne_eqb (lane_len Up (suc k)) 0 (λ e. omega arith)
@@ -33,13 +34,8 @@ keyed_down (suc (suc k)) own small e =
     let other : (suc (suc k) == 1) ≡ false = ne_eqb (suc (suc k)) 1 (λ e2. omega arith) in
     rw (some_down k, other) e
 
-pub from_length : (octet : ℕ → ℕ) (place n : ℕ) → length (octets_from octet place n) ≡ n
-unfolding octets_from
-from_length octet place zero = refl
-from_length octet place (suc n) = ap suc (from_length octet (place + 1) n)
-
 pub block_added : (version n : ℕ) (t : Told) → version ≡ 2 → added_len version (Block 0 n (block_at t n) ∷ []) ≡ 1037
 unfolding body_len spelled_after
 block_added version n t e =
-    let size : length (block_at t n) ≡ 1024 = from_length t.octet (1024 * n) 1024 in
+    let size : length (block_at t n) ≡ 1024 = length-octets_from t.octet (1024 * n) 1024 in
     ap (λ (v : ℕ). added_len v (Block 0 n (block_at t n) ∷ [])) e ∙ ap (λ (k : ℕ). 5 + (2 + (6 + k + 0))) size
