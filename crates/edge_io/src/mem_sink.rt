@@ -1,6 +1,6 @@
 // A sink in memory.
 ghost use Rattle.std.specs.Prelude.{◌≡◌, ◌+◌, ◌++◌, [], IfOk, OnOk, OnErr, is_err, Some, length};
-ghost use Rattle.edge_io.specs.Faults.{HasCause, one_more};
+ghost use Rattle.qkd_base.specs.Faults.{HasCause, one_more};
 ghost use Rattle.edge_io.specs.Writes.{WritesAll};
 ghost use Rattle.edge_io.specs.Forms.{write_fails};
 

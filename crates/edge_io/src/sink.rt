@@ -1,6 +1,6 @@
 // Where bytes go.
 ghost use Rattle.std.specs.Prelude.{List, ℕ, Option};
-ghost use Rattle.edge_io.specs.Faults.{HasCause};
+ghost use Rattle.qkd_base.specs.Faults.{HasCause};
 ghost use Rattle.edge_io.specs.Writes.{WritesAll};
 
 use crate::Failed;

@@ -2,7 +2,7 @@
 ghost use Rattle.std.specs.Prelude.{List, ℕ, Option};
 ghost use Rattle.std.specs.Io.{ReadsAtMost};
 ghost use Rattle.std.specs.Io.KnownBytes.{ReadConsumes};
-ghost use Rattle.edge_io.specs.Faults.{HasCause};
+ghost use Rattle.qkd_base.specs.Faults.{HasCause};
 
 use crate::Failed;
 

@@ -1,6 +1,6 @@
 // The run of a scenario.
 ghost use Rattle.std.specs.Prelude.{◌≡◌, ◌≤◌, [], MatchResult, IsErrOf};
-ghost use Rattle.edge_io.specs.Faults.{Rose};
+ghost use Rattle.qkd_base.specs.Faults.{Rose};
 ghost use Rattle.net_world.specs.declared.run.RunRefusal.TheVariants.{WriteFault};
 ghost use Rattle.net_world.specs.Run.{given, WritesItems, RunsWhole, StopsShort};
 

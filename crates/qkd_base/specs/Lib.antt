@@ -4,3 +4,4 @@ pub mod LaneBytes
 pub mod Family
 pub mod Route
 pub mod RouteRoom
+pub mod Faults
