@@ -1,11 +1,11 @@
 // Spelling payloads.
-ghost use Rattle.std.specs.Prelude.{◌≡◌, ◌+◌, ◌≤◌, ◌<◌, [], ◌∷◌, ◌++◌, length, take};
+ghost use Rattle.std.specs.Prelude.{◌≡◌, ◌+◌, ◌≤◌, ◌<◌, [], ◌∷◌, ◌++◌, length, take, drop};
 ghost use Rattle.qkd_base.specs.Name.{IsName, octets_of};
 ghost use Rattle.net_model.specs.Facts.{fact_len, payload_len, IsWellFormed, IsWellFormedFact};
 ghost use Rattle.frame_codec.specs.Payload.{IsPayload, IsFact, IsSae, IsWay, AreOctets, payload_octets, fact_octets, fields, short, long, way};
 ghost use Rattle.frame_codec.specs.Writing.{Puts};
 
-use net_model::{Fact, Payload};
+use net_model::{Fact, Payload, spelled_len};
 use qkd_base::{FrameOctets, KeyName, Octets, Route, SaeNo};
 
 // Writes octets at a place, and says the place behind them.
@@ -232,15 +232,18 @@ fn put_payload(into: &mut [u8], at: usize, payload: &Payload) -> usize
     }
 }
 
-/// Writes the one spelling of a payload at a place, and says how many octets it has: 17 to 561. What stands behind it
-/// says nothing.
+/// Writes the one spelling of a payload at a place, and says how many octets it has: 17 to 561. What stands before and
+/// behind it stays.
 pub fn spell(payload: &Payload, into: &mut FrameOctets, at: usize) -> usize
     requires formed { IsWellFormed payload.now }
     requires fits { at + payload_len payload.now ≤ 600 }
     ensures len { result ≡ payload_len payload.now }
     ensures whole { length (payload_octets payload.now) ≡ payload_len payload.now }
     ensures octets { take (at + result) into.new.octets ≡ take at into.old.octets ++ payload_octets payload.now }
+    ensures rest { drop (at + result) into.new.octets ≡ drop (at + result) into.old.octets }
     ensures grammar { IsPayload payload.now }
 {
-    put_payload(&mut into.octets, at, payload) - at
+    let size = usize::from(spelled_len(payload));
+    put_payload(&mut into.octets[..at + size], at, payload);
+    size
 }

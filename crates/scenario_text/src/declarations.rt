@@ -100,7 +100,7 @@ impl Declarations {
     }
 
     /// Another line may come next.
-    pub fn go_on(&mut self, phase: Phase)
+    pub(crate) fn go_on(&mut self, phase: Phase)
         ensures { self.new ≡ record self.old { phase = phase } }
     {
         self.phase = phase;
@@ -149,7 +149,7 @@ impl Declarations {
     }
 
     /// One more node. An `Err` changes nothing.
-    pub fn add_node(&mut self, name: &[u8]) -> Result<(), Memory>
+    pub(crate) fn add_node(&mut self, name: &[u8]) -> Result<(), Memory>
         requires room { length self.old.nodes < 16 }
         requires name { is_name 32 name.now ≡ true }
         ensures ok { OnOk result (self.new ≡ record self.old { nodes = self.old.nodes ++ name.now ∷ [] }) }
@@ -160,7 +160,7 @@ impl Declarations {
     }
 
     /// One more application. An `Err` changes nothing.
-    pub fn add_sae(&mut self, id: &[u8], home: NodeNo) -> Result<(), Memory>
+    pub(crate) fn add_sae(&mut self, id: &[u8], home: NodeNo) -> Result<(), Memory>
         requires room { length self.old.saes < 256 }
         requires id { is_name 64 id.now ≡ true }
         ensures ok { OnOk result (self.new ≡ record self.old { saes = self.old.saes ++ record { id = id.now; home = home } ∷ [] }) }
