@@ -1,2 +1,6 @@
 pub mod Writes
 pub mod Forms
+pub mod Connections
+pub mod Doors
+pub mod Tcp
+pub mod Done

@@ -1,22 +1,45 @@
-//! The outside as traits: what a source has left, what a sink took, and how often each failed; their forms in memory,
-//! and adapters over the standard library's readers and writers.
+//! The outside as traits: what a source has left, what a sink took, which connections wait and which were finished, and
+//! how often each failed; their forms in memory, and adapters over the standard library's readers, writers and TCP
+//! listeners.
 #![tactic(auto)]
 
+mod ended;
 mod failed;
+mod gate;
+mod listener;
+mod mem_connection;
+mod mem_listener;
+mod mem_ports;
+mod mem_queue;
 mod mem_sink;
+mod mem_socket;
 mod mem_source;
+mod ports;
 mod read_source;
 mod sink;
 mod source;
+mod tcp_door;
+mod tcp_ports;
 #[cfg(test)]
 mod tests;
 mod write_sink;
 
+pub use ended::Ended;
 pub use failed::Failed;
+pub use gate::{Gate, OpenGate};
+pub use listener::Listener;
+pub use mem_connection::{MemConnection, MemFinished};
+pub use mem_listener::MemListener;
+pub use mem_ports::MemPorts;
+pub use mem_queue::MemQueue;
 pub use mem_sink::MemSink;
+pub use mem_socket::MemSocket;
 pub use mem_source::MemSource;
+pub use ports::Ports;
 pub use qkd_base;
 pub use read_source::ReadSource;
 pub use sink::Sink;
 pub use source::Source;
+pub use tcp_door::TcpDoor;
+pub use tcp_ports::TcpPorts;
 pub use write_sink::WriteSink;

@@ -1,8 +1,7 @@
 // A source in memory.
-ghost use Rattle.std.specs.Prelude.{◌≡◌, ◌+◌, [], IsErr, IsTrue, IfOk, OnErr, ◌↔◌, min, drop, take, length, ◌==◌, true};
+ghost use Rattle.std.specs.Prelude.{◌≡◌, [], IfOk, OnOk, OnErr, MatchResult, is_err, Some, min, drop, take, length};
 ghost use Rattle.std.specs.Io.{ReadsAtMost};
 ghost use Rattle.std.specs.Io.KnownBytes.{ReadConsumes};
-ghost use Rattle.std.specs.Prelude.{is_err, Some};
 ghost use Rattle.qkd_base.specs.Faults.{HasCause, one_more};
 ghost use Rattle.edge_io.specs.Forms.{is_listed};
 
@@ -56,6 +55,7 @@ impl MemSource {
 fn fill(into: &mut [u8], from: &[u8]) -> usize
     ensures count { result ≡ min (length from.now) (length into.old) }
     ensures front { take result into.new ≡ take result from.now }
+    ensures behind { drop result into.new ≡ drop result into.old }
 {
     let count = from.len().min(into.len());
     into[..count].copy_from_slice(&from[..count]);
@@ -67,15 +67,17 @@ impl Source for MemSource {
 
     ghost faults = { λ s. s.faults };
 
+    /// The buffer behind what was read, and after a failure all of it, is as it was.
     fn read(&mut self, into: &mut [u8]) -> Result<usize, Failed>
         ensures bound { ReadsAtMost result into.new }
         ensures bytes { ReadConsumes (Some self.old.left) (Some self.new.left) result into.new }
         ensures count { IfOk result (λ n. n ≡ min (length self.old.left) (length into.old)) }
         ensures cause { HasCause self.old.faults self.new.faults result }
+        ensures calm { OnOk result (self.new.faults ≡ self.old.faults) }
         ensures listed { is_err result ≡ is_listed self.old.fails self.old.calls }
-        ensures fault { OnErr result (self.new.faults ≡ one_more self.old.faults) }
-        ensures calls { self.new.calls ≡ one_more self.old.calls }
-        ensures same { self.new.fails ≡ self.old.fails }
+        ensures moved { IfOk result (λ n. self.new ≡ record self.old { left = drop n self.old.left; calls = one_more self.old.calls }) }
+        ensures kept { OnErr result (self.new ≡ record self.old { calls = one_more self.old.calls; faults = one_more self.old.faults }) }
+        ensures buffer { MatchResult result (λ n. drop n into.new ≡ drop n into.old) (λ _. into.new ≡ into.old) }
     {
         let call = self.calls;
         self.calls = call.saturating_add(1);
@@ -83,7 +85,7 @@ impl Source for MemSource {
             self.faults = self.faults.saturating_add(1);
             return Err(Failed);
         }
-        let count = fill(into, &self.bytes[self.at..]);
+        let count = fill(into, self.left());
         self.at += count;
         Ok(count)
     }

@@ -1,13 +1,14 @@
 // A sink over a writer.
-ghost use Rattle.std.specs.Prelude.{◌≡◌};
-ghost use Rattle.edge_io.specs.Writes.{WritesUpTo};
+ghost use Rattle.std.specs.Prelude.{◌≡◌, OnOk, OnErr, None};
+ghost use Rattle.qkd_base.specs.Faults.{HasCause, one_more};
+ghost use Rattle.edge_io.specs.Writes.{WritesUpTo, WritesAll, TakesPiece};
 
 use crate::{Failed, Sink};
 use std::io::Write;
 use std::marker::Model;
 
-/// A sink over any writer of the standard library. It tells what the writer tells, hands each piece on at once, and
-/// counts each error.
+/// A sink over any writer of the standard library. It tells what the writer tells, hands each piece on at once and
+/// flushes behind it, and counts each piece that failed: by an error, or by a writer that takes no more.
 #[derive(Drop)]
 pub struct WriteSink<W> {
     inner: W,
@@ -28,6 +29,13 @@ impl<W> WriteSink<W> {
         ensures { result ≡ (inner, 0) }
     {
         WriteSink { inner, faults: 0 }
+    }
+
+    /// How often a write failed.
+    pub fn faults(&self) -> u64
+        ensures { result ≡ self.now.1 }
+    {
+        self.faults
     }
 }
 
@@ -54,7 +62,13 @@ impl<W: Write> Sink for WriteSink<W> {
 
     ghost faults = { λ s. s.1 };
 
-    fn write_all(&mut self, bytes: &[u8]) -> Result<(), Failed> {
+    fn write_all(&mut self, bytes: &[u8]) -> Result<(), Failed>
+        ensures bytes { WritesAll (W.contents self.old.0) (W.contents self.new.0) result bytes.now }
+        ensures piece { TakesPiece None None result bytes.now }
+        ensures cause { HasCause self.old.1 self.new.1 result }
+        ensures calm { OnOk result (self.new.1 ≡ self.old.1) }
+        ensures once { OnErr result (self.new.1 ≡ one_more self.old.1) }
+    {
         if write_whole(&mut self.inner, bytes) {
             Ok(())
         } else {

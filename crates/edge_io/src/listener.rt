@@ -1,0 +1,66 @@
+// Where connections come from.
+ghost use Rattle.std.specs.Prelude.{◌≡◌, ◌+◌, ◌<◌, ◌^◌, ◌∷◌, [], List, ℕ, Option, OnOk, IfOk, MatchResult, IsSome};
+ghost use Rattle.qkd_base.specs.Faults.{HasCause};
+ghost use Rattle.edge_io.specs.Writes.{Adds};
+ghost use Rattle.edge_io.specs.Connections.{Finished, IsNext, IsNewDoor};
+
+use crate::{Ended, Failed, Sink, Source};
+
+/// Where the connections of one port come from. A connection has a source, which gives what its peer sends, and a sink,
+/// which takes what goes to the peer.
+pub trait Listener {
+    type In: Source;
+
+    type Out: Sink;
+
+    /// The number of its port.
+    ghost port: { Self → ℕ };
+
+    /// How many connections it accepted.
+    ghost accepted: { Self → ℕ };
+
+    /// How many of them were finished.
+    ghost finished: { Self → ℕ };
+
+    /// The connections that wait, each as the bytes that its peer sends, where they are told.
+    ghost waiting: { Self → Option (List (List ℕ)) };
+
+    /// The connections that were finished, in this order, where they are told.
+    ghost done: { Self → Option (List Finished) };
+
+    /// How often an accept or a twin failed.
+    ghost faults: { Self → ℕ };
+
+    /// Gives the ends of the next connection, which have not failed yet. A failure takes none.
+    fn accept(&mut self) -> Result<(Self::In, Self::Out), Failed>
+        requires few { accepted self.old < 2 ^ 32 }
+        ensures next { MatchResult result
+            (λ ends. (accepted self.new ≡ accepted self.old + 1) × IsNext (waiting self.old) (waiting self.new) (Self.In.left ends.0) (Self.Out.taken ends.1))
+            (λ _. (accepted self.new ≡ accepted self.old) × (waiting self.new ≡ waiting self.old)) }
+        ensures fresh { IfOk result (λ ends. (Self.In.faults ends.0 ≡ 0) × (Self.Out.faults ends.1 ≡ 0)) }
+        ensures cause { HasCause (faults self.old) (faults self.new) result }
+        ensures calm { OnOk result (faults self.new ≡ faults self.old) }
+        ensures same { (port self.new ≡ port self.old) × (finished self.new ≡ finished self.old) × (done self.new ≡ done self.old) };
+
+    /// Takes the ends of a connection back, with how it ended, and closes it.
+    fn finish(&mut self, source: Self::In, sink: Self::Out, ended: Ended)
+        requires open { finished self.old < accepted self.old }
+        ensures finished { finished self.new ≡ finished self.old + 1 }
+        ensures done { Adds (done self.old) (done self.new) (record {
+          left = Self.In.left source;
+          taken = Self.Out.taken sink;
+          read_faults = Self.In.faults source;
+          write_faults = Self.Out.faults sink;
+          ended = ended;
+        } ∷ []) }
+        ensures same { (port self.new ≡ port self.old) × (accepted self.new ≡ accepted self.old) × (waiting self.new ≡ waiting self.old) × (faults self.new ≡ faults self.old) };
+
+    /// A second listener of the same port. What waits for this one stays with it.
+    fn twin(&mut self) -> Result<Self, Failed>
+    where
+        Self: Sized,
+        ensures twin { IfOk result (λ d. IsNewDoor (IsSome (waiting self.old) × IsSome (done self.old)) (port self.old) (port d) (accepted d) (finished d) (faults d) (waiting d) (done d)) }
+        ensures cause { HasCause (faults self.old) (faults self.new) result }
+        ensures calm { OnOk result (faults self.new ≡ faults self.old) }
+        ensures same { (port self.new ≡ port self.old) × (accepted self.new ≡ accepted self.old) × (finished self.new ≡ finished self.old) × (waiting self.new ≡ waiting self.old) × (done self.new ≡ done self.old) };
+}

@@ -1,0 +1,36 @@
+// Where listeners come from.
+ghost use Rattle.std.specs.Prelude.{◌≡◌, ◌<◌, ◌∷◌, [], List, ℕ, Option, OnOk, IfOk, IfSome, IsSome, length};
+ghost use Rattle.qkd_base.specs.Faults.{HasCause};
+ghost use Rattle.edge_io.specs.Writes.{Adds};
+ghost use Rattle.edge_io.specs.Connections.{IsNewDoor};
+
+use crate::{Failed, Listener};
+
+/// The ports of a machine.
+pub trait Ports {
+    type Door: Listener;
+
+    /// The ports that were asked for, in this order, where they are told.
+    ghost asked: { Self → Option (List ℕ) };
+
+    /// The listeners that came back, in this order, where they are told.
+    ghost back: { Self → Option (List Self.Door) };
+
+    /// How often an opening failed.
+    ghost faults: { Self → ℕ };
+
+    /// Opens a port: a listener that nobody has asked anything.
+    fn open(&mut self, port: u16) -> Result<Self::Door, Failed>
+        requires few { IfSome (asked self.old) (λ ports. length ports < 65536) }
+        ensures asked { Adds (asked self.old) (asked self.new) (port ∷ []) }
+        ensures door { IfOk result (λ d. IsNewDoor (IsSome (asked self.old)) port (Self.Door.port d) (Self.Door.accepted d) (Self.Door.finished d) (Self.Door.faults d) (Self.Door.waiting d) (Self.Door.done d)) }
+        ensures cause { HasCause (faults self.old) (faults self.new) result }
+        ensures calm { OnOk result (faults self.new ≡ faults self.old) }
+        ensures same { back self.new ≡ back self.old };
+
+    /// Takes a listener back, and closes it.
+    fn shut(&mut self, door: Self::Door)
+        requires few { IfSome (back self.old) (λ doors. length doors < 65536) }
+        ensures back { Adds (back self.old) (back self.new) (door ∷ []) }
+        ensures same { (asked self.new ≡ asked self.old) × (faults self.new ≡ faults self.old) };
+}

@@ -1,0 +1,115 @@
+// A listener over TCP.
+ghost use Rattle.std.specs.Prelude.{◌≡◌, ◌+◌, ◌<◌, ◌^◌, OnOk, OnErr, IfOk, None};
+ghost use Rattle.qkd_base.specs.Faults.{HasCause, one_more};
+ghost use Rattle.edge_io.specs.Tcp.{TcpForm};
+
+use crate::{Ended, Failed, Listener, ReadSource, WriteSink};
+use std::io;
+use std::marker::Model;
+use std::net::{SocketAddr, TcpListener, TcpStream};
+
+/// A listener over the system's TCP. It tells nothing of its connections, and counts each error.
+#[derive(Drop)]
+pub struct TcpDoor {
+    listener: TcpListener,
+    port: u16,
+    accepted: u64,
+    finished: u64,
+    faults: u64,
+}
+
+impl Model for TcpDoor {
+    ghost use Rattle.std.specs.Prelude.{◌≤◌, ◌^◌};
+    ghost use Rattle.edge_io.specs.Tcp.{TcpForm};
+
+    ghost Value = { TcpForm };
+
+    ghost view = { λ s. record { port = s.port; accepted = s.accepted; finished = s.finished; faults = s.faults } };
+
+    ghost invariant = { λ s. s.accepted ≤ 2 ^ 32 };
+}
+
+impl TcpDoor {
+    /// A listener of this port that has accepted nothing yet.
+    pub fn new(listener: TcpListener, port: u16) -> Self
+        ensures { result ≡ record { port = port; accepted = 0; finished = 0; faults = 0 } }
+    {
+        TcpDoor {
+            listener,
+            port,
+            accepted: 0,
+            finished: 0,
+            faults: 0,
+        }
+    }
+
+    /// The address that it listens on.
+    pub fn address(&self) -> io::Result<SocketAddr> {
+        self.listener.local_addr()
+    }
+}
+
+// The next connection, twice: to read from and to write to.
+fn next_stream(listener: &TcpListener) -> io::Result<(TcpStream, TcpStream)> {
+    let (stream, _) = listener.accept()?;
+    let other = stream.try_clone()?;
+    Ok((stream, other))
+}
+
+impl Listener for TcpDoor {
+    type In = ReadSource<TcpStream>;
+
+    type Out = WriteSink<TcpStream>;
+
+    ghost port = { λ s. s.port };
+
+    ghost accepted = { λ s. s.accepted };
+
+    ghost finished = { λ s. s.finished };
+
+    ghost waiting = { λ _. None };
+
+    ghost done = { λ _. None };
+
+    ghost faults = { λ s. s.faults };
+
+    fn accept(&mut self) -> Result<(ReadSource<TcpStream>, WriteSink<TcpStream>), Failed>
+        requires few { self.old.accepted < 2 ^ 32 }
+        ensures ok { IfOk result (λ ends. (self.new ≡ record self.old { accepted = self.old.accepted + 1 }) × (ends.0.1 ≡ 0) × (ends.1.1 ≡ 0)) }
+        ensures err { OnErr result (self.new ≡ record self.old { faults = one_more self.old.faults }) }
+        ensures cause { HasCause self.old.faults self.new.faults result }
+    {
+        match next_stream(&self.listener) {
+            Ok((input, output)) => {
+                self.accepted += 1;
+                Ok((ReadSource::new(input), WriteSink::new(output)))
+            }
+            Err(_) => {
+                self.faults = self.faults.saturating_add(1);
+                Err(Failed)
+            }
+        }
+    }
+
+    fn finish(&mut self, source: ReadSource<TcpStream>, sink: WriteSink<TcpStream>, ended: Ended)
+        requires open { self.old.finished < self.old.accepted }
+        ensures { self.new ≡ record self.old { finished = self.old.finished + 1 } }
+    {
+        let _ = (source, sink, ended);
+        self.finished += 1;
+    }
+
+    fn twin(&mut self) -> Result<TcpDoor, Failed>
+        ensures ok { IfOk result (λ d. (d ≡ record { port = self.old.port; accepted = 0; finished = 0; faults = 0 }) × (self.new ≡ self.old)) }
+        ensures err { OnErr result (self.new ≡ record self.old { faults = one_more self.old.faults }) }
+        ensures cause { HasCause self.old.faults self.new.faults result }
+    {
+        match self.listener.try_clone() {
+            Ok(listener) => Ok(TcpDoor::new(listener, self.port)),
+            Err(_) => {
+                self.faults = self.faults.saturating_add(1);
+                Err(Failed)
+            }
+        }
+    }
+}

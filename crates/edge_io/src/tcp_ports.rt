@@ -1,0 +1,69 @@
+// Ports over TCP.
+ghost use Rattle.std.specs.Prelude.{◌≡◌, ◌∷◌, [], IfOk, OnOk, OnErr, IsSome, None};
+ghost use Rattle.qkd_base.specs.Faults.{HasCause, one_more};
+ghost use Rattle.edge_io.specs.Writes.{Adds};
+ghost use Rattle.edge_io.specs.Connections.{IsNewDoor};
+ghost use Rattle.edge_io.specs.Tcp.{untold_asked};
+
+use crate::tcp_door::TcpDoor;
+use crate::{Failed, Ports};
+use std::marker::Model;
+use std::net::{Ipv4Addr, Net, TcpListener, TcpStream};
+
+/// The TCP ports of the loopback address 127.0.0.1. It tells nothing of what it was asked, and counts each error.
+#[derive(Drop)]
+pub struct TcpPorts<'a, R> {
+    net: &'a R,
+    faults: u64,
+}
+
+impl<'a, R> Model for TcpPorts<'a, R> {
+    ghost use Rattle.std.specs.Prelude.{ℕ};
+
+    ghost Value = { ℕ };
+
+    ghost view = { λ s. s.faults };
+}
+
+impl<'a, R> TcpPorts<'a, R> {
+    /// The ports of this machine, none of them opened yet.
+    pub fn new(net: &'a R) -> Self
+        ensures { result ≡ 0 }
+    {
+        TcpPorts { net, faults: 0 }
+    }
+}
+
+impl<'a, R: Net<Listener = TcpListener, Stream = TcpStream>> Ports for TcpPorts<'a, R> {
+    type Door = TcpDoor;
+
+    ghost asked = { λ _. untold_asked };
+
+    ghost back = { λ _. None };
+
+    ghost faults = { λ s. s };
+
+    fn open(&mut self, port: u16) -> Result<TcpDoor, Failed>
+        ensures asked { Adds untold_asked untold_asked (port ∷ []) }
+        ensures new_door { IfOk result (λ d. IsNewDoor (IsSome untold_asked) port d.port d.accepted d.finished d.faults None None) }
+        ensures door { IfOk result (λ d. d ≡ record { port = port; accepted = 0; finished = 0; faults = 0 }) }
+        ensures cause { HasCause self.old self.new result }
+        ensures calm { OnOk result (self.new ≡ self.old) }
+        ensures once { OnErr result (self.new ≡ one_more self.old) }
+    {
+        match TcpListener::bind(self.net, (Ipv4Addr::LOCALHOST, port)) {
+            Ok(listener) => Ok(TcpDoor::new(listener, port)),
+            Err(_) => {
+                self.faults = self.faults.saturating_add(1);
+                Err(Failed)
+            }
+        }
+    }
+
+    fn shut(&mut self, door: TcpDoor)
+        ensures back { Adds None None (door ∷ []) }
+        ensures same { (untold_asked ≡ untold_asked) × (self.new ≡ self.old) }
+    {
+        let _ = door;
+    }
+}
