@@ -126,7 +126,7 @@ module _ (s : Site) (T : List Fact) (known : ℕ → List Name) (table : IsTable
         }
   ]
 
-got_blind : (me : ℕ) (n : Name) (sae : ℕ) → IsBlind (λ f. is_here me f && is_got_by n sae f)
+pub got_blind : (me : ℕ) (n : Name) (sae : ℕ) → IsBlind (λ f. is_here me f && is_got_by n sae f)
 got_blind me n sae (Key name master slave route bytes) = refl
 got_blind me n sae (Chunk name stream index route bytes) = refl
 got_blind me n sae (Stored note about route) = refl

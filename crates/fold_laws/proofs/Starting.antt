@@ -67,7 +67,7 @@ nothing_needed facts (t ∷ ts) h = cc
 burnt_len : (lease : ℕ) (own : List Owner) → length own ≤ lease → length (burnt_to lease own) ≡ lease
 burnt_len lease own h = omega (arith, h, length-append own (replicate (lease - length own) Burnt), length-replicate (lease - length own) Burnt)
 
-abbrev at_lease : Port → Port
+abbrev pub at_lease : Port → Port
 at_lease p = record p { planned = p.lease; recovered = p.lease }
 
 module _ (net : Network) (w : World) (v : ℕ) (inv : Invariant net.site w.durable w.frames w.unclaimed) where

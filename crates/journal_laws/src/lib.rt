@@ -1,0 +1,51 @@
+//! Laws of journals: what a manager's journal gives back at a start is what the manager was, and so does a checkpoint of it.
+#![tactic(auto)]
+
+ghost use Rattle.std.specs.Prelude.{◌≡◌, ℕ, List, [], ◌∷◌, ◌++◌};
+ghost use Rattle.net_model.specs.declared.record.Record.{Record};
+ghost use Rattle.net_model.specs.Site.{Site};
+ghost use Rattle.net_model.specs.World.{Volatile};
+ghost use Rattle.net_model.specs.View.{View};
+ghost use Rattle.net_model.specs.Decision.{Effect};
+ghost use Rattle.net_model.specs.Journal.{checkpoint_batches};
+ghost use Rattle.net_model.specs.Fold.{empty_view, view_after, view_batch, view_restarted, recovered_view};
+ghost use Rattle.journal_laws.specs.GivesBack.{GivesBack};
+
+/// Before any batch a journal gives back a manager that has nothing.
+pub fn law_empty_journal_gives_back()
+    ensures { (site : Site) (me : ℕ) → recovered_view site me [] ≡ empty_view site me }
+{}
+
+/// One batch more is one batch made of what the others gave back, however the journal is read: batch by batch, or each behind a
+/// start of its own.
+pub fn law_one_batch_more()
+    ensures { (site : Site) (me : ℕ) (batches : List (List Record)) (batch : List Record) →
+        recovered_view site me (batches ++ batch ∷ []) ≡ view_restarted (view_batch (recovered_view site me batches) batch) }
+{}
+
+/// A manager that was just started is given back by what it was read from.
+pub fn law_started_is_given_back()
+    ensures { (site : Site) (me : ℕ) (batches : List (List Record)) → GivesBack site me batches (recovered_view site me batches) }
+{}
+
+/// A manager makes an effect and appends its batch: the journal gives it back still. Where the effect has no batch nothing is
+/// appended.
+pub fn law_effect_is_given_back()
+    ensures appended { (site : Site) (me : ℕ) (batches : List (List Record)) (v : View) (e : Effect) → GivesBack site me batches v →
+        GivesBack site me (batches ++ e.batch ∷ []) (view_after v e) }
+    ensures nothing { (site : Site) (me : ℕ) (batches : List (List Record)) (v : View) (e : Effect) → e.batch ≡ [] → GivesBack site me batches v →
+        GivesBack site me batches (view_after v e) }
+{}
+
+/// A batch in doubt, too, which a start finds in the journal.
+pub fn law_batch_is_given_back()
+    ensures { (site : Site) (me : ℕ) (batches : List (List Record)) (v : View) (batch : List Record) → GivesBack site me batches v →
+        GivesBack site me (batches ++ batch ∷ []) (view_batch v batch) }
+{}
+
+/// What one life keeps is in no journal, so a manager that stops or crashes is given back as before, and so is the one that a start makes.
+pub fn law_life_is_not_given_back()
+    ensures lost { (site : Site) (me : ℕ) (batches : List (List Record)) (v : View) (life : Volatile) → GivesBack site me batches v →
+        GivesBack site me batches (record v { volatile = life }) }
+    ensures started { (site : Site) (me : ℕ) (batches : List (List Record)) (v : View) → GivesBack site me batches v → GivesBack site me batches (view_restarted v) }
+{}
