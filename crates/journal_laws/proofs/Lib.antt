@@ -1,1 +1,5 @@
 pub mod Restarting
+pub mod Stages
+pub mod Kept
+pub mod Spelled
+pub mod Checkpoint

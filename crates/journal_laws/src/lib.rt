@@ -49,3 +49,9 @@ pub fn law_life_is_not_given_back()
         GivesBack site me batches (record v { volatile = life }) }
     ensures started { (site : Site) (me : ℕ) (batches : List (List Record)) (v : View) → GivesBack site me batches v → GivesBack site me batches (view_restarted v) }
 {}
+
+/// Whatever a journal gives back, a checkpoint of it does too, in its batches: blocks, leases, facts with the bytes that are
+/// needed, and marks.
+pub fn law_checkpoint_gives_back()
+    ensures { (site : Site) (me : ℕ) (batches : List (List Record)) (v : View) → GivesBack site me batches v → GivesBack site me (checkpoint_batches v) v }
+{}
