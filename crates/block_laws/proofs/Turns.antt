@@ -40,7 +40,7 @@ use Rattle.block_laws.proofs.Performs.{SameResult, both_tests, IsTurn, performs_
 
 -- what a manager decides is a turn
 
-abbrev IsTurnDecision : Network → World → ℕ → Decision → Type 0
+abbrev pub IsTurnDecision : Network → World → ℕ → Decision → Type 0
 IsTurnDecision net w v (Refuses reply) = Unit {0}
 IsTurnDecision net w v (Does e) = IsTurn net w v e
 
@@ -80,7 +80,7 @@ receive_orders : (s : Site) (see : View) (l : Lane) (offset : ℕ) (p : Payload)
 receive_orders s see l offset (Told f) = fact_orders see l offset f
 receive_orders s see l offset (Ack n) = ack_orders see l (sender s l) n
 
-receive_turn : (net : Network) (w : World) → Conserved net w → (l : Lane) (j : ℕ) (a : Allocation) (p : Payload) → slice_get (w.frames l) j ≡ Some a → payload w.durable.facts a.item ≡ Some p →
+pub receive_turn : (net : Network) (w : World) → Conserved net w → (l : Lane) (j : ℕ) (a : Allocation) (p : Payload) → slice_get (w.frames l) j ≡ Some a → payload w.durable.facts a.item ≡ Some p →
     IsTurn net w (receiver net.site l) (receive net.site (view_of net w (receiver net.site l)) l a.offset p)
 receive_turn net w c l j a p at e =
     record {
@@ -218,7 +218,7 @@ module _ (net : Network) (w : World) (c : Conserved net w) (v : ℕ) (l : Lane) 
 
 -- a block's turn, whichever it is
 
-asked_turn : (net : Network) (w : World) → IsNetwork net → Conserved net w → (v : ℕ) (event : Event) (environment : Environment) → is_enabled net w (Ask v event environment) ≡ true →
+pub asked_turn : (net : Network) (w : World) → IsNetwork net → Conserved net w → (v : ℕ) (event : Event) (environment : Environment) → is_enabled net w (Ask v event environment) ≡ true →
     IsTurnDecision net w v (decided net w v event)
 unfolding is_enabled
 asked_turn net w network c v event environment may =

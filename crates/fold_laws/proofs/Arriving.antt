@@ -38,7 +38,7 @@ use Rattle.fold_laws.proofs.Commits.{silent_goes}
 
 -- blocks
 
-few_blocks : (way : Way) (low high : ℕ) → low < 1025 → high < 1025 → (of_way way low high == 1024) ≡ false → of_way way low high < 1024
+pub few_blocks : (way : Way) (low high : ℕ) → low < 1025 → high < 1025 → (of_way way low high == 1024) ≡ false → of_way way low high < 1024
 few_blocks Up low high h k not_full = grind (arith, nat_tests)
 few_blocks Down low high h k not_full = grind (arith, nat_tests)
 

@@ -35,7 +35,7 @@ one_leaves s v link less at =
     let low : nat_lt link s.links ≡ true = grind (arith, nat_tests) in
     and_both (is_lane s (outgoing_lane s v link)) (sender s (outgoing_lane s v link) == v) low (ap (λ (u : ℕ). u == v) (end_of s v link at) ∙ eq_same v)
 
-abbrev AllLeave : Site → ℕ → List Lane → Type 0
+abbrev pub AllLeave : Site → ℕ → List Lane → Type 0
 AllLeave s v [] = Unit {0}
 AllLeave s v (l ∷ ls) = (leaves s v l ≡ true) × AllLeave s v ls
 
@@ -56,7 +56,7 @@ lanes_leave s v (suc n) h =
     subst (AllLeave s v) (sym split)
     (both_leave s v (map (outgoing_lane s v) (filter (is_incident s v) (count_up n))) (map (outgoing_lane s v) (filter (is_incident s v) (n ∷ []))) (lanes_leave s v n (omega (arith, h))) last)
 
-outgoing_leave : (s : Site) (v : ℕ) → AllLeave s v (outgoing_lanes s v)
+pub outgoing_leave : (s : Site) (v : ℕ) → AllLeave s v (outgoing_lanes s v)
 unfolding outgoing_lanes
 outgoing_leave s v = lanes_leave s v s.links (omega arith)
 

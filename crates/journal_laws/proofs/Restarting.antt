@@ -102,7 +102,7 @@ pub batch_restarts : (v : View) (batch : List Record) → view_restarted (view_b
 batch_restarts v batch =
     sym (masked_restarts (view_records batch v)) ∙ ap masked (records_restart batch v) ∙ masked_restarts (view_records batch (view_restarted v))
 
-after_restarts : (v : View) (e : Effect) → view_restarted (view_after v e) ≡ view_restarted (view_batch v e.batch)
+pub after_restarts : (v : View) (e : Effect) → view_restarted (view_after v e) ≡ view_restarted (view_batch v e.batch)
 unfolding view_after view_restarted
 after_restarts v e =
     let next : View = view_batch v e.batch in

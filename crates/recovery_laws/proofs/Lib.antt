@@ -1,0 +1,5 @@
+pub mod Views
+pub mod Effects
+pub mod Arrivals
+pub mod Steps
+pub mod Runs
