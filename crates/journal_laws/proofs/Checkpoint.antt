@@ -27,7 +27,7 @@ use Rattle.journal_laws.proofs.Restarting.{recovered_masked, recovered_restarts}
 use Rattle.journal_laws.proofs.Kept.{new_fact, may_ack, may_hand, may_close, IsKept, recovered_kept}
 use Rattle.journal_laws.proofs.Spelled.{port_records, leased, leased_lease, all_spelled_ports, all_masked_ports}
 
-opposite : (b : Bool) → not b ≡ true → b ≡ false
+pub opposite : (b : Bool) → not b ≡ true → b ≡ false
 opposite true h = cc
 opposite false h = refl
 

@@ -3,3 +3,4 @@ pub mod Stages
 pub mod Kept
 pub mod Spelled
 pub mod Checkpoint
+pub mod Bare

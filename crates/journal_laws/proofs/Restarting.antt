@@ -109,7 +109,7 @@ after_restarts v e =
     let ports = planned_leased (λ (p : Port). p.planned + needs v.facts (on_lane p.lane e.orders)) next.ports in
     λ i. record next { volatile = no_volatile; ports = ports i }
 
-batches_push : (v : View) (batches : List (List Record)) (batch : List Record) → view_batches v (batches ++ batch ∷ []) ≡ view_batch (view_batches v batches) batch
+pub batches_push : (v : View) (batches : List (List Record)) (batch : List Record) → view_batches v (batches ++ batch ∷ []) ≡ view_batch (view_batches v batches) batch
 batches_push v [] batch = refl
 batches_push v (b ∷ batches) batch = batches_push (view_batch v b) batches batch
 

@@ -17,6 +17,7 @@ use Rattle.net_model.specs.View.{View, Port, received_of}
 use Rattle.net_model.specs.Needed.{masked}
 use Rattle.net_model.specs.Fold.{with_block, with_lease, view_record, view_records, empty_port, empty_view}
 use Rattle.record_laws.proofs.Base.{eq_from, eq_same, and_both, or_first, or_second, when_true}
+use Rattle.lane_laws.proofs.Lists.{lane_same}
 use Rattle.window_laws.proofs.Outgoing.{LinksDiffer, links_differ}
 use Rattle.fold_laws.proofs.Starting.{at_lease}
 use Rattle.journal_laws.proofs.Stages.{StaysMasked}
@@ -179,13 +180,6 @@ blocks_other link q apart (b ∷ bs) number =
 
 abbrev pub leased : Port → Port
 leased p = record (built p.lane p.blocks) { lease = p.lease }
-
-lane_same : (l : Lane) → lane_eq l l ≡ true
-lane_same l = and_both (l.link == l.link) (way_eq l.way l.way) (eq_same l.link) (by_way l.way)
-  where
-    by_way : (d : Way) → way_eq d d ≡ true
-    by_way Up = refl
-    by_way Down = refl
 
 lease_built : (p : Port) → IsPort p → on_ports (lease_records p) (built p.lane p.blocks) ≡ leased p
 lease_built p h =

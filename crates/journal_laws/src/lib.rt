@@ -1,14 +1,17 @@
 //! Laws of journals: what a manager's journal gives back at a start is what the manager was, and so does a checkpoint of it.
 #![tactic(auto)]
 
-ghost use Rattle.std.specs.Prelude.{◌≡◌, ℕ, List, [], ◌∷◌, ◌++◌};
+ghost use Rattle.std.specs.Prelude.{◌≡◌, ℕ, true, List, [], ◌∷◌, ◌++◌, slice_get, Some};
 ghost use Rattle.net_model.specs.declared.record.Record.{Record};
+ghost use Rattle.net_model.specs.declared.fact.Fact.{Fact};
+ghost use Rattle.net_model.specs.declared.record.Record.TheVariants.{Bare};
+ghost use Rattle.net_model.specs.Table.{is_secret, bytes_of, zeros_for};
 ghost use Rattle.net_model.specs.Site.{Site};
 ghost use Rattle.net_model.specs.World.{Volatile};
 ghost use Rattle.net_model.specs.View.{View};
 ghost use Rattle.net_model.specs.Decision.{Effect};
-ghost use Rattle.net_model.specs.Journal.{checkpoint_batches};
-ghost use Rattle.net_model.specs.Fold.{empty_view, view_after, view_batch, view_restarted, recovered_view};
+ghost use Rattle.net_model.specs.Journal.{checkpoint_records, checkpoint_batches};
+ghost use Rattle.net_model.specs.Fold.{empty_view, view_after, view_batch, view_batches, view_restarted, recovered_view};
 ghost use Rattle.journal_laws.specs.GivesBack.{GivesBack};
 
 /// Before any batch a journal gives back a manager that has nothing.
@@ -16,10 +19,12 @@ pub fn law_empty_journal_gives_back()
     ensures { (site : Site) (me : ℕ) → recovered_view site me [] ≡ empty_view site me }
 {}
 
-/// One batch more is one batch made of what the others gave back, however the journal is read: batch by batch, or each behind a
-/// start of its own.
+/// One batch more is one batch made of what the others gave back, however the journal is read: batch by batch with a start behind
+/// the last, or with a start behind each.
 pub fn law_one_batch_more()
-    ensures { (site : Site) (me : ℕ) (batches : List (List Record)) (batch : List Record) →
+    ensures read { (v : View) (batches : List (List Record)) (batch : List Record) →
+        view_batches v (batches ++ batch ∷ []) ≡ view_batch (view_batches v batches) batch }
+    ensures started { (site : Site) (me : ℕ) (batches : List (List Record)) (batch : List Record) →
         recovered_view site me (batches ++ batch ∷ []) ≡ view_restarted (view_batch (recovered_view site me batches) batch) }
 {}
 
@@ -50,8 +55,10 @@ pub fn law_life_is_not_given_back()
     ensures started { (site : Site) (me : ℕ) (batches : List (List Record)) (v : View) → GivesBack site me batches v → GivesBack site me batches (view_restarted v) }
 {}
 
-/// Whatever a journal gives back, a checkpoint of it does too, in its batches: blocks, leases, facts with the bytes that are
-/// needed, and marks.
+/// Whatever a journal gives back, a checkpoint of it does too, in its batches: blocks, leases, facts and marks. A fact goes without
+/// its bytes only where these are zeros.
 pub fn law_checkpoint_gives_back()
-    ensures { (site : Site) (me : ℕ) (batches : List (List Record)) (v : View) → GivesBack site me batches v → GivesBack site me (checkpoint_batches v) v }
+    ensures back { (site : Site) (me : ℕ) (batches : List (List Record)) (v : View) → GivesBack site me batches v → GivesBack site me (checkpoint_batches v) v }
+    ensures bare { (site : Site) (me : ℕ) (batches : List (List Record)) (v : View) → GivesBack site me batches v → (k : ℕ) (f : Fact) →
+        slice_get (checkpoint_records v) k ≡ Some (Bare f) → (is_secret f ≡ true) × (bytes_of f ≡ zeros_for (bytes_of f)) }
 {}
