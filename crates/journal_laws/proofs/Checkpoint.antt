@@ -1,6 +1,6 @@
 -- What a checkpoint's records make, one behind the other and in batches: the manager that they were written of.
 use Rattle.std.proofs.Common.{◌≡◌, ℕ, Bool, true, false, not, ◌&&◌, List, [], ◌∷◌, ◌++◌, ◌+◌, ◌/◌, length, refl, sym, ◌∙◌, ap, subst, map}
-use Rattle.std.specs.Prelude.{if◌then◌else◌}
+use Rattle.std.specs.Prelude.{sum_by, if◌then◌else◌}
 use Rattle.std.specs.List.{list_any}
 use Rattle.std.proofs.lemmas.List.Folds.{list_any-append, flat_map-map}
 use Rattle.qkd_base.specs.Name.{Name, has}
@@ -10,7 +10,7 @@ use Rattle.net_model.specs.declared.record.Record.TheVariants.{Learned, Acked, H
 use Rattle.net_model.specs.Table.{PartOf, parts_of, name_of, is_secret, has_fact, learned, without_bytes, was_handed}
 use Rattle.net_model.specs.Site.{Site}
 use Rattle.net_model.specs.World.{no_volatile}
-use Rattle.net_model.specs.Journal.{block_records, lease_records, fact_record, batches_of, checkpoint_records, checkpoint_batches}
+use Rattle.net_model.specs.Journal.{block_records, lease_records, fact_record, batch_len, batches_of, checkpoint_records, checkpoint_batches, checkpoint_need}
 use Rattle.net_model.specs.View.{View, Port}
 use Rattle.net_model.specs.Needed.{is_owed, is_needed, masked_fact, masked}
 use Rattle.net_model.specs.Fold.{owes, is_got_by, is_stream_of, view_record, view_records, view_restarted, empty_view, recovered_view}
@@ -205,10 +205,17 @@ same_checkpoint v =
     ap (λ (rs : List Record). batches_of ((length rs + 65534) / 65535) rs)
     (λ i. blocks i ++ leases i ++ map (fact_record v) v.facts ++ map (λ n. Acked n) v.acked ++ map (λ h. Handed h.0 h.1) v.handed ++ map (λ h. Closed h.0 h.1) v.closed)
 
+pub same_batches : (a b : View) → view_restarted a ≡ view_restarted b → checkpoint_batches a ≡ checkpoint_batches b
+same_batches a b h = sym (same_checkpoint a) ∙ ap checkpoint_batches h ∙ same_checkpoint b
+
+pub same_need : (a b : View) → view_restarted a ≡ view_restarted b → checkpoint_need a ≡ checkpoint_need b
+unfolding checkpoint_need
+same_need a b h = ap (λ (bs : List (List Record)). 1 + sum_by (batch_len 2) bs) (same_batches a b h)
+
 pub checkpoint_given : (site : Site) (me : ℕ) (batches : List (List Record)) (v : View) → GivesBack site me batches v → GivesBack site me (checkpoint_batches v) v
 checkpoint_given site me batches v h =
     let x : View = recovered_view site me batches in
     let kept : IsKept site me x = recovered_kept site me batches in
     let one = given site x (subst (λ (n : ℕ). IsKept site n x) (sym kept.me) kept) (recovered_masked site me batches) in
-    let same : checkpoint_batches v ≡ checkpoint_batches x = sym (same_checkpoint v) ∙ ap checkpoint_batches (sym h) in
+    let same : checkpoint_batches v ≡ checkpoint_batches x = same_batches v x (sym h ∙ recovered_restarts site me batches) in
     ap (recovered_view site me) same ∙ subst (λ (n : ℕ). recovered_view site n (checkpoint_batches x) ≡ view_restarted x) kept.me one ∙ sym (recovered_restarts site me batches) ∙ h

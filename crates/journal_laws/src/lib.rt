@@ -10,7 +10,7 @@ ghost use Rattle.net_model.specs.Site.{Site};
 ghost use Rattle.net_model.specs.World.{Volatile};
 ghost use Rattle.net_model.specs.View.{View};
 ghost use Rattle.net_model.specs.Decision.{Effect};
-ghost use Rattle.net_model.specs.Journal.{checkpoint_records, checkpoint_batches};
+ghost use Rattle.net_model.specs.Journal.{checkpoint_records, checkpoint_batches, checkpoint_need};
 ghost use Rattle.net_model.specs.Fold.{empty_view, view_after, view_batch, view_batches, view_restarted, recovered_view};
 ghost use Rattle.journal_laws.specs.GivesBack.{GivesBack};
 
@@ -61,4 +61,10 @@ pub fn law_checkpoint_gives_back()
     ensures back { (site : Site) (me : ℕ) (batches : List (List Record)) (v : View) → GivesBack site me batches v → GivesBack site me (checkpoint_batches v) v }
     ensures bare { (site : Site) (me : ℕ) (batches : List (List Record)) (v : View) → GivesBack site me batches v → (k : ℕ) (f : Fact) →
         slice_get (checkpoint_records v) k ≡ Some (Bare f) → (is_secret f ≡ true) × (bytes_of f ≡ zeros_for (bytes_of f)) }
+{}
+
+/// A checkpoint is told by what a start gives back: where that is the same, so are its batches and the octets that they need.
+pub fn law_checkpoint_is_of_what_is_given_back()
+    ensures batches { (a b : View) → view_restarted a ≡ view_restarted b → checkpoint_batches a ≡ checkpoint_batches b }
+    ensures need { (a b : View) → view_restarted a ≡ view_restarted b → checkpoint_need a ≡ checkpoint_need b }
 {}
