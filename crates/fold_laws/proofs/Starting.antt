@@ -116,29 +116,41 @@ restart_same a b h =
     λ i. record { me = me i; facts = facts i; acked = acked i; handed = handed i; closed = closed i; ports = ports i; volatile = no_volatile }
 
 module _ (net : Network) (w : World) (v : ℕ) (c : Conserved net w) (sent : is_sent net w v ≡ true) where
+  resolved_restarts : (committed : Bool) → view_of net (restarted net (resolved net.site w v committed) v) v ≡ view_restarted (view_of net (resolved net.site w v committed) v)
+  resolved_restarts false = restart_goes net (resolved net.site w v false) v c.now sent
+  resolved_restarts true =
+      let inv : Invariant net.site (replay net.site v (w.in_doubt v).batch w.durable) w.frames w.unclaimed =
+      replay_keeps net.site w.durable w.frames w.unclaimed c.now v (w.in_doubt v).batch (c.doubts v) in
+      restart_goes net (resolved net.site w v true) v inv sent
+
   resolved_goes : (committed : Bool) → (committed ≡ true → AllFit net (view_of net w v) (w.in_doubt v).batch) →
       view_of net (restarted net (resolved net.site w v committed) v) v ≡
       view_restarted (if committed then view_batch (view_of net w v) (w.in_doubt v).batch else view_of net w v)
   unfolding view_of
-  resolved_goes false fits = restart_goes net (resolved net.site w v false) v c.now sent
+  resolved_goes false fits = resolved_restarts false
   resolved_goes true fits =
       let may : MayReplay net.site w.durable v (w.in_doubt v).batch = c.doubts v in
-      let inv : Invariant net.site (replay net.site v (w.in_doubt v).batch w.durable) w.frames w.unclaimed =
-      replay_keeps net.site w.durable w.frames w.unclaimed c.now v (w.in_doubt v).batch may in
       let h = batch_follows net w v (w.in_doubt v).batch w.durable c.now (view_of net w v) may (fits refl) (view_follows net w v) in
-      restart_goes net (resolved net.site w v true) v inv sent ∙
-      sym (restart_same (view_records (w.in_doubt v).batch (view_of net w v)) (seen net w v (replay net.site v (w.in_doubt v).batch w.durable)) h)
+      resolved_restarts true ∙ sym (restart_same (view_records (w.in_doubt v).batch (view_of net w v)) (seen net w v (replay net.site v (w.in_doubt v).batch w.durable)) h)
 
-pub start_goes : (net : Network) (w : World) (v : ℕ) (committed : Bool) → Conserved net w → w.up v ≡ false → is_enabled net w (Start v (Recovers committed)) ≡ true →
-    (committed ≡ true → AllFit net (view_of net w v) (w.in_doubt v).batch) →
-    view_of net (step net w (Start v (Recovers committed))).0 v ≡
-    view_restarted (if committed then view_batch (view_of net w v) (w.in_doubt v).batch else view_of net w v)
-unfolding is_enabled step start
-start_goes net w v committed c down enabled fits =
-    let asked : Bool = is_quiet net w v && may_recover net w v (Recovers committed) in
-    let may : asked ≡ true =
-    sym (when_false (w.up v) (is_plain (Recovers committed)) asked down) ∙ and_right (is_node net v) (if w.up v then is_plain (Recovers committed) else asked) enabled in
-    let quiet = and_left (is_quiet net w v) (may_recover net w v (Recovers committed)) may in
-    let sent = and_left (is_sent net w v) (is_nil (w.placings v)) quiet in
-    ap (λ (r : World × Outcome). view_of net (r.0) v) (when_false (w.up v) (w, WasUp) (restarted net (resolved net.site w v committed) v, Started) down) ∙
-    resolved_goes net w v c sent committed fits
+module _ (net : Network) (w : World) (v : ℕ) (committed : Bool) (down : w.up v ≡ false) (enabled : is_enabled net w (Start v (Recovers committed)) ≡ true) where
+  sent_before : is_sent net w v ≡ true
+  unfolding is_enabled
+  sent_before =
+      let asked : Bool = is_quiet net w v && may_recover net w v (Recovers committed) in
+      let may : asked ≡ true =
+      sym (when_false (w.up v) (is_plain (Recovers committed)) asked down) ∙ and_right (is_node net v) (if w.up v then is_plain (Recovers committed) else asked) enabled in
+      and_left (is_sent net w v) (is_nil (w.placings v)) (and_left (is_quiet net w v) (may_recover net w v (Recovers committed)) may)
+
+  pub started_is : (step net w (Start v (Recovers committed))).0 ≡ restarted net (resolved net.site w v committed) v
+  unfolding step start
+  started_is = ap (λ (r : World × Outcome). r.0) (when_false (w.up v) (w, WasUp) (restarted net (resolved net.site w v committed) v, Started) down)
+
+  pub start_goes : Conserved net w → (committed ≡ true → AllFit net (view_of net w v) (w.in_doubt v).batch) →
+      view_of net (step net w (Start v (Recovers committed))).0 v ≡
+      view_restarted (if committed then view_batch (view_of net w v) (w.in_doubt v).batch else view_of net w v)
+  start_goes c fits = ap (λ (x : World). view_of net x v) started_is ∙ resolved_goes net w v c sent_before committed fits
+
+  -- what is settled is seen behind the start as before it
+  pub start_restarts : Conserved net w → view_of net (step net w (Start v (Recovers committed))).0 v ≡ view_restarted (view_of net (resolved net.site w v committed) v)
+  start_restarts c = ap (λ (x : World). view_of net x v) started_is ∙ resolved_restarts net w v c sent_before committed

@@ -7,18 +7,19 @@ use Rattle.net_model.specs.World.{Network, World, first}
 use Rattle.net_model.specs.View.{View}
 use Rattle.net_model.specs.Needed.{view_of}
 use Rattle.net_model.specs.Invariant.{Conserved}
-use Rattle.net_model.specs.Journal.{checkpoint_batches}
+use Rattle.net_model.specs.Journal.{checkpoint_batches, checkpoint_need}
+use Rattle.net_model.specs.Start.{need_at, resolved}
 use Rattle.net_model.specs.Fold.{view_batch, view_restarted}
 use Rattle.net_model.specs.Action.{Action, Start, Recovers, is_shown, environment_of}
 use Rattle.net_model.specs.Step.{step, is_enabled, is_step, run, is_run, IsRun}
 use Rattle.record_laws.proofs.Base.{and_left, and_right}
 use Rattle.fold_laws.specs.Fitting.{AllFit}
 use Rattle.fold_laws.proofs.Empty.{first_empty}
-use Rattle.fold_laws.proofs.Starting.{start_goes}
+use Rattle.fold_laws.proofs.Starting.{start_goes, start_restarts}
 use Rattle.net_laws.proofs.Steps.{first_keeps, step_keeps}
 use Rattle.journal_laws.specs.GivesBack.{GivesBack}
-use Rattle.journal_laws.proofs.Restarting.{recovered_next, nothing_given, recovered_restarts}
-use Rattle.journal_laws.proofs.Checkpoint.{checkpoint_given}
+use Rattle.journal_laws.proofs.Restarting.{restarted_twice, recovered_next, nothing_given, recovered_restarts}
+use Rattle.journal_laws.proofs.Checkpoint.{checkpoint_given, same_need}
 use Rattle.recovery_laws.specs.Saved.{saved, Moves, DoubtsFit}
 use Rattle.recovery_laws.proofs.Views.{restarted_fits, fits_before}
 use Rattle.recovery_laws.proofs.Steps.{step_moves}
@@ -81,9 +82,17 @@ pub run_starts : (net : Network) (actions : List Action) (v : ℕ) (committed : 
     view_restarted (if committed then view_batch (view_of net (run net first actions) v) ((run net first actions).in_doubt v).batch else view_of net (run net first actions) v)
 run_starts net actions v committed network r down enabled =
     let h = run_held net actions network r in
-    start_goes net (run net first actions) v committed h.conserved down enabled (λ e. h.fits v)
+    start_goes net (run net first actions) v committed down enabled h.conserved (λ e. h.fits v)
 
 pub run_checkpoint : (net : Network) (actions : List Action) (v : ℕ) → IsNetwork net → IsRun net first actions →
     GivesBack net.site v (checkpoint_batches (view_of net (run net first actions) v)) (view_of net (run net first actions) v)
 run_checkpoint net actions v network r =
     let h = (run_held net actions network r).given v in checkpoint_given net.site v h.0 (view_of net (run net first actions) v) h.1
+
+-- the octets that a checkpoint needs at a start are told by the manager that it makes
+pub start_needs : (net : Network) (w : World) (v : ℕ) (committed : Bool) → Conserved net w → w.up v ≡ false → is_enabled net w (Start v (Recovers committed)) ≡ true →
+    need_at net (resolved net.site w v committed) v ≡ checkpoint_need (view_of net (step net w (Start v (Recovers committed))).0 v)
+start_needs net w v committed c down enabled =
+    let before : View = view_of net (resolved net.site w v committed) v in
+    same_need before (view_of net (step net w (Start v (Recovers committed))).0 v)
+    (sym (restarted_twice before) ∙ ap view_restarted (sym (start_restarts net w v committed down enabled c)))

@@ -23,20 +23,20 @@ use Rattle.net_model.specs.Decision.{Refuses, Does, Effect, makes}
 use Rattle.net_model.specs.Decide.{decide, random_need}
 use Rattle.net_model.specs.Events.{is_valid_event}
 use Rattle.net_model.specs.Invariant.{Conserved}
-use Rattle.net_model.specs.Action.{Environment, Ok, Action, Start, Crash, Arm, SetLink, TakeBlock, Ask, Allocate, Transmit, Complete, Deliver, Flip, Forge, WantMemory, Recovery, Recovers, Interrupted, NoMemory, Foreign, Outcome, Replies, Started, WasUp, is_no_memory, is_io_fault, is_device_fault}
+use Rattle.net_model.specs.Action.{Environment, Ok, Action, Start, Crash, Arm, SetLink, TakeBlock, Ask, Allocate, Transmit, Complete, Deliver, Flip, Forge, WantMemory, Recovery, Recovers, Interrupted, NoMemory, Foreign, Outcome, Replies, WasUp, is_no_memory, is_io_fault, is_device_fault}
 use Rattle.net_model.specs.Handle.{perform, resolve, handle, blocks_at, take_block}
 use Rattle.net_model.specs.Frames.{allocate, outgoing_of, put, transmit_one, transmit}
 use Rattle.net_model.specs.Start.{resolved, resolved_durable, restarted, recovers, start}
 use Rattle.net_model.specs.Step.{step, crash, complete_node, is_node, is_link, is_asked, is_enabled}
 use Rattle.net_model.specs.Fold.{view_batch, view_restarted}
-use Rattle.record_laws.proofs.Base.{number_set_same, and_left, and_right, by_test, when_false}
+use Rattle.record_laws.proofs.Base.{number_set_same, and_left, and_right, by_test}
 use Rattle.record_laws.proofs.Extending.{extends_same}
 use Rattle.event_laws.specs.May.{decided}
 use Rattle.fold_laws.specs.Fitting.{AllFit}
 use Rattle.fold_laws.proofs.Asked.{event_goes, event_fits}
 use Rattle.fold_laws.proofs.Arriving.{few_blocks, receive_goes, receiving_fits}
 use Rattle.fold_laws.proofs.Commits.{silent_goes}
-use Rattle.fold_laws.proofs.Starting.{start_goes}
+use Rattle.fold_laws.proofs.Starting.{started_is, start_goes}
 use Rattle.block_laws.proofs.Durables.{SameDurable, same_durable, other_replay}
 use Rattle.block_laws.proofs.Turns.{IsTurnDecision, asked_turn, receive_turn}
 use Rattle.journal_laws.proofs.Restarting.{restarted_twice, batch_restarts}
@@ -158,10 +158,6 @@ module _ (net : Network) (w : World) (network : IsNetwork net) (c : Conserved ne
   -- starts
 
   module _ (u : ℕ) (down : w.up u ≡ false) where
-    started : (committed : Bool) → (step net w (Start u (Recovers committed))).0 ≡ restarted net (resolved net.site w u committed) u
-    unfolding step start
-    started committed = ap (λ (r : World × Outcome). r.0) (when_false (w.up u) (w, WasUp) (restarted net (resolved net.site w u committed) u, Started) down)
-
     settled : (committed : Bool) → ((restarted net (resolved net.site w u committed) u).in_doubt u).batch ≡ []
     unfolding restarted
     settled committed = ap (λ (d : InDoubt). d.batch) (number_set_same w.in_doubt u no_doubt)
@@ -169,15 +165,15 @@ module _ (net : Network) (w : World) (network : IsNetwork net) (c : Conserved ne
     started_here : (committed : Bool) → is_enabled net w (Start u (Recovers committed)) ≡ true → DoubtsFit net w → Moves net w (step net w (Start u (Recovers committed))).0 u
     started_here true enabled fits = inr (inr (record {
       batch = (w.in_doubt u).batch;
-      view = ap view_restarted (start_goes net w u true c down enabled (λ e. fits u)) ∙ restarted_twice (view_batch (view_of net w u) (w.in_doubt u).batch) ∙
+      view = ap view_restarted (start_goes net w u true down enabled c (λ e. fits u)) ∙ restarted_twice (view_batch (view_of net w u) (w.in_doubt u).batch) ∙
           batch_restarts (view_of net w u) (w.in_doubt u).batch;
-      none = ap (λ (x : World). (x.in_doubt u).batch) (started true) ∙ settled true;
+      none = ap (λ (x : World). (x.in_doubt u).batch) (started_is net w u true down enabled) ∙ settled true;
     }))
     started_here false enabled fits =
         let after : World = (step net w (Start u (Recovers false))).0 in
-        let none : (after.in_doubt u).batch ≡ [] = ap (λ (x : World). (x.in_doubt u).batch) (started false) ∙ settled false in
+        let none : (after.in_doubt u).batch ≡ [] = ap (λ (x : World). (x.in_doubt u).batch) (started_is net w u false down enabled) ∙ settled false in
         inr (inl (record {
-          view = ap view_restarted (start_goes net w u false c down enabled (λ e. cc)) ∙ restarted_twice (view_of net w u);
+          view = ap view_restarted (start_goes net w u false down enabled c (λ e. cc)) ∙ restarted_twice (view_of net w u);
           fits = subst (λ rs. AllFit net (saved net after u) rs) (sym none) tt;
         }))
 
@@ -195,7 +191,7 @@ module _ (net : Network) (w : World) (network : IsNetwork net) (c : Conserved ne
         Moves net w (step net w (Start u (Recovers committed))).0 v
     recovers_moves committed enabled fits v =
         here_or_there (Moves net w (step net w (Start u (Recovers committed))).0) u v (started_here committed enabled fits)
-        (λ apart. subst (λ (x : World). Moves net w x v) (sym (started committed)) (started_there committed v apart))
+        (λ apart. subst (λ (x : World). Moves net w x v) (sym (started_is net w u committed down enabled)) (started_there committed v apart))
 
   interrupted_moves : (u : ℕ) (made : Option Bool) (v : ℕ) → Moves net w (recovers net w u (Interrupted made)).0 v
   interrupted_moves u None v = durable_stays net w _ v (saved_same net v w _ (extends_same net.site v w.durable) refl refl refl) refl
@@ -214,7 +210,7 @@ module _ (net : Network) (w : World) (network : IsNetwork net) (c : Conserved ne
       ] refl
     where
       by_recovery : w.up u ≡ false → (r : Recovery) → is_enabled net w (Start u r) ≡ true → Moves net w (recovers net w u r).0 v
-      by_recovery down (Recovers committed) may = subst (λ (x : World). Moves net w x v) (started u down committed) (recovers_moves u down committed may fits v)
+      by_recovery down (Recovers committed) may = subst (λ (x : World). Moves net w x v) (started_is net w u committed down may) (recovers_moves u down committed may fits v)
       by_recovery down (Interrupted made) may = interrupted_moves u made v
       by_recovery down NoMemory may = stays net w v
       by_recovery down Foreign may = stays net w v

@@ -10,7 +10,8 @@ ghost use Rattle.net_model.specs.Premises.{IsNetwork};
 ghost use Rattle.net_model.specs.Action.{Action, Start, Recovers};
 ghost use Rattle.net_model.specs.Step.{step, is_enabled, run, IsRun};
 ghost use Rattle.net_model.specs.Needed.{view_of};
-ghost use Rattle.net_model.specs.Journal.{checkpoint_batches};
+ghost use Rattle.net_model.specs.Journal.{checkpoint_batches, checkpoint_need};
+ghost use Rattle.net_model.specs.Start.{need_at, resolved};
 ghost use Rattle.net_model.specs.Fold.{view_batch, view_restarted};
 ghost use Rattle.journal_laws.specs.GivesBack.{GivesBack};
 ghost use Rattle.recovery_laws.specs.Saved.{Moves, DoubtsFit};
@@ -45,4 +46,10 @@ pub fn law_run_is_given_back()
         (batches : List (List Record)) × GivesBack net.site v batches (view_of net (run net first actions) v) }
     ensures checkpoint { (net : Network) (actions : List Action) (v : ℕ) → IsNetwork net → IsRun net first actions →
         GivesBack net.site v (checkpoint_batches (view_of net (run net first actions) v)) (view_of net (run net first actions) v) }
+{}
+
+/// The octets of the checkpoint that a start may make are those that the manager which it makes needs for one.
+pub fn law_start_checkpoints_what_it_gives_back()
+    ensures { (net : Network) (w : World) (v : ℕ) (committed : Bool) → Conserved net w → w.up v ≡ false → is_enabled net w (Start v (Recovers committed)) ≡ true →
+        need_at net (resolved net.site w v committed) v ≡ checkpoint_need (view_of net (step net w (Start v (Recovers committed))).0 v) }
 {}
