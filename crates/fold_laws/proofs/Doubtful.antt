@@ -18,16 +18,16 @@ use Rattle.fold_laws.specs.Fitting.{Fits, AllFit}
 abbrev pub with_rest : List Port → Volatile → View → View
 with_rest ps x a = record a { ports = ps; volatile = x }
 
-abbrev ports_behind : Record → List Port → List Port
-ports_behind (Block link number bytes) ps = map (with_block link number bytes) ps
-ports_behind (Lease l end) ps = map (with_lease l end) ps
-ports_behind _ ps = ps
+abbrev ports_after : Record → List Port → List Port
+ports_after (Block link number bytes) ps = map (with_block link number bytes) ps
+ports_after (Lease l end) ps = map (with_lease l end) ps
+ports_after _ ps = ps
 
 kept : (ps : List Port) (x : Volatile) (t : Bool) (a b : View) → (if t then with_rest ps x a else with_rest ps x b) ≡ with_rest ps x (if t then a else b)
 kept ps x true a b = refl
 kept ps x false a b = refl
 
-record_with : (ps : List Port) (x : Volatile) (r : Record) (a : View) → view_record r (with_rest ps x a) ≡ with_rest (ports_behind r ps) x (view_record r a)
+record_with : (ps : List Port) (x : Volatile) (r : Record) (a : View) → view_record r (with_rest ps x a) ≡ with_rest (ports_after r ps) x (view_record r a)
 unfolding view_record
 record_with ps x (Block link number bytes) a = refl
 record_with ps x (Lease l end) a = refl
@@ -51,7 +51,7 @@ pub all_fit_with : (net : Network) (ps : List Port) (x : Volatile) (rs : List Re
 all_fit_with net ps x [] a h = tt
 all_fit_with net ps x (r ∷ rs) a h = (
   fits_with net ps x r a h.0,
-  subst (λ (y : View). AllFit net y rs) (sym (record_with ps x r a)) (all_fit_with net (ports_behind r ps) x rs (view_record r a) h.1),
+  subst (λ (y : View). AllFit net y rs) (sym (record_with ps x r a)) (all_fit_with net (ports_after r ps) x rs (view_record r a) h.1),
 )
 
 -- what is seen of a manager that stopped

@@ -1,4 +1,4 @@
--- What a checkpoint's records make, one behind the other and in batches: the manager that they were written of.
+-- What a checkpoint's records make, one after the other and in batches: the manager that they were written of.
 use Rattle.std.proofs.Common.{◌≡◌, ℕ, Bool, true, false, not, ◌&&◌, List, [], ◌∷◌, ◌++◌, ◌+◌, ◌/◌, length, refl, sym, ◌∙◌, ap, subst, map}
 use Rattle.std.specs.Prelude.{sum_by, if◌then◌else◌}
 use Rattle.std.specs.List.{list_any}
@@ -33,12 +33,12 @@ opposite false h = refl
 
 -- what masking leaves in a view, it leaves in one that needs no less
 
-front_same : (g : Fact → Fact) (front rest : List Fact) → map g (front ++ rest) ≡ front ++ rest → map g front ≡ front
-front_same g [] rest h = refl
-front_same g (f ∷ front) rest h =
+prefix_same : (g : Fact → Fact) (prefix rest : List Fact) → map g (prefix ++ rest) ≡ prefix ++ rest → map g prefix ≡ prefix
+prefix_same g [] rest h = refl
+prefix_same g (f ∷ prefix) rest h =
     let one : g f ≡ f = cc in
-    let more : map g (front ++ rest) ≡ front ++ rest = cc in
-    let rest = front_same g front rest more in
+    let more : map g (prefix ++ rest) ≡ prefix ++ rest = cc in
+    let rest = prefix_same g prefix rest more in
     λ i. one i ∷ rest i
 
 same_bytes : (u v : View) (f : Fact) → masked_fact v f ≡ f → (is_needed u f ≡ false → is_needed v f ≡ false) → masked_fact u f ≡ f
@@ -90,11 +90,11 @@ module _ (site : Site) (v : View) (kept : IsKept site v.me v) (whole : masked v 
       let hands : (n : Name) (sae : ℕ) → was_handed handed n sae ≡ true → was_handed v.handed n sae ≡ true =
       λ n sae k. ap (λ (hs : List (Name × ℕ)). was_handed hs n sae) (sym he) ∙ list_any-append _ handed marks ∙ or_left (was_handed handed n sae) (was_handed marks n sae) k in
       let same : map (masked_fact v) facts ≡ facts =
-      front_same (masked_fact v) facts rest (subst (λ (fs : List Fact). map (masked_fact v) fs ≡ fs) (sym fe) whole_facts) in
+      prefix_same (masked_fact v) facts rest (subst (λ (fs : List Fact). map (masked_fact v) fs ≡ fs) (sym fe) whole_facts) in
       let all = all_same (stage facts acked handed closed) v facts same (all_stay facts facts acked handed closed grows acks hands parts) in
       λ i. record (stage facts acked handed closed) { facts = all i }
 
-  -- each record puts its element behind those before it
+  -- each record puts its element after those before it
 
   one_fact : (done : List Fact) (f : Fact) → new_fact done f ≡ true → view_record (fact_record v f) (stage done [] [] []) ≡ stage (done ++ f ∷ []) [] [] []
   unfolding view_record
@@ -110,10 +110,10 @@ module _ (site : Site) (v : View) (kept : IsKept site v.me v) (whole : masked v 
       view_record (Handed h.0 h.1) (stage v.facts v.acked done []) ≡ stage v.facts v.acked (done ++ h ∷ []) []
   unfolding view_record
   one_hand done h may =
-      let got : Bool = list_any (λ f. is_here v.me f && is_got_by h.0 h.1 f) v.facts in
-      let fresh = opposite (was_handed done h.0 h.1) (and_right got (not (was_handed done h.0 h.1)) may) in
-      when_true got (stage v.facts v.acked (if was_handed done h.0 h.1 then done else done ++ h ∷ []) []) (stage v.facts v.acked done [])
-      (and_left got (not (was_handed done h.0 h.1)) may) ∙
+      let is_end : Bool = list_any (λ f. is_here v.me f && is_got_by h.0 h.1 f) v.facts in
+      let fresh = opposite (was_handed done h.0 h.1) (and_right is_end (not (was_handed done h.0 h.1)) may) in
+      when_true is_end (stage v.facts v.acked (if was_handed done h.0 h.1 then done else done ++ h ∷ []) []) (stage v.facts v.acked done [])
+      (and_left is_end (not (was_handed done h.0 h.1)) may) ∙
       ap (λ (hs : List (Name × ℕ)). stage v.facts v.acked hs []) (when_false (was_handed done h.0 h.1) done (done ++ h ∷ []) fresh)
 
   one_close : (done : List (Name × ℕ)) (h : Name × ℕ) → may_close v.me v.facts done h ≡ true →
@@ -143,7 +143,7 @@ module _ (site : Site) (v : View) (kept : IsKept site v.me v) (whole : masked v 
   facts_from : From (map (fact_record v) v.facts) (stage [] [] [] []) (stage v.facts [] [] [])
   facts_from = (
     stage_masked (fact_record v) (λ fs. stage fs [] [] []) new_fact one_fact [] v.facts kept.lists.names
-        (λ front rest e. still front rest [] v.acked [] v.handed [] e refl refl (λ p h k. no_part p h _ _ k)),
+        (λ prefix rest e. still prefix rest [] v.acked [] v.handed [] e refl refl (λ p h k. no_part p h _ _ k)),
     stage_goes (fact_record v) (λ fs. stage fs [] [] []) new_fact one_fact [] v.facts kept.lists.names,
   )
 
@@ -154,21 +154,21 @@ module _ (site : Site) (v : View) (kept : IsKept site v.me v) (whole : masked v 
   acks_from : From (map (λ n. Acked n) v.acked) (stage v.facts [] [] []) (stage v.facts v.acked [] [])
   acks_from = (
     stage_masked (λ n. Acked n) (λ ns. stage v.facts ns [] []) (may_ack v.me v.facts) one_ack [] v.acked kept.lists.acks
-        (λ front rest e. still v.facts [] front rest [] v.handed [] (nothing_more v.facts) e refl (λ p h k. no_part p h _ _ k)),
+        (λ prefix rest e. still v.facts [] prefix rest [] v.handed [] (nothing_more v.facts) e refl (λ p h k. no_part p h _ _ k)),
     stage_goes (λ n. Acked n) (λ ns. stage v.facts ns [] []) (may_ack v.me v.facts) one_ack [] v.acked kept.lists.acks,
   )
 
   hands_from : From (map (λ h. Handed h.0 h.1) v.handed) (stage v.facts v.acked [] []) (stage v.facts v.acked v.handed [])
   hands_from = (
     stage_masked (λ h. Handed h.0 h.1) (λ hs. stage v.facts v.acked hs []) (may_hand v.me v.facts) one_hand [] v.handed kept.lists.hands
-        (λ front rest e. still v.facts [] v.acked [] front rest [] (nothing_more v.facts) (nothing_more v.acked) e (λ p h k. k)),
+        (λ prefix rest e. still v.facts [] v.acked [] prefix rest [] (nothing_more v.facts) (nothing_more v.acked) e (λ p h k. k)),
     stage_goes (λ h. Handed h.0 h.1) (λ hs. stage v.facts v.acked hs []) (may_hand v.me v.facts) one_hand [] v.handed kept.lists.hands,
   )
 
   closes_from : From (map (λ h. Closed h.0 h.1) v.closed) (stage v.facts v.acked v.handed []) (stage v.facts v.acked v.handed v.closed)
   closes_from = (
     stage_masked (λ h. Closed h.0 h.1) (λ hs. stage v.facts v.acked v.handed hs) (may_close v.me v.facts) one_close [] v.closed kept.lists.closes
-        (λ front rest e. still v.facts [] v.acked [] v.handed [] front (nothing_more v.facts) (nothing_more v.acked) (nothing_more v.handed) (λ p h k. k)),
+        (λ prefix rest e. still v.facts [] v.acked [] v.handed [] prefix (nothing_more v.facts) (nothing_more v.acked) (nothing_more v.handed) (λ p h k. k)),
     stage_goes (λ h. Closed h.0 h.1) (λ hs. stage v.facts v.acked v.handed hs) (may_close v.me v.facts) one_close [] v.closed kept.lists.closes,
   )
 

@@ -26,7 +26,7 @@ use Rattle.view_laws.proofs.Masked.{IsBlind, masked_same, name_blind, any_masked
 use Rattle.fold_laws.proofs.Shapes.{knowing, has_same, masked_shapes, owed_blind}
 use Rattle.fold_laws.proofs.Ends.{is_here, got_blind}
 use Rattle.fold_laws.proofs.Starting.{at_lease}
-use Rattle.journal_laws.proofs.Stages.{Accumulates, one_behind, accumulates_still}
+use Rattle.journal_laws.proofs.Stages.{Accumulates, one_after, accumulates_still}
 use Rattle.journal_laws.proofs.Restarting.{block_added}
 
 -- ports
@@ -174,17 +174,17 @@ module _ (me : ℕ) (facts : List Fact) (acked : List Name) (handed closed : Lis
       ((n : Name) (sae : ℕ) → list_any (λ f. is_here me f && is_got_by n sae f) facts ≡ true → list_any (λ f. is_here me f && is_got_by n sae f) facts' ≡ true) →
       ((n : Name) → list_any (λ f. is_here me f && is_stream_of n f) facts ≡ true → list_any (λ f. is_here me f && is_stream_of n f) facts' ≡ true) →
       AreKept me facts' acked handed closed
-  with_facts facts' names owed got streams = record {
+  with_facts facts' names owed handings streams = record {
     names = names;
     acks = accumulates_still (may_ack me facts) (may_ack me facts') owed [] acked h.acks;
-    hands = accumulates_still (may_hand me facts) (may_hand me facts') (λ done x k. first_still _ _ _ (got x.0 x.1) k) [] handed h.hands;
+    hands = accumulates_still (may_hand me facts) (may_hand me facts') (λ done x k. first_still _ _ _ (handings x.0 x.1) k) [] handed h.hands;
     closes = accumulates_still (may_close me facts) (may_close me facts') (λ done x k. first_still _ _ _ (streams x.0) k) [] closed h.closes;
   }
 
   learned_kept : (f : Fact) → AreKept me (learned facts f) acked handed closed
   learned_kept f = elim (has_fact facts (name_of f)) as (λ t. has_fact facts (name_of f) ≡ t → AreKept me (if t then facts else facts ++ f ∷ []) acked handed closed) [
     | true ↦ λ e. h
-    | false ↦ λ e. with_facts (facts ++ f ∷ []) (one_behind new_fact [] facts f h.names (ap not e)) (λ ns n k. any_more _ facts (f ∷ []) k) (λ n sae k. any_more _ facts (f ∷ []) k)
+    | false ↦ λ e. with_facts (facts ++ f ∷ []) (one_after new_fact [] facts f h.names (ap not e)) (λ ns n k. any_more _ facts (f ∷ []) k) (λ n sae k. any_more _ facts (f ∷ []) k)
         (λ n k. any_more _ facts (f ∷ []) k)
   ] refl
 
@@ -195,7 +195,7 @@ module _ (me : ℕ) (facts : List Fact) (acked : List Name) (handed closed : Lis
       (λ n k. any_masked b facts (λ f. is_here me f && is_stream_of n f) (stream_blind me n) ∙ k)
 
   acked_kept : (n : Name) → may_ack me facts acked n ≡ true → AreKept me facts (acked ++ n ∷ []) handed closed
-  acked_kept n e = record { names = h.names; acks = one_behind (may_ack me facts) [] acked n h.acks e; hands = h.hands; closes = h.closes }
+  acked_kept n e = record { names = h.names; acks = one_after (may_ack me facts) [] acked n h.acks e; hands = h.hands; closes = h.closes }
 
   handed_kept : (n : Name) (sae : ℕ) → list_any (λ f. is_here me f && is_got_by n sae f) facts ≡ true → AreKept me facts acked (marked handed n sae) closed
   handed_kept n sae e = elim (was_handed handed n sae) as (λ t. was_handed handed n sae ≡ t → AreKept me facts acked (if t then handed else handed ++ (n, sae) ∷ []) closed) [
@@ -203,7 +203,7 @@ module _ (me : ℕ) (facts : List Fact) (acked : List Name) (handed closed : Lis
     | false ↦ λ k. record {
       names = h.names;
       acks = h.acks;
-      hands = one_behind (may_hand me facts) [] handed (n, sae) h.hands (and_both _ (not (was_handed handed n sae)) e (ap not k));
+      hands = one_after (may_hand me facts) [] handed (n, sae) h.hands (and_both _ (not (was_handed handed n sae)) e (ap not k));
       closes = h.closes;
     }
   ] refl
@@ -215,7 +215,7 @@ module _ (me : ℕ) (facts : List Fact) (acked : List Name) (handed closed : Lis
       names = h.names;
       acks = h.acks;
       hands = h.hands;
-      closes = one_behind (may_close me facts) [] closed (n, sae) h.closes (and_both _ (not (was_handed closed n sae)) e (ap not k));
+      closes = one_after (may_close me facts) [] closed (n, sae) h.closes (and_both _ (not (was_handed closed n sae)) e (ap not k));
     }
   ] refl
 

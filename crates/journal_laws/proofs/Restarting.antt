@@ -1,4 +1,4 @@
--- A start forgets what one life keeps, and so do records: a start behind them makes the same of a view whether or not one stood before them.
+-- A start forgets what one life keeps, and so do records: a start after them makes the same of a view, whether or not there was one before them.
 use Rattle.std.proofs.Common.{◌≡◌, ℕ, Bool, true, false, ◌&&◌, List, [], ◌∷◌, ◌++◌, length, refl, sym, ◌∙◌, ap, map}
 use Rattle.std.specs.Prelude.{if◌then◌else◌, ◌==◌, ◌+◌, nat_lt, nat_le}
 use Rattle.std.specs.List.{list_any}

@@ -131,9 +131,9 @@ module _ (spelled : Port → List Record) (f g : Port → Port) (f_lane : (p : P
 -- blocks
 
 abbrev first_lease : ℕ → ℕ
-first_lease got = if nat_lt 0 got then 8 else 0
+first_lease received = if nat_lt 0 received then 8 else 0
 
--- a port that has got these blocks, and the hash key with the first
+-- a port that received these blocks, and the hash key with the first
 abbrev built : Lane → List (List ℕ) → Port
 built l bs =
     record { lane = l; blocks = bs; lease = first_lease (lane_len l.way (length bs)); planned = first_lease (lane_len l.way (length bs)); recovered = 0 }
@@ -262,7 +262,7 @@ all_empty : (ps : List Port) → map empty_port (map lane_at ps) ≡ map (λ (p 
 all_empty [] = refl
 all_empty (p ∷ ps) = let one = nothing_built p.lane in let rest = all_empty ps in λ i. one i ∷ rest i
 
--- what a start makes of ports that have got them
+-- what a start makes of ports that received them
 pub leased_lease : (ps : List Port) → map at_lease (map leased ps) ≡ map at_lease ps
 leased_lease [] = refl
 leased_lease (p ∷ ps) = let rest = leased_lease ps in λ i. at_lease p ∷ rest i

@@ -19,8 +19,8 @@ pub fn law_empty_journal_gives_back()
     ensures { (site : Site) (me : ℕ) → recovered_view site me [] ≡ empty_view site me }
 {}
 
-/// One batch more is one batch made of what the others gave back, however the journal is read: batch by batch with a start behind
-/// the last, or with a start behind each.
+/// One batch more is one batch made of what the others gave back, however the journal is read: batch by batch with a start after
+/// the last, or with a start after each.
 pub fn law_one_batch_more()
     ensures read { (v : View) (batches : List (List Record)) (batch : List Record) →
         view_batches v (batches ++ batch ∷ []) ≡ view_batch (view_batches v batches) batch }
@@ -63,7 +63,7 @@ pub fn law_checkpoint_gives_back()
         slice_get (checkpoint_records v) k ≡ Some (Bare f) → (is_secret f ≡ true) × (bytes_of f ≡ zeros_for (bytes_of f)) }
 {}
 
-/// A checkpoint is told by what a start gives back: where that is the same, so are its batches and the octets that they need.
+/// A checkpoint depends only on what a start gives back: where that is the same, so are its batches and the octets that they need.
 pub fn law_checkpoint_is_of_what_is_given_back()
     ensures batches { (a b : View) → view_restarted a ≡ view_restarted b → checkpoint_batches a ≡ checkpoint_batches b }
     ensures need { (a b : View) → view_restarted a ≡ view_restarted b → checkpoint_need a ≡ checkpoint_need b }

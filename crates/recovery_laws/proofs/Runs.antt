@@ -24,7 +24,7 @@ use Rattle.recovery_laws.specs.Saved.{saved, Moves, DoubtsFit}
 use Rattle.recovery_laws.proofs.Views.{restarted_fits, fits_before}
 use Rattle.recovery_laws.proofs.Steps.{step_moves}
 
--- a journal of a node, behind a step
+-- a journal of a node, after a step
 abbrev HasJournal : Network → World → ℕ → Type 0
 HasJournal net w v = (batches : List (List Record)) × GivesBack net.site v batches (view_of net w v)
 
@@ -89,7 +89,7 @@ pub run_checkpoint : (net : Network) (actions : List Action) (v : ℕ) → IsNet
 run_checkpoint net actions v network r =
     let h = (run_held net actions network r).given v in checkpoint_given net.site v h.0 (view_of net (run net first actions) v) h.1
 
--- the octets that a checkpoint needs at a start are told by the manager that it makes
+-- the octets that a checkpoint needs at a start are those of the manager that it makes
 pub start_needs : (net : Network) (w : World) (v : ℕ) (committed : Bool) → Conserved net w → w.up v ≡ false → is_enabled net w (Start v (Recovers committed)) ≡ true →
     need_at net (resolved net.site w v committed) v ≡ checkpoint_need (view_of net (step net w (Start v (Recovers committed))).0 v)
 start_needs net w v committed c down enabled =

@@ -1,4 +1,4 @@
--- What a start gives back of a node is told by its own durable state: others, frames, orders and what one life keeps are not in it.
+-- What a start gives back of a node follows from its own durable state: others, frames, orders and what one life keeps are not in it.
 use Rattle.std.proofs.Common.{◌≡◌, ℕ, List, [], ◌∷◌, refl, inl, inr, map}
 use Rattle.std.specs.Prelude.{◌==◌}
 use Rattle.qkd_base.specs.declared.lane.Lane.{Lane}
@@ -55,7 +55,7 @@ module _ (net : Network) (v : ℕ) (a b : World) (x : Extends net.site v a.durab
       handed_at net.site v b.durable.handed ≡ handed_at net.site v a.durable.handed → saved net b v ≡ saved net a v
   saved_same acked closed handed = saved_with acked closed handed (ports_same (outgoing_lanes net.site v) (outgoing_leave net.site v))
 
--- what fits a view fits what a start makes of it, and the other way round
+-- what fits a view fits what a start makes of it, and conversely
 pub restarted_fits : (net : Network) (rs : List Record) (a : View) → AllFit net a rs → AllFit net (view_restarted a) rs
 unfolding view_restarted
 restarted_fits net rs a h = all_fit_with net (map at_lease a.ports) no_volatile rs a h

@@ -51,18 +51,18 @@ stays_else l n e other = not_false (goes l n e) (λ t.
     other (lane_eq_from e.transmission.lane (reverse_lane l) (and_left (lane_eq e.transmission.lane (reverse_lane l)) (is_data_of n e.transmission.item) t))
     (data_from n e.transmission.item (and_right (lane_eq e.transmission.lane (reverse_lane l)) (is_data_of n e.transmission.item) t)))
 
-pub leaves : (l : Lane) (n : Name) (front rest : List Entry) (e : Entry) → e.transmission.lane ≡ reverse_lane l → e.transmission.item ≡ DataItem n →
-    cleared l n (front ++ e ∷ rest) ≡ cleared l n (front ++ rest)
-leaves l n front rest e lane item =
-    filter-append (λ x. not (goes l n x)) front (e ∷ rest) ∙
-    ap (λ (t : Bool). cleared l n front ++ cond t (e ∷ cleared l n rest) (cleared l n rest)) (ap not (goes_where l n e lane item)) ∙
-    sym (filter-append (λ x. not (goes l n x)) front rest)
+pub leaves : (l : Lane) (n : Name) (prefix rest : List Entry) (e : Entry) → e.transmission.lane ≡ reverse_lane l → e.transmission.item ≡ DataItem n →
+    cleared l n (prefix ++ e ∷ rest) ≡ cleared l n (prefix ++ rest)
+leaves l n prefix rest e lane item =
+    filter-append (λ x. not (goes l n x)) prefix (e ∷ rest) ∙
+    ap (λ (t : Bool). cleared l n prefix ++ cond t (e ∷ cleared l n rest) (cleared l n rest)) (ap not (goes_where l n e lane item)) ∙
+    sym (filter-append (λ x. not (goes l n x)) prefix rest)
 
-pub stays : (l : Lane) (n : Name) (front rest : List Entry) (e : Entry) → (e.transmission.lane ≡ reverse_lane l → e.transmission.item ≡ DataItem n → ⊥) →
-    cleared l n (front ++ e ∷ rest) ≡ cleared l n front ++ e ∷ cleared l n rest
-stays l n front rest e other =
-    filter-append (λ x. not (goes l n x)) front (e ∷ rest) ∙
-    ap (λ (t : Bool). cleared l n front ++ cond t (e ∷ cleared l n rest) (cleared l n rest)) (ap not (stays_else l n e other))
+pub stays : (l : Lane) (n : Name) (prefix rest : List Entry) (e : Entry) → (e.transmission.lane ≡ reverse_lane l → e.transmission.item ≡ DataItem n → ⊥) →
+    cleared l n (prefix ++ e ∷ rest) ≡ cleared l n prefix ++ e ∷ cleared l n rest
+stays l n prefix rest e other =
+    filter-append (λ x. not (goes l n x)) prefix (e ∷ rest) ∙
+    ap (λ (t : Bool). cleared l n prefix ++ cond t (e ∷ cleared l n rest) (cleared l n rest)) (ap not (stays_else l n e other))
 
 -- a pair of neighbours has one lane in each direction
 

@@ -75,10 +75,10 @@ pub fn law_cleared_keeps()
 
 /// Of a window exactly the entries of that fact towards the neighbour that acknowledged it leave; all others stay, in order.
 pub fn law_cleared_leaves()
-    ensures leaves { (l : LaneValue) (n : Name) (front rest : List Entry) (e : Entry) → e.transmission.lane ≡ reverse_lane l → e.transmission.item ≡ DataItem n →
-        cleared l n (front ++ e ∷ rest) ≡ cleared l n (front ++ rest) }
-    ensures stays { (l : LaneValue) (n : Name) (front rest : List Entry) (e : Entry) → (e.transmission.lane ≡ reverse_lane l → e.transmission.item ≡ DataItem n → ⊥) →
-        cleared l n (front ++ e ∷ rest) ≡ cleared l n front ++ e ∷ cleared l n rest }
+    ensures leaves { (l : LaneValue) (n : Name) (prefix rest : List Entry) (e : Entry) → e.transmission.lane ≡ reverse_lane l → e.transmission.item ≡ DataItem n →
+        cleared l n (prefix ++ e ∷ rest) ≡ cleared l n (prefix ++ rest) }
+    ensures stays { (l : LaneValue) (n : Name) (prefix rest : List Entry) (e : Entry) → (e.transmission.lane ≡ reverse_lane l → e.transmission.item ≡ DataItem n → ⊥) →
+        cleared l n (prefix ++ e ∷ rest) ≡ cleared l n prefix ++ e ∷ cleared l n rest }
     ensures nothing { (l : LaneValue) (n : Name) → cleared l n [] ≡ [] }
 {}
 
