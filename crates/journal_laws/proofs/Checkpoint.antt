@@ -22,7 +22,7 @@ use Rattle.fold_laws.proofs.Staying.{needed_stays}
 use Rattle.fold_laws.proofs.Ends.{is_here}
 use Rattle.fold_laws.proofs.Starting.{at_lease}
 use Rattle.journal_laws.specs.GivesBack.{GivesBack}
-use Rattle.journal_laws.proofs.Stages.{StaysMasked, masked_then_more, records_then, stage_goes, stage_masked, batches_go}
+use Rattle.journal_laws.proofs.Accumulating.{StaysMasked, masked_then_more, records_then, stage_goes, stage_masked, batches_go}
 use Rattle.journal_laws.proofs.Restarting.{recovered_masked, recovered_restarts}
 use Rattle.journal_laws.proofs.Kept.{new_fact, may_ack, may_hand, may_close, IsKept, recovered_kept}
 use Rattle.journal_laws.proofs.Spelled.{port_records, leased, leased_lease, all_spelled_ports, all_masked_ports}

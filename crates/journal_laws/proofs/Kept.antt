@@ -26,7 +26,7 @@ use Rattle.view_laws.proofs.Masked.{IsBlind, masked_same, name_blind, any_masked
 use Rattle.fold_laws.proofs.Shapes.{knowing, has_same, masked_shapes, owed_blind}
 use Rattle.fold_laws.proofs.Ends.{is_here, got_blind}
 use Rattle.fold_laws.proofs.Starting.{at_lease}
-use Rattle.journal_laws.proofs.Stages.{Accumulates, one_after, accumulates_still}
+use Rattle.journal_laws.proofs.Accumulating.{Accumulates, one_after, accumulates_still}
 use Rattle.journal_laws.proofs.Restarting.{block_added}
 
 -- ports

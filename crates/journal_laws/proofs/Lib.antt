@@ -1,5 +1,5 @@
 pub mod Restarting
-pub mod Stages
+pub mod Accumulating
 pub mod Kept
 pub mod Spelled
 pub mod Checkpoint

@@ -20,7 +20,7 @@ use Rattle.record_laws.proofs.Base.{eq_from, eq_same, and_both, or_first, or_sec
 use Rattle.lane_laws.proofs.Lists.{lane_same}
 use Rattle.window_laws.proofs.Outgoing.{LinksDiffer, links_differ}
 use Rattle.fold_laws.proofs.Starting.{at_lease}
-use Rattle.journal_laws.proofs.Stages.{StaysMasked}
+use Rattle.journal_laws.proofs.Accumulating.{StaysMasked}
 use Rattle.journal_laws.proofs.Restarting.{block_added}
 use Rattle.journal_laws.proofs.Kept.{IsPort, more_received, lane_at}
 
