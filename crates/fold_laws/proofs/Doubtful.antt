@@ -10,7 +10,7 @@ use Rattle.net_model.specs.View.{View, Port}
 use Rattle.net_model.specs.Needed.{is_needed, masked, view_of}
 use Rattle.net_model.specs.Decision.{Effect}
 use Rattle.net_model.specs.Handle.{stopped}
-use Rattle.net_model.specs.Fold.{with_block, with_lease, owes, is_end_of, is_got_by, is_stream_of, marked, view_record}
+use Rattle.net_model.specs.Fold.{with_block, with_lease, owes, is_end_of, is_handed_by, is_stream_of, marked, view_record}
 use Rattle.record_laws.proofs.Base.{number_set_same}
 use Rattle.fold_laws.specs.Fitting.{Fits, AllFit}
 
@@ -33,7 +33,7 @@ record_with ps x (Block link number bytes) a = refl
 record_with ps x (Lease l end) a = refl
 record_with ps x (Learned f) a = refl
 record_with ps x (Acked n) a = kept ps x (owes a n) (record a { acked = a.acked ++ n ∷ [] }) a
-record_with ps x (Handed n sae) a = kept ps x (list_any (λ f. is_end_of a f && is_got_by n sae f) a.facts) (record a { handed = marked a.handed n sae }) a
+record_with ps x (Handed n sae) a = kept ps x (list_any (λ f. is_end_of a f && is_handed_by n sae f) a.facts) (record a { handed = marked a.handed n sae }) a
 record_with ps x (Closed n sae) a = kept ps x (list_any (λ f. is_end_of a f && is_stream_of n f) a.facts) (record a { closed = marked a.closed n sae }) a
 record_with ps x (Bare f) a = refl
 

@@ -13,10 +13,10 @@ use Rattle.net_model.specs.World.{no_volatile}
 use Rattle.net_model.specs.Journal.{block_records, lease_records, fact_record, batch_len, batches_of, checkpoint_records, checkpoint_batches, checkpoint_need}
 use Rattle.net_model.specs.View.{View, Port}
 use Rattle.net_model.specs.Needed.{is_owed, is_needed, masked_fact, masked}
-use Rattle.net_model.specs.Fold.{owes, is_got_by, is_stream_of, view_record, view_records, view_restarted, empty_view, recovered_view}
+use Rattle.net_model.specs.Fold.{owes, is_handed_by, is_stream_of, view_record, view_records, view_restarted, empty_view, recovered_view}
 use Rattle.record_laws.proofs.Base.{and_left, and_right, or_left, when_true, when_false}
 use Rattle.record_laws.proofs.Grow.{Grows}
-use Rattle.record_laws.proofs.Tables.{at_front}
+use Rattle.record_laws.proofs.Tables.{at_prefix}
 use Rattle.fold_laws.proofs.Shapes.{knowing, AllStay}
 use Rattle.fold_laws.proofs.Staying.{needed_stays}
 use Rattle.fold_laws.proofs.Ends.{is_here}
@@ -84,7 +84,7 @@ module _ (site : Site) (v : View) (kept : IsKept site v.me v) (whole : masked v 
       masked (stage facts acked handed closed) ≡ stage facts acked handed closed
   unfolding masked
   still facts rest acked more handed marks closed fe ae he parts =
-      let grows : Grows facts v.facts = λ n f k. subst (λ (fs : List Fact). Grows facts fs) fe (λ m g x. at_front facts rest m g x) n f k in
+      let grows : Grows facts v.facts = λ n f k. subst (λ (fs : List Fact). Grows facts fs) fe (λ m g x. at_prefix facts rest m g x) n f k in
       let acks : (n : Name) → has acked n ≡ true → has v.acked n ≡ true =
       λ n k. ap (λ (ns : List Name). has ns n) (sym ae) ∙ list_any-append _ acked more ∙ or_left (has acked n) (has more n) k in
       let hands : (n : Name) (sae : ℕ) → was_handed handed n sae ≡ true → was_handed v.handed n sae ≡ true =
@@ -110,7 +110,7 @@ module _ (site : Site) (v : View) (kept : IsKept site v.me v) (whole : masked v 
       view_record (Handed h.0 h.1) (stage v.facts v.acked done []) ≡ stage v.facts v.acked (done ++ h ∷ []) []
   unfolding view_record
   one_hand done h may =
-      let is_end : Bool = list_any (λ f. is_here v.me f && is_got_by h.0 h.1 f) v.facts in
+      let is_end : Bool = list_any (λ f. is_here v.me f && is_handed_by h.0 h.1 f) v.facts in
       let fresh = opposite (was_handed done h.0 h.1) (and_right is_end (not (was_handed done h.0 h.1)) may) in
       when_true is_end (stage v.facts v.acked (if was_handed done h.0 h.1 then done else done ++ h ∷ []) []) (stage v.facts v.acked done [])
       (and_left is_end (not (was_handed done h.0 h.1)) may) ∙

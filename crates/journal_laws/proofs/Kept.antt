@@ -20,11 +20,11 @@ use Rattle.net_model.specs.Site.{Site, outgoing_lanes}
 use Rattle.net_model.specs.Records.{keyed_lease}
 use Rattle.net_model.specs.View.{View, Port, received_of}
 use Rattle.net_model.specs.Needed.{is_owed, masked, masked_fact}
-use Rattle.net_model.specs.Fold.{with_block, with_lease, owes, is_got_by, is_stream_of, marked, view_record, view_records, view_batch, view_restarted, empty_port, empty_view, view_batches, recovered_view}
+use Rattle.net_model.specs.Fold.{with_block, with_lease, owes, is_handed_by, is_stream_of, marked, view_record, view_records, view_batch, view_restarted, empty_port, empty_view, view_batches, recovered_view}
 use Rattle.record_laws.proofs.Base.{eq_from, and_left, and_right, and_both, or_left}
 use Rattle.view_laws.proofs.Masked.{IsBlind, masked_same, name_blind, any_masked}
 use Rattle.fold_laws.proofs.Shapes.{knowing, has_same, masked_shapes, owed_blind}
-use Rattle.fold_laws.proofs.Ends.{is_here, got_blind}
+use Rattle.fold_laws.proofs.Ends.{is_here, handed_blind}
 use Rattle.fold_laws.proofs.Starting.{at_lease}
 use Rattle.journal_laws.proofs.Accumulating.{Accumulates, one_after, accumulates_still}
 use Rattle.journal_laws.proofs.Restarting.{block_added}
@@ -132,7 +132,7 @@ abbrev pub may_ack : ℕ → List Fact → List Name → Name → Bool
 may_ack me facts acked n = owes (knowing me facts acked []) n
 
 abbrev pub may_hand : ℕ → List Fact → List (Name × ℕ) → Name × ℕ → Bool
-may_hand me facts handed h = list_any (λ f. is_here me f && is_got_by h.0 h.1 f) facts && not (was_handed handed h.0 h.1)
+may_hand me facts handed h = list_any (λ f. is_here me f && is_handed_by h.0 h.1 f) facts && not (was_handed handed h.0 h.1)
 
 abbrev pub may_close : ℕ → List Fact → List (Name × ℕ) → Name × ℕ → Bool
 may_close me facts closed h = list_any (λ f. is_here me f && is_stream_of h.0 f) facts && not (was_handed closed h.0 h.1)
@@ -171,7 +171,7 @@ masked_names b done (f ∷ facts) h = (
 module _ (me : ℕ) (facts : List Fact) (acked : List Name) (handed closed : List (Name × ℕ)) (h : AreKept me facts acked handed closed) where
   -- where more facts pass each test
   with_facts : (facts' : List Fact) → Accumulates new_fact [] facts' → ((ns : List Name) (n : Name) → may_ack me facts ns n ≡ true → may_ack me facts' ns n ≡ true) →
-      ((n : Name) (sae : ℕ) → list_any (λ f. is_here me f && is_got_by n sae f) facts ≡ true → list_any (λ f. is_here me f && is_got_by n sae f) facts' ≡ true) →
+      ((n : Name) (sae : ℕ) → list_any (λ f. is_here me f && is_handed_by n sae f) facts ≡ true → list_any (λ f. is_here me f && is_handed_by n sae f) facts' ≡ true) →
       ((n : Name) → list_any (λ f. is_here me f && is_stream_of n f) facts ≡ true → list_any (λ f. is_here me f && is_stream_of n f) facts' ≡ true) →
       AreKept me facts' acked handed closed
   with_facts facts' names owed handings streams = record {
@@ -191,13 +191,13 @@ module _ (me : ℕ) (facts : List Fact) (acked : List Name) (handed closed : Lis
   masked_kept : (b : View) → AreKept me (map (masked_fact b) facts) acked handed closed
   masked_kept b = with_facts (map (masked_fact b) facts) (masked_names b [] facts h.names)
       (λ ns n k. any_masked b facts (λ f. name_eq (name_of f) n && is_owed (knowing me facts ns []) f) (ack_blind (knowing me facts ns []) n) ∙ k)
-      (λ n sae k. any_masked b facts (λ f. is_here me f && is_got_by n sae f) (got_blind me n sae) ∙ k)
+      (λ n sae k. any_masked b facts (λ f. is_here me f && is_handed_by n sae f) (handed_blind me n sae) ∙ k)
       (λ n k. any_masked b facts (λ f. is_here me f && is_stream_of n f) (stream_blind me n) ∙ k)
 
   acked_kept : (n : Name) → may_ack me facts acked n ≡ true → AreKept me facts (acked ++ n ∷ []) handed closed
   acked_kept n e = record { names = h.names; acks = one_after (may_ack me facts) [] acked n h.acks e; hands = h.hands; closes = h.closes }
 
-  handed_kept : (n : Name) (sae : ℕ) → list_any (λ f. is_here me f && is_got_by n sae f) facts ≡ true → AreKept me facts acked (marked handed n sae) closed
+  handed_kept : (n : Name) (sae : ℕ) → list_any (λ f. is_here me f && is_handed_by n sae f) facts ≡ true → AreKept me facts acked (marked handed n sae) closed
   handed_kept n sae e = elim (was_handed handed n sae) as (λ t. was_handed handed n sae ≡ t → AreKept me facts acked (if t then handed else handed ++ (n, sae) ∷ []) closed) [
     | true ↦ λ k. h
     | false ↦ λ k. record {
@@ -244,7 +244,7 @@ module _ (site : Site) (node : ℕ) where
       record { me = h.me; lanes = h.lanes; ports = h.ports; lists = learned_kept v.me v.facts v.acked v.handed v.closed h.lists f }
   record_kept (Acked n) v h = either_kept (IsKept site node) (owes v n) (record v { acked = v.acked ++ n ∷ [] }) v
       (λ e. record { me = h.me; lanes = h.lanes; ports = h.ports; lists = acked_kept v.me v.facts v.acked v.handed v.closed h.lists n e }) h
-  record_kept (Handed n sae) v h = either_kept (IsKept site node) (list_any (λ f. is_here v.me f && is_got_by n sae f) v.facts) (record v { handed = marked v.handed n sae }) v
+  record_kept (Handed n sae) v h = either_kept (IsKept site node) (list_any (λ f. is_here v.me f && is_handed_by n sae f) v.facts) (record v { handed = marked v.handed n sae }) v
       (λ e. record { me = h.me; lanes = h.lanes; ports = h.ports; lists = handed_kept v.me v.facts v.acked v.handed v.closed h.lists n sae e }) h
   record_kept (Closed n sae) v h = either_kept (IsKept site node) (list_any (λ f. is_here v.me f && is_stream_of n f) v.facts) (record v { closed = marked v.closed n sae }) v
       (λ e. record { me = h.me; lanes = h.lanes; ports = h.ports; lists = closed_kept v.me v.facts v.acked v.handed v.closed h.lists n sae e }) h

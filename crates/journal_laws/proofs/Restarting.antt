@@ -14,7 +14,7 @@ use Rattle.net_model.specs.Records.{keyed_lease}
 use Rattle.net_model.specs.View.{View, Port, received_of}
 use Rattle.net_model.specs.Needed.{is_needed, masked}
 use Rattle.net_model.specs.Decision.{Effect}
-use Rattle.net_model.specs.Fold.{with_block, with_lease, owes, is_end_of, is_got_by, is_stream_of, marked, view_record, view_records, view_batch, on_lane, view_after, view_restarted, empty_port, empty_view, view_batches, recovered_view}
+use Rattle.net_model.specs.Fold.{with_block, with_lease, owes, is_end_of, is_handed_by, is_stream_of, marked, view_record, view_records, view_batch, on_lane, view_after, view_restarted, empty_port, empty_view, view_batches, recovered_view}
 use Rattle.fold_laws.proofs.Shapes.{masked_shapes, masked_like, masked_then}
 use Rattle.fold_laws.proofs.Batches.{all_stay}
 use Rattle.fold_laws.proofs.Starting.{at_lease}
@@ -75,7 +75,7 @@ record_restarts (Acked n) v =
     (λ i. record v { volatile = no_volatile; acked = v.acked ++ n ∷ []; ports = ports i }) (λ i. record v { volatile = no_volatile; ports = ports i })
 record_restarts (Handed n sae) v =
     let ports = sym (leased_twice v.ports) in
-    either_restarts (list_any (λ f. is_end_of v f && is_got_by n sae f) v.facts) (record v { handed = marked v.handed n sae }) v
+    either_restarts (list_any (λ f. is_end_of v f && is_handed_by n sae f) v.facts) (record v { handed = marked v.handed n sae }) v
     (record (view_restarted v) { handed = marked v.handed n sae }) (view_restarted v)
     (λ i. record v { volatile = no_volatile; handed = marked v.handed n sae; ports = ports i }) (λ i. record v { volatile = no_volatile; ports = ports i })
 record_restarts (Closed n sae) v =

@@ -5,12 +5,12 @@ use Rattle.std.specs.List.{AllByRecursion, flat_map}
 use Rattle.qkd_base.specs.declared.lane.Way.{Way}
 use Rattle.qkd_base.specs.declared.lane.Way.TheVariants.{Up, Down}
 use Rattle.qkd_base.specs.LaneBytes.{even_places, odd_places, lane_octets, lane_len}
-use Rattle.net_model.specs.Told.{Told, octets_from, block_at, first_blocks}
+use Rattle.net_model.specs.OctetSequence.{OctetSequence, octets_from, block_at, first_blocks}
 use Rattle.record_laws.proofs.Base.{split, slice_get-append_left, slice_get-append_right}
 use Rattle.record_laws.proofs.Octets.{length-octets_from}
 use Rattle.lane_laws.specs.DevicePlace.{device_place}
 use Rattle.lane_laws.proofs.Blocks.{IsWhole, all_blocks, count_blocks}
-use Rattle.lane_laws.proofs.Lists.{get_front, get_last}
+use Rattle.lane_laws.proofs.Lists.{get_prefix, get_last}
 
 -- the device's blocks
 
@@ -21,11 +21,11 @@ octet_at octet place (suc n) zero h = let e : place ≡ place + 0 = omega arith 
 octet_at octet place (suc n) (suc k) h =
     let e : (place + 1) + k ≡ place + suc k = omega arith in octet_at octet (place + 1) n k (omega arith) ∙ ap (λ (p : ℕ). Some (octet p)) e
 
-block_of : (t : Told) (n k : ℕ) → k < n → slice_get (first_blocks t n) k ≡ Some (block_at t k)
+block_of : (t : OctetSequence) (n k : ℕ) → k < n → slice_get (first_blocks t n) k ≡ Some (block_at t k)
 unfolding first_blocks
 block_of t zero k h = absurd (omega arith)
 block_of t (suc n) k h = elim (split k n) [
-  | inl less ↦ get_front (first_blocks t n) (block_at t n ∷ []) k (block_at t k) (block_of t n k less)
+  | inl less ↦ get_prefix (first_blocks t n) (block_at t n ∷ []) k (block_at t k) (block_of t n k less)
   | inr (m, e) ↦
       let is : k ≡ n = omega (arith, e, h) in
       ap (slice_get (first_blocks t n ++ block_at t n ∷ [])) (is ∙ sym (count_blocks t n)) ∙ get_last (first_blocks t n) (block_at t n) ∙ ap (λ (j : ℕ). Some (block_at t j)) (sym is)
@@ -69,7 +69,7 @@ down_byte (b ∷ c ∷ bs) (suc q) r block whole low at =
 
 -- its octet is the device's at its place
 
-pub byte_of : (t : Told) (way : Way) (n offset : ℕ) → offset < lane_len way n → slice_get (lane_octets way (first_blocks t n)) offset ≡ Some (t.octet (device_place way offset))
+pub byte_of : (t : OctetSequence) (way : Way) (n offset : ℕ) → offset < lane_len way n → slice_get (lane_octets way (first_blocks t n)) offset ≡ Some (t.octet (device_place way offset))
 unfolding lane_octets
 byte_of t Up n offset h =
     let q : ℕ = offset / 1024 in

@@ -6,7 +6,7 @@ ghost use Rattle.std.specs.Prelude.{◌≡◌, ◌*◌, ◌<◌, ℕ, List, Some
 ghost use Rattle.qkd_base.specs.LaneBytes.{lane_octets, lane_len};
 ghost use Rattle.qkd_base.specs.declared.lane.Way.{Way as WayValue};
 ghost use Rattle.qkd_base.specs.declared.lane.Lane.{Lane as LaneValue};
-ghost use Rattle.net_model.specs.Told.{Told, first_blocks};
+ghost use Rattle.net_model.specs.OctetSequence.{OctetSequence, first_blocks};
 ghost use Rattle.net_model.specs.World.{Network, World, Allocation, Transmission};
 ghost use Rattle.net_model.specs.Ownership.{covers};
 ghost use Rattle.net_model.specs.Premises.{IsNetwork};
@@ -20,7 +20,7 @@ ghost use Rattle.lane_laws.specs.DevicePlace.{device_place};
 /// The lanes of a link share no byte of its device's list: each byte of a lane, of which n blocks were received, is the octet at a
 /// place of its own there, whatever the lane and the offset.
 pub fn law_lanes_share_no_byte()
-    ensures byte { (t : Told) (way : WayValue) (n offset : ℕ) → offset < lane_len way n →
+    ensures byte { (t : OctetSequence) (way : WayValue) (n offset : ℕ) → offset < lane_len way n →
         slice_get (lane_octets way (first_blocks t n)) offset ≡ Some (t.octet (device_place way offset)) }
     ensures within { (way : WayValue) (n offset : ℕ) → offset < lane_len way n → device_place way offset < 1024 * n }
     ensures apart { (a b : WayValue) (i j : ℕ) → device_place a i ≡ device_place b j → (a ≡ b) × (i ≡ j) }

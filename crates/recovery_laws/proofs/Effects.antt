@@ -4,7 +4,7 @@ use Rattle.std.specs.Prelude.{◌==◌, nat_lt, if◌then◌else◌}
 use Rattle.std.specs.List.{list_all}
 use Rattle.qkd_base.specs.Family.{number_set}
 use Rattle.net_model.specs.declared.record.Record.{Record}
-use Rattle.net_model.specs.Told.{tells}
+use Rattle.net_model.specs.OctetSequence.{has_octets}
 use Rattle.net_model.specs.World.{Network, World, InDoubt}
 use Rattle.net_model.specs.Journal.{journal_limit, added_len, is_nil}
 use Rattle.net_model.specs.Needed.{view_of}
@@ -15,6 +15,7 @@ use Rattle.net_model.specs.Action.{Environment, Outcome, is_no_memory, is_entrop
 use Rattle.net_model.specs.Handle.{is_numbered, commit, stopped, perform, resolve}
 use Rattle.net_model.specs.Fold.{view_after, view_restarted}
 use Rattle.record_laws.proofs.Base.{number_set_same, eq_from, eq_same, not_false, not_true, or_second, by_test}
+use Rattle.record_laws.proofs.Walks.{perform_walk}
 use Rattle.record_laws.proofs.Extending.{extends_same}
 use Rattle.fold_laws.specs.Fitting.{AllFit}
 use Rattle.block_laws.proofs.Durables.{other_replay}
@@ -82,18 +83,7 @@ module _ (net : Network) (w : World) (c : Conserved net w) (u octets : ℕ) (up 
       (ap (λ (d : InDoubt). d.batch) (other_set w.in_doubt u v (record { batch = e.batch; checkpointed = None }) apart))
 
   pub effect_moves : (environment : Environment) (v : ℕ) → Moves net w (perform net w u octets environment e).0 v
-  unfolding perform
   effect_moves environment v =
-      let P : World × Outcome → Type 0 = λ r. Moves net w r.0 v in
-      by_test P (is_no_memory environment || not (list_all is_numbered e.batch)) _ _ (λ x. stays net w v)
-      (λ numbered. let all = not_true (list_all is_numbered e.batch) (or_second (is_no_memory environment) _ numbered) in
-      by_test P (nat_lt journal_limit ((w.journal u).length' + added_len (w.journal u).version e.batch)) _ _ (λ x. stays net w v)
-      (λ x. by_test P (nat_lt 0 octets && (not (tells (net.entropy u) (w.drawn u + octets)) || is_entropy_fault environment)) _ _ (λ y. stays net w v)
-      (λ y. by_test P (is_io_fault environment && not (is_nil e.batch)) _ _
-      (λ z. here_or_there (Moves net w (stopped w u octets e)) u v stopped_here (stopped_there v))
-      (λ z. here_or_there (Moves net w (commit net.site w u octets e)) u v (commit_here all) (commit_there all v)))))
-
-pub decision_moves : (net : Network) (w : World) → Conserved net w → (u octets : ℕ) → w.up u ≡ true → (environment : Environment) (x : Decision) →
-    ((e : Effect) → x ≡ Does e → Goes net w u octets e) → (v : ℕ) → Moves net w (resolve net w u octets environment x).0 v
-decision_moves net w c u octets up environment (Refuses reply) goes v = stays net w v
-decision_moves net w c u octets up environment (Does e) goes v = effect_moves net w c u octets up e (goes e refl) environment v
+      perform_walk net w (λ (x : World). Moves net w x v) (stays net w v) u octets environment e
+      (λ numbered room. here_or_there (Moves net w (stopped w u octets e)) u v stopped_here (stopped_there v))
+      (λ numbered room. here_or_there (Moves net w (commit net.site w u octets e)) u v (commit_here numbered) (commit_there numbered v))

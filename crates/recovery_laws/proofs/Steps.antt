@@ -11,8 +11,8 @@ use Rattle.net_model.specs.declared.placing.Placing.{Placing}
 use Rattle.net_model.specs.declared.record.Record.TheVariants.{Block as Block'}
 use Rattle.net_model.specs.declared.reply.Reply.TheVariants.{Down, LinkFull, Took, Noted}
 use Rattle.net_model.specs.Premises.{IsNetwork}
-use Rattle.net_model.specs.Told.{tells, block_at}
-use Rattle.net_model.specs.Site.{receiver, is_incident, outgoing_way}
+use Rattle.net_model.specs.OctetSequence.{has_octets, block_at}
+use Rattle.net_model.specs.Site.{receiver, is_incident, outgoing_lane}
 use Rattle.net_model.specs.Item.{payload}
 use Rattle.net_model.specs.World.{Network, World, Allocation, Transmission, Outgoing, InDoubt, no_doubt}
 use Rattle.net_model.specs.View.{View, port_of, blocks_of}
@@ -25,16 +25,17 @@ use Rattle.net_model.specs.Events.{is_valid_event}
 use Rattle.net_model.specs.Invariant.{Conserved}
 use Rattle.net_model.specs.Action.{Environment, Ok, Action, Start, Crash, Arm, SetLink, TakeBlock, Ask, Allocate, Transmit, Complete, Deliver, Flip, Forge, WantMemory, Recovery, Recovers, Interrupted, NoMemory, Foreign, Outcome, Replies, WasUp, is_no_memory, is_io_fault, is_device_fault}
 use Rattle.net_model.specs.Handle.{perform, resolve, handle, blocks_at, take_block}
-use Rattle.net_model.specs.Frames.{allocate, outgoing_of, put, transmit_one, transmit}
+use Rattle.net_model.specs.Frames.{receive_item, allocate, outgoing_of, put, transmit_one, transmit}
 use Rattle.net_model.specs.Start.{resolved, resolved_durable, restarted, recovers, start}
 use Rattle.net_model.specs.Step.{step, crash, complete_node, is_node, is_link, is_asked, is_enabled}
 use Rattle.net_model.specs.Fold.{view_batch, view_restarted}
-use Rattle.record_laws.proofs.Base.{number_set_same, and_left, and_right, by_test}
+use Rattle.record_laws.proofs.Base.{below_from, number_set_same, and_left, and_right, by_test}
+use Rattle.record_laws.proofs.Walks.{handle_walk, take_block_walk, deliver_walk, tampered_walk, flip_walk}
 use Rattle.record_laws.proofs.Extending.{extends_same}
 use Rattle.event_laws.specs.May.{decided}
 use Rattle.fold_laws.specs.Fitting.{AllFit}
 use Rattle.fold_laws.proofs.Asked.{event_goes, event_fits}
-use Rattle.fold_laws.proofs.Arriving.{few_blocks, receive_goes, receiving_fits}
+use Rattle.fold_laws.proofs.Arriving.{receive_goes, receiving_fits}
 use Rattle.fold_laws.proofs.Commits.{silent_goes}
 use Rattle.fold_laws.proofs.Starting.{started_is, start_goes}
 use Rattle.block_laws.proofs.Durables.{SameDurable, same_durable, other_replay}
@@ -42,17 +43,14 @@ use Rattle.block_laws.proofs.Turns.{IsTurnDecision, asked_turn, receive_turn}
 use Rattle.journal_laws.proofs.Restarting.{restarted_twice, batch_restarts}
 use Rattle.recovery_laws.specs.Saved.{saved, Moves, DoubtsFit}
 use Rattle.recovery_laws.proofs.Views.{saved_same, placings_aside}
-use Rattle.recovery_laws.proofs.Effects.{Goes, stays, durable_stays, here_or_there, other_set, effect_moves, decision_moves}
-use Rattle.recovery_laws.proofs.Arrivals.{delivered, came, flipped}
+use Rattle.recovery_laws.proofs.Effects.{Goes, stays, durable_stays, here_or_there, other_set, effect_moves}
 
 module _ (net : Network) (w : World) (network : IsNetwork net) (c : Conserved net w) where
   handle_moves : (u : ℕ) (event : Event) (environment : Environment) → ((e : Effect) → decided net w u event ≡ Does e → Goes net w u (random_need (view_of net w u) event) e) →
       (v : ℕ) → Moves net w (handle net w u event environment).0 v
-  unfolding handle
   handle_moves u event environment goes v =
-      let octets : ℕ = random_need (view_of net w u) event in
-      by_test (λ (r : World × Outcome). Moves net w r.0 v) (w.up u) (resolve net w u octets environment (decided net w u event)) (w, Replies Down)
-      (λ up. decision_moves net w c u octets up environment (decided net w u event) goes v) (λ down. stays net w v)
+      handle_walk net w (λ (x : World). Moves net w x v) (stays net w v) u event environment
+      (λ up e is. effect_moves net w c u (random_need (view_of net w u) event) up e (goes e is) environment v)
 
   -- events that are asked
 
@@ -80,8 +78,7 @@ module _ (net : Network) (w : World) (network : IsNetwork net) (c : Conserved ne
       let number : ℕ = blocks_at net w u link in
       let bytes : List ℕ = block_at (net.device link) number in
       let taken : Effect = record { batch = Block' link number bytes ∷ []; volatile = (view_of net w u).volatile; orders = []; repeats = []; reply = Took number } in
-      let few : number < 1024 =
-      few_blocks (outgoing_way net.site u link) (w.durable.low_blocks link) (w.durable.high_blocks link) (omega (arith, c.low_blocks link)) (omega (arith, c.high_blocks link)) not_full in
+      let few : number < 1024 = below_from (w.durable.blocks (outgoing_lane net.site u link)) 1024 (c.few_blocks (outgoing_lane net.site u link)) not_full in
       elim (blocks_of (port_of (view_of net w u) link) == 1024) as (λ t.
       (if t then Refuses LinkFull else makes (view_of net w u) (Block' link number bytes ∷ []) (Took number)) ≡ Does e → Goes net w u octets e) [
         | true ↦ λ x. absurd (cc)
@@ -95,16 +92,10 @@ module _ (net : Network) (w : World) (network : IsNetwork net) (c : Conserved ne
       ] is
 
   block_moves : (u link : ℕ) (environment : Environment) → is_incident net.site u link ≡ true → (v : ℕ) → Moves net w (take_block net w u link environment).0 v
-  unfolding take_block
   block_moves u link environment incident v =
-      let P : World × Outcome → Type 0 = λ r. Moves net w r.0 v in
-      let number : ℕ = blocks_at net w u link in
-      by_test P (not (w.up u)) _ _ (λ e. stays net w v)
-      (λ e. by_test P (number == 1024) _ _ (λ e2. stays net w v)
-      (λ not_full. by_test P (not (tells (net.device link) (1024 + 1024 * number))) _ _ (λ e2. stays net w v)
-      (λ e2. by_test P (is_device_fault environment) _ _ (λ e3. stays net w v)
-      (λ e3. handle_moves u (Block link number (block_at (net.device link) number)) environment
-      (λ x is. block_effect u link (random_need (view_of net w u) (Block link number (block_at (net.device link) number))) incident not_full x is) v))))
+      let next : Event = Block link (blocks_at net w u link) (block_at (net.device link) (blocks_at net w u link)) in
+      take_block_walk net w (λ (x : World). Moves net w x v) (stays net w v) u link environment
+      (λ not_full. handle_moves u next environment (λ e is. block_effect u link (random_need (view_of net w u) next) incident not_full e is) v)
 
   -- notes
 
@@ -123,15 +114,19 @@ module _ (net : Network) (w : World) (network : IsNetwork net) (c : Conserved ne
 
   -- frames that come
 
-  frame_moves : (l : Lane) (environment : Environment) (v j : ℕ) (a : Allocation) (p : Payload) → w.up (receiver net.site l) ≡ true → slice_get (w.frames l) j ≡ Some a →
-      payload w.durable.facts a.item ≡ Some p →
-      Moves net w (perform net w (receiver net.site l) 0 environment (receive net.site (view_of net w (receiver net.site l)) l a.offset p)).0 v
-  frame_moves l environment v j a p up at e =
+  item_moves : (l : Lane) (environment : Environment) (v j : ℕ) (a : Allocation) → slice_get (w.frames l) j ≡ Some a → w.up (receiver net.site l) ≡ true → (o : Option Payload) →
+      payload w.durable.facts a.item ≡ o → Moves net w (receive_item net w l a.offset environment o).0 v
+  item_moves l environment v j a at up None e = stays net w v
+  item_moves l environment v j a at up (Some p) e =
       effect_moves net w c (receiver net.site l) 0 up (receive net.site (view_of net w (receiver net.site l)) l a.offset p) (record {
         may = (receive_turn net w c l j a p at e).batch;
         fits = receiving_fits net (view_of net w (receiver net.site l)) l a.offset p;
         view = λ numbered. receive_goes net w l j a.offset 0 a p c at e numbered;
       }) environment v
+
+  frame_moves : (l : Lane) (environment : Environment) (v j : ℕ) (a : Allocation) → slice_get (w.frames l) j ≡ Some a → w.up (receiver net.site l) ≡ true →
+      Moves net w (receive_item net w l a.offset environment (payload w.durable.facts a.item)).0 v
+  frame_moves l environment v j a at up = item_moves l environment v j a at up (payload w.durable.facts a.item) refl
 
   -- frames that are claimed and put, crashes
 
@@ -230,7 +225,7 @@ module _ (net : Network) (w : World) (network : IsNetwork net) (c : Conserved ne
   step_moves fits (Allocate t) may v = allocate_moves t v
   step_moves fits (Transmit l j environment) may v = sent_moves l j environment v
   step_moves fits (Complete u) may v = note_moves u v
-  step_moves fits (Deliver l number environment) may v = delivered net w l environment (λ r. Moves net w r.0 v) (λ said. stays net w v) (frame_moves l environment v) number
-  step_moves fits (Flip l number bit environment) may v = flipped net w l environment (λ r. Moves net w r.0 v) (λ said. stays net w v) (frame_moves l environment v) number bit
-  step_moves fits (Forge l octets environment) may v = came net w l environment (λ r. Moves net w r.0 v) (λ said. stays net w v) (frame_moves l environment v) octets
+  step_moves fits (Deliver l number environment) may v = deliver_walk net w (λ (x : World). Moves net w x v) (stays net w v) l environment (frame_moves l environment v) number
+  step_moves fits (Flip l number bit environment) may v = flip_walk net w (λ (x : World). Moves net w x v) (stays net w v) l environment (frame_moves l environment v) number bit
+  step_moves fits (Forge l octets environment) may v = tampered_walk net w (λ (x : World). Moves net w x v) (stays net w v) l environment (frame_moves l environment v) octets
   step_moves fits WantMemory may v = stays net w v

@@ -6,7 +6,7 @@ use Rattle.qkd_base.specs.declared.lane.Way.{Way}
 use Rattle.qkd_base.specs.declared.lane.Way.TheVariants.{Up, Down}
 use Rattle.net_model.specs.declared.placing.Placing.{Placing}
 use Rattle.net_model.specs.declared.record.Record.{Record}
-use Rattle.net_model.specs.Told.{first_blocks}
+use Rattle.net_model.specs.OctetSequence.{first_blocks}
 use Rattle.net_model.specs.Site.{sender, lane_of, of_way, outgoing_lanes}
 use Rattle.net_model.specs.Events.{is_lane}
 use Rattle.net_model.specs.World.{Network, World, no_volatile}
@@ -22,16 +22,11 @@ use Rattle.fold_laws.proofs.Starting.{at_lease, AllLeave, outgoing_leave}
 use Rattle.recovery_laws.specs.Saved.{saved, Moves}
 
 module _ (net : Network) (v : ℕ) (a b : World) (x : Extends net.site v a.durable b.durable) where
-  taken_same : (link : ℕ) (way : Way) → sender net.site (lane_of link way) ≡ v →
-      of_way way (b.durable.low_blocks link) (b.durable.high_blocks link) ≡ of_way way (a.durable.low_blocks link) (a.durable.high_blocks link)
-  taken_same link Up at = x.lows link at
-  taken_same link Down at = x.highs link at
-
   ports_same : (ls : List Lane) → AllLeave net.site v ls → map at_lease (map (port_at net b) ls) ≡ map at_lease (map (port_at net a) ls)
   ports_same [] h = refl
   ports_same (l ∷ ls) h =
       let at = eq_from (sender net.site l) v (and_right (is_lane net.site l) (sender net.site l == v) h.0) in
-      let blocks = taken_same l.link l.way at in
+      let blocks = x.taken l at in
       let lease = x.leases l at in
       let rest = ports_same ls h.1 in
       λ i. record { lane = l; blocks = first_blocks (net.device l.link) (blocks i); lease = lease i; planned = lease i; recovered = lease i } ∷ rest i
