@@ -1,5 +1,5 @@
 -- A manager's own count of a lane: what it received is unused, spent, or given up at its last start.
-use Rattle.std.proofs.Common.{◌≡◌, ℕ, ◌+◌, ◌-◌, ◌≤◌, Bool, true, false, cond, List, [], ◌∷◌, length, refl, ap, subst, arith, Some, map}
+use Rattle.std.proofs.Common.{◌≡◌, ℕ, ◌+◌, ◌-◌, true, false, cond, List, [], ◌∷◌, refl, ap, subst, arith, Some, map}
 use Rattle.std.specs.Prelude.{◌==◌, find}
 use Rattle.qkd_base.specs.LaneBytes.{lane_len}
 use Rattle.qkd_base.specs.declared.lane.Lane.{Lane}

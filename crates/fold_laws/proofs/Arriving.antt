@@ -1,8 +1,7 @@
 -- What comes to a manager: blocks of its links and frames of its lanes. Its view goes on by the effect.
-use Rattle.std.proofs.Common.{◌≡◌, ℕ, ◌<◌, Bool, true, false, cond, not, ◌&&◌, ◌||◌, List, [], ◌∷◌, refl, subst, arith, Option, Some, None, inl, inr, map}
+use Rattle.std.proofs.Common.{◌≡◌, ℕ, ◌<◌, Bool, true, false, cond, not, ◌&&◌, ◌||◌, List, [], ◌∷◌, refl, subst, Option, Some, None, inl, inr, map}
 use Rattle.std.specs.Prelude.{◌==◌, if◌then◌else◌, filter, is_some, slice_get, reverse}
 use Rattle.std.specs.List.{list_any, list_all}
-use Rattle.std.proofs.lemmas.Bool.Decides.{nat_tests}
 use Rattle.qkd_base.specs.Name.{Name, name_eq, has}
 use Rattle.qkd_base.specs.Route.{next_after}
 use Rattle.qkd_base.specs.declared.lane.Lane.{Lane}

@@ -11,7 +11,7 @@ use Rattle.net_model.specs.declared.fact.Fact.{Fact}
 use Rattle.net_model.specs.declared.record.Record.{Record}
 use Rattle.net_model.specs.declared.record.Record.TheVariants.{Block, Lease, Learned, Acked, Handed, Closed, Bare}
 use Rattle.net_model.specs.Table.{was_handed}
-use Rattle.net_model.specs.Site.{of_way, outgoing_lanes}
+use Rattle.net_model.specs.Site.{outgoing_lanes}
 use Rattle.net_model.specs.World.{Network, World, Durable, received}
 use Rattle.net_model.specs.Records.{apply_record, replay}
 use Rattle.net_model.specs.Doubt.{MayApply, MayReplay}

@@ -1,20 +1,18 @@
 -- An effect adds its batch to its node's journal, or leaves it in doubt, or changes nothing; other nodes don't see it.
-use Rattle.std.proofs.Common.{◌≡◌, ◌≢◌, ℕ, ◌+◌, Bool, true, false, ◌&&◌, ◌||◌, not, List, refl, sym, ◌∙◌, ap, subst, None, inl, inr}
-use Rattle.std.specs.Prelude.{◌==◌, nat_lt, if◌then◌else◌}
+use Rattle.std.proofs.Common.{◌≡◌, ◌≢◌, ℕ, Bool, true, false, List, refl, sym, ◌∙◌, ap, subst, None, inl, inr}
+use Rattle.std.specs.Prelude.{◌==◌, if◌then◌else◌}
 use Rattle.std.specs.List.{list_all}
 use Rattle.qkd_base.specs.Family.{number_set}
 use Rattle.net_model.specs.declared.record.Record.{Record}
-use Rattle.net_model.specs.OctetSequence.{has_octets}
 use Rattle.net_model.specs.World.{Network, World, InDoubt}
-use Rattle.net_model.specs.Journal.{journal_limit, added_len, is_nil}
 use Rattle.net_model.specs.Needed.{view_of}
 use Rattle.net_model.specs.Doubt.{MayReplay}
-use Rattle.net_model.specs.Decision.{Decision, Refuses, Does, Effect}
+use Rattle.net_model.specs.Decision.{Effect}
 use Rattle.net_model.specs.Invariant.{Conserved}
-use Rattle.net_model.specs.Action.{Environment, Outcome, is_no_memory, is_entropy_fault, is_io_fault}
-use Rattle.net_model.specs.Handle.{is_numbered, commit, stopped, perform, resolve}
+use Rattle.net_model.specs.Action.{Environment}
+use Rattle.net_model.specs.Handle.{is_numbered, commit, stopped, perform}
 use Rattle.net_model.specs.Fold.{view_after, view_restarted}
-use Rattle.record_laws.proofs.Base.{number_set_same, eq_from, eq_same, not_false, not_true, or_second, by_test}
+use Rattle.record_laws.proofs.Base.{number_set_same, eq_from, eq_same, not_false}
 use Rattle.record_laws.proofs.Walks.{perform_walk}
 use Rattle.record_laws.proofs.Extending.{extends_same}
 use Rattle.fold_laws.specs.Fitting.{AllFit}

@@ -1,5 +1,5 @@
 -- A step of the network moves each node's journal by at most one batch.
-use Rattle.std.proofs.Common.{◌≡◌, ◌≢◌, ℕ, ◌+◌, ◌*◌, ◌<◌, Bool, true, false, ◌&&◌, ◌||◌, not, List, [], ◌∷◌, refl, sym, ◌∙◌, ap, subst, arith, Option, Some, None, inl, inr}
+use Rattle.std.proofs.Common.{◌≡◌, ◌≢◌, ℕ, ◌<◌, Bool, true, false, ◌&&◌, ◌||◌, List, [], ◌∷◌, refl, sym, ◌∙◌, ap, subst, Option, Some, None, inl, inr}
 use Rattle.std.specs.Prelude.{◌==◌, slice_get, if◌then◌else◌}
 use Rattle.std.proofs.lemmas.Bool.{ltb-true}
 use Rattle.qkd_base.specs.Family.{number_set}
@@ -9,9 +9,9 @@ use Rattle.net_model.specs.declared.event.Event.TheVariants.{Block, Note}
 use Rattle.net_model.specs.declared.payload.Payload.{Payload}
 use Rattle.net_model.specs.declared.placing.Placing.{Placing}
 use Rattle.net_model.specs.declared.record.Record.TheVariants.{Block as Block'}
-use Rattle.net_model.specs.declared.reply.Reply.TheVariants.{Down, LinkFull, Took, Noted}
+use Rattle.net_model.specs.declared.reply.Reply.TheVariants.{LinkFull, Took, Noted}
 use Rattle.net_model.specs.Premises.{IsNetwork}
-use Rattle.net_model.specs.OctetSequence.{has_octets, block_at}
+use Rattle.net_model.specs.OctetSequence.{block_at}
 use Rattle.net_model.specs.Site.{receiver, is_incident, outgoing_lane}
 use Rattle.net_model.specs.Item.{payload}
 use Rattle.net_model.specs.World.{Network, World, Allocation, Transmission, Outgoing, InDoubt, no_doubt}
@@ -23,8 +23,8 @@ use Rattle.net_model.specs.Decision.{Refuses, Does, Effect, makes}
 use Rattle.net_model.specs.Decide.{decide, random_need}
 use Rattle.net_model.specs.Events.{is_valid_event}
 use Rattle.net_model.specs.Invariant.{Conserved}
-use Rattle.net_model.specs.Action.{Environment, Ok, Action, Start, Crash, Arm, SetLink, TakeBlock, Ask, Allocate, Transmit, Complete, Deliver, Flip, Forge, WantMemory, Recovery, Recovers, Interrupted, NoMemory, Foreign, Outcome, Replies, WasUp, is_no_memory, is_io_fault, is_device_fault}
-use Rattle.net_model.specs.Handle.{perform, resolve, handle, blocks_at, take_block}
+use Rattle.net_model.specs.Action.{Environment, Ok, Action, Start, Crash, Arm, SetLink, TakeBlock, Ask, Allocate, Transmit, Complete, Deliver, Flip, Forge, WantMemory, Recovery, Recovers, Interrupted, NoMemory, Foreign, Outcome, WasUp, is_no_memory, is_io_fault}
+use Rattle.net_model.specs.Handle.{handle, blocks_at, take_block}
 use Rattle.net_model.specs.Frames.{receive_item, allocate, outgoing_of, put, transmit_one, transmit}
 use Rattle.net_model.specs.Start.{resolved, resolved_durable, restarted, recovers, start}
 use Rattle.net_model.specs.Step.{step, crash, complete_node, is_node, is_link, is_asked, is_enabled}

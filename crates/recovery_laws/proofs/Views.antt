@@ -2,12 +2,10 @@
 use Rattle.std.proofs.Common.{◌≡◌, ℕ, List, [], ◌∷◌, refl, inl, inr, map}
 use Rattle.std.specs.Prelude.{◌==◌}
 use Rattle.qkd_base.specs.declared.lane.Lane.{Lane}
-use Rattle.qkd_base.specs.declared.lane.Way.{Way}
-use Rattle.qkd_base.specs.declared.lane.Way.TheVariants.{Up, Down}
 use Rattle.net_model.specs.declared.placing.Placing.{Placing}
 use Rattle.net_model.specs.declared.record.Record.{Record}
 use Rattle.net_model.specs.OctetSequence.{first_blocks}
-use Rattle.net_model.specs.Site.{sender, lane_of, of_way, outgoing_lanes}
+use Rattle.net_model.specs.Site.{sender, outgoing_lanes}
 use Rattle.net_model.specs.Events.{is_lane}
 use Rattle.net_model.specs.World.{Network, World, no_volatile}
 use Rattle.net_model.specs.View.{View, handed_at}

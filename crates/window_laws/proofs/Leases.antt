@@ -11,7 +11,6 @@ use Rattle.net_model.specs.declared.fact.Fact.{Fact}
 use Rattle.net_model.specs.declared.record.Record.{Record}
 use Rattle.net_model.specs.declared.record.Record.TheVariants.{Lease}
 use Rattle.net_model.specs.Item.{need}
-use Rattle.net_model.specs.Site.{of_way}
 use Rattle.net_model.specs.World.{Network, World, Durable, Transmission, needs, received, planned}
 use Rattle.net_model.specs.Needed.{port_at}
 use Rattle.net_model.specs.View.{received_of}
