@@ -12,11 +12,10 @@ use Rattle.net_model.specs.Journal.{block_records, lease_records, fact_record, c
 use Rattle.net_model.specs.View.{View, Port}
 use Rattle.net_model.specs.Needed.{is_needed, masked_fact, masked}
 use Rattle.net_model.specs.Fold.{view_restarted}
-use Rattle.record_laws.proofs.Base.{and_left, and_right, when_false}
+use Rattle.record_laws.proofs.Base.{was_not, and_left, and_right, when_false}
 use Rattle.lane_laws.proofs.Lists.{all_both, all_at}
 use Rattle.journal_laws.specs.GivesBack.{GivesBack}
 use Rattle.journal_laws.proofs.Restarting.{masked_restarts, recovered_masked}
-use Rattle.journal_laws.proofs.Checkpoint.{opposite}
 
 -- what is bare had bytes, and they are zeros
 abbrev pub IsTrulyBare : Record → Type 0
@@ -52,7 +51,7 @@ module _ (v : View) where
       elim (is_secret f && not (is_needed v f)) as (λ t. (is_secret f && not (is_needed v f)) ≡ t → IsTrulyBare (if t then Bare f else Learned f)) [
         | false ↦ λ e. tt
         | true ↦ λ e.
-            let unneeded = opposite (is_needed v f) (and_right (is_secret f) (not (is_needed v f)) e) in
+            let unneeded = was_not (is_needed v f) (and_right (is_secret f) (not (is_needed v f)) e) in
             let zeros : without_bytes f ≡ f = sym (when_false (is_needed v f) f (without_bytes f) unneeded) ∙ same in
             (and_left (is_secret f) (not (is_needed v f)) e, ap bytes_of (sym zeros) ∙ zeros_are f)
       ] refl

@@ -1,5 +1,5 @@
 -- What a checkpoint's records make, one after the other and in batches: the manager that they were written of.
-use Rattle.std.proofs.Common.{◌≡◌, ℕ, Bool, true, false, not, ◌&&◌, List, [], ◌∷◌, ◌++◌, ◌+◌, ◌/◌, length, refl, sym, ◌∙◌, ap, subst, map}
+use Rattle.std.proofs.Common.{◌≡◌, ℕ, Bool, true, false, not, ◌&&◌, List, [], ◌∷◌, ◌++◌, ◌+◌, ◌/◌, length, append-nil, refl, sym, ◌∙◌, ap, subst, map}
 use Rattle.std.specs.Prelude.{sum_by, if◌then◌else◌}
 use Rattle.std.specs.List.{list_any}
 use Rattle.std.proofs.lemmas.List.Folds.{list_any-append, flat_map-map}
@@ -14,7 +14,7 @@ use Rattle.net_model.specs.Journal.{block_records, lease_records, fact_record, b
 use Rattle.net_model.specs.View.{View, Port}
 use Rattle.net_model.specs.Needed.{is_owed, is_needed, masked_fact, masked}
 use Rattle.net_model.specs.Fold.{owes, is_handed_by, is_stream_of, view_record, view_records, view_restarted, empty_view, recovered_view}
-use Rattle.record_laws.proofs.Base.{and_left, and_right, or_left, when_true, when_false}
+use Rattle.record_laws.proofs.Base.{was_not, and_left, and_right, or_left, when_true, when_false}
 use Rattle.record_laws.proofs.Grow.{Grows}
 use Rattle.record_laws.proofs.Tables.{at_prefix}
 use Rattle.fold_laws.proofs.Shapes.{knowing, AllStay}
@@ -26,10 +26,6 @@ use Rattle.journal_laws.proofs.Accumulating.{StaysMasked, masked_then_more, reco
 use Rattle.journal_laws.proofs.Restarting.{recovered_masked, recovered_restarts}
 use Rattle.journal_laws.proofs.Kept.{new_fact, may_ack, may_hand, may_close, IsKept, recovered_kept}
 use Rattle.journal_laws.proofs.Spelled.{port_records, leased, leased_lease, all_spelled_ports, all_masked_ports}
-
-pub opposite : (b : Bool) → not b ≡ true → b ≡ false
-opposite true h = cc
-opposite false h = refl
 
 -- what masking leaves in a view, it leaves in one that needs no less
 
@@ -100,7 +96,7 @@ module _ (site : Site) (v : View) (kept : IsKept site v.me v) (whole : masked v 
   unfolding view_record
   one_fact done f h =
       (elim (is_secret f && not (is_needed v f)) as (λ t. view_record (if t then Bare f else Learned f) (stage done [] [] []) ≡ stage (learned done f) [] [] []) [ true ↦ refl | false ↦ refl ]) ∙
-      ap (λ (fs : List Fact). stage fs [] [] []) (when_false (has_fact done (name_of f)) done (done ++ f ∷ []) (opposite (has_fact done (name_of f)) h))
+      ap (λ (fs : List Fact). stage fs [] [] []) (when_false (has_fact done (name_of f)) done (done ++ f ∷ []) (was_not (has_fact done (name_of f)) h))
 
   one_ack : (done : List Name) (n : Name) → may_ack v.me v.facts done n ≡ true → view_record (Acked n) (stage v.facts done [] []) ≡ stage v.facts (done ++ n ∷ []) [] []
   unfolding view_record
@@ -111,7 +107,7 @@ module _ (site : Site) (v : View) (kept : IsKept site v.me v) (whole : masked v 
   unfolding view_record
   one_hand done h may =
       let is_end : Bool = list_any (λ f. is_here v.me f && is_handed_by h.0 h.1 f) v.facts in
-      let fresh = opposite (was_handed done h.0 h.1) (and_right is_end (not (was_handed done h.0 h.1)) may) in
+      let fresh = was_not (was_handed done h.0 h.1) (and_right is_end (not (was_handed done h.0 h.1)) may) in
       when_true is_end (stage v.facts v.acked (if was_handed done h.0 h.1 then done else done ++ h ∷ []) []) (stage v.facts v.acked done [])
       (and_left is_end (not (was_handed done h.0 h.1)) may) ∙
       ap (λ (hs : List (Name × ℕ)). stage v.facts v.acked hs []) (when_false (was_handed done h.0 h.1) done (done ++ h ∷ []) fresh)
@@ -121,7 +117,7 @@ module _ (site : Site) (v : View) (kept : IsKept site v.me v) (whole : masked v 
   unfolding view_record
   one_close done h may =
       let here : Bool = list_any (λ f. is_here v.me f && is_stream_of h.0 f) v.facts in
-      let fresh = opposite (was_handed done h.0 h.1) (and_right here (not (was_handed done h.0 h.1)) may) in
+      let fresh = was_not (was_handed done h.0 h.1) (and_right here (not (was_handed done h.0 h.1)) may) in
       when_true here (stage v.facts v.acked v.handed (if was_handed done h.0 h.1 then done else done ++ h ∷ [])) (stage v.facts v.acked v.handed done)
       (and_left here (not (was_handed done h.0 h.1)) may) ∙
       ap (λ (hs : List (Name × ℕ)). stage v.facts v.acked v.handed hs) (when_false (was_handed done h.0 h.1) done (done ++ h ∷ []) fresh)
@@ -147,28 +143,24 @@ module _ (site : Site) (v : View) (kept : IsKept site v.me v) (whole : masked v 
     stage_goes (fact_record v) (λ fs. stage fs [] [] []) new_fact one_fact [] v.facts kept.lists.names,
   )
 
-  nothing_more : {A : Type 0} (xs : List A) → xs ++ [] ≡ xs
-  nothing_more [] = refl
-  nothing_more (x ∷ xs) = ap (λ ys. x ∷ ys) (nothing_more xs)
-
   acks_from : From (map (λ n. Acked n) v.acked) (stage v.facts [] [] []) (stage v.facts v.acked [] [])
   acks_from = (
     stage_masked (λ n. Acked n) (λ ns. stage v.facts ns [] []) (may_ack v.me v.facts) one_ack [] v.acked kept.lists.acks
-        (λ prefix rest e. still v.facts [] prefix rest [] v.handed [] (nothing_more v.facts) e refl (λ p h k. no_part p h _ _ k)),
+        (λ prefix rest e. still v.facts [] prefix rest [] v.handed [] (append-nil v.facts) e refl (λ p h k. no_part p h _ _ k)),
     stage_goes (λ n. Acked n) (λ ns. stage v.facts ns [] []) (may_ack v.me v.facts) one_ack [] v.acked kept.lists.acks,
   )
 
   hands_from : From (map (λ h. Handed h.0 h.1) v.handed) (stage v.facts v.acked [] []) (stage v.facts v.acked v.handed [])
   hands_from = (
     stage_masked (λ h. Handed h.0 h.1) (λ hs. stage v.facts v.acked hs []) (may_hand v.me v.facts) one_hand [] v.handed kept.lists.hands
-        (λ prefix rest e. still v.facts [] v.acked [] prefix rest [] (nothing_more v.facts) (nothing_more v.acked) e (λ p h k. k)),
+        (λ prefix rest e. still v.facts [] v.acked [] prefix rest [] (append-nil v.facts) (append-nil v.acked) e (λ p h k. k)),
     stage_goes (λ h. Handed h.0 h.1) (λ hs. stage v.facts v.acked hs []) (may_hand v.me v.facts) one_hand [] v.handed kept.lists.hands,
   )
 
   closes_from : From (map (λ h. Closed h.0 h.1) v.closed) (stage v.facts v.acked v.handed []) (stage v.facts v.acked v.handed v.closed)
   closes_from = (
     stage_masked (λ h. Closed h.0 h.1) (λ hs. stage v.facts v.acked v.handed hs) (may_close v.me v.facts) one_close [] v.closed kept.lists.closes
-        (λ prefix rest e. still v.facts [] v.acked [] v.handed [] prefix (nothing_more v.facts) (nothing_more v.acked) (nothing_more v.handed) (λ p h k. k)),
+        (λ prefix rest e. still v.facts [] v.acked [] v.handed [] prefix (append-nil v.facts) (append-nil v.acked) (append-nil v.handed) (λ p h k. k)),
     stage_goes (λ h. Closed h.0 h.1) (λ hs. stage v.facts v.acked v.handed hs) (may_close v.me v.facts) one_close [] v.closed kept.lists.closes,
   )
 
