@@ -42,7 +42,7 @@ use Rattle.block_laws.proofs.Performs.{SameResult, both_tests, IsTurn, performs_
 
 -- what a manager decides is a turn
 
-abbrev IsTurnDecision : Network → World → ℕ → Decision → Type 0
+abbrev pub IsTurnDecision : Network → World → ℕ → Decision → Type 0
 IsTurnDecision net w v (Refuses reply) = Unit {0}
 IsTurnDecision net w v (Does e) = IsTurn net w v e
 
@@ -66,15 +66,7 @@ module _ (net : Network) (w : World) (c : Conserved net w) (v : ℕ) where
   ] refl
 
 -- a frame that comes is a turn of its receiver
-fact_orders : (see : View) (l : Lane) (offset : ℕ) (f : Fact) → (receive_fact see l offset f).orders ≡ []
-unfolding receive_fact
-fact_orders see l offset f = refl
-
-ack_orders : (see : View) (l : Lane) (from : ℕ) (n : _) → (receive_ack see l from n).orders ≡ []
-unfolding receive_ack
-ack_orders see l from n = refl
-
-receive_turn : (net : Network) (w : World) → Conserved net w → (l : Lane) (j : ℕ) (a : Allocation) (p : Payload) → slice_get (w.frames l) j ≡ Some a → payload w.durable.facts a.item ≡ Some p →
+pub receive_turn : (net : Network) (w : World) → Conserved net w → (l : Lane) (j : ℕ) (a : Allocation) (p : Payload) → slice_get (w.frames l) j ≡ Some a → payload w.durable.facts a.item ≡ Some p →
     IsTurn net w (receiver net.site l) (receive net.site (view_of net w (receiver net.site l)) l a.offset p)
 receive_turn net w c l j a p at e =
     record {
@@ -197,7 +189,7 @@ module _ (net : Network) (w : World) (c : Conserved net w) (v : ℕ) (l : Lane) 
 
 -- a block's turn, whichever it is
 
-asked_turn : (net : Network) (w : World) → IsNetwork net → Conserved net w → (v : ℕ) (event : Event) (environment : Environment) → is_enabled net w (Ask v event environment) ≡ true →
+pub asked_turn : (net : Network) (w : World) → IsNetwork net → Conserved net w → (v : ℕ) (event : Event) (environment : Environment) → is_enabled net w (Ask v event environment) ≡ true →
     IsTurnDecision net w v (decided net w v event)
 unfolding is_enabled
 asked_turn net w network c v event environment may =

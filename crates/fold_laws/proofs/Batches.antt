@@ -122,7 +122,7 @@ module _ (net : Network) (w : World) (v : ℕ) where
 
 -- a node's view follows what it knows
 
-all_stay : (b : View) (fs : List Fact) → AllStay b b fs
+pub all_stay : (b : View) (fs : List Fact) → AllStay b b fs
 all_stay b [] = tt
 all_stay b (f ∷ fs) = (λ e. e, all_stay b fs)
 

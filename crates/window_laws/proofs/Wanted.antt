@@ -60,7 +60,7 @@ module _ (net : Network) (w : World) (v : ℕ) (c : Conserved net w) where
   abbrev tell : Lane → Name → Transmission
   tell l n = record { lane = l; item = DataItem n; received_offset = None }
 
-  owed_known : (to : ℕ) (i : ℕ) (n : Name) → slice_get (owed (seen net w v) to) i ≡ Some n → IsAdjacent w.durable.facts w.durable.known v v to n
+  pub owed_known : (to : ℕ) (i : ℕ) (n : Name) → slice_get (owed (seen net w v) to) i ≡ Some n → IsAdjacent w.durable.facts w.durable.known v v to n
   unfolding owed
   owed_known to i n at =
       let p : Fact → Bool = λ f. is_some_of (next_after (route_of f) v) to && not (has (w.durable.acked v) (name_of f)) in
