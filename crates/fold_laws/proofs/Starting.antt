@@ -21,6 +21,7 @@ use Rattle.net_model.specs.Action.{Start, Recovers, Started, WasUp, Outcome}
 use Rattle.net_model.specs.Step.{step, is_sent, is_quiet, is_node, is_enabled}
 use Rattle.net_model.specs.Fold.{view_records, view_batch, view_restarted}
 use Rattle.record_laws.proofs.Base.{eq_same, and_left, and_right, and_both, number_set_same, when_false}
+use Rattle.lane_laws.proofs.Lists.{burnt_length}
 use Rattle.record_laws.proofs.Extending.{end_of}
 use Rattle.record_laws.proofs.Keeping.{replay_keeps}
 use Rattle.fold_laws.specs.Fitting.{AllFit}
@@ -64,9 +65,6 @@ nothing_needed : (facts : List Fact) (ts : List Transmission) → is_nil ts ≡ 
 nothing_needed facts [] h = refl
 nothing_needed facts (t ∷ ts) h = cc
 
-burnt_len : (lease : ℕ) (own : List Owner) → length own ≤ lease → length (burnt_to lease own) ≡ lease
-burnt_len lease own h = omega (arith, h, length-append own (replicate (lease - length own) Burnt), length-replicate (lease - length own) Burnt)
-
 abbrev pub at_lease : Port → Port
 at_lease p = record p { planned = p.lease; recovered = p.lease }
 
@@ -77,7 +75,7 @@ module _ (net : Network) (w : World) (v : ℕ) (inv : Invariant net.site w.durab
       let room = inv.room l in
       let fits : length (w.durable.own l) ≤ w.durable.lease l = omega (arith, room.planned) in
       let all : length (burnt_to (w.durable.lease l) (w.durable.own l)) + needs w.durable.facts (w.unclaimed l) ≡ w.durable.lease l =
-      omega (arith, burnt_len (w.durable.lease l) (w.durable.own l) fits, nothing_needed w.durable.facts (w.unclaimed l) none) in
+      omega (arith, burnt_length (w.durable.lease l) (w.durable.own l) fits, nothing_needed w.durable.facts (w.unclaimed l) none) in
       (λ i. record (port_at net w l) {
         planned = length (if away i then burnt_to (w.durable.lease l) (w.durable.own l) else w.durable.own l) + needs w.durable.facts (w.unclaimed l);
         recovered = if away i then w.durable.lease l else w.recovered l;

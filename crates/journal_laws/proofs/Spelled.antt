@@ -16,8 +16,7 @@ use Rattle.net_model.specs.Journal.{block_records, lease_records}
 use Rattle.net_model.specs.View.{View, Port, received_of}
 use Rattle.net_model.specs.Needed.{masked}
 use Rattle.net_model.specs.Fold.{with_block, with_lease, view_record, view_records, empty_port, empty_view}
-use Rattle.record_laws.proofs.Base.{eq_from, eq_same, and_both, or_first, or_second, when_true}
-use Rattle.lane_laws.proofs.Lists.{lane_same}
+use Rattle.record_laws.proofs.Base.{eq_from, eq_same, and_both, or_first, or_second, when_true, lane_same}
 use Rattle.window_laws.proofs.Outgoing.{LinksDiffer, links_differ}
 use Rattle.fold_laws.proofs.Starting.{at_lease}
 use Rattle.journal_laws.proofs.Accumulating.{StaysMasked}

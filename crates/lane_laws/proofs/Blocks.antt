@@ -12,14 +12,10 @@ use Rattle.net_model.specs.OctetSequence.{OctetSequence, octets_from, block_at, 
 use Rattle.net_model.specs.Ranges.{IsOctets}
 use Rattle.net_model.specs.Premises.{IsOctetSequence}
 use Rattle.record_laws.proofs.Base.{and_both}
+use Rattle.record_laws.proofs.Octets.{from_octets}
 use Rattle.record_laws.proofs.Octets.{length-octets_from}
 
 -- blocks
-
-from_octets : (octet : ℕ → ℕ) → ((i : ℕ) → octet i < 256) → (place n : ℕ) → IsOctets (octets_from octet place n)
-unfolding octets_from
-from_octets octet h place zero = refl
-from_octets octet h place (suc n) = and_both (nat_lt (octet place) 256) _ (lt-ltb (octet place) 256 (h place)) (from_octets octet h (place + 1) n)
 
 pub count_blocks : (t : OctetSequence) (n : ℕ) → length (first_blocks t n) ≡ n
 unfolding first_blocks

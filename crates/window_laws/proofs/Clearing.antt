@@ -24,8 +24,8 @@ use Rattle.net_model.specs.Window.{cleared}
 use Rattle.net_model.specs.Relay.{owed, receive_ack}
 use Rattle.net_model.specs.Invariant.{Conserved}
 use Rattle.net_model.specs.Needed.{view_of}
-use Rattle.record_laws.proofs.Base.{name_eq_from, name_eq_same, lane_eq_from, and_left, and_right, and_both, not_false, not_both, when_true}
-use Rattle.lane_laws.proofs.Lists.{any_at, kept_at, lane_same, reverse_twice}
+use Rattle.record_laws.proofs.Base.{name_eq_from, name_eq_same, lane_eq_from, and_left, and_right, and_both, not_false, not_both, when_true, lane_same}
+use Rattle.lane_laws.proofs.Lists.{any_at, kept_at, reverse_twice}
 use Rattle.window_laws.proofs.Seen.{seen, seen_is}
 use Rattle.window_laws.proofs.Wanted.{owed_known}
 use Rattle.window_laws.proofs.Outgoing.{sender_back}
