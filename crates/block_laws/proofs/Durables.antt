@@ -19,7 +19,7 @@ use Rattle.record_laws.proofs.Base.{number_set_same, lane_eq_from, eq_from, not_
 use Rattle.record_laws.proofs.Knowing.{AreThere}
 use Rattle.record_laws.proofs.Keeping.{apply_keeps}
 use Rattle.record_laws.proofs.Extending.{extends_same, extends_then, end_of, other_extends}
-use Rattle.record_laws.proofs.Later.{both_extend, apply_later}
+use Rattle.record_laws.proofs.Later.{both_extend, apply_later, known_there}
 
 pub record SameDurable (s : Site) (v : ℕ) (a b : Durable) : Type 0 where
   pub extends : Extends s v a b
@@ -86,10 +86,6 @@ module _ (s : Site) (v : ℕ) (a b : Durable) (h : SameDurable s v a b) where
   both_apply (Closed n sae) m x = record { extends = x; acked = h.acked; closed = with_one a.closed b.closed (n, sae) h.closed; handed = h.handed; own = h.own }
   both_apply (Bare f) m x = absurd m
 
-there_known : (s : Site) (d : Durable) (frames : Lane → List Allocation) (unclaimed : Lane → List Transmission) → Invariant s d frames unclaimed → (v : ℕ) →
-    AreThere d.facts (d.known v)
-there_known s d frames unclaimed c v n h = let x = c.knowledge.each v n h in (x.fact, x.there)
-
 module _ (s : Site) (v : ℕ) (frames frames' : Lane → List Allocation) (unclaimed unclaimed' : Lane → List Transmission) where
   pub both_replay : (a b : Durable) → Invariant s a frames unclaimed → Invariant s b frames' unclaimed' → SameDurable s v a b → (rs : List Record) →
       MayReplay s a v rs → SameDurable s v (replay s v rs a) (replay s v rs b)
@@ -98,7 +94,7 @@ module _ (s : Site) (v : ℕ) (frames frames' : Lane → List Allocation) (uncla
   both_replay a b c d h (r ∷ rs) m =
       let now = apply_later s v a b h.extends frames' unclaimed' d r m.0 in
       both_replay (apply_record s v r a) (apply_record s v r b) (apply_keeps s a frames unclaimed c v r m.0) (apply_keeps s b frames' unclaimed' d v r now)
-      (both_apply s v a b h r m.0 (both_extend s v a b h.extends (there_known s a frames unclaimed c v) (there_known s b frames' unclaimed' d v) r m.0)) rs m.1
+      (both_apply s v a b h r m.0 (both_extend s v a b h.extends (known_there s a frames unclaimed c v) (known_there s b frames' unclaimed' d v) r m.0)) rs m.1
 
 -- another node's changes are not seen
 

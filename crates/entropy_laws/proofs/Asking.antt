@@ -20,10 +20,10 @@ use Rattle.net_model.specs.Step.{is_node, is_asked, is_enabled}
 use Rattle.record_laws.proofs.Base.{and_left, and_right}
 use Rattle.view_laws.proofs.Seen.{view_me}
 use Rattle.event_laws.specs.May.{MayDecide, is_plan, decided}
-use Rattle.event_laws.proofs.Decisions.{event_may}
+use Rattle.event_laws.proofs.Decisions.{event_may, plan_is}
 use Rattle.window_laws.proofs.Orders.{plan_may}
 use Rattle.net_laws.proofs.Draws.{DecidesDrawn, event_draws}
-use Rattle.entropy_laws.proofs.Cuts.{DecidesCut, event_cuts}
+use Rattle.net_laws.proofs.Cuts.{DecidesCut, event_cuts}
 use Rattle.entropy_laws.proofs.Names.{learned_own, formed_size, last}
 use Rattle.entropy_laws.proofs.Effects.{AreLaid, MayResolve, handle_lays}
 
@@ -51,10 +51,6 @@ module _ (net : Network) (w : World) (network : IsNetwork net) (c : Conserved ne
   plan_replays : Replays (decided net w v Plan)
   unfolding decide random_need
   plan_replays numbered = plan_may net w v c
-
-  plan_is : (event : Event) → is_plan event ≡ true → event ≡ Plan
-  plan_is Plan h = refl
-  plan_is _ h = cc
 
   event_replays : (event : Event) → v < net.site.nodes → is_asked event ≡ true → is_valid_event net.site v event ≡ true → Replays (decided net w v event)
   event_replays event here asked valid = elim (is_plan event) as (λ t. is_plan event ≡ t → Replays (decided net w v event)) [

@@ -1,5 +1,5 @@
 -- An effect keeps places, whether it is committed, stopped or refused: its secrets are the table's, or cut from what it draws.
-use Rattle.std.proofs.Common.{◌≡◌, ℕ, ◌+◌, ◌≤◌, true, ◌&&◌, ◌||◌, not, refl, arith, Some, None, ◌⊎◌, inl, inr}
+use Rattle.std.proofs.Common.{subst, ◌≡◌, ℕ, ◌+◌, ◌≤◌, true, ◌&&◌, ◌||◌, not, refl, arith, Some, None, ◌⊎◌, inl, inr}
 use Rattle.std.specs.Prelude.{nat_lt, slice_get, if◌then◌else◌}
 use Rattle.std.specs.List.{list_all}
 use Rattle.qkd_base.specs.Family.{number_set}
@@ -19,11 +19,12 @@ use Rattle.net_model.specs.Decide.{random_need}
 use Rattle.net_model.specs.Action.{Environment, Outcome, Replies, is_no_memory, is_entropy_fault, is_io_fault}
 use Rattle.net_model.specs.Handle.{is_numbered, commit, stopped, perform, resolve, handle}
 use Rattle.record_laws.proofs.Base.{by_number, by_test, or_second, not_true, number_set_same}
+use Rattle.record_laws.proofs.Walks.{perform_walk, handle_walk}
 use Rattle.record_laws.proofs.Growing.{replay_cases}
 use Rattle.event_laws.specs.May.{decided}
 use Rattle.net_laws.proofs.Effects.{with_drawn, drawn_more}
 use Rattle.entropy_laws.proofs.Laid.{IsLaid, laid_stays, laid_more}
-use Rattle.entropy_laws.proofs.Cuts.{IsCutUp}
+use Rattle.net_laws.proofs.Cuts.{IsCutUp}
 use Rattle.entropy_laws.proofs.Names.{IsThere, IsOwn, learned_own, last, older}
 
 -- the facts of the table and in doubt have places
@@ -107,22 +108,15 @@ module _ (net : Network) (w : World) (c : Conserved net w) (v : ℕ) where
     -- whatever the outside answers
     pub perform_lays : (octets : ℕ) (environment : Environment) (e : Effect) → (list_all is_numbered e.batch ≡ true → MayLay octets e) →
         AreLaid net (perform net w v octets environment e).0
-    unfolding perform
     perform_lays octets environment e may =
-        let P : World × Outcome → Type 0 = λ r. AreLaid net r.0 in
-        by_test P (is_no_memory environment || not (list_all is_numbered e.batch)) _ _ (λ x. laid)
-        (λ numbered. let m = may (not_true (list_all is_numbered e.batch) (or_second (is_no_memory environment) _ numbered)) in
-        by_test P (nat_lt journal_limit ((w.journal v).length' + added_len (w.journal v).version e.batch)) _ _ (λ x. laid)
-        (λ small. by_test P (nat_lt 0 octets && (not (has_octets (net.entropy v) (w.drawn v + octets)) || is_entropy_fault environment)) _ _ (λ x. laid)
-        (λ x. by_test P (is_io_fault environment && not (is_nil e.batch)) _ _ (λ y. stopped_lays octets e m) (λ y. commit_lays octets e m))))
+        perform_walk net w (AreLaid net) laid v octets environment e (λ numbered fits. stopped_lays octets e (may numbered)) (λ numbered fits. commit_lays octets e (may numbered))
 
-    pub resolve_lays : (octets : ℕ) (environment : Environment) (x : Decision) → MayResolve octets x → AreLaid net (resolve net w v octets environment x).0
-    resolve_lays octets environment (Refuses reply) may = laid
-    resolve_lays octets environment (Does e) may = perform_lays octets environment e may
+  effect_may : (octets : ℕ) (x : Decision) (e : Effect) → MayResolve octets x → x ≡ Does e → MayResolve octets (Does e)
+  effect_may octets x e may is = subst (MayResolve octets) is may
 
   pub handle_lays : AreLaid net w → (event : Event) (environment : Environment) → (w.up v ≡ true → MayResolve (random_need (view_of net w v) event) (decided net w v event)) →
       AreLaid net (handle net w v event environment).0
-  unfolding handle
   handle_lays laid event environment may =
-      by_test (λ (r : World × Outcome). AreLaid net r.0) (w.up v) (resolve net w v (random_need (view_of net w v) event) environment (decided net w v event)) (w, Replies Down)
-      (λ up. resolve_lays laid up (random_need (view_of net w v) event) environment (decided net w v event) (may up)) (λ down. laid)
+      handle_walk net w (AreLaid net) laid v event environment
+      (λ up e is. perform_lays laid up (random_need (view_of net w v) event) environment e
+      (effect_may (random_need (view_of net w v) event) (decided net w v event) e (may up) is))

@@ -19,7 +19,7 @@ use Rattle.record_laws.proofs.Growing.{apply_cases}
 use Rattle.record_laws.proofs.Tables.{found_name}
 use Rattle.view_laws.proofs.Seen.{bare_view, view_sees, view_me}
 use Rattle.pair_laws.proofs.Made.{IsBelow, is_below}
-use Rattle.entropy_laws.specs.Places.{handed_name}
+use Rattle.net_laws.specs.HandedName.{handed_name}
 use Rattle.entropy_laws.proofs.Laid.{IsOlder}
 
 -- a fact of the table, or of a batch in doubt

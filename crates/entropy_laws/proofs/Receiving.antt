@@ -27,18 +27,17 @@ use Rattle.net_model.specs.Handle.{blocks_at, take_block}
 use Rattle.net_model.specs.Frames.{frame_octets, octets_received, octets_eq, with_flipped, unmatched, receive_item, deliver_frame, deliver_number, deliver, tampered_or_put, tampered, flip_octets, flip_number, flip}
 use Rattle.net_model.specs.Step.{complete_node}
 use Rattle.record_laws.proofs.Base.{below_from, by_test, not_true}
+use Rattle.record_laws.proofs.Walks.{take_block_walk, deliver_walk, tampered_walk, flip_walk}
 use Rattle.record_laws.proofs.Tables.{found_name}
 use Rattle.event_laws.specs.May.{decided}
 use Rattle.event_laws.proofs.Decisions.{receive_may}
+use Rattle.event_laws.proofs.Receives.{some_data}
 use Rattle.entropy_laws.proofs.Effects.{AreLaid, ReceivesOnly, MayResolve, perform_lays, handle_lays}
 use Rattle.net_laws.proofs.Receiving.{note_not_secret}
 
 module _ (net : Network) (w : World) (c : Conserved net w) (laid : AreLaid net w) (l : Lane) (environment : Environment) where
   abbrev see : View
   see = view_of net w (receiver net.site l)
-
-  abbrev Kept : World × Outcome → Type 0
-  Kept r = AreLaid net r.0
 
   -- what came is of the table, and its note is no secret
 
@@ -60,9 +59,6 @@ module _ (net : Network) (w : World) (c : Conserved net w) (laid : AreLaid net w
       by_cases true (suc k) h = cc
       by_cases false k h = cc
 
-  some_data : (f : Fact) (p : Payload) → Some (Data f) ≡ Some p → Data f ≡ p
-  some_data f p e = cc
-
   found_data : (offset : ℕ) (n : Name) (p : Payload) (o : Option Fact) → fact_at w.durable.facts n ≡ o → data_payload o ≡ Some p → ReceivesOnly w (receive net.site see l offset p)
   found_data offset n p None there e = cc
   found_data offset n p (Some f) there e =
@@ -75,7 +71,7 @@ module _ (net : Network) (w : World) (c : Conserved net w) (laid : AreLaid net w
       let is : Ack n ≡ p = cc in subst (λ (q : Payload). ReceivesOnly w (receive net.site see l offset q)) is (ack_received n)
 
   item_lays : (j : ℕ) (a : Allocation) → slice_get (w.frames l) j ≡ Some a → w.up (receiver net.site l) ≡ true → (o : Option Payload) → payload w.durable.facts a.item ≡ o →
-      Kept (receive_item net w l a.offset environment o)
+      AreLaid net (receive_item net w l a.offset environment o).0
   item_lays j a at up None e = laid
   item_lays j a at up (Some p) e =
       perform_lays net w c (receiver net.site l) laid up 0 environment (receive net.site see l a.offset p)
@@ -83,46 +79,18 @@ module _ (net : Network) (w : World) (c : Conserved net w) (laid : AreLaid net w
 
   -- a frame, as it is or changed on the way
 
-  frame_lays : (j : ℕ) (o : Option Allocation) → slice_get (w.frames l) j ≡ o → Kept (deliver_frame net w l environment o)
-  unfolding deliver_frame
-  frame_lays j None at = laid
-  frame_lays j (Some a) at =
-      by_test Kept (not (w.up (receiver net.site l))) _ _ (λ e. laid)
-      (λ up. by_test Kept (nat_lt (received_there w.durable l) (a.offset + need w.durable.facts a.item)) _ _ (λ e. laid)
-      (λ e. item_lays j a at (not_true (w.up (receiver net.site l)) up) (payload w.durable.facts a.item) refl))
+  came_lays : (j : ℕ) (a : Allocation) → slice_get (w.frames l) j ≡ Some a → w.up (receiver net.site l) ≡ true →
+      AreLaid net (receive_item net w l a.offset environment (payload w.durable.facts a.item)).0
+  came_lays j a at up = item_lays j a at up (payload w.durable.facts a.item) refl
 
-  number_lays : (o : Option ℕ) → Kept (deliver_number net w l environment o)
-  number_lays None = laid
-  number_lays (Some j) = frame_lays j (slice_get (w.frames l) j) refl
+  pub deliver_lays : (number : ℕ) → AreLaid net (deliver net w l number environment).0
+  deliver_lays number = deliver_walk net w (AreLaid net) laid l environment came_lays number
 
-  pub deliver_lays : (number : ℕ) → Kept (deliver net w l number environment)
-  unfolding deliver
-  deliver_lays number = number_lays (slice_get (w.wire l) number)
+  pub tampered_lays : (octets : List ℕ) → AreLaid net (tampered net w l octets environment).0
+  tampered_lays octets = tampered_walk net w (AreLaid net) laid l environment came_lays octets
 
-  unmatched_lays : (o : Opened) → Kept (unmatched w o)
-  unmatched_lays (Opens offset p) = laid
-  unmatched_lays (Rejected reply) = laid
-  unmatched_lays (Forged place) = laid
-
-  or_put_lays : (octets : List ℕ) (o : Option ℕ) → Kept (tampered_or_put net w l octets environment o)
-  or_put_lays octets (Some j) = frame_lays j (slice_get (w.frames l) j) refl
-  or_put_lays octets None =
-      by_test Kept (not (w.up (receiver net.site l))) _ _ (λ e. laid) (λ e. unmatched_lays (net.sealing.unseal l (octets_received net w l) octets))
-
-  pub tampered_lays : (octets : List ℕ) → Kept (tampered net w l octets environment)
-  unfolding tampered
-  tampered_lays octets = or_put_lays octets (find (λ j. octets_eq (frame_octets net w l (slice_get (w.frames l) j)) octets) (w.wire l))
-
-  flip_octets_lays : (octets : List ℕ) (bit : ℕ) → Kept (flip_octets net w l octets bit environment)
-  flip_octets_lays octets bit = by_test Kept (nat_le (8 * length octets) bit) _ _ (λ e. laid) (λ e. tampered_lays (with_flipped octets bit))
-
-  flip_number_lays : (bit : ℕ) (o : Option ℕ) → Kept (flip_number net w l bit environment o)
-  flip_number_lays bit None = laid
-  flip_number_lays bit (Some j) = flip_octets_lays (frame_octets net w l (slice_get (w.frames l) j)) bit
-
-  pub flip_lays : (number bit : ℕ) → Kept (flip net w l number bit environment)
-  unfolding flip
-  flip_lays number bit = flip_number_lays bit (slice_get (w.wire l) number)
+  pub flip_lays : (number bit : ℕ) → AreLaid net (flip net w l number bit environment).0
+  flip_lays number bit = flip_walk net w (AreLaid net) laid l environment came_lays number bit
 
 -- blocks and notes
 
@@ -147,16 +115,10 @@ module _ (net : Network) (w : World) (c : Conserved net w) (laid : AreLaid net w
       })
 
   pub take_block_lays : (link : ℕ) (environment : Environment) → is_incident net.site v link ≡ true → AreLaid net (take_block net w v link environment).0
-  unfolding take_block
   take_block_lays link environment incident =
-      let P : World × Outcome → Type 0 = λ r. AreLaid net r.0 in
-      let number : ℕ = blocks_at net w v link in
-      by_test P (not (w.up v)) _ _ (λ e. laid)
-      (λ e. by_test P (number == 1024) _ _ (λ e2. laid)
-      (λ not_full. by_test P (not (has_octets (net.device link) (1024 + 1024 * number))) _ _ (λ e2. laid)
-      (λ e2. by_test P (is_device_fault environment) _ _ (λ e3. laid)
-      (λ e3. handle_lays net w c v laid (Block link number (block_at (net.device link) number)) environment
-      (λ up. block_resolves link (block_at (net.device link) number) incident not_full)))))
+      take_block_walk net w (AreLaid net) laid v link environment
+      (λ not_full. handle_lays net w c v laid (Block link (blocks_at net w v link) (block_at (net.device link) (blocks_at net w v link))) environment
+      (λ up. block_resolves link (block_at (net.device link) (blocks_at net w v link)) incident not_full))
 
   note_resolves : MayResolve net w c v (random_need (view_of net w v) (Note (w.placings v))) (decided net w v (Note (w.placings v)))
   unfolding decide random_need

@@ -32,6 +32,9 @@ use Rattle.pair_laws.proofs.Made.{IsBelow, is_below, ranged_route, made_may}
 use Rattle.pair_laws.proofs.Only.{fresh_is}
 use Rattle.pair_laws.proofs.Streams.{first_of-reverse, way_back}
 
+pub some_data : (f : Fact) (p : Payload) → Some (Data f) ≡ Some p → Data f ≡ p
+some_data f p e = cc
+
 pub on_next : (way : List ℕ) (u v : ℕ) → next_after way u ≡ Some v → IsOn way v
 on_next [] u v h = cc
 on_next (a ∷ []) u v h = cc
@@ -156,10 +159,13 @@ module _ (s : Site) (d : Durable) (frames : Lane → List Allocation) (unclaimed
       let is : Data carried.fact ≡ p = some_data carried.fact p (sym (ap data_payload carried.there) ∙ e) in
       subst (λ (q : Payload). list_all is_numbered (receive s see l offset q).batch ≡ true → MayReplay s d see.me (receive s see l offset q).batch) is
       (fact_may l offset (sender s l) n carried)
-    where
-      some_data : (f : Fact) (p : Payload) → Some (Data f) ≡ Some p → Data f ≡ p
-      some_data f p e = cc
   received_may l offset (AckItem n) p carried e =
       let is : Ack n ≡ p = cc in
       subst (λ (q : Payload). list_all is_numbered (receive s see l offset q).batch ≡ true → MayReplay s d see.me (receive s see l offset q).batch) is
       (λ numbered. ack_may l (sender s l) n carried)
+
+-- what comes orders nothing
+pub receive_orders : (s : Site) (see : View) (l : Lane) (offset : ℕ) (p : Payload) → (receive s see l offset p).orders ≡ []
+unfolding receive_fact receive_ack
+receive_orders s see l offset (Data f) = refl
+receive_orders s see l offset (Ack n) = refl

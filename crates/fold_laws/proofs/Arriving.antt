@@ -1,8 +1,7 @@
 -- What comes to a manager: blocks of its links and frames of its lanes. Its view goes on by the effect.
-use Rattle.std.proofs.Common.{◌≡◌, ℕ, ◌<◌, Bool, true, false, cond, not, ◌&&◌, ◌||◌, List, [], ◌∷◌, refl, subst, arith, Option, Some, None, inl, inr, map}
+use Rattle.std.proofs.Common.{◌≡◌, ℕ, ◌<◌, Bool, true, false, cond, not, ◌&&◌, ◌||◌, List, [], ◌∷◌, refl, subst, Option, Some, None, inl, inr, map}
 use Rattle.std.specs.Prelude.{◌==◌, if◌then◌else◌, filter, is_some, slice_get, reverse}
 use Rattle.std.specs.List.{list_any, list_all}
-use Rattle.std.proofs.lemmas.Bool.Decides.{nat_tests}
 use Rattle.qkd_base.specs.Name.{Name, name_eq, has}
 use Rattle.qkd_base.specs.Route.{next_after}
 use Rattle.qkd_base.specs.declared.lane.Lane.{Lane}
@@ -30,6 +29,7 @@ use Rattle.net_model.specs.Fold.{view_after, view_record}
 use Rattle.event_laws.specs.May.{decided}
 use Rattle.event_laws.proofs.Decisions.{receive_may}
 use Rattle.record_laws.proofs.Base.{below_from, and_left, and_right, and_both, or_cases, or_left, or_right, by_test}
+use Rattle.event_laws.proofs.Receives.{receive_orders}
 use Rattle.fold_laws.specs.Fitting.{AllFit}
 use Rattle.fold_laws.proofs.Batches.{AllFitHere, here_fits}
 use Rattle.fold_laws.proofs.Commits.{silent_goes}
@@ -110,11 +110,6 @@ received_fits : (site : Site) (v : View) (l : Lane) (offset : ℕ) (p : Payload)
 received_fits site v l offset (Data f) = fact_fits v l offset f
 received_fits site v l offset (Ack n) = ack_fits v l (sender site l) n
 
-silent : (site : Site) (v : View) (l : Lane) (offset : ℕ) (p : Payload) → (receive site v l offset p).orders ≡ []
-unfolding receive_fact receive_ack
-silent site v l offset (Data f) = refl
-silent site v l offset (Ack n) = refl
-
 pub receive_goes : (net : Network) (w : World) (l : Lane) (j offset octets : ℕ) (a : Allocation) (p : Payload) → Conserved net w → slice_get (w.frames l) j ≡ Some a →
     payload w.durable.facts a.item ≡ Some p → list_all is_numbered (receive net.site (view_of net w (receiver net.site l)) l offset p).batch ≡ true →
     view_of net (commit net.site w (receiver net.site l) octets (receive net.site (view_of net w (receiver net.site l)) l offset p)) (receiver net.site l) ≡
@@ -123,7 +118,7 @@ receive_goes net w l j offset octets a p c frame item numbered =
     let v : ℕ = receiver net.site l in
     let see : View = view_of net w v in
     silent_goes net w v octets (receive net.site see l offset p) c (receive_may net w l j offset a p c frame item numbered)
-    (here_fits net (receive net.site see l offset p).batch see (received_fits net.site see l offset p)) (silent net.site see l offset p)
+    (here_fits net (receive net.site see l offset p).batch see (received_fits net.site see l offset p)) (receive_orders net.site see l offset p)
 
 pub receiving_fits : (net : Network) (v : View) (l : Lane) (offset : ℕ) (p : Payload) → AllFit net v (receive net.site v l offset p).batch
 receiving_fits net v l offset p = here_fits net (receive net.site v l offset p).batch v (received_fits net.site v l offset p)

@@ -11,7 +11,7 @@ use Rattle.net_model.specs.declared.fact.Fact.{Fact}
 use Rattle.net_model.specs.declared.record.Record.{Record}
 use Rattle.net_model.specs.declared.record.Record.TheVariants.{Block, Lease, Learned, Acked, Handed, Closed, Bare}
 use Rattle.net_model.specs.Table.{was_handed}
-use Rattle.net_model.specs.Site.{of_way, outgoing_lanes}
+use Rattle.net_model.specs.Site.{outgoing_lanes}
 use Rattle.net_model.specs.World.{Network, World, Durable, received}
 use Rattle.net_model.specs.Records.{apply_record, replay}
 use Rattle.net_model.specs.Doubt.{MayApply, MayReplay}
@@ -122,7 +122,7 @@ module _ (net : Network) (w : World) (v : ℕ) where
 
 -- a node's view follows what it knows
 
-all_stay : (b : View) (fs : List Fact) → AllStay b b fs
+pub all_stay : (b : View) (fs : List Fact) → AllStay b b fs
 all_stay b [] = tt
 all_stay b (f ∷ fs) = (λ e. e, all_stay b fs)
 

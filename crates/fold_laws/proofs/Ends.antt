@@ -126,7 +126,7 @@ module _ (s : Site) (T : List Fact) (known : ℕ → List Name) (table : IsTable
         }
   ]
 
-handed_blind : (me : ℕ) (n : Name) (sae : ℕ) → IsBlind (λ f. is_here me f && is_handed_by n sae f)
+pub handed_blind : (me : ℕ) (n : Name) (sae : ℕ) → IsBlind (λ f. is_here me f && is_handed_by n sae f)
 handed_blind me n sae (Key name master slave route bytes) = refl
 handed_blind me n sae (Chunk name stream index route bytes) = refl
 handed_blind me n sae (Stored note about route) = refl

@@ -59,7 +59,7 @@ module _ (facts : List Fact) (own : List Owner) (frames : List Allocation) (got 
   no_frame : (x j : ℕ) → length frames ≤ j → is_frame j (slice_get own x) ≡ false
   no_frame x j h = o.frame x j ∙ ap (λ c. covers facts c x) (slice_get_past frames j h)
 
-  no_cover : (x j : ℕ) → length own ≤ x → covers facts (slice_get frames j) x ≡ false
+  pub no_cover : (x j : ℕ) → length own ≤ x → covers facts (slice_get frames j) x ≡ false
   no_cover x j h = sym (o.frame x j) ∙ ap (is_frame j) (slice_get_past own x h)
 
   module _ (item : Item) where

@@ -12,14 +12,10 @@ use Rattle.net_model.specs.OctetSequence.{OctetSequence, octets_from, block_at, 
 use Rattle.net_model.specs.Ranges.{IsOctets}
 use Rattle.net_model.specs.Premises.{IsOctetSequence}
 use Rattle.record_laws.proofs.Base.{and_both}
+use Rattle.record_laws.proofs.Octets.{from_octets}
 use Rattle.record_laws.proofs.Octets.{length-octets_from}
 
 -- blocks
-
-from_octets : (octet : ℕ → ℕ) → ((i : ℕ) → octet i < 256) → (place n : ℕ) → IsOctets (octets_from octet place n)
-unfolding octets_from
-from_octets octet h place zero = refl
-from_octets octet h place (suc n) = and_both (nat_lt (octet place) 256) _ (lt-ltb (octet place) 256 (h place)) (from_octets octet h (place + 1) n)
 
 pub count_blocks : (t : OctetSequence) (n : ℕ) → length (first_blocks t n) ≡ n
 unfolding first_blocks
@@ -30,7 +26,7 @@ all_push : (P : List ℕ → Type 0) (bs : List (List ℕ)) (b : List ℕ) → A
 all_push P [] b all p = (p, tt)
 all_push P (x ∷ bs) b all p = (all.0, all_push P bs b all.1 p)
 
-all_blocks : (P : List ℕ → Type 0) (t : OctetSequence) → ((n : ℕ) → P (block_at t n)) → (n : ℕ) → AllByRecursion P (first_blocks t n)
+pub all_blocks : (P : List ℕ → Type 0) (t : OctetSequence) → ((n : ℕ) → P (block_at t n)) → (n : ℕ) → AllByRecursion P (first_blocks t n)
 unfolding first_blocks
 all_blocks P t h zero = tt
 all_blocks P t h (suc n) = all_push P (first_blocks t n) (block_at t n) (all_blocks P t h n) (h n)
@@ -77,7 +73,7 @@ lane_grows way t a b le =
 
 -- lengths
 
-abbrev IsWhole : List ℕ → Type 0
+abbrev pub IsWhole : List ℕ → Type 0
 IsWhole b = length b ≡ 1024
 
 length_up : (bs : List (List ℕ)) → AllByRecursion IsWhole bs → length (lane_octets Up bs) ≡ lane_len Up (length bs)

@@ -28,7 +28,7 @@ use Rattle.net_model.specs.Step.{is_node, is_asked, is_enabled}
 use Rattle.record_laws.proofs.Base.{and_left, and_right, number_set_same}
 use Rattle.record_laws.proofs.Growing.{apply_cases}
 use Rattle.event_laws.specs.May.{MayDecide, is_plan, decided}
-use Rattle.event_laws.proofs.Decisions.{event_may}
+use Rattle.event_laws.proofs.Decisions.{event_may, plan_is}
 use Rattle.lane_laws.proofs.Growth.{volatile_stays}
 use Rattle.window_laws.proofs.Orders.{plan_may, plan_fits}
 use Rattle.window_laws.proofs.Planning.{plan_volatile, plan_wired, plan_posted}
@@ -99,10 +99,6 @@ module _ (net : Network) (w : World) (network : IsNetwork net) (c : Conserved ne
   plan_resolves : MayResolve net w v (random_need (view_of net w v) Plan) (decided net w v Plan)
   unfolding decide random_need
   plan_resolves numbered = plan_takes (draws Plan refl)
-
-  plan_is : (event : Event) → is_plan event ≡ true → event ≡ Plan
-  plan_is Plan h = refl
-  plan_is _ h = cc
 
   event_resolves : (event : Event) → v < net.site.nodes → is_asked event ≡ true → is_valid_event net.site v event ≡ true →
       MayResolve net w v (random_need (view_of net w v) event) (decided net w v event)

@@ -24,6 +24,7 @@ use Rattle.net_model.specs.Action.{Environment, Outcome, is_no_memory, is_entrop
 use Rattle.net_model.specs.Handle.{is_numbered, with_orders, with_repeats, commit, stopped, perform}
 use Rattle.record_laws.proofs.Base.{by_number, eq_from, by_test, or_second, not_true}
 use Rattle.record_laws.proofs.Keeping.{replay_keeps}
+use Rattle.record_laws.proofs.Walks.{perform_walk}
 use Rattle.record_laws.proofs.Growing.{AreFew, replay_grows, replay_few, replay_more_blocks, replay_cases}
 use Rattle.record_laws.proofs.Later.{replay_owned}
 use Rattle.record_laws.proofs.Doubts.{doubt_stays}
@@ -172,13 +173,7 @@ module _ (net : Network) (w : World) (network : IsNetwork net) (c : Conserved ne
 -- whatever the outside answers
 pub perform_keeps : (net : Network) (w : World) → IsNetwork net → Conserved net w → (v : ℕ) → w.up v ≡ true → (octets : ℕ) (environment : Environment) (e : Effect) →
     (list_all is_numbered e.batch ≡ true → MayTake net w v octets e) → Conserved net (perform net w v octets environment e).0
-unfolding perform
 perform_keeps net w network c v up octets environment e may =
-    let P : World × Outcome → Type 0 = λ r. Conserved net r.0 in
-    by_test P (is_no_memory environment || not (list_all is_numbered e.batch)) _ _ (λ x. c)
-    (λ numbered. let m = may (not_true (list_all is_numbered e.batch) (or_second (is_no_memory environment) _ numbered)) in
-    by_test P (nat_lt journal_limit ((w.journal v).length' + added_len (w.journal v).version e.batch)) _ _ (λ x. c)
-    (λ small. let fits = ltb-false journal_limit _ small in
-    by_test P (nat_lt 0 octets && (not (has_octets (net.entropy v) (w.drawn v + octets)) || is_entropy_fault environment)) _ _ (λ x. c)
-    (λ x. by_test P (is_io_fault environment && not (is_nil e.batch)) _ _ (λ y. stopped_keeps net w network c v up octets e m fits)
-    (λ y. commit_keeps net w network c v up octets e m fits))))
+    perform_walk net w (Conserved net) c v octets environment e
+    (λ numbered fits. stopped_keeps net w network c v up octets e (may numbered) fits)
+    (λ numbered fits. commit_keeps net w network c v up octets e (may numbered) fits)

@@ -34,6 +34,7 @@ use Rattle.record_laws.proofs.Knowing.{known_with_new}
 use Rattle.record_laws.proofs.Growing.{replay_grows}
 use Rattle.view_laws.proofs.Seen.{seen_at, bare_view, view_sees, view_me, view_volatile}
 use Rattle.event_laws.proofs.Receives.{received_may}
+use Rattle.event_laws.proofs.Receives.{some_data}
 use Rattle.lane_laws.proofs.Growth.{volatile_stays}
 use Rattle.window_laws.proofs.Acknowledging.{acknowledge_keeps}
 use Rattle.window_laws.proofs.Entries.{cleared_keeps}
@@ -171,9 +172,6 @@ module _ (net : Network) (w : World) (network : IsNetwork net) (c : Conserved ne
   ack_takes n may = ack_taken n may (kept_later (receive_ack see l (sender net.site l) n)) (ack_received n)
 
   -- either
-
-  some_data : (f : Fact) (p : Payload) → Some (Data f) ≡ Some p → Data f ≡ p
-  some_data f p e = cc
 
   received_takes : (item : Item) (p : Payload) → MayCarry w.durable.facts w.durable.known (sender net.site l) v item → payload w.durable.facts item ≡ Some p →
       list_all is_numbered (receive net.site see l offset p).batch ≡ true → MayTake net w v 0 (receive net.site see l offset p)

@@ -28,7 +28,7 @@ use Rattle.record_laws.proofs.Growing.{AreFew, replay_grows, replay_few, replay_
 use Rattle.record_laws.proofs.Later.{replay_owned}
 use Rattle.record_laws.proofs.Doubts.{doubt_stays}
 use Rattle.lane_laws.proofs.Growth.{Outgrows, volatile_stays, placed_stays}
-use Rattle.lane_laws.proofs.Allocating.{may_own}
+use Rattle.lane_laws.proofs.Allocating.{may_own, no_cover}
 use Rattle.net_laws.proofs.Journals.{IsKept, is_journal, kept_not_blank, new_kept, settled_kept, recovered_kept, checkpointed_kept}
 use Rattle.net_laws.proofs.Effects.{drawn_later}
 use Rattle.net_laws.proofs.Volatiles.{nothing_kept}
@@ -51,9 +51,6 @@ no_burnt_key (suc k) (suc x) = no_burnt_key k x
 
 -- nothing covers a byte past those that are owned, and it is none of the hash key
 module _ (facts : List Fact) (own : List Owner) (frames : List Allocation) (got : ℕ) (o : IsOwned facts own frames got) where
-  no_cover : (x j : ℕ) → length own ≤ x → covers facts (slice_get frames j) x ≡ false
-  no_cover x j h = sym (o.frame x j) ∙ ap (is_frame j) (slice_get_past own x h)
-
   no_key : (x : ℕ) → length own ≤ x → (nat_lt x 8 && nat_lt 0 got) ≡ false
   no_key x h = sym (o.key x) ∙ ap is_key (slice_get_past own x h)
 
@@ -62,7 +59,7 @@ module _ (facts : List Fact) (own : List Owner) (frames : List Allocation) (got 
       record {
         frame = λ x j. elim (get_cases own (replicate k Burnt) x) [
           | inl (within, same) ↦ ap (is_frame j) same ∙ o.frame x j
-          | inr (m, at, same) ↦ ap (is_frame j) same ∙ no_burnt j k m ∙ sym (no_cover x j (omega (arith, at)))
+          | inr (m, at, same) ↦ ap (is_frame j) same ∙ no_burnt j k m ∙ sym (no_cover facts own frames got o x j (omega (arith, at)))
         ];
         key = λ x. elim (get_cases own (replicate k Burnt) x) [
           | inl (within, same) ↦ ap is_key same ∙ o.key x

@@ -18,6 +18,7 @@ use Rattle.net_model.specs.Invariant.{Conserved}
 use Rattle.net_model.specs.Action.{Environment, Outcome, is_device_fault}
 use Rattle.net_model.specs.Handle.{blocks_at, take_block}
 use Rattle.record_laws.proofs.Base.{below_from, by_test}
+use Rattle.record_laws.proofs.Walks.{take_block_walk}
 use Rattle.event_laws.specs.May.{decided}
 use Rattle.net_laws.proofs.Deciding.{MayResolve, handle_keeps, plain_takes}
 
@@ -38,12 +39,7 @@ module _ (net : Network) (w : World) (network : IsNetwork net) (c : Conserved ne
       (λ n f at secret. absurd (no_fact number bytes n f at)))
 
   pub take_block_keeps : (environment : Environment) → Conserved net (take_block net w v link environment).0
-  unfolding take_block
   take_block_keeps environment =
-      let P : World × Outcome → Type 0 = λ r. Conserved net r.0 in
-      let number : ℕ = blocks_at net w v link in
-      by_test P (not (w.up v)) _ _ (λ e. c)
-      (λ e. by_test P (number == 1024) _ _ (λ e2. c)
-      (λ not_full. by_test P (not (has_octets (net.device link) (1024 + 1024 * number))) _ _ (λ e2. c)
-      (λ e2. by_test P (is_device_fault environment) _ _ (λ e3. c)
-      (λ e3. handle_keeps net w network c v (Block link number (block_at (net.device link) number)) environment (λ up. block_decided (block_at (net.device link) number) not_full)))))
+      take_block_walk net w (Conserved net) c v link environment
+      (λ not_full. handle_keeps net w network c v (Block link (blocks_at net w v link) (block_at (net.device link) (blocks_at net w v link))) environment
+      (λ up. block_decided (block_at (net.device link) (blocks_at net w v link)) not_full))

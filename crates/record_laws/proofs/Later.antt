@@ -252,7 +252,7 @@ replay_owned s v (r ∷ rs) d frames unclaimed c m l =
     let rest = replay_owned s v rs (apply_record s v r d) frames unclaimed (apply_keeps s d frames unclaimed c v r m.0) m.1 l in
     omega (arith, one, rest)
 
-known_there : (s : Site) (d : Durable) (frames : Lane → List Allocation) (unclaimed : Lane → List Transmission) → Invariant s d frames unclaimed → (v : ℕ) →
+pub known_there : (s : Site) (d : Durable) (frames : Lane → List Allocation) (unclaimed : Lane → List Transmission) → Invariant s d frames unclaimed → (v : ℕ) →
     AreThere d.facts (d.known v)
 known_there s d frames unclaimed c v n h = let x = c.knowledge.each v n h in (x.fact, x.there)
 

@@ -114,7 +114,7 @@ module _ (net : Network) (w : World) (P : World → Type 0) (same : P w) where
     flip_walk number bit = flip_number_walk bit (slice_get (w.wire l) number)
 
 -- what whatever happens keeps, by the few changes that anything makes
-pub record IsKept (net : Network) (w : World) (P : World → Type 0) : Type 0 where
+pub record IsPreserved (net : Network) (w : World) (P : World → Type 0) : Type 0 where
   pub same : P w
   pub commits : (v octets : ℕ) (e : Effect) → P (commit net.site w v octets e)
   pub stops : (v octets : ℕ) (e : Effect) → P (stopped w v octets e)
@@ -127,7 +127,7 @@ pub record IsKept (net : Network) (w : World) (P : World → Type 0) : Type 0 wh
   pub crashes : (v : ℕ) → P (record w { up = number_set w.up v false; volatile = number_set w.volatile v no_volatile })
   pub links : (link : ℕ) (up : Bool) → P (record w { link_up = number_set w.link_up link up })
 
-module _ (net : Network) (w : World) (P : World → Type 0) (k : IsKept net w P) where
+module _ (net : Network) (w : World) (P : World → Type 0) (k : IsPreserved net w P) where
   any_effect : (v octets : ℕ) (environment : Environment) (e : Effect) → P (perform net w v octets environment e).0
   any_effect v octets environment e = perform_walk net w P k.same v octets environment e (λ numbered fits. k.stops v octets e) (λ numbered fits. k.commits v octets e)
 

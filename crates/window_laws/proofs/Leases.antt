@@ -11,7 +11,6 @@ use Rattle.net_model.specs.declared.fact.Fact.{Fact}
 use Rattle.net_model.specs.declared.record.Record.{Record}
 use Rattle.net_model.specs.declared.record.Record.TheVariants.{Lease}
 use Rattle.net_model.specs.Item.{need}
-use Rattle.net_model.specs.Site.{of_way}
 use Rattle.net_model.specs.World.{Network, World, Durable, Transmission, needs, received, planned}
 use Rattle.net_model.specs.Needed.{port_at}
 use Rattle.net_model.specs.View.{received_of}
@@ -19,9 +18,8 @@ use Rattle.net_model.specs.Records.{apply_record, replay}
 use Rattle.net_model.specs.Doubt.{MayReplay}
 use Rattle.net_model.specs.Plan.{wanted_on, that_fit, orders_on, end_on, raise, leases_on}
 use Rattle.net_model.specs.Invariant.{Conserved}
-use Rattle.record_laws.proofs.Base.{lane_eq_from, or_cases, not_both}
+use Rattle.record_laws.proofs.Base.{lane_eq_from, or_cases, not_both, lane_same}
 use Rattle.lane_laws.proofs.Blocks.{count_blocks}
-use Rattle.lane_laws.proofs.Lists.{lane_same}
 use Rattle.window_laws.proofs.Outgoing.{AreOutgoing}
 use Rattle.window_laws.proofs.Seen.{seen}
 use Rattle.window_laws.proofs.Wanted.{IsWanted, all_wanted, fitting}

@@ -6,8 +6,7 @@ use Rattle.std.proofs.lemmas.List.Folds.{list_any-append}
 use Rattle.qkd_base.specs.Lane.{lane_eq}
 use Rattle.qkd_base.specs.declared.lane.Lane.{Lane}
 use Rattle.net_model.specs.Windows.{has_place, PlacesDiffer}
-use Rattle.record_laws.proofs.Base.{eq_from, eq_same, lane_eq_from, and_left, and_right, and_both, or_left, or_right, or_first, or_second, or_both, not_false, not_both}
-use Rattle.lane_laws.proofs.Lists.{lane_same}
+use Rattle.record_laws.proofs.Base.{eq_from, eq_same, lane_eq_from, and_left, and_right, and_both, or_left, or_right, or_first, or_second, or_both, not_false, not_both, lane_same}
 
 abbrev Place : Type 0
 Place = Lane × ℕ
