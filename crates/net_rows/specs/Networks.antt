@@ -1,4 +1,4 @@
--- Lines of a scenario and of its report, and short forms of sites, networks, names and lanes.
+-- Short forms of sites, networks, names and lanes.
 use Rattle.std.specs.Prelude.{ℕ, zero, suc, ◌+◌, ◌==◌, ◌&&◌, Bool, List, [], ◌∷◌, ◌++◌, length, replicate, Some}
 use Rattle.std.specs.List.{list_any}
 use Rattle.qkd_base.specs.Name.{Name}
@@ -6,40 +6,18 @@ use Rattle.qkd_base.specs.declared.lane.Lane.{Lane}
 use Rattle.qkd_base.specs.declared.lane.Way.{Way}
 use Rattle.qkd_base.specs.declared.key_name.NameKind.{NameKind}
 use Rattle.qkd_base.specs.declared.key_name.NameKind.TheVariants.{Key, Stream, Note}
-use Rattle.net_model.specs.declared.event.Event.{Event}
 use Rattle.net_model.specs.declared.counts.Counts4.{Counts4}
-use Rattle.net_model.specs.declared.reply.Reply.TheVariants.{BadTag, Took}
+use Rattle.net_model.specs.declared.reply.Reply.TheVariants.{BadTag}
 use Rattle.net_model.specs.Facts.{payload_len}
 use Rattle.net_model.specs.Site.{Site}
 use Rattle.net_model.specs.Told.{told_list}
 use Rattle.net_model.specs.Sealing.{Sealing, Rejected, Forged}
 use Rattle.net_model.specs.World.{Network}
-use Rattle.net_model.specs.Action.{Environment, Action, Outcome, Replies}
 
--- what a line prints
-pub data Line : Type 0 where
-  Ticks : (node new again : ℕ) → Line
-  Short : (lane : Lane) (used wanted got : ℕ) → Line
-  Sends : (lane : Lane) (number offset size : ℕ) → Line
-  NotSent : (lane : Lane) (offset : ℕ) (for_memory : Bool) → Line
-  Passes : (lane : Lane) (number : ℕ) (outcome : Outcome) → Line
-  Counts : (lane : Lane) (counts : Counts4) → Line
-  Says : (outcome : Outcome) → Line
-
--- what a line asks for. A tick has an answer of the outside for its plan, and one for each of its puts
-pub data Command : Type 0 where
-  Bits : (link : ℕ) (low high : Bool) (count : ℕ) → Command
-  Asks : (node : ℕ) (event : Event) (environment : Environment) → Command
-  Tick : (node : ℕ) (plan puts : Environment) → Command
-  Settle : (rounds : ℕ) → Command
-  Pass : (lane : Lane) (number : ℕ) → Command
-  Do : (action : Action) → Command
-  Ledger : (node : ℕ) (lane : Lane) → Command
-
-abbrev pub at : {A : Type 0} → A → List A → ℕ → A
-at a [] n = a
-at a (x ∷ xs) zero = x
-at a (x ∷ xs) (suc n) = at a xs n
+abbrev pub nth : {A : Type 0} → A → List A → ℕ → A
+nth a [] n = a
+nth a (x ∷ xs) zero = x
+nth a (x ∷ xs) (suc n) = nth a xs n
 
 -- the number of nodes, the low and the high end of each link, the home of each application, the allowed pairs
 abbrev pub site : ℕ → List ℕ → List ℕ → List ℕ → List (ℕ × ℕ) → Site
@@ -47,9 +25,9 @@ site nodes low high home allowed =
     record {
       nodes = nodes;
       links = length low;
-      low = at 0 low;
-      high = at 0 high;
-      home = at 0 home;
+      low = nth 0 low;
+      high = nth 0 high;
+      home = nth 0 home;
       allowed = λ m s. list_any (λ (p : ℕ × ℕ). (p.0 == m) && (p.1 == s)) allowed;
     }
 
@@ -68,7 +46,7 @@ network s entropies =
       site = s;
       sealing = plain_frames;
       device = λ l. record { octet = λ i. 0; end = Some 1048576 };
-      entropy = λ v. told_list (at [] entropies v);
+      entropy = λ v. told_list (nth [] entropies v);
     }
 
 abbrev pub lane : ℕ → Way → Lane
@@ -93,11 +71,6 @@ note v n = a_name v Note n
 
 abbrev pub stream : ℕ → Name
 stream n = a_name 0 Stream n
-
--- so many blocks at both ends
-abbrev pub took_both : ℕ → List Line
-took_both zero = []
-took_both (suc n) = took_both n ++ Says (Replies (Took n)) ∷ Says (Replies (Took n)) ∷ []
 
 -- A and B with one link, the application 0 at A and 1 at B, who may share keys
 abbrev pub two_nodes : List ℕ → Network
