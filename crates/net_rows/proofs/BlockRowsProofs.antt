@@ -1,4 +1,4 @@
--- by hand: some rows are tuples, a merge or a run
+-- Some rows are tuples, one is a merge and one a run.
 use Rattle.std.proofs.Common.{refl}
 use Rattle.std.specs.Prelude.{[], ◌∷◌}
 use Rattle.net_model.specs.declared.event.Event.TheVariants.{Fill, Plan, Status}

@@ -1,4 +1,4 @@
--- by hand: some are tuples
+-- Some rows are tuples.
 use Rattle.std.proofs.Common.{refl}
 use Rattle.net_rows.specs.LoadRows.{SiteOfLoad, LoadOfOne, LaterRound}
 use Rattle.net_rows.proofs.Opened.{opened}
