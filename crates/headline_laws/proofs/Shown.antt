@@ -18,7 +18,7 @@ use Rattle.net_model.specs.Needed.{is_needed, view_of}
 use Rattle.net_model.specs.Show.{needed_bytes, shown_one, shown_part, shown_group, shown_at_target, bytes_shown, shown, show}
 use Rattle.net_model.specs.Decision.{Effect}
 use Rattle.net_model.specs.Decide.{decide, random_need}
-use Rattle.net_model.specs.Told.{tells}
+use Rattle.net_model.specs.OctetSequence.{has_octets}
 use Rattle.net_model.specs.Journal.{added_len, is_nil, journal_limit}
 use Rattle.net_model.specs.Action.{Environment, Ask, Outcome, Replies, is_no_memory, is_entropy_fault, is_io_fault}
 use Rattle.net_model.specs.Handle.{is_numbered, perform, handle}
@@ -188,7 +188,7 @@ performed_reply net w v octets environment e held ys =
     by_test P (is_no_memory environment || not (list_all is_numbered e.batch)) _ _ (λ x h. absurd (other_reply held ys Memory (not_memory held ys) h))
     (λ x. by_test P (nat_lt journal_limit ((w.journal v).length' + added)) _ _
     (λ y h. absurd (other_reply held ys (JournalFull (w.journal v).length' added) (not_full held ys (w.journal v).length' added) h))
-    (λ y. by_test P (nat_lt 0 octets && (not (tells (net.entropy v) (w.drawn v + octets)) || is_entropy_fault environment)) _ _
+    (λ y. by_test P (nat_lt 0 octets && (not (has_octets (net.entropy v) (w.drawn v + octets)) || is_entropy_fault environment)) _ _
     (λ z h. absurd (other_reply held ys NoRandom (not_random held ys) h))
     (λ z. by_test P (is_io_fault environment && not (is_nil e.batch)) _ _ (λ u h. absurd (other_reply held ys Stopped (not_stopped held ys) h)) (λ u h. same_reply held ys e.reply h))))
 

@@ -10,7 +10,7 @@ use Rattle.net_model.specs.declared.reply.Reply.TheVariants.{Down}
 use Rattle.net_model.specs.World.{Network, World}
 use Rattle.net_model.specs.Invariant.{Conserved}
 use Rattle.net_model.specs.Needed.{view_of}
-use Rattle.net_model.specs.Told.{octets_from}
+use Rattle.net_model.specs.OctetSequence.{octets_from}
 use Rattle.net_model.specs.Pools.{pool}
 use Rattle.net_model.specs.Groups.{group}
 use Rattle.net_model.specs.Decision.{Decision, Refuses, Does, Effect}

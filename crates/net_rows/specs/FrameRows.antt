@@ -1,7 +1,9 @@
 -- Changed and invented frames, and blocks of devices.
-use Rattle.std.specs.Prelude.{◌≡◌, ◌∷◌, ◌++◌, [], true, replicate}
+use Rattle.std.specs.Prelude.{◌≡◌, ◌∷◌, ◌++◌, [], true, replicate, map, false}
 use Rattle.qkd_base.specs.declared.lane.Way.TheVariants.{Up, Down}
 use Rattle.net_model.specs.Action.{DeviceFault}
+use Rattle.net_model.specs.declared.reply.Reply.TheVariants as replies
+use Rattle.net_model.specs.Sealing.{is_frame_refusal}
 use Rattle.scenario_lines.specs.declared.command.Command.TheVariants.{Bits, Fill, Tick, Pass, Flip, Forge, Crash, Ledger}
 use Rattle.scenario_lines.specs.declared.end.End.TheVariants.{Low, High}
 use Rattle.scenario_lines.specs.declared.end.Ends.TheVariants.{Both}
@@ -91,3 +93,11 @@ Blocks =
       Whole,
       true,
     )
+
+-- what octets that are no frame are refused with, and answers that they never get
+abbrev pub FrameRefusals : Type 0
+FrameRefusals =
+    map is_frame_refusal
+    (replies.BadFrame 0 ∷ replies.WrongLane 0 1 ∷ replies.NoBits 1024 ∷ replies.BadTag 1 2 ∷ replies.Down ∷ replies.Memory ∷ replies.Stopped ∷ replies.JournalFull 17 68 ∷ replies.NoRandom ∷
+    replies.Noted ∷ []) ≡
+    (true ∷ true ∷ true ∷ true ∷ false ∷ false ∷ false ∷ false ∷ false ∷ false ∷ [])

@@ -6,7 +6,7 @@ use Rattle.net_model.specs.World.{Journal, Network, World}
 use Rattle.net_model.specs.Needed.{view_of}
 use Rattle.net_model.specs.Journal.{checkpoint_need, recovered_journal, new_journal, body_len}
 use Rattle.net_model.specs.Action.{IoFault, Recovers, Interrupted, Recovery}
-use Rattle.scenario_lines.specs.declared.command.Command.TheVariants.{Bits, Fill, Settle, Start, Enc, Dec}
+use Rattle.scenario_lines.specs.declared.command.Command.TheVariants.{Bits, Fill, Settle, Crash, Start, Enc, Dec}
 use Rattle.scenario_lines.specs.declared.end.Ends.TheVariants.{Both}
 use Rattle.report_items.specs.declared.item.NumberedItem.{NumberedItem}
 use Rattle.run_model.specs.Play.{Whole, Ending}
@@ -71,14 +71,26 @@ Migration =
 -- a journal of version 1 whose stopped start made the checkpoint: the next start, which makes none, adds nothing more
 abbrev pub settled_journal : Bool → Journal
 settled_journal committed =
-    (ran_with (two_nodes (octets_on 0 32)) (record new_journal { version = 1 })
+    (ran_with (two_nodes (octets_on 0 32)) (record new_journal { length' = 85; version = 1 })
     (line_by (Fill 0 1 256 1) (Says IoFault ∷ []) ∷ start_by (Interrupted (Some committed)) ∷ start_by (Recovers committed) ∷ [])).world.journal 0
 
 abbrev pub CheckpointOnce : Type 0
 CheckpointOnce =
     (settled_journal true ∷ settled_journal false ∷ []) ≡
-    (record { length' = 154; start = 85; generation = 0; moved = true; version = 2 } ∷
-    record { length' = 51; start = 50; generation = 0; moved = true; version = 2 } ∷ [])
+    (record { length' = 222; start = 153; generation = 0; moved = true; version = 2 } ∷
+    record { length' = 86; start = 85; generation = 0; moved = true; version = 2 } ∷ [])
+
+-- a header and a closed gate of version 1 alone are a blank disk: a start makes a new journal of it, and no checkpoint
+abbrev pub blank_of_version_1 : Journal
+blank_of_version_1 = record new_journal { version = 1 }
+
+abbrev pub over_blank : List Step → Ran
+over_blank steps = ran_with (two_nodes (octets_on 0 32)) blank_of_version_1 steps
+
+abbrev pub BlankOfVersion1 : Type 0
+BlankOfVersion1 =
+    ((over_blank restart).world.journal 0 ∷ recovered_journal blank_of_version_1 1 ∷ [] ≡ new_journal ∷ blank_of_version_1 ∷ [])
+    × ((over_blank (line (Crash 0) ∷ start_by (Interrupted (Some false)) ∷ [])).legal ≡ false)
 
 -- a full journal is told before a short entropy, and a batch that just fits is not refused for it
 abbrev pub full_by : ℕ → List NumberedItem × Ending × Bool

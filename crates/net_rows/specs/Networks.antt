@@ -10,7 +10,7 @@ use Rattle.net_model.specs.declared.counts.Counts4.{Counts4}
 use Rattle.net_model.specs.declared.reply.Reply.TheVariants.{BadTag}
 use Rattle.net_model.specs.Facts.{payload_len}
 use Rattle.net_model.specs.Site.{Site}
-use Rattle.net_model.specs.Told.{told_list}
+use Rattle.net_model.specs.OctetSequence.{sequence_of}
 use Rattle.net_model.specs.Sealing.{Sealing, Rejected, Forged}
 use Rattle.net_model.specs.World.{Network}
 
@@ -46,7 +46,7 @@ network s entropies =
       site = s;
       sealing = plain_frames;
       device = λ l. record { octet = λ i. 0; end = Some 1048576 };
-      entropy = λ v. told_list (nth [] entropies v);
+      entropy = λ v. sequence_of (nth [] entropies v);
     }
 
 abbrev pub lane : ℕ → Way → Lane

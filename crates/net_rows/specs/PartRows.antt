@@ -8,14 +8,14 @@ use Rattle.net_model.specs.declared.event.Event.TheVariants.{Fill, Feed, Plan, F
 use Rattle.net_model.specs.declared.fact.Fact.{Fact}
 use Rattle.net_model.specs.declared.fact.Fact.TheVariants.{Key, Open, Part}
 use Rattle.net_model.specs.declared.order.Order.{Order}
-use Rattle.net_model.specs.declared.payload.Payload.TheVariants.{Told}
+use Rattle.net_model.specs.declared.payload.Payload.TheVariants.{Data}
 use Rattle.net_model.specs.declared.reply.Reply.{Reply}
 use Rattle.net_model.specs.declared.reply.Reply.TheVariants.{MadeKeys, Planned, Noted, PoolFull, HeardFact, NotAllowed, UnknownStream}
 use Rattle.net_model.specs.Item.{DataItem, AckItem}
 use Rattle.net_model.specs.Site.{count_up}
 use Rattle.net_model.specs.Routes.{route}
 use Rattle.qkd_base.specs.LaneBytes.{lane_octets}
-use Rattle.net_model.specs.Told.{first_blocks}
+use Rattle.net_model.specs.OctetSequence.{first_blocks}
 use Rattle.net_model.specs.Needed.{view_of}
 use Rattle.net_model.specs.View.{View}
 use Rattle.net_model.specs.World.{Network, Transmission, first}
@@ -28,9 +28,9 @@ use Rattle.net_rows.specs.Networks.{site, lane, key, note, stream, octets_on, tw
 abbrev pub order_of : ℕ → Transmission
 order_of n = record { lane = lane 0 Up; item = DataItem (key n); received_offset = None }
 
-abbrev pub told_key : ℕ → ℕ → Order
-told_key n offset =
-    record { lane = lane 0 Up; offset = offset; ack_of = None; payload = Told (Key (key n) 0 1 (0 ∷ 1 ∷ []) (octets_on (8 * (n - 1)) 8)) }
+abbrev pub ordered_key : ℕ → ℕ → Order
+ordered_key n offset =
+    record { lane = lane 0 Up; offset = offset; ack_of = None; payload = Data (Key (key n) 0 1 (0 ∷ 1 ∷ []) (octets_on (8 * (n - 1)) 8)) }
 
 abbrev pub planned_by : List Order → Outcome
 planned_by orders = Replies (Planned orders [] [])
@@ -50,7 +50,7 @@ TwoPlans =
     (Ask 0 (Fill 0 1 64 1) Ok ∷ Ask 0 Plan Ok ∷ Ask 0 (Fill 0 1 64 1) Ok ∷ Ask 0 Plan Ok ∷ Ask 0 Plan Ok ∷
     Allocate (order_of 2) ∷ Allocate (order_of 1) ∷ Transmit (lane 0 Up) 1 Ok ∷ Transmit (lane 0 Up) 0 Ok ∷ Complete 0 ∷
     Ask 0 Plan Ok ∷ Deliver (lane 0 Up) 0 Ok ∷ []) ≡ (
-      Replies (MadeKeys 1 (key 1)) ∷ planned_by (told_key 1 8 ∷ []) ∷ Replies (MadeKeys 1 (key 2)) ∷ planned_by (told_key 2 50 ∷ []) ∷ planned_by [] ∷
+      Replies (MadeKeys 1 (key 1)) ∷ planned_by (ordered_key 1 8 ∷ []) ∷ Replies (MadeKeys 1 (key 2)) ∷ planned_by (ordered_key 2 50 ∷ []) ∷ planned_by [] ∷
           Allocated 8 ∷ Allocated 50 ∷ Put 0 ∷ Put 1 ∷ Replies Noted ∷ planned_by [] ∷ Replies (HeardFact true 1 (key 1)) ∷ [],
       true,
     )

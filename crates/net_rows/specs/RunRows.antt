@@ -212,7 +212,7 @@ Refusals =
 
 -- a link of which both ends hold all blocks
 abbrev pub filled : World → World
-filled w = record w { durable = record (w.durable) { low_blocks = λ l. 1024; high_blocks = λ l. 1024 } }
+filled w = record w { durable = record (w.durable) { blocks = λ l. 1024 } }
 
 abbrev pub FullLink : Type 0
 FullLink =

@@ -1,5 +1,8 @@
 -- Runs that several rows speak of.
-use Rattle.std.specs.Prelude.{◌∷◌, [], List}
+use Rattle.std.specs.Prelude.{◌∷◌, [], false, List}
+use Rattle.net_model.specs.declared.event.Event.TheVariants as events
+use Rattle.net_model.specs.Action.{Ok, Recovers, Action, TakeBlock, Ask}
+use Rattle.net_model.specs.Action as actions
 use Rattle.scenario_lines.specs.declared.command.Command.TheVariants.{Bits, Fill, Settle, Crash, Start}
 use Rattle.scenario_lines.specs.declared.end.Ends.TheVariants.{Both}
 use Rattle.net_rows.specs.Row.{line, Step}
@@ -10,3 +13,10 @@ restart = line (Crash 0) ∷ line (Start 0) ∷ []
 -- one key over one link, to its end
 abbrev pub one_key : List Step
 one_key = line (Bits 0 Both 2) ∷ line (Fill 0 1 256 1) ∷ line (Settle 10) ∷ []
+
+-- as actions: both nodes started, and then one key planned and nothing claimed yet
+abbrev pub started : List Action
+started = actions.Start 0 (Recovers false) ∷ actions.Start 1 (Recovers false) ∷ []
+
+abbrev pub planned_only : List Action
+planned_only = TakeBlock 0 0 Ok ∷ TakeBlock 1 0 Ok ∷ TakeBlock 0 0 Ok ∷ TakeBlock 1 0 Ok ∷ Ask 0 (events.Fill 0 1 256 1) Ok ∷ Ask 0 events.Plan Ok ∷ []

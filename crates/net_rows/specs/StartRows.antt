@@ -1,14 +1,23 @@
 -- Crashes, stops and starts.
-use Rattle.std.specs.Prelude.{◌≡◌, ◌∷◌, ◌++◌, [], true}
+use Rattle.std.specs.Prelude.{◌≡◌, ◌∷◌, ◌++◌, [], true, ℕ, ◌+◌, ◌==◌, ◌&&◌, nat_le, Bool, List, map, false}
 use Rattle.qkd_base.specs.declared.lane.Way.TheVariants.{Up, Down}
 use Rattle.net_model.specs.Action.{IoFault, Recovers}
+use Rattle.net_model.specs.declared.reply.Reply.{Reply}
+use Rattle.net_model.specs.declared.reply.Reply.TheVariants.{Counted}
+use Rattle.net_model.specs.Site.{count_up, outgoing_lane}
+use Rattle.net_model.specs.World.{World, first, planned}
+use Rattle.net_model.specs.View.{port_of}
+use Rattle.net_model.specs.Needed.{view_of}
+use Rattle.net_model.specs.Show.{counted_of}
+use Rattle.net_model.specs.Step.{run}
+use Rattle.net_rows.specs.Runs.{restart, one_key, started, planned_only}
 use Rattle.scenario_lines.specs.declared.command.Command.TheVariants.{Bits, Fill, Tick, Settle, Pass, Crash, Start, Cut, Fail, Enc, Status, Ledger}
 use Rattle.scenario_lines.specs.declared.end.Ends.TheVariants.{Both}
 use Rattle.scenario_lines.specs.declared.image.Image.TheVariants.{Lost, Kept}
 use Rattle.report_items.specs.declared.frame_result.FrameResult.TheVariants.{Taken, Again}
 use Rattle.run_model.specs.Play.{Whole}
 use Rattle.net_rows.specs.Networks.{lane, key, note, counts, octets_on, two_nodes}
-use Rattle.net_rows.specs.Row.{row, line, line_by, at, took, Says, Finds}
+use Rattle.net_rows.specs.Row.{row, line, line_by, at, took, Says, Finds, ran}
 use Rattle.report_items.specs.declared.item.Item.TheVariants as items
 use Rattle.report_items.specs.declared.payload_kind.PayloadKind.TheVariants as kinds
 use Rattle.report_items.specs.declared.refusal.Refusal.TheVariants as refusals
@@ -222,3 +231,22 @@ NewLife =
       Whole,
       true,
     )
+
+-- a manager's own count adds up, and what a start gave up is planned: before and after starts, also those that give up a lease
+
+abbrev pub adds_up : Reply → Bool
+adds_up (Counted c) = c.received == c.unused + c.spent + c.burnt
+adds_up _ = false
+
+abbrev pub is_counted : World → ℕ → Bool
+is_counted w v =
+    adds_up (counted_of (port_of (view_of (two_nodes (octets_on 0 32)) w v) 0)) && nat_le (w.recovered (outgoing_lane (two_nodes []).site v 0)) (planned w (outgoing_lane (two_nodes []).site v 0))
+
+abbrev pub counted_after : World → List Bool
+counted_after w = map (is_counted w) (count_up 2)
+
+abbrev pub OwnCounts : Type 0
+OwnCounts =
+    (counted_after (ran (two_nodes (octets_on 0 32)) []).world ++ counted_after (ran (two_nodes (octets_on 0 32)) one_key).world ++
+    counted_after (ran (two_nodes (octets_on 0 32)) (one_key ++ restart)).world ++ counted_after (run (two_nodes (octets_on 0 32)) first (started ++ planned_only))) ≡
+    (true ∷ true ∷ true ∷ true ∷ true ∷ true ∷ true ∷ true ∷ [])

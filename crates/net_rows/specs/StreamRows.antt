@@ -1,13 +1,14 @@
 -- Streams.
 use Rattle.std.specs.Prelude.{◌≡◌, ◌∷◌, ◌++◌, [], true, false, Some, None}
 use Rattle.qkd_base.specs.declared.lane.Way.TheVariants.{Up, Down}
-use Rattle.scenario_lines.specs.declared.command.Command.TheVariants.{Bits, Feed, Settle, LinkUp, LinkDown, Stream}
+use Rattle.qkd_base.specs.declared.key_name.NameKind.TheVariants.{Stream as StreamKind}
+use Rattle.scenario_lines.specs.declared.command.Command.TheVariants.{Bits, Fill, Feed, Settle, LinkUp, LinkDown, Stream}
 use Rattle.scenario_lines.specs.declared.end.Ends.TheVariants.{Both}
 use Rattle.scenario_lines.specs.declared.stream_call.StreamCall.TheVariants.{Open, Join, Get, Close}
 use Rattle.report_items.specs.declared.frame_result.FrameResult.TheVariants.{Taken}
 use Rattle.report_items.specs.declared.stream_answer.StreamAnswer.TheVariants.{OpenConnect, GetKey}
 use Rattle.run_model.specs.Play.{Whole}
-use Rattle.net_rows.specs.Networks.{lane, key, note, stream, octets_on, two_nodes, with_third}
+use Rattle.net_rows.specs.Networks.{a_name, lane, key, note, stream, octets_on, two_nodes, with_third}
 use Rattle.net_rows.specs.Row.{row, line, at, took, chunk}
 use Rattle.report_items.specs.declared.stream_answer.StreamAnswer.TheVariants as answers
 use Rattle.report_items.specs.declared.item.Item.TheVariants as items
@@ -139,6 +140,20 @@ Joining =
           at 24 (items.Stream (answers.Close 0)) ∷
           at 25 (items.Stream (GetKey 9 None)) ∷
           at 26 (items.Stream (OpenConnect 9 None)) ∷ []),
+      Whole,
+      true,
+    )
+
+-- a name of any kind may be fed: it is no stream here
+abbrev pub FedByAnyName : Type 0
+FedByAnyName =
+    row (two_nodes (octets_on 0 8))
+    (line (Bits 0 Both 2) ∷ line (Fill 0 1 64 1) ∷ line (Feed (key 1) 1) ∷ line (Feed (note 0 7) 128) ∷ line (Feed (a_name 1 StreamKind 1) 2) ∷ []) ≡ (
+      took 1 0 2 ++
+          (at 2 (items.Made 1 (key 1)) ∷
+          at 3 (items.Refused refusals.UnknownStream) ∷
+          at 4 (items.Refused refusals.UnknownStream) ∷
+          at 5 (items.Refused refusals.UnknownStream) ∷ []),
       Whole,
       true,
     )

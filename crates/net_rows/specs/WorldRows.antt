@@ -20,7 +20,7 @@ use Rattle.report_items.specs.declared.start_result.StartResult.TheVariants as s
 use Rattle.run_model.specs.Play.{Whole}
 use Rattle.net_rows.specs.Networks.{lane, key, octets_on, two_nodes}
 use Rattle.net_rows.specs.Row.{line, line_by, at, Says, Finds, Step, Ran, ran, row_down}
-use Rattle.net_rows.specs.Runs.{restart, one_key}
+use Rattle.net_rows.specs.Runs.{restart, one_key, started, planned_only}
 
 -- a manager that crashed or stopped keeps nothing of its life
 
@@ -67,13 +67,6 @@ is_lane_right w l = list_all (is_owned_right w l) (count_up 200) && has_room w l
 
 abbrev pub lanes_right : World → Bool
 lanes_right w = list_all (is_lane_right w) (lane 0 Up ∷ lane 0 Down ∷ [])
-
-abbrev pub started : List Action
-started = actions.Start 0 (Recovers false) ∷ actions.Start 1 (Recovers false) ∷ []
-
--- both nodes started, and then one key planned and nothing claimed yet
-abbrev pub planned_only : List Action
-planned_only = TakeBlock 0 0 Ok ∷ TakeBlock 1 0 Ok ∷ TakeBlock 0 0 Ok ∷ TakeBlock 1 0 Ok ∷ Ask 0 (events.Fill 0 1 256 1) Ok ∷ Ask 0 Plan Ok ∷ []
 
 abbrev pub Ownership : Type 0
 Ownership =
@@ -141,5 +134,5 @@ Illegal =
     (Ask 0 (events.Fill 0 1 100 1) Ok ∷ []) ∷ (Ask 0 (events.Fill 0 1 56 1) Ok ∷ []) ∷ (Ask 0 (events.Fill 0 1 4104 1) Ok ∷ []) ∷ (Ask 0 (events.Fill 0 1 256 0) Ok ∷ []) ∷
     (Ask 0 (events.Fill 0 1 256 129) Ok ∷ []) ∷ (Ask 0 (events.Enc 0 1 129 256) Ok ∷ []) ∷ (Ask 1 (events.Dec 1 0 []) Ok ∷ []) ∷
     (Ask 0 (events.FillGroup 0 (1 ∷ []) 256 1) Ok ∷ []) ∷ (Ask 0 (events.FillGroup 0 (2 ∷ 1 ∷ []) 256 1) Ok ∷ []) ∷ (Ask 0 (events.EncGroup 0 (1 ∷ 1 ∷ []) 1 256) Ok ∷ []) ∷
-    (Ask 0 (events.Feed (key 1) 1) Ok ∷ []) ∷ (Ask 0 (events.Block 0 0 (replicate 1024 0)) Ok ∷ []) ∷ (Ask 0 (Note []) Ok ∷ []) ∷ (Ask 2 (events.Status 0 1) Ok ∷ []) ∷
-    (TakeBlock 0 1 Ok ∷ []) ∷ (actions.Forge (lane 0 Up) [] Ok ∷ []) ∷ (SetLink 1 true ∷ []) ∷ []) ≡ replicate 34 false
+    (Ask 0 (events.Block 0 0 (replicate 1024 0)) Ok ∷ []) ∷ (Ask 0 (Note []) Ok ∷ []) ∷ (Ask 2 (events.Status 0 1) Ok ∷ []) ∷
+    (TakeBlock 0 1 Ok ∷ []) ∷ (actions.Forge (lane 0 Up) [] Ok ∷ []) ∷ (SetLink 1 true ∷ []) ∷ []) ≡ replicate 33 false

@@ -16,15 +16,15 @@ use Rattle.scenario_lines.specs.declared.command.Command.TheVariants.{Tick}
 use Rattle.run_model.specs.Works.{Work, asked_by, plain_work}
 use Rattle.net_rows.specs.Row.{no_http}
 use Rattle.net_rows.proofs.Opened.{opened}
-use Rattle.net_witness.specs.Witness.{here, Runs, Tells, Hands, Doubts, Blocks, BlocksOfLines, block_start, parts, works}
+use Rattle.net_witness.specs.Witness.{here, Runs, Relays, Hands, Doubts, Blocks, BlocksOfLines, block_start, parts, works}
 
 pub runs : Runs
 unfolding opened
 runs = refl
 
-pub tells : Tells
+pub relays : Relays
 unfolding opened
-tells = refl
+relays = refl
 
 pub hands : Hands
 unfolding opened deliveries

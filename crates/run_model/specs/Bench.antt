@@ -2,7 +2,7 @@
 use Rattle.std.specs.Prelude.{◌≡◌, ◌⊎◌, ℕ, ◌+◌, ◌≤◌, List, [], ◌∷◌, length, Option, Some, None}
 use Rattle.qkd_base.specs.declared.lane.Lane.{Lane}
 use Rattle.net_model.specs.declared.record.Record.{Record}
-use Rattle.net_model.specs.Told.{Told, told_list}
+use Rattle.net_model.specs.OctetSequence.{OctetSequence, sequence_of}
 use Rattle.net_model.specs.Sealing.{Sealing}
 use Rattle.net_model.specs.Action.{Fault}
 use Rattle.run_model.specs.Turn.{HttpTexts}
@@ -19,9 +19,9 @@ pub record Sources : Type 0 where
   pub entropies : ℕ → Option (List ℕ)
 
 -- what doesn't tell its octets has some
-abbrev pub Tells : Option (List ℕ) → Told → Type 0
+abbrev pub Tells : Option (List ℕ) → OctetSequence → Type 0
 Tells None stream = Unit {0}
-Tells (Some octets) stream = stream ≡ told_list octets
+Tells (Some octets) stream = stream ≡ sequence_of octets
 
 -- a count of faults before the call and after it, and the last value of its counter, where it stands still
 pub record Count : Type 0 where
