@@ -1,12 +1,12 @@
 -- Blocks of lines that several workers do, and what runs leave.
-use Rattle.std.specs.Prelude.{◌≡◌, ◌∷◌, ◌++◌, ℕ, ◌&&◌, [], Bool, true, false, List, length, map, not, filter, Some, None}
+use Rattle.std.specs.Prelude.{◌≡◌, ◌∷◌, ◌++◌, ℕ, ◌&&◌, [], Bool, true, false, List, length, map, not, Some, None}
 use Rattle.std.specs.List.{list_all}
 use Rattle.qkd_base.specs.declared.lane.Lane.{Lane}
 use Rattle.qkd_base.specs.declared.lane.Way.TheVariants.{Up, Down}
 use Rattle.net_model.specs.declared.event.Event.TheVariants as events
 use Rattle.net_model.specs.Item.{DataItem, AckItem}
 use Rattle.net_model.specs.Site.{count_up}
-use Rattle.net_model.specs.World.{Network, World, Transmission, first}
+use Rattle.net_model.specs.World.{Network, World, first}
 use Rattle.net_model.specs.View.{View, Port}
 use Rattle.net_model.specs.Needed.{view_of}
 use Rattle.net_model.specs.Fold.{view_restarted, recovered_view}
@@ -17,7 +17,6 @@ use Rattle.net_model.specs.Action as actions
 use Rattle.net_model.specs.BlockOrder.{IsMerge}
 use Rattle.scenario_lines.specs.declared.command.Command.{Command}
 use Rattle.scenario_lines.specs.declared.command.Command.TheVariants.{Bits, Fill, Tick, Settle, Pass, Crash, Start, Cut, Fail, Enc, Dec, Status, Http}
-use Rattle.scenario_lines.specs.declared.end.End.TheVariants.{Low, High}
 use Rattle.scenario_lines.specs.declared.end.Ends.TheVariants.{Both}
 use Rattle.scenario_lines.specs.declared.end.Ends.TheVariants as ends
 use Rattle.scenario_lines.specs.declared.entry.Entry.TheVariants as entries
@@ -33,7 +32,6 @@ use Rattle.run_model.specs.Report.{IsRunOf, Acts, tasks}
 use Rattle.run_model.specs.Left.{wire_octets, batches_made, to_masters, to_slaves}
 use Rattle.net_rows.specs.Networks.{lane, key, note, octets_on, two_nodes, two_spokes}
 use Rattle.net_rows.specs.Row.{Says, Finds, Well, Step, Block, Ran, line, line_by, at, took, row, ran, no_http, numbered_lines}
-use Rattle.net_rows.specs.Runs.{one_key}
 
 abbrev pub work : ℕ → Action → Work
 work place action = record { place = place; action = action }

@@ -1,9 +1,8 @@
 -- The generated load of one round.
-use Rattle.std.specs.Prelude.{◌≡◌, ◌∷◌, ◌++◌, ℕ, ◌+◌, ◌*◌, ◌==◌, not, [], true, List, length, map}
+use Rattle.std.specs.Prelude.{◌≡◌, ◌∷◌, ℕ, ◌+◌, ◌*◌, ◌==◌, not, [], true, List, length, map}
 use Rattle.std.specs.List.{flat_map}
 use Rattle.qkd_base.specs.declared.lane.Way.TheVariants.{Up, Down}
 use Rattle.qkd_base.specs.declared.key_name.NameKind.TheVariants.{Key}
-use Rattle.net_model.specs.Site.{count_up}
 use Rattle.net_model.specs.World.{Network, first}
 use Rattle.net_model.specs.Deliveries.{deliveries}
 use Rattle.declared_site.specs.SiteOf.{site_of}

@@ -1,5 +1,5 @@
 -- Short forms of sites, networks, names and lanes.
-use Rattle.std.specs.Prelude.{ℕ, zero, suc, ◌+◌, ◌==◌, ◌&&◌, Bool, List, [], ◌∷◌, ◌++◌, length, replicate, Some}
+use Rattle.std.specs.Prelude.{ℕ, zero, suc, ◌+◌, ◌==◌, ◌&&◌, List, [], ◌∷◌, length, replicate, Some}
 use Rattle.std.specs.List.{list_any}
 use Rattle.qkd_base.specs.Name.{Name}
 use Rattle.qkd_base.specs.declared.lane.Lane.{Lane}

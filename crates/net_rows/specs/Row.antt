@@ -1,7 +1,5 @@
 -- Rows: a scenario with what the outside answers in it, and what it reports, computed by the report of a run.
-use Rattle.std.specs.Prelude.{ℕ, zero, suc, ◌+◌, Bool, List, [], ◌∷◌, ◌++◌, length, map, drop, Some}
-use Rattle.std.specs.List.{flat_map}
-use Rattle.net_model.specs.declared.event.Event.{Event}
+use Rattle.std.specs.Prelude.{ℕ, zero, suc, ◌+◌, Bool, List, [], ◌∷◌, ◌++◌, length, map, drop}
 use Rattle.net_model.specs.Site.{count_up}
 use Rattle.net_model.specs.World.{Network, World, first}
 use Rattle.net_model.specs.Action.{Action, Environment, Recovery, Start, TakeBlock, Ask, Transmit, Deliver, Flip, Forge}

@@ -1,17 +1,17 @@
 -- What lines report where the outside fails, where nodes are down, and how a run ends.
-use Rattle.std.specs.Prelude.{◌≡◌, ◌∷◌, ◌++◌, ℕ, ◌==◌, [], Bool, true, false, List, map, replicate, Some, None, if◌then◌else◌}
+use Rattle.std.specs.Prelude.{◌≡◌, ◌∷◌, ◌++◌, ℕ, ◌==◌, [], true, false, List, map, replicate, Some, None, if◌then◌else◌}
 use Rattle.qkd_base.specs.declared.lane.Way.TheVariants.{Up, Down}
 use Rattle.net_model.specs.declared.event.Event.TheVariants as events
 use Rattle.net_model.specs.declared.reply.Reply.{Reply}
 use Rattle.net_model.specs.declared.reply.Reply.TheVariants as replies
-use Rattle.net_model.specs.Sealing.{Opened, Rejected}
+use Rattle.net_model.specs.Sealing.{Rejected}
 use Rattle.net_model.specs.World.{Network, World, first}
-use Rattle.net_model.specs.Action.{IoFault, OutOfMemory, DeviceFault, EntropyFault, Recovers, Interrupted, Foreign, NoMemory as NoMemory'}
+use Rattle.net_model.specs.Action.{IoFault, OutOfMemory, DeviceFault, EntropyFault, Interrupted, Foreign, NoMemory as NoMemory'}
 use Rattle.scenario_lines.specs.declared.command.Command.TheVariants.{Bits, Fill, Feed, Tick, Settle, Pass, Flip, Forge, Crash, Start, Cut, Fail, LinkUp, LinkDown, Enc, Dec, Status, Http, Stream, Show, Ledger, FillGroup, EncGroup}
 use Rattle.scenario_lines.specs.declared.end.End.TheVariants.{Low, High}
 use Rattle.scenario_lines.specs.declared.end.Ends.TheVariants.{Both}
 use Rattle.scenario_lines.specs.declared.end.Ends.TheVariants as ends
-use Rattle.scenario_lines.specs.declared.image.Image.TheVariants.{Lost, Kept, Torn}
+use Rattle.scenario_lines.specs.declared.image.Image.TheVariants.{Torn}
 use Rattle.scenario_lines.specs.declared.stream_call.StreamCall.TheVariants.{Open}
 use Rattle.report_items.specs.declared.refusal.Refusal.TheVariants as refusals
 use Rattle.report_items.specs.declared.payload_kind.PayloadKind.TheVariants as kinds
@@ -19,12 +19,11 @@ use Rattle.report_items.specs.declared.frame_result.FrameResult.TheVariants.{Tak
 use Rattle.report_items.specs.declared.start_result.StartResult.TheVariants as starts
 use Rattle.report_items.specs.declared.unsent_cause.UnsentCause.TheVariants as causes
 use Rattle.report_items.specs.declared.item.Item.TheVariants as items
-use Rattle.report_items.specs.declared.item.NumberedItem.{NumberedItem}
 use Rattle.run_model.specs.Refusals.{refused_by}
 use Rattle.run_model.specs.Turn.{HttpTexts, Request, AnswersAtOnce, Calls}
-use Rattle.run_model.specs.Play.{Ending, Whole, ForgedAt, NoMemory}
+use Rattle.run_model.specs.Play.{Whole, ForgedAt, NoMemory}
 use Rattle.net_rows.specs.Networks.{lane, key, note, stream, octets_on, two_nodes, two_spokes, trusting}
-use Rattle.net_rows.specs.Row.{Well, Says, Finds, Begin, One, Step, line, line_by, at, took, row, row_down, ran, ran_from, starting, reported, no_http}
+use Rattle.net_rows.specs.Row.{Well, Says, Finds, Begin, line, line_by, at, took, row, row_down, ran, ran_from, starting, reported, no_http}
 
 -- A start at the beginning is stopped: that is reported under the number of its node's line, and what is asked of the node answers down until it
 -- is started.
