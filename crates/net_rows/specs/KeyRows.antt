@@ -1,14 +1,16 @@
 -- Keys of one master and one slave.
-use Rattle.std.specs.Prelude.{◌≡◌, ◌∷◌, ◌++◌, [], true}
+use Rattle.std.specs.Prelude.{◌≡◌, ◌∷◌, ◌++◌, [], true, replicate}
 use Rattle.qkd_base.specs.declared.lane.Way.TheVariants.{Up, Down}
 use Rattle.net_model.specs.declared.held.Held.TheVariants.{Absent, Given, Ready, Made, Kept as KeptKey}
 use Rattle.net_model.specs.Action.{OutOfMemory, EntropyFault}
+use Rattle.net_model.specs.declared.fact.Fact.TheVariants.{Key as FactKey}
+use Rattle.net_model.specs.World.{World}
 use Rattle.scenario_lines.specs.declared.command.Command.TheVariants.{Bits, Fill, Tick, Settle, Pass, Enc, Dec, Status, Show}
 use Rattle.scenario_lines.specs.declared.end.Ends.TheVariants.{Both}
 use Rattle.report_items.specs.declared.frame_result.FrameResult.TheVariants.{Taken}
 use Rattle.run_model.specs.Play.{Whole}
 use Rattle.net_rows.specs.Networks.{lane, key, note, octets_on, two_nodes}
-use Rattle.net_rows.specs.Row.{row, line, line_by, at, took, Says}
+use Rattle.net_rows.specs.Row.{row, line, line_by, at, took, Says, ran, ran_from, no_http, reported}
 use Rattle.report_items.specs.declared.item.Item.TheVariants as items
 use Rattle.report_items.specs.declared.payload_kind.PayloadKind.TheVariants as kinds
 use Rattle.report_items.specs.declared.refusal.Refusal.TheVariants as refusals
@@ -236,6 +238,18 @@ ShortEntropy =
           at 4 (items.Refused refusals.Memory) ∷
           at 5 (items.Made 3 (key 1)) ∷
           at 6 (items.Refused refusals.NoRandom) ∷ []),
+      Whole,
+      true,
+    )
+
+-- a pool that is full: 4,096 keys of it are known, in a world that is made for it
+abbrev pub crowded : World → World
+crowded w = record w { durable = record (w.durable) { facts = FactKey (key 1) 0 1 (0 ∷ 1 ∷ []) (replicate 8 0) ∷ []; known = λ v. replicate 4096 (key 1) } }
+
+abbrev pub FullPool : Type 0
+FullPool =
+    reported (ran_from no_http (two_nodes (octets_on 0 16)) (crowded (ran (two_nodes (octets_on 0 16)) []).world) (line (Fill 0 1 64 1) ∷ line (Fill 0 1 128 1) ∷ [])) ≡ (
+      at 1 (items.Refused refusals.PoolFull) ∷ at 2 (items.Made 1 (key 2)) ∷ [],
       Whole,
       true,
     )

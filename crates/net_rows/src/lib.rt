@@ -4,7 +4,7 @@
 
 ghost use Rattle.net_rows.specs.TickRows.{OneKey, EmptyLanes, HeardAgain, AnyOrder, FullLane, ShortLane, FewBytes, RefusedPut, Ages, ManyRepeats, DownLink};
 ghost use Rattle.net_rows.specs.RelayRows.{Relay, RelayCrash};
-ghost use Rattle.net_rows.specs.KeyRows.{Pools, Faults, Entitled, NotReady, ShownKeys, ShortEntropy};
+ghost use Rattle.net_rows.specs.KeyRows.{Pools, Faults, Entitled, NotReady, ShownKeys, ShortEntropy, FullPool};
 ghost use Rattle.net_rows.specs.StreamRows.{Streams, Joining, FedByAnyName};
 ghost use Rattle.net_rows.specs.StartRows.{Leases, PlanCommitted, PlanLost, HandingCommitted, HandingLost, DrawnStays, NewLife, OwnCounts};
 ghost use Rattle.net_rows.specs.GroupRows.{GroupKey, GroupWaits, GroupNames, TwoAtHome};
@@ -46,6 +46,7 @@ pub fn key_rows()
     ensures not_ready { NotReady }
     ensures shown_keys { ShownKeys }
     ensures short_entropy { ShortEntropy }
+    ensures full_pool { FullPool }
 {}
 
 /// Streams come out as written.
