@@ -8,3 +8,4 @@ pub mod Outcomes
 pub mod Succeeds
 pub mod Shown
 pub mod Keys
+pub mod Nothing

@@ -18,6 +18,7 @@ ghost use Rattle.run_model.specs.Report.{Task, Performed, report, actions_of, Is
 ghost use Rattle.run_model.specs.Bench.{Layers};
 ghost use Rattle.run_model.specs.Course.{Words, Course, tasks_of, workers_of, whole_run, AreServed};
 ghost use Rattle.run_model.specs.Keys.{KeysAndBytes};
+ghost use Rattle.headline_laws.specs.Nothing.{NothingIsDone};
 
 use conserved_laws::{
     law_bytes_are_drawn, law_handed_to_entitled, law_no_byte_masks_two, law_received_is_counted,
@@ -55,4 +56,12 @@ pub fn law_keys_and_bytes()
     law_received_is_counted();
     law_deliveries_true();
     law_run_keeps();
+}
+
+/// A scenario that declares nothing and asks for nothing has its headline: an empty report, and all parts of the bench as they were. So no field
+/// contradicts another.
+pub fn law_headline_is_met()
+    ensures { NothingIsDone }
+{
+    law_keys_and_bytes();
 }
