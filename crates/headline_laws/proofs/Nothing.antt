@@ -1,14 +1,12 @@
 -- Nothing that is declared is a site, and nothing that is done is a run with a headline.
-use Rattle.std.proofs.Common.{◌≡◌, ◌∙◌, ◌⊎◌, inl, inr, ℕ, ◌+◌, ◌<◌, ◌≤◌, true, false, List, [], ◌++◌, length, refl, sym, subst, Option, Some, None, arith}
+use Rattle.std.proofs.Common.{◌≡◌, inl, ℕ, ◌+◌, ◌<◌, ◌≤◌, true, List, [], ◌++◌, length, refl, sym, subst, Some, None, arith}
 use Rattle.std.specs.Prelude.{is_some}
 use Rattle.std.specs.FinSet.{contains-empty}
 use Rattle.std.proofs.lemmas.List.Sums.{count_by-le-length}
-use Rattle.qkd_base.specs.declared.lane.Lane.{Lane}
 use Rattle.net_model.specs.OctetSequence.{OctetSequence}
 use Rattle.net_model.specs.Sealing.{IsSealing}
-use Rattle.net_model.specs.Site.{Site}
-use Rattle.net_model.specs.Premises.{IsSite, IsLink, IsAllowed, IsNetwork}
-use Rattle.net_model.specs.World.{Network, first}
+use Rattle.net_model.specs.Premises.{IsSite, IsNetwork}
+use Rattle.net_model.specs.World.{first}
 use Rattle.net_model.specs.Faults.{disk_faults, entropy_faults, device_faults, wire_faults, armings}
 use Rattle.net_model.specs.Step.{run, is_run, IsRun}
 use Rattle.route_table.specs.Table.{no_links}

@@ -1,5 +1,5 @@
 -- A scenario that declares nothing and asks for nothing, and a bench that it leaves as it was.
-use Rattle.std.specs.Prelude.{List, [], Some, None}
+use Rattle.std.specs.Prelude.{[], Some, None}
 use Rattle.route_table.specs.Table.{no_links}
 use Rattle.sae_entitlements.specs.Grants.{none}
 use Rattle.declared_site.specs.declared.site.Site.{Site}

@@ -1,9 +1,9 @@
 -- A network that meets the premises of the laws, with runs and a block of it.
 use Rattle.std.specs.Prelude.{◌≡◌, true, List, [], ◌∷◌, ◌++◌, length, None}
 use Rattle.qkd_base.specs.declared.lane.Way.TheVariants.{Up, Down}
-use Rattle.net_model.specs.declared.event.Event.TheVariants.{Fill, Enc, Dec, Plan}
+use Rattle.net_model.specs.declared.event.Event.TheVariants.{Plan}
 use Rattle.net_model.specs.World.{Network, World, first}
-use Rattle.net_model.specs.Action.{Action, Ok, IoFault, Ask, Allocate, Transmit, Start, Recovers}
+use Rattle.net_model.specs.Action.{Action, Ok, IoFault, Ask, Allocate, Transmit, Recovers}
 use Rattle.net_model.specs.Step.{IsRun, run}
 use Rattle.net_model.specs.Deliveries.{deliveries, pairs_of}
 use Rattle.net_model.specs.BlockOrder.{Parts, IsBlock}
