@@ -19,7 +19,7 @@ use Rattle.block_laws.proofs.Views.{SameFor, same_for, same_for_then}
 use Rattle.block_laws.proofs.Turns.{turn_same, turn_unseen}
 
 module _ (net : Network) (network : IsNetwork net) where
-  kept : (xs : List Action) (w : World) → Conserved net w → IsRun net w xs → Conserved net (run net w xs)
+  pub kept : (xs : List Action) (w : World) → Conserved net w → IsRun net w xs → Conserved net (run net w xs)
   kept [] w c h = subst (λ (v : World). Conserved net v) (sym (run_none net w)) c
   kept (x ∷ xs) w c h =
       subst (λ (v : World). Conserved net v) (sym (run_one net w x xs))
@@ -33,7 +33,7 @@ module _ (net : Network) (network : IsNetwork net) where
   enabled_same v a b _ turn = absurd (cc)
 
   -- a node's history goes on in the other world as it was made
-  own_history : (v : ℕ) (xs : List Action) (a b : World) → Conserved net a → Conserved net b → SameFor net v a b → list_all (is_turn_of net.site v) xs ≡ true →
+  pub own_history : (v : ℕ) (xs : List Action) (a b : World) → Conserved net a → Conserved net b → SameFor net v a b → list_all (is_turn_of net.site v) xs ≡ true →
       IsRun net a xs → IsRun net b xs
   own_history v [] a b c d h turns r = nothing_runs net b
   own_history v (x ∷ xs) a b c d h turns r =
@@ -49,7 +49,7 @@ module _ (net : Network) (network : IsNetwork net) where
       (and_right (is_turn_of net.site v x) (list_all (is_turn_of net.site v) xs) turns) (later_steps net a x xs r))
 
   -- and no other node sees it
-  other_history : (v u : ℕ) → v ≢ u → (xs : List Action) (w : World) → Conserved net w → list_all (is_turn_of net.site u) xs ≡ true → IsRun net w xs → SameFor net v w (run net w xs)
+  pub other_history : (v u : ℕ) → v ≢ u → (xs : List Action) (w : World) → Conserved net w → list_all (is_turn_of net.site u) xs ≡ true → IsRun net w xs → SameFor net v w (run net w xs)
   other_history v u apart [] w c turns r = subst (λ (x : World). SameFor net v w x) (sym (run_none net w)) (same_for net v w)
   other_history v u apart (x ∷ xs) w c turns r =
       let turn = and_left (is_turn_of net.site u x) (list_all (is_turn_of net.site u) xs) turns in
@@ -60,7 +60,7 @@ module _ (net : Network) (network : IsNetwork net) where
       (other_history v u apart xs (step net w x).0 (step_keeps net w x network now c) (and_right (is_turn_of net.site u x) (list_all (is_turn_of net.site u) xs) turns)
       (later_steps net w x xs r)))
 
-  histories_run : (w : World) → Conserved net w → (hs : List (List Action)) (v : ℕ) (b : World) → Conserved net b → ((k : ℕ) → v ≤ k → SameFor net k w b) → AreChains net w v hs →
+  pub histories_run : (w : World) → Conserved net w → (hs : List (List Action)) (v : ℕ) (b : World) → Conserved net b → ((k : ℕ) → v ≤ k → SameFor net k w b) → AreChains net w v hs →
       IsRun net b (flat_map (λ h. h) hs)
   histories_run w c [] v b d same chains = nothing_runs net b
   histories_run w c (h ∷ hs) v b d same chains =

@@ -1,5 +1,5 @@
 use Rattle.std.proofs.Common.{refl}
-use Rattle.net_rows.specs.JournalRows.{Checkpoints, CheckpointInDoubt, Migration, CheckpointOnce, FullJournal, HandingRuns, UsedKeys, BlankOfVersion1}
+use Rattle.net_rows.specs.JournalRows.{Checkpoints, CheckpointInDoubt, Migration, CheckpointOnce, BlankOfVersion1, FullJournal, HandingRuns, UsedKeys}
 use Rattle.net_rows.proofs.Opened.{opened}
 
 pub checkpoints : Checkpoints
@@ -18,6 +18,10 @@ pub checkpoint_once : CheckpointOnce
 unfolding opened
 checkpoint_once = refl
 
+pub blank_of_version_1 : BlankOfVersion1
+unfolding opened
+blank_of_version_1 = (refl, refl)
+
 pub full_journal : FullJournal
 unfolding opened
 full_journal = refl
@@ -29,7 +33,3 @@ handing_runs = refl
 pub used_keys : UsedKeys
 unfolding opened
 used_keys = refl
-
-pub blank_of_version_1 : BlankOfVersion1
-unfolding opened
-blank_of_version_1 = refl

@@ -1,5 +1,5 @@
 use Rattle.std.proofs.Common.{refl}
-use Rattle.net_rows.specs.KeyRows.{Pools, Faults, Entitled, NotReady, ShownKeys, ShortEntropy}
+use Rattle.net_rows.specs.KeyRows.{Pools, Faults, Entitled, NotReady, ShownKeys, ShortEntropy, FullPool}
 use Rattle.net_rows.proofs.Opened.{opened}
 
 pub pools : Pools
@@ -25,3 +25,7 @@ shown_keys = refl
 pub short_entropy : ShortEntropy
 unfolding opened
 short_entropy = refl
+
+pub full_pool : FullPool
+unfolding opened
+full_pool = refl

@@ -10,3 +10,6 @@ pub mod JournalRowsProofs
 pub mod WorldRowsProofs
 pub mod ManagerRowsProofs
 pub mod PartRowsProofs
+pub mod RunRowsProofs
+pub mod BlockRowsProofs
+pub mod LoadRowsProofs

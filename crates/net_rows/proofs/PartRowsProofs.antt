@@ -1,5 +1,5 @@
 use Rattle.std.proofs.Common.{refl}
-use Rattle.net_rows.specs.PartRows.{TwoPlans, AckedMeanwhile, FullPools, Walks, LaneBytes}
+use Rattle.net_rows.specs.PartRows.{TwoPlans, AckedMeanwhile, FullPools, AskedElsewhere, Walks, LaneBytes}
 use Rattle.net_rows.proofs.Opened.{opened}
 
 pub two_plans : TwoPlans
@@ -13,6 +13,10 @@ acked_meanwhile = refl
 pub full_pools : FullPools
 unfolding opened
 full_pools = refl
+
+pub asked_elsewhere : AskedElsewhere
+unfolding opened
+asked_elsewhere = refl
 
 pub walks : Walks
 unfolding opened

@@ -1,5 +1,5 @@
 use Rattle.std.proofs.Common.{refl}
-use Rattle.net_rows.specs.TickRows.{OneKey, EmptyLanes, HeardAgain, AnyOrder, FullLane, ShortLane, FewBytes, RefusedPut, Ages, ManyRepeats, LinkDown}
+use Rattle.net_rows.specs.TickRows.{OneKey, EmptyLanes, HeardAgain, AnyOrder, FullLane, ShortLane, FewBytes, RefusedPut, Ages, ManyRepeats, DownLink}
 use Rattle.net_rows.proofs.Opened.{opened}
 
 pub one_key : OneKey
@@ -42,6 +42,6 @@ pub many_repeats : ManyRepeats
 unfolding opened
 many_repeats = refl
 
-pub link_down : LinkDown
+pub down_link : DownLink
 unfolding opened
-link_down = refl
+down_link = refl

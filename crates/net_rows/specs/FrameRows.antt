@@ -1,86 +1,96 @@
 -- Changed and invented frames, and blocks of devices.
-use Rattle.std.specs.Prelude.{◌≡◌, true, false, [], ◌∷◌, ◌++◌, map, replicate}
+use Rattle.std.specs.Prelude.{◌≡◌, ◌∷◌, ◌++◌, [], true, replicate, map, false}
 use Rattle.qkd_base.specs.declared.lane.Way.TheVariants.{Up, Down}
-use Rattle.net_model.specs.declared.event.Event.TheVariants.{Fill}
-use Rattle.net_model.specs.declared.reply.Reply.TheVariants.{MadeKeys, HeardFact, Counted, Down as IsDown, BadFrame, WrongLane, NoBits, BadTag, Memory, Stopped, JournalFull, NoRandom, Noted}
+use Rattle.net_model.specs.Action.{DeviceFault}
+use Rattle.net_model.specs.declared.reply.Reply.TheVariants as replies
 use Rattle.net_model.specs.Sealing.{is_frame_refusal}
-use Rattle.net_model.specs.Action.{Ok, DeviceFault, Crash, TakeBlock, Flip, Forge, Replies, Crashed, NoBlock, DeviceFailed, NoFrame, NoBit, ForgedMatch}
-use Rattle.net_rows.specs.Lines.{Ticks, Sends, Passes, Counts, Says, Bits, Asks, Tick, Pass, Do, Ledger, lane, key, counts, octets_on, took_both, two_nodes, trusting, short_device}
-use Rattle.net_rows.specs.Driver.{report}
+use Rattle.scenario_lines.specs.declared.command.Command.TheVariants.{Bits, Fill, Tick, Pass, Flip, Forge, Crash, Ledger}
+use Rattle.scenario_lines.specs.declared.end.End.TheVariants.{Low, High}
+use Rattle.scenario_lines.specs.declared.end.Ends.TheVariants.{Both}
+use Rattle.report_items.specs.declared.frame_result.FrameResult.TheVariants.{Taken, Refused}
+use Rattle.run_model.specs.Play.{Whole, ForgedAt}
+use Rattle.net_rows.specs.Networks.{lane, key, counts, octets_on, two_nodes, trusting, short_device}
+use Rattle.net_rows.specs.Row.{row, line, line_by, at, took, Says}
+use Rattle.scenario_lines.specs.declared.end.Ends.TheVariants as ends
+use Rattle.report_items.specs.declared.item.Item.TheVariants as items
+use Rattle.report_items.specs.declared.payload_kind.PayloadKind.TheVariants as kinds
+use Rattle.report_items.specs.declared.refusal.Refusal.TheVariants as refusals
 
 -- a changed bit is refused by what opening gives; one that makes another frame of the wire is a pass of that frame
 abbrev pub Tampered : Type 0
 Tampered =
-    report (two_nodes (octets_on 0 60))
-    (Bits 0 true true 2 ∷
-    Asks 0 (Fill 0 1 240 2) Ok ∷
-    Tick 0 Ok Ok ∷
-    Do (Flip (lane 0 Up) 0 639 Ok) ∷
-    Do (Flip (lane 0 Up) 0 640 Ok) ∷
-    Do (Flip (lane 0 Up) 2 0 Ok) ∷
-    Do (Flip (lane 0 Up) 0 1 Ok) ∷
-    Do (Forge (lane 0 Up) (8 ∷ replicate 79 0) Ok) ∷
-    Do (Forge (lane 0 Up) (8 ∷ replicate 78 0) Ok) ∷
-    Do (Crash 1) ∷
-    Do (Flip (lane 0 Up) 2 0 Ok) ∷
-    Do (Flip (lane 0 Up) 0 640 Ok) ∷
-    Do (Flip (lane 0 Up) 0 639 Ok) ∷
-    Pass (lane 0 Up) 2 ∷
-    Pass (lane 0 Up) 0 ∷ []) ≡ (
-      took_both 2 ++
-          (Says (Replies (MadeKeys 2 (key 1))) ∷
-          Ticks 0 2 0 ∷
-          Sends (lane 0 Up) 0 8 56 ∷
-          Sends (lane 0 Up) 1 72 56 ∷
-          Says (Replies (BadTag 80 1024)) ∷
-          Says (NoBit 640) ∷
-          Says (NoFrame 2) ∷
-          Says (Replies (HeardFact true 1 (key 2))) ∷
-          Says (Replies (HeardFact true 1 (key 1))) ∷
-          Says (Replies (BadTag 79 1024)) ∷
-          Says Crashed ∷
-          Says (NoFrame 2) ∷
-          Says (NoBit 640) ∷
-          Says (Replies IsDown) ∷
-          Passes (lane 0 Up) 2 (NoFrame 2) ∷
-          Passes (lane 0 Up) 0 (Replies IsDown) ∷ []),
+    row (two_nodes (octets_on 0 60))
+    (line (Bits 0 Both 2) ∷
+    line (Fill 0 1 240 2) ∷
+    line (Tick 0) ∷
+    line (Flip (lane 0 Up) 0 639) ∷
+    line (Flip (lane 0 Up) 0 640) ∷
+    line (Flip (lane 0 Up) 2 0) ∷
+    line (Flip (lane 0 Up) 0 1) ∷
+    line (Forge (lane 0 Up) (8 ∷ replicate 79 0)) ∷
+    line (Forge (lane 0 Up) (8 ∷ replicate 78 0)) ∷
+    line (Crash 1) ∷
+    line (Flip (lane 0 Up) 2 0) ∷
+    line (Flip (lane 0 Up) 0 640) ∷
+    line (Flip (lane 0 Up) 0 639) ∷
+    line (Pass (lane 0 Up) 2) ∷
+    line (Pass (lane 0 Up) 0) ∷ []) ≡ (
+      took 1 0 2 ++
+          (at 2 (items.Made 2 (key 1)) ∷
+          at 3 (items.Ticked 0 2 0) ∷
+          at 3 (items.Sent (lane 0 Up) 0 8 56) ∷
+          at 3 (items.Sent (lane 0 Up) 1 72 56) ∷
+          at 4 (items.Flipped (lane 0 Up) 0 639 (Refused (refusals.BadTag 80 1024))) ∷
+          at 5 (items.Flipped (lane 0 Up) 0 640 (Refused (refusals.NoBit 640))) ∷
+          at 6 (items.Flipped (lane 0 Up) 2 0 (Refused (refusals.NoFrame 2))) ∷
+          at 7 (items.Flipped (lane 0 Up) 0 1 (Taken kinds.Key (key 2))) ∷
+          at 8 (items.Forged (lane 0 Up) (Taken kinds.Key (key 1))) ∷
+          at 9 (items.Forged (lane 0 Up) (Refused (refusals.BadTag 79 1024))) ∷
+          at 10 items.Crashed ∷
+          at 11 (items.Flipped (lane 0 Up) 2 0 (Refused (refusals.NoFrame 2))) ∷
+          at 12 (items.Flipped (lane 0 Up) 0 640 (Refused (refusals.NoBit 640))) ∷
+          at 13 (items.Flipped (lane 0 Up) 0 639 (Refused refusals.Down)) ∷
+          at 14 (items.Passed (lane 0 Up) 2 (Refused (refusals.NoFrame 2))) ∷
+          at 15 (items.Passed (lane 0 Up) 0 (Refused refusals.Down)) ∷ []),
+      Whole,
       true,
     )
 
 -- octets that nobody put and that open end the run, at a receiver that is up
 abbrev pub ForgedFrames : Type 0
 ForgedFrames =
-    report (trusting (octets_on 0 60))
-    (Bits 0 true true 2 ∷
-    Do (Forge (lane 0 Up) (1 ∷ []) Ok) ∷
-    Do (Crash 1) ∷
-    Do (Forge (lane 0 Up) (1 ∷ []) Ok) ∷ []) ≡ (
-      took_both 2 ++
-          (Says ForgedMatch ∷
-          Says Crashed ∷
-          Says (Replies IsDown) ∷ []),
+    row (trusting (octets_on 0 60))
+    (line (Bits 0 Both 2) ∷
+    line (Forge (lane 0 Up) (1 ∷ [])) ∷
+    line (Crash 1) ∷
+    line (Forge (lane 0 Up) (1 ∷ [])) ∷ []) ≡ (
+      took 1 0 2,
+      ForgedAt 2,
       true,
     )
 
 -- a block is the next of its device; a device that fails or has no further one, a down manager, and both ends
 abbrev pub Blocks : Type 0
 Blocks =
-    report (short_device (octets_on 0 0))
-    (Do (TakeBlock 0 0 DeviceFault) ∷
-    Bits 0 true true 3 ∷
-    Do (TakeBlock 0 0 Ok) ∷
-    Do (Crash 0) ∷
-    Do (TakeBlock 0 0 Ok) ∷
-    Ledger 1 (lane 0 Down) ∷ []) ≡ (
-      (Says DeviceFailed ∷ []) ++
-          took_both 2 ++
-          (Says NoBlock ∷
-          Says NoBlock ∷
-          Says NoBlock ∷
-          Says Crashed ∷
-          Says (Replies IsDown) ∷
-          Says (Replies (Counted (counts 1024 1016 8 0))) ∷
-          Counts (lane 0 Down) (counts 1024 1016 8 0) ∷ []),
+    row (short_device (octets_on 0 0))
+    (line_by (Bits 0 ends.Low 1) (Says DeviceFault ∷ []) ∷
+    line (Bits 0 Both 3) ∷
+    line (Bits 0 ends.Low 1) ∷
+    line (Crash 0) ∷
+    line (Bits 0 ends.Low 1) ∷
+    line (Ledger (lane 0 Down)) ∷ []) ≡ (
+      at 1 (items.TookNone 0 Low refusals.DeviceFault) ∷
+          at 2 (items.Took 0 Low 0) ∷
+          at 2 (items.Took 0 High 0) ∷
+          at 2 (items.Took 0 Low 1) ∷
+          at 2 (items.Took 0 High 1) ∷
+          at 2 (items.TookNone 0 Low refusals.NoBlock) ∷
+          at 2 (items.TookNone 0 High refusals.NoBlock) ∷
+          at 3 (items.TookNone 0 Low refusals.NoBlock) ∷
+          at 4 items.Crashed ∷
+          at 5 (items.TookNone 0 Low refusals.Down) ∷
+          at 6 (items.Counted (lane 0 Down) (counts 1024 1016 8 0)) ∷ [],
+      Whole,
       true,
     )
 
@@ -88,5 +98,6 @@ Blocks =
 abbrev pub FrameRefusals : Type 0
 FrameRefusals =
     map is_frame_refusal
-    (BadFrame 0 ∷ WrongLane 0 1 ∷ NoBits 1024 ∷ BadTag 1 2 ∷ IsDown ∷ Memory ∷ Stopped ∷ JournalFull 17 68 ∷ NoRandom ∷ Noted ∷ []) ≡
+    (replies.BadFrame 0 ∷ replies.WrongLane 0 1 ∷ replies.NoBits 1024 ∷ replies.BadTag 1 2 ∷ replies.Down ∷ replies.Memory ∷ replies.Stopped ∷ replies.JournalFull 17 68 ∷ replies.NoRandom ∷
+    replies.Noted ∷ []) ≡
     (true ∷ true ∷ true ∷ true ∷ false ∷ false ∷ false ∷ false ∷ false ∷ false ∷ [])

@@ -1,164 +1,167 @@
 -- Group keys.
-use Rattle.std.specs.Prelude.{◌≡◌, true, false, [], ◌∷◌, ◌++◌}
+use Rattle.std.specs.Prelude.{◌≡◌, ◌∷◌, ◌++◌, [], true, false}
 use Rattle.qkd_base.specs.declared.lane.Way.TheVariants.{Up, Down}
-use Rattle.net_model.specs.declared.event.Event.TheVariants.{Fill, Dec, Show, FillGroup, EncGroup}
 use Rattle.net_model.specs.declared.held.Held.TheVariants.{Absent, Given, Ready, Made, Kept as KeptKey}
-use Rattle.net_model.specs.declared.reply.Reply.TheVariants.{MadeKeys, HeardFact, Handed, Shown, Counted, NotAllowed, NoRoute, Few, Unknown, AlreadyHanded}
-use Rattle.net_model.specs.Action.{Ok, Recovers, Start, SetLink, Replies, WasUp, LinkSet}
-use Rattle.net_rows.specs.Lines.{Ticks, Sends, Passes, Counts, Says, Bits, Asks, Tick, Settle, Pass, Do, Ledger, lane, key, note, counts, octets_on, took_both, two_spokes, one_spoke}
-use Rattle.net_rows.specs.Driver.{report}
+use Rattle.scenario_lines.specs.declared.command.Command.TheVariants.{Bits, Fill, Tick, Settle, Pass, Start, LinkDown, Dec, Show, Ledger, FillGroup, EncGroup}
+use Rattle.scenario_lines.specs.declared.end.Ends.TheVariants.{Both}
+use Rattle.report_items.specs.declared.frame_result.FrameResult.TheVariants.{Taken}
+use Rattle.run_model.specs.Play.{Whole}
+use Rattle.net_rows.specs.Networks.{lane, key, note, counts, octets_on, two_spokes, one_spoke}
+use Rattle.net_rows.specs.Row.{row, line, at, took}
+use Rattle.report_items.specs.declared.item.Item.TheVariants as items
+use Rattle.report_items.specs.declared.payload_kind.PayloadKind.TheVariants as kinds
+use Rattle.report_items.specs.declared.refusal.Refusal.TheVariants as refusals
+use Rattle.report_items.specs.declared.start_result.StartResult.TheVariants as starts
 
 -- one key for two slaves at two nodes: its parts, its ledgers, handed to the master and to each slave once
 abbrev pub GroupKey : Type 0
 GroupKey =
-    report (two_spokes (octets_on 0 32))
-    (Bits 0 true true 2 ∷
-    Bits 1 true true 2 ∷
-    Asks 0 (FillGroup 0 (1 ∷ 2 ∷ []) 256 1) Ok ∷
-    Asks 0 (Show (key 1)) Ok ∷
-    Settle 10 ∷
-    Ledger 0 (lane 0 Up) ∷
-    Ledger 1 (lane 0 Down) ∷
-    Ledger 0 (lane 1 Up) ∷
-    Ledger 2 (lane 1 Down) ∷
-    Asks 0 (Show (key 1)) Ok ∷
-    Asks 1 (Show (key 1)) Ok ∷
-    Asks 1 (Show (key 2)) Ok ∷
-    Asks 0 (EncGroup 0 (1 ∷ 2 ∷ []) 1 256) Ok ∷
-    Asks 0 (EncGroup 0 (1 ∷ 2 ∷ []) 1 256) Ok ∷
-    Asks 0 (Show (key 1)) Ok ∷
-    Asks 1 (Dec 1 0 ((key 1) ∷ [])) Ok ∷
-    Asks 2 (Dec 2 0 ((key 1) ∷ [])) Ok ∷
-    Asks 1 (Dec 1 0 ((key 2) ∷ [])) Ok ∷
-    Asks 1 (Dec 1 0 ((key 1) ∷ [])) Ok ∷
-    Asks 1 (Show (key 1)) Ok ∷ []) ≡ (
-      took_both 2 ++
-          took_both 2 ++
-          (Says (Replies (MadeKeys 1 (key 1))) ∷
-          Says (Replies (Shown Made (octets_on 0 32))) ∷
-          Ticks 0 2 0 ∷
-          Sends (lane 0 Up) 0 8 74 ∷
-          Sends (lane 1 Up) 0 8 74 ∷
-          Passes (lane 0 Up) 0 (Replies (HeardFact true 7 (key 2))) ∷
-          Passes (lane 1 Up) 0 (Replies (HeardFact true 7 (key 3))) ∷
-          Ticks 1 2 0 ∷
-          Sends (lane 0 Down) 0 8 17 ∷
-          Sends (lane 0 Down) 1 33 36 ∷
-          Ticks 2 2 0 ∷
-          Sends (lane 1 Down) 0 8 17 ∷
-          Sends (lane 1 Down) 1 33 36 ∷
-          Passes (lane 0 Down) 0 (Replies (HeardFact true 3 (key 2))) ∷
-          Passes (lane 0 Down) 1 (Replies (HeardFact true 2 (note 1 1))) ∷
-          Passes (lane 1 Down) 0 (Replies (HeardFact true 3 (key 3))) ∷
-          Passes (lane 1 Down) 1 (Replies (HeardFact true 2 (note 2 1))) ∷
-          Ticks 0 2 0 ∷
-          Sends (lane 0 Up) 1 90 17 ∷
-          Sends (lane 1 Up) 1 90 17 ∷
-          Passes (lane 0 Up) 1 (Replies (HeardFact true 3 (note 1 1))) ∷
-          Passes (lane 1 Up) 1 (Replies (HeardFact true 3 (note 2 1))) ∷
-          Says (Replies (Counted (counts 1024 909 115 0))) ∷
-          Counts (lane 0 Up) (counts 1024 909 115 0) ∷
-          Says (Replies (Counted (counts 1024 947 77 0))) ∷
-          Counts (lane 0 Down) (counts 1024 947 77 0) ∷
-          Says (Replies (Counted (counts 1024 909 115 0))) ∷
-          Counts (lane 1 Up) (counts 1024 909 115 0) ∷
-          Says (Replies (Counted (counts 1024 947 77 0))) ∷
-          Counts (lane 1 Down) (counts 1024 947 77 0) ∷
-          Says (Replies (Shown Ready (octets_on 0 32))) ∷
-          Says (Replies (Shown KeptKey (octets_on 0 32))) ∷
-          Says (Replies (Shown Absent [])) ∷
-          Says (Replies (Handed (((key 1), (octets_on 0 32)) ∷ []))) ∷
-          Says (Replies (Few 0)) ∷
-          Says (Replies (Shown Given [])) ∷
-          Says (Replies (Handed (((key 1), (octets_on 0 32)) ∷ []))) ∷
-          Says (Replies (Handed (((key 1), (octets_on 0 32)) ∷ []))) ∷
-          Says (Replies (Unknown 0)) ∷
-          Says (Replies (AlreadyHanded 0)) ∷
-          Says (Replies (Shown Given [])) ∷ []),
+    row (two_spokes (octets_on 0 32))
+    (line (Bits 0 Both 2) ∷
+    line (Bits 1 Both 2) ∷
+    line (FillGroup 0 256 1 (1 ∷ 2 ∷ [])) ∷
+    line (Show 0 (key 1)) ∷
+    line (Settle 10) ∷
+    line (Ledger (lane 0 Up)) ∷
+    line (Ledger (lane 0 Down)) ∷
+    line (Ledger (lane 1 Up)) ∷
+    line (Ledger (lane 1 Down)) ∷
+    line (Show 0 (key 1)) ∷
+    line (Show 1 (key 1)) ∷
+    line (Show 1 (key 2)) ∷
+    line (EncGroup 0 0 1 256 (1 ∷ 2 ∷ [])) ∷
+    line (EncGroup 0 0 1 256 (1 ∷ 2 ∷ [])) ∷
+    line (Show 0 (key 1)) ∷
+    line (Dec 1 1 0 ((key 1) ∷ [])) ∷
+    line (Dec 2 2 0 ((key 1) ∷ [])) ∷
+    line (Dec 1 1 0 ((key 2) ∷ [])) ∷
+    line (Dec 1 1 0 ((key 1) ∷ [])) ∷
+    line (Show 1 (key 1)) ∷ []) ≡ (
+      took 1 0 2 ++
+          took 2 1 2 ++
+          (at 3 (items.Made 1 (key 1)) ∷
+          at 4 (items.Shown 0 (key 1) Made (octets_on 0 32)) ∷
+          at 5 (items.Ticked 0 2 0) ∷
+          at 5 (items.Sent (lane 0 Up) 0 8 74) ∷
+          at 5 (items.Sent (lane 1 Up) 0 8 74) ∷
+          at 5 (items.Passed (lane 0 Up) 0 (Taken kinds.Part (key 2))) ∷
+          at 5 (items.Passed (lane 1 Up) 0 (Taken kinds.Part (key 3))) ∷
+          at 5 (items.Ticked 1 2 0) ∷
+          at 5 (items.Sent (lane 0 Down) 0 8 17) ∷
+          at 5 (items.Sent (lane 0 Down) 1 33 36) ∷
+          at 5 (items.Ticked 2 2 0) ∷
+          at 5 (items.Sent (lane 1 Down) 0 8 17) ∷
+          at 5 (items.Sent (lane 1 Down) 1 33 36) ∷
+          at 5 (items.Passed (lane 0 Down) 0 (Taken kinds.Ack (key 2))) ∷
+          at 5 (items.Passed (lane 0 Down) 1 (Taken kinds.Stored (note 1 1))) ∷
+          at 5 (items.Passed (lane 1 Down) 0 (Taken kinds.Ack (key 3))) ∷
+          at 5 (items.Passed (lane 1 Down) 1 (Taken kinds.Stored (note 2 1))) ∷
+          at 5 (items.Ticked 0 2 0) ∷
+          at 5 (items.Sent (lane 0 Up) 1 90 17) ∷
+          at 5 (items.Sent (lane 1 Up) 1 90 17) ∷
+          at 5 (items.Passed (lane 0 Up) 1 (Taken kinds.Ack (note 1 1))) ∷
+          at 5 (items.Passed (lane 1 Up) 1 (Taken kinds.Ack (note 2 1))) ∷
+          at 6 (items.Counted (lane 0 Up) (counts 1024 909 115 0)) ∷
+          at 7 (items.Counted (lane 0 Down) (counts 1024 947 77 0)) ∷
+          at 8 (items.Counted (lane 1 Up) (counts 1024 909 115 0)) ∷
+          at 9 (items.Counted (lane 1 Down) (counts 1024 947 77 0)) ∷
+          at 10 (items.Shown 0 (key 1) Ready (octets_on 0 32)) ∷
+          at 11 (items.Shown 1 (key 1) KeptKey (octets_on 0 32)) ∷
+          at 12 (items.Shown 1 (key 2) Absent []) ∷
+          at 13 (items.Keys (((key 1), (octets_on 0 32)) ∷ [])) ∷
+          at 14 (items.Refused (refusals.Few 0)) ∷
+          at 15 (items.Shown 0 (key 1) Given []) ∷
+          at 16 (items.Keys (((key 1), (octets_on 0 32)) ∷ [])) ∷
+          at 17 (items.Keys (((key 1), (octets_on 0 32)) ∷ [])) ∷
+          at 18 (items.Refused (refusals.Unknown 0)) ∷
+          at 19 (items.Refused (refusals.Handed 0)) ∷
+          at 20 (items.Shown 1 (key 1) Given []) ∷ []),
+      Whole,
       true,
     )
 
 -- a part that is not confirmed keeps the group key from its master, and from no slave that has its own
 abbrev pub GroupWaits : Type 0
 GroupWaits =
-    report (two_spokes (octets_on 0 32))
-    (Bits 0 true true 2 ∷
-    Bits 1 true true 2 ∷
-    Asks 0 (FillGroup 0 (1 ∷ 2 ∷ []) 256 1) Ok ∷
-    Tick 0 Ok Ok ∷
-    Pass (lane 0 Up) 0 ∷
-    Tick 1 Ok Ok ∷
-    Pass (lane 0 Down) 0 ∷
-    Pass (lane 0 Down) 1 ∷
-    Asks 0 (EncGroup 0 (1 ∷ 2 ∷ []) 1 256) Ok ∷
-    Asks 1 (Dec 1 0 ((key 1) ∷ [])) Ok ∷
-    Asks 2 (Dec 2 0 ((key 1) ∷ [])) Ok ∷ []) ≡ (
-      took_both 2 ++
-          took_both 2 ++
-          (Says (Replies (MadeKeys 1 (key 1))) ∷
-          Ticks 0 2 0 ∷
-          Sends (lane 0 Up) 0 8 74 ∷
-          Sends (lane 1 Up) 0 8 74 ∷
-          Passes (lane 0 Up) 0 (Replies (HeardFact true 7 (key 2))) ∷
-          Ticks 1 2 0 ∷
-          Sends (lane 0 Down) 0 8 17 ∷
-          Sends (lane 0 Down) 1 33 36 ∷
-          Passes (lane 0 Down) 0 (Replies (HeardFact true 3 (key 2))) ∷
-          Passes (lane 0 Down) 1 (Replies (HeardFact true 2 (note 1 1))) ∷
-          Says (Replies (Few 0)) ∷
-          Says (Replies (Handed (((key 1), (octets_on 0 32)) ∷ []))) ∷
-          Says (Replies (Unknown 0)) ∷ []),
+    row (two_spokes (octets_on 0 32))
+    (line (Bits 0 Both 2) ∷
+    line (Bits 1 Both 2) ∷
+    line (FillGroup 0 256 1 (1 ∷ 2 ∷ [])) ∷
+    line (Tick 0) ∷
+    line (Pass (lane 0 Up) 0) ∷
+    line (Tick 1) ∷
+    line (Pass (lane 0 Down) 0) ∷
+    line (Pass (lane 0 Down) 1) ∷
+    line (EncGroup 0 0 1 256 (1 ∷ 2 ∷ [])) ∷
+    line (Dec 1 1 0 ((key 1) ∷ [])) ∷
+    line (Dec 2 2 0 ((key 1) ∷ [])) ∷ []) ≡ (
+      took 1 0 2 ++
+          took 2 1 2 ++
+          (at 3 (items.Made 1 (key 1)) ∷
+          at 4 (items.Ticked 0 2 0) ∷
+          at 4 (items.Sent (lane 0 Up) 0 8 74) ∷
+          at 4 (items.Sent (lane 1 Up) 0 8 74) ∷
+          at 5 (items.Passed (lane 0 Up) 0 (Taken kinds.Part (key 2))) ∷
+          at 6 (items.Ticked 1 2 0) ∷
+          at 6 (items.Sent (lane 0 Down) 0 8 17) ∷
+          at 6 (items.Sent (lane 0 Down) 1 33 36) ∷
+          at 7 (items.Passed (lane 0 Down) 0 (Taken kinds.Ack (key 2))) ∷
+          at 8 (items.Passed (lane 0 Down) 1 (Taken kinds.Stored (note 1 1))) ∷
+          at 9 (items.Refused (refusals.Few 0)) ∷
+          at 10 (items.Keys (((key 1), (octets_on 0 32)) ∷ [])) ∷
+          at 11 (items.Refused (refusals.Unknown 0)) ∷ []),
+      Whole,
       true,
     )
 
 -- a group key takes a count, and its parts the next ones; another key goes after them
 abbrev pub GroupNames : Type 0
 GroupNames =
-    report (two_spokes (octets_on 0 96))
-    (Asks 0 (FillGroup 0 (1 ∷ 2 ∷ []) 256 2) Ok ∷
-    Asks 0 (Fill 0 1 256 1) Ok ∷
-    Asks 0 (EncGroup 0 (1 ∷ 2 ∷ []) 1 128) Ok ∷
-    Asks 1 (EncGroup 0 (1 ∷ 2 ∷ []) 1 256) Ok ∷
-    Asks 1 (FillGroup 0 (1 ∷ 2 ∷ []) 256 1) Ok ∷
-    Do (SetLink 1 false) ∷
-    Asks 0 (FillGroup 0 (1 ∷ 2 ∷ []) 256 1) Ok ∷ []) ≡ (
-      (Says (Replies (MadeKeys 2 (key 1))) ∷
-          Says (Replies (MadeKeys 1 (key 7))) ∷
-          Says (Replies (Few 0)) ∷
-          Says (Replies NotAllowed) ∷
-          Says (Replies NotAllowed) ∷
-          Says LinkSet ∷
-          Says (Replies NoRoute) ∷ []),
+    row (two_spokes (octets_on 0 96))
+    (line (FillGroup 0 256 2 (1 ∷ 2 ∷ [])) ∷
+    line (Fill 0 1 256 1) ∷
+    line (EncGroup 0 0 1 128 (1 ∷ 2 ∷ [])) ∷
+    line (EncGroup 1 0 1 256 (1 ∷ 2 ∷ [])) ∷
+    line (LinkDown 1) ∷
+    line (FillGroup 0 256 1 (1 ∷ 2 ∷ [])) ∷ []) ≡ (
+      at 1 (items.Made 2 (key 1)) ∷
+          at 2 (items.Made 1 (key 7)) ∷
+          at 3 (items.Refused (refusals.Few 0)) ∷
+          at 4 (items.Refused refusals.NotAllowed) ∷
+          at 5 (items.LinkSet 1 false) ∷
+          at 6 (items.Refused refusals.NoRoute) ∷ [],
+      Whole,
       true,
     )
 
 -- two slaves at one home: shown as kept until both have the key
 abbrev pub TwoAtHome : Type 0
 TwoAtHome =
-    report (one_spoke (octets_on 0 32))
-    (Bits 0 true true 2 ∷
-    Asks 0 (FillGroup 0 (1 ∷ 2 ∷ []) 256 1) Ok ∷
-    Tick 0 Ok Ok ∷
-    Pass (lane 0 Up) 0 ∷
-    Asks 1 (Show (key 1)) Ok ∷
-    Pass (lane 0 Up) 1 ∷
-    Asks 1 (Dec 1 0 ((key 1) ∷ [])) Ok ∷
-    Asks 1 (Show (key 1)) Ok ∷
-    Asks 1 (Dec 2 0 ((key 1) ∷ [])) Ok ∷
-    Asks 1 (Show (key 1)) Ok ∷
-    Do (Start 1 (Recovers false)) ∷ []) ≡ (
-      took_both 2 ++
-          (Says (Replies (MadeKeys 1 (key 1))) ∷
-          Ticks 0 2 0 ∷
-          Sends (lane 0 Up) 0 8 74 ∷
-          Sends (lane 0 Up) 1 90 74 ∷
-          Passes (lane 0 Up) 0 (Replies (HeardFact true 7 (key 2))) ∷
-          Says (Replies (Shown KeptKey (octets_on 0 32))) ∷
-          Passes (lane 0 Up) 1 (Replies (HeardFact true 7 (key 3))) ∷
-          Says (Replies (Handed (((key 1), (octets_on 0 32)) ∷ []))) ∷
-          Says (Replies (Shown KeptKey (octets_on 0 32))) ∷
-          Says (Replies (Handed (((key 1), (octets_on 0 32)) ∷ []))) ∷
-          Says (Replies (Shown Given [])) ∷
-          Says WasUp ∷ []),
+    row (one_spoke (octets_on 0 32))
+    (line (Bits 0 Both 2) ∷
+    line (FillGroup 0 256 1 (1 ∷ 2 ∷ [])) ∷
+    line (Tick 0) ∷
+    line (Pass (lane 0 Up) 0) ∷
+    line (Show 1 (key 1)) ∷
+    line (Pass (lane 0 Up) 1) ∷
+    line (Dec 1 1 0 ((key 1) ∷ [])) ∷
+    line (Show 1 (key 1)) ∷
+    line (Dec 1 2 0 ((key 1) ∷ [])) ∷
+    line (Show 1 (key 1)) ∷
+    line (Start 1) ∷ []) ≡ (
+      took 1 0 2 ++
+          (at 2 (items.Made 1 (key 1)) ∷
+          at 3 (items.Ticked 0 2 0) ∷
+          at 3 (items.Sent (lane 0 Up) 0 8 74) ∷
+          at 3 (items.Sent (lane 0 Up) 1 90 74) ∷
+          at 4 (items.Passed (lane 0 Up) 0 (Taken kinds.Part (key 2))) ∷
+          at 5 (items.Shown 1 (key 1) KeptKey (octets_on 0 32)) ∷
+          at 6 (items.Passed (lane 0 Up) 1 (Taken kinds.Part (key 3))) ∷
+          at 7 (items.Keys (((key 1), (octets_on 0 32)) ∷ [])) ∷
+          at 8 (items.Shown 1 (key 1) KeptKey (octets_on 0 32)) ∷
+          at 9 (items.Keys (((key 1), (octets_on 0 32)) ∷ [])) ∷
+          at 10 (items.Shown 1 (key 1) Given []) ∷
+          at 11 (items.Start starts.WasUp) ∷ []),
+      Whole,
       true,
     )

@@ -1,8 +1,6 @@
-pub mod Lines
-pub mod Driver
+pub mod Networks
+pub mod Row
 pub mod Runs
-pub mod Follow
-pub mod Numbers
 pub mod TickRows
 pub mod RelayRows
 pub mod KeyRows
@@ -12,5 +10,10 @@ pub mod GroupRows
 pub mod FrameRows
 pub mod JournalRows
 pub mod WorldRows
+pub mod Numbers
+pub mod Follow
 pub mod ManagerRows
 pub mod PartRows
+pub mod RunRows
+pub mod BlockRows
+pub mod LoadRows

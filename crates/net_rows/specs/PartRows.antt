@@ -1,5 +1,5 @@
 -- Parts by themselves: plans that nobody claimed yet, full pools, routes and lane bytes.
-use Rattle.std.specs.Prelude.{◌≡◌, ℕ, ◌+◌, ◌*◌, ◌-◌, ◌/◌, ◌==◌, not, Bool, true, List, [], ◌∷◌, ◌++◌, length, map, replicate, slice_index_or, Option, Some, None}
+use Rattle.std.specs.Prelude.{◌≡◌, ℕ, ◌+◌, ◌*◌, ◌-◌, ◌/◌, ◌==◌, not, Bool, true, false, List, [], ◌∷◌, ◌++◌, length, map, drop, replicate, slice_index_or, Option, Some, None}
 use Rattle.std.specs.List.{list_any}
 use Rattle.qkd_base.specs.declared.lane.Way.{Way}
 use Rattle.qkd_base.specs.declared.lane.Way.TheVariants.{Up, Down}
@@ -10,8 +10,8 @@ use Rattle.net_model.specs.declared.fact.Fact.TheVariants.{Key, Open, Part}
 use Rattle.net_model.specs.declared.order.Order.{Order}
 use Rattle.net_model.specs.declared.payload.Payload.TheVariants.{Data}
 use Rattle.net_model.specs.declared.reply.Reply.{Reply}
-use Rattle.net_model.specs.declared.reply.Reply.TheVariants.{MadeKeys, Planned, Noted, PoolFull, HeardFact}
-use Rattle.net_model.specs.Item.{DataItem}
+use Rattle.net_model.specs.declared.reply.Reply.TheVariants.{MadeKeys, Planned, Noted, PoolFull, HeardFact, NotAllowed, UnknownStream}
+use Rattle.net_model.specs.Item.{DataItem, AckItem}
 use Rattle.net_model.specs.Site.{count_up}
 use Rattle.net_model.specs.Routes.{route}
 use Rattle.qkd_base.specs.LaneBytes.{lane_octets}
@@ -21,9 +21,9 @@ use Rattle.net_model.specs.View.{View}
 use Rattle.net_model.specs.World.{Network, Transmission, first}
 use Rattle.net_model.specs.Decision.{Decision, Refuses, Does}
 use Rattle.net_model.specs.Decide.{decide}
-use Rattle.net_model.specs.Action.{Ok, Allocate, Transmit, Complete, Allocated, Put, Replies}
-use Rattle.net_rows.specs.Lines.{Line, Bits, Asks, Tick, Pass, Do, Passes, Sends, Ticks, Says, site, lane, key, stream, octets_on, took_both, two_nodes, two_spokes}
-use Rattle.net_rows.specs.Driver.{report}
+use Rattle.net_model.specs.Action.{Ok, Recovers, Action, Start, TakeBlock, Ask, Allocate, Transmit, Complete, Deliver, Outcome, Allocated, Put, Replies}
+use Rattle.net_model.specs.Step.{run, outcomes, is_run}
+use Rattle.net_rows.specs.Networks.{site, lane, key, note, stream, octets_on, two_nodes, two_spokes}
 
 abbrev pub order_of : ℕ → Transmission
 order_of n = record { lane = lane 0 Up; item = DataItem (key n); received_offset = None }
@@ -32,35 +32,49 @@ abbrev pub ordered_key : ℕ → ℕ → Order
 ordered_key n offset =
     record { lane = lane 0 Up; offset = offset; ack_of = None; payload = Data (Key (key n) 0 1 (0 ∷ 1 ∷ []) (octets_on (8 * (n - 1)) 8)) }
 
-abbrev pub planned_line : List Order → Line
-planned_line orders = Says (Replies (Planned orders [] []))
+abbrev pub planned_by : List Order → Outcome
+planned_by orders = Replies (Planned orders [] [])
 
--- two plans before any claim: the second goes on after the first, and orders nothing again; the claims may come in another order
+-- what actions come to after two nodes were started and took two blocks
+abbrev pub starts : List Action
+starts =
+    Start 0 (Recovers false) ∷ Start 1 (Recovers false) ∷ TakeBlock 0 0 Ok ∷ TakeBlock 1 0 Ok ∷ TakeBlock 0 0 Ok ∷ TakeBlock 1 0 Ok ∷ []
+
+abbrev pub come_to : Network → List Action → List Outcome × Bool
+come_to net then' = (outcomes net (run net first starts) then', is_run net first (starts ++ then'))
+
+-- two plans before any claim: the second goes on where the first ended, and orders nothing again; the claims may come in another order
 abbrev pub TwoPlans : Type 0
 TwoPlans =
-    report (two_nodes (octets_on 0 16))
-    (Bits 0 true true 2 ∷ Asks 0 (Fill 0 1 64 1) Ok ∷ Asks 0 Plan Ok ∷ Asks 0 (Fill 0 1 64 1) Ok ∷ Asks 0 Plan Ok ∷ Asks 0 Plan Ok ∷
-    Do (Allocate (order_of 2)) ∷ Do (Allocate (order_of 1)) ∷ Do (Transmit (lane 0 Up) 1 Ok) ∷ Do (Transmit (lane 0 Up) 0 Ok) ∷ Do (Complete 0) ∷
-    Tick 0 Ok Ok ∷ Pass (lane 0 Up) 0 ∷ []) ≡ (
-      took_both 2 ++
-          (Says (Replies (MadeKeys 1 (key 1))) ∷ planned_line (ordered_key 1 8 ∷ []) ∷ Says (Replies (MadeKeys 1 (key 2))) ∷ planned_line (ordered_key 2 50 ∷ []) ∷ planned_line [] ∷
-          Says (Allocated 8) ∷ Says (Allocated 50) ∷ Says (Put 0) ∷ Says (Put 1) ∷ Says (Replies Noted) ∷ Ticks 0 0 0 ∷
-          Passes (lane 0 Up) 0 (Replies (HeardFact true 1 (key 1))) ∷ []),
+    come_to (two_nodes (octets_on 0 16))
+    (Ask 0 (Fill 0 1 64 1) Ok ∷ Ask 0 Plan Ok ∷ Ask 0 (Fill 0 1 64 1) Ok ∷ Ask 0 Plan Ok ∷ Ask 0 Plan Ok ∷
+    Allocate (order_of 2) ∷ Allocate (order_of 1) ∷ Transmit (lane 0 Up) 1 Ok ∷ Transmit (lane 0 Up) 0 Ok ∷ Complete 0 ∷
+    Ask 0 Plan Ok ∷ Deliver (lane 0 Up) 0 Ok ∷ []) ≡ (
+      Replies (MadeKeys 1 (key 1)) ∷ planned_by (ordered_key 1 8 ∷ []) ∷ Replies (MadeKeys 1 (key 2)) ∷ planned_by (ordered_key 2 50 ∷ []) ∷ planned_by [] ∷
+          Allocated 8 ∷ Allocated 50 ∷ Put 0 ∷ Put 1 ∷ Replies Noted ∷ planned_by [] ∷ Replies (HeardFact true 1 (key 1)) ∷ [],
       true,
     )
+
+abbrev pub ack_order : Transmission
+ack_order = record { lane = lane 0 Down; item = AckItem (key 1); received_offset = Some 8 }
+
+abbrev pub note_order : Transmission
+note_order = record { lane = lane 0 Down; item = DataItem (note 1 1); received_offset = None }
+
+abbrev pub repeats_in : Outcome → ℕ
+repeats_in (Replies (Planned orders repeats shorts)) = length repeats
+repeats_in _ = 0
+
+abbrev pub repeats_after : ℕ → List Outcome × Bool → List ℕ × Bool
+repeats_after n met = (map repeats_in (drop n met.0), met.1)
 
 -- a fact that is acknowledged between its put and its note is not repeated
 abbrev pub AckedMeanwhile : Type 0
 AckedMeanwhile =
-    report (two_nodes (octets_on 0 8))
-    (Bits 0 true true 2 ∷ Asks 0 (Fill 0 1 64 1) Ok ∷ Asks 0 Plan Ok ∷ Do (Allocate (order_of 1)) ∷ Do (Transmit (lane 0 Up) 0 Ok) ∷ Pass (lane 0 Up) 0 ∷
-    Tick 1 Ok Ok ∷ Pass (lane 0 Down) 0 ∷ Do (Complete 0) ∷ Tick 0 Ok Ok ∷ Tick 0 Ok Ok ∷ Tick 0 Ok Ok ∷ Tick 0 Ok Ok ∷ []) ≡ (
-      took_both 2 ++
-          (Says (Replies (MadeKeys 1 (key 1))) ∷ planned_line (ordered_key 1 8 ∷ []) ∷ Says (Allocated 8) ∷ Says (Put 0) ∷ Passes (lane 0 Up) 0 (Replies (HeardFact true 1 (key 1))) ∷
-          Ticks 1 2 0 ∷ Sends (lane 0 Down) 0 8 17 ∷ Sends (lane 0 Down) 1 33 36 ∷ Passes (lane 0 Down) 0 (Replies (HeardFact true 3 (key 1))) ∷ Says (Replies Noted) ∷
-          Ticks 0 0 0 ∷ Ticks 0 0 0 ∷ Ticks 0 0 0 ∷ Ticks 0 0 0 ∷ []),
-      true,
-    )
+    repeats_after 13 (come_to (two_nodes (octets_on 0 8))
+    (Ask 0 (Fill 0 1 64 1) Ok ∷ Ask 0 Plan Ok ∷ Allocate (order_of 1) ∷ Transmit (lane 0 Up) 0 Ok ∷ Deliver (lane 0 Up) 0 Ok ∷
+    Ask 1 Plan Ok ∷ Allocate ack_order ∷ Allocate note_order ∷ Transmit (lane 0 Down) 0 Ok ∷ Transmit (lane 0 Down) 1 Ok ∷ Complete 1 ∷ Deliver (lane 0 Down) 0 Ok ∷
+    Complete 0 ∷ Ask 0 Plan Ok ∷ Ask 0 Plan Ok ∷ Ask 0 Plan Ok ∷ Ask 0 Plan Ok ∷ [])) ≡ (replicate 4 0, true)
 
 -- pools: 4,096 keys that their master hasn't got, ready or not
 
@@ -73,6 +87,9 @@ knowing net facts = record (view_of net first 0) { facts = facts }
 
 abbrev pub answer : Network → List Fact → Event → Reply
 answer net facts event = reply_of (decide net.site net.sealing (λ l. true) (knowing net facts) [] event)
+
+abbrev pub answer_at : ℕ → Network → List Fact → Event → Reply
+answer_at v net facts event = reply_of (decide net.site net.sealing (λ l. true) (record (view_of net first v) { facts = facts }) [] event)
 
 abbrev pub one_made : List Fact
 one_made = Key (key 1) 0 1 (0 ∷ 1 ∷ []) (replicate 8 0) ∷ []
@@ -89,6 +106,12 @@ FullPools =
     answer (two_spokes []) one_group (FillGroup 0 (1 ∷ 2 ∷ []) 64 4095) ∷ answer (two_spokes []) one_group (FillGroup 0 (1 ∷ 2 ∷ []) 64 4096) ∷
     answer (two_nodes []) one_stream (Feed (stream 1) 4096) ∷ answer (two_nodes []) one_stream (Feed (stream 1) 4097) ∷ []) ≡
     (MadeKeys 4095 (key 2) ∷ PoolFull ∷ MadeKeys 4096 (key 2) ∷ MadeKeys 4095 (key 4) ∷ PoolFull ∷ MadeKeys 4096 (key 2) ∷ PoolFull ∷ [])
+
+-- who is asked at another node than its own
+abbrev pub AskedElsewhere : Type 0
+AskedElsewhere =
+    (answer_at 1 (two_nodes []) [] (Fill 0 1 64 1) ∷ answer_at 1 (two_spokes []) [] (FillGroup 0 (1 ∷ 2 ∷ []) 64 1) ∷ answer_at 1 (two_nodes []) one_stream (Feed (stream 1) 1) ∷ []) ≡
+    (NotAllowed ∷ NotAllowed ∷ UnknownStream ∷ [])
 
 -- routes
 

@@ -1,22 +1,22 @@
 -- Runs that several rows speak of.
-use Rattle.std.specs.Prelude.{true, false, List, [], ◌∷◌}
-use Rattle.net_model.specs.declared.event.Event.TheVariants.{Fill, Plan}
-use Rattle.net_model.specs.World.{Network}
-use Rattle.net_model.specs.Action.{Ok, Recovers, Start, Crash, Ask}
-use Rattle.net_rows.specs.Lines.{Command, Bits, Asks, Settle, Do}
-use Rattle.net_rows.specs.Driver.{Report, report_of, started}
+use Rattle.std.specs.Prelude.{◌∷◌, [], false, List}
+use Rattle.net_model.specs.declared.event.Event.TheVariants as events
+use Rattle.net_model.specs.Action.{Ok, Recovers, Action, TakeBlock, Ask}
+use Rattle.net_model.specs.Action as actions
+use Rattle.scenario_lines.specs.declared.command.Command.TheVariants.{Bits, Fill, Settle, Crash, Start}
+use Rattle.scenario_lines.specs.declared.end.Ends.TheVariants.{Both}
+use Rattle.net_rows.specs.Row.{line, Step}
 
--- all nodes started, and then these lines
-abbrev pub done : Network → List Command → Report
-done net cs = report_of net cs (started net)
-
-abbrev pub restart : List Command
-restart = Do (Crash 0) ∷ Do (Start 0 (Recovers false)) ∷ []
+abbrev pub restart : List Step
+restart = line (Crash 0) ∷ line (Start 0) ∷ []
 
 -- one key over one link, to its end
-abbrev pub one_key : List Command
-one_key = Bits 0 true true 2 ∷ Asks 0 (Fill 0 1 256 1) Ok ∷ Settle 10 ∷ []
+abbrev pub one_key : List Step
+one_key = line (Bits 0 Both 2) ∷ line (Fill 0 1 256 1) ∷ line (Settle 10) ∷ []
 
--- one key planned, and nothing claimed yet
-abbrev pub planned_only : List Command
-planned_only = Bits 0 true true 2 ∷ Asks 0 (Fill 0 1 256 1) Ok ∷ Do (Ask 0 Plan Ok) ∷ []
+-- as actions: both nodes started, and then one key planned and nothing claimed yet
+abbrev pub started : List Action
+started = actions.Start 0 (Recovers false) ∷ actions.Start 1 (Recovers false) ∷ []
+
+abbrev pub planned_only : List Action
+planned_only = TakeBlock 0 0 Ok ∷ TakeBlock 1 0 Ok ∷ TakeBlock 0 0 Ok ∷ TakeBlock 1 0 Ok ∷ Ask 0 (events.Fill 0 1 256 1) Ok ∷ Ask 0 events.Plan Ok ∷ []

@@ -1,221 +1,234 @@
 -- Crashes, stops and starts.
-use Rattle.std.specs.Prelude.{◌≡◌, ℕ, ◌+◌, ◌==◌, ◌&&◌, nat_le, Bool, true, false, List, [], ◌∷◌, ◌++◌, map}
+use Rattle.std.specs.Prelude.{◌≡◌, ◌∷◌, ◌++◌, [], true, ℕ, ◌+◌, ◌==◌, ◌&&◌, nat_le, Bool, List, map, false}
 use Rattle.qkd_base.specs.declared.lane.Way.TheVariants.{Up, Down}
-use Rattle.net_model.specs.declared.event.Event.TheVariants.{Fill, Enc, Status}
+use Rattle.net_model.specs.Action.{IoFault, Recovers}
 use Rattle.net_model.specs.declared.reply.Reply.{Reply}
-use Rattle.net_model.specs.declared.reply.Reply.TheVariants.{MadeKeys, HeardFact, Handed, Counted, Down as IsDown, Stopped, Few}
+use Rattle.net_model.specs.declared.reply.Reply.TheVariants.{Counted}
 use Rattle.net_model.specs.Site.{count_up, outgoing_lane}
-use Rattle.net_model.specs.World.{World, planned}
+use Rattle.net_model.specs.World.{World, first, planned}
 use Rattle.net_model.specs.View.{port_of}
 use Rattle.net_model.specs.Needed.{view_of}
 use Rattle.net_model.specs.Show.{counted_of}
-use Rattle.net_model.specs.Action.{Ok, IoFault, Recovers, Cut, Fail, Lost, Kept, Start, Crash, Arm, Replies, Started, WasUp, Crashed, WasDown, Armed}
-use Rattle.net_rows.specs.Lines.{Command, Ticks, Short, Sends, Passes, Counts, Says, Bits, Asks, Tick, Settle, Pass, Do, Ledger, lane, key, note, counts, octets_on, took_both, two_nodes}
-use Rattle.net_rows.specs.Driver.{report}
-use Rattle.net_rows.specs.Runs.{done, restart, one_key, planned_only}
+use Rattle.net_model.specs.Step.{run}
+use Rattle.net_rows.specs.Runs.{restart, one_key, started, planned_only}
+use Rattle.scenario_lines.specs.declared.command.Command.TheVariants.{Bits, Fill, Tick, Settle, Pass, Crash, Start, Cut, Fail, Enc, Status, Ledger}
+use Rattle.scenario_lines.specs.declared.end.Ends.TheVariants.{Both}
+use Rattle.scenario_lines.specs.declared.image.Image.TheVariants.{Lost, Kept}
+use Rattle.report_items.specs.declared.frame_result.FrameResult.TheVariants.{Taken, Again}
+use Rattle.run_model.specs.Play.{Whole}
+use Rattle.net_rows.specs.Networks.{lane, key, note, counts, octets_on, two_nodes}
+use Rattle.net_rows.specs.Row.{row, line, line_by, at, took, Says, Finds, ran}
+use Rattle.report_items.specs.declared.item.Item.TheVariants as items
+use Rattle.report_items.specs.declared.payload_kind.PayloadKind.TheVariants as kinds
+use Rattle.report_items.specs.declared.refusal.Refusal.TheVariants as refusals
+use Rattle.report_items.specs.declared.start_result.StartResult.TheVariants as starts
 
 -- a plan leases 4,096 bytes; after a crash they are burnt, and the lane is short
 abbrev pub Leases : Type 0
 Leases =
-    report (two_nodes (octets_on 0 32))
-    (Bits 0 true true 8 ∷
-    Asks 0 (Fill 0 1 256 1) Ok ∷
-    Tick 0 Ok Ok ∷
-    Do (Crash 0) ∷
-    Do (Crash 0) ∷
-    Do (Start 0 (Recovers false)) ∷
-    Do (Start 0 (Recovers false)) ∷
-    Ledger 0 (lane 0 Up) ∷
-    Tick 0 Ok Ok ∷ []) ≡ (
-      took_both 8 ++
-          (Says (Replies (MadeKeys 1 (key 1))) ∷
-          Ticks 0 1 0 ∷
-          Sends (lane 0 Up) 0 8 58 ∷
-          Says Crashed ∷
-          Says WasDown ∷
-          Says Started ∷
-          Says WasUp ∷
-          Says (Replies (Counted (counts 4096 0 8 4088))) ∷
-          Counts (lane 0 Up) (counts 4096 0 74 4022) ∷
-          Ticks 0 0 0 ∷
-          Short (lane 0 Up) 4096 66 4096 ∷ []),
+    row (two_nodes (octets_on 0 32))
+    (line (Bits 0 Both 8) ∷
+    line (Fill 0 1 256 1) ∷
+    line (Tick 0) ∷
+    line (Crash 0) ∷
+    line (Crash 0) ∷
+    line (Start 0) ∷
+    line (Start 0) ∷
+    line (Ledger (lane 0 Up)) ∷
+    line (Tick 0) ∷ []) ≡ (
+      took 1 0 8 ++
+          (at 2 (items.Made 1 (key 1)) ∷
+          at 3 (items.Ticked 0 1 0) ∷
+          at 3 (items.Sent (lane 0 Up) 0 8 58) ∷
+          at 4 items.Crashed ∷
+          at 5 (items.Refused refusals.Down) ∷
+          at 6 (items.Start starts.Started) ∷
+          at 7 (items.Start starts.WasUp) ∷
+          at 8 (items.Counted (lane 0 Up) (counts 4096 0 74 4022)) ∷
+          at 9 (items.Ticked 0 0 0) ∷
+          at 9 (items.Short (lane 0 Up) 4096 66 4096) ∷ []),
+      Whole,
       true,
     )
 
 -- the disk fails in a plan, whose lease was durable: capped by the bytes received
 abbrev pub PlanCommitted : Type 0
 PlanCommitted =
-    report (two_nodes (octets_on 0 32))
-    (Bits 0 true true 2 ∷
-    Asks 0 (Fill 0 1 256 1) Ok ∷
-    Do (Arm 0 (Cut 4 Kept)) ∷
-    Tick 0 IoFault Ok ∷
-    Asks 0 (Status 0 1) Ok ∷
-    Tick 0 Ok Ok ∷
-    Do (Start 0 (Recovers true)) ∷
-    Ledger 0 (lane 0 Up) ∷ []) ≡ (
-      took_both 2 ++
-          (Says (Replies (MadeKeys 1 (key 1))) ∷
-          Says Armed ∷
-          Says (Replies Stopped) ∷
-          Says (Replies IsDown) ∷
-          Says (Replies IsDown) ∷
-          Says Started ∷
-          Says (Replies (Counted (counts 1024 0 8 1016))) ∷
-          Counts (lane 0 Up) (counts 1024 0 8 1016) ∷ []),
+    row (two_nodes (octets_on 0 32))
+    (line (Bits 0 Both 2) ∷
+    line (Fill 0 1 256 1) ∷
+    line (Cut 0 4 Kept) ∷
+    line_by (Tick 0) (Says IoFault ∷ []) ∷
+    line (Status 0 0 1) ∷
+    line (Tick 0) ∷
+    line_by (Start 0) (Finds (Recovers true) ∷ []) ∷
+    line (Ledger (lane 0 Up)) ∷ []) ≡ (
+      took 1 0 2 ++
+          (at 2 (items.Made 1 (key 1)) ∷
+          at 3 items.Armed ∷
+          at 4 (items.NotTicked 0 refusals.Stopped) ∷
+          at 5 (items.Refused refusals.Down) ∷
+          at 6 (items.NotTicked 0 refusals.Down) ∷
+          at 7 (items.Start starts.Started) ∷
+          at 8 (items.Counted (lane 0 Up) (counts 1024 0 8 1016)) ∷ []),
+      Whole,
       true,
     )
 
 -- the disk fails in a plan, whose lease was not durable
 abbrev pub PlanLost : Type 0
 PlanLost =
-    report (two_nodes (octets_on 0 32))
-    (Bits 0 true true 2 ∷
-    Asks 0 (Fill 0 1 256 1) Ok ∷
-    Do (Arm 0 (Cut 4 Lost)) ∷
-    Tick 0 IoFault Ok ∷
-    Do (Start 0 (Recovers false)) ∷
-    Ledger 0 (lane 0 Up) ∷
-    Tick 0 Ok Ok ∷ []) ≡ (
-      took_both 2 ++
-          (Says (Replies (MadeKeys 1 (key 1))) ∷
-          Says Armed ∷
-          Says (Replies Stopped) ∷
-          Says Started ∷
-          Says (Replies (Counted (counts 1024 1016 8 0))) ∷
-          Counts (lane 0 Up) (counts 1024 1016 8 0) ∷
-          Ticks 0 1 0 ∷
-          Sends (lane 0 Up) 0 8 58 ∷ []),
+    row (two_nodes (octets_on 0 32))
+    (line (Bits 0 Both 2) ∷
+    line (Fill 0 1 256 1) ∷
+    line (Cut 0 4 Lost) ∷
+    line_by (Tick 0) (Says IoFault ∷ []) ∷
+    line (Start 0) ∷
+    line (Ledger (lane 0 Up)) ∷
+    line (Tick 0) ∷ []) ≡ (
+      took 1 0 2 ++
+          (at 2 (items.Made 1 (key 1)) ∷
+          at 3 items.Armed ∷
+          at 4 (items.NotTicked 0 refusals.Stopped) ∷
+          at 5 (items.Start starts.Started) ∷
+          at 6 (items.Counted (lane 0 Up) (counts 1024 1016 8 0)) ∷
+          at 7 (items.Ticked 0 1 0) ∷
+          at 7 (items.Sent (lane 0 Up) 0 8 58) ∷ []),
+      Whole,
       true,
     )
 
 -- the disk fails in a handing that was durable: the key is handed, to nobody
 abbrev pub HandingCommitted : Type 0
 HandingCommitted =
-    report (two_nodes (octets_on 0 32))
-    (Bits 0 true true 2 ∷
-    Asks 0 (Fill 0 1 256 1) Ok ∷
-    Settle 10 ∷
-    Do (Arm 0 (Fail 4)) ∷
-    Asks 0 (Enc 0 1 1 256) IoFault ∷
-    Do (Start 0 (Recovers true)) ∷
-    Asks 0 (Enc 0 1 1 256) Ok ∷ []) ≡ (
-      took_both 2 ++
-          (Says (Replies (MadeKeys 1 (key 1))) ∷
-          Ticks 0 1 0 ∷
-          Sends (lane 0 Up) 0 8 58 ∷
-          Passes (lane 0 Up) 0 (Replies (HeardFact true 1 (key 1))) ∷
-          Ticks 1 2 0 ∷
-          Sends (lane 0 Down) 0 8 17 ∷
-          Sends (lane 0 Down) 1 33 36 ∷
-          Passes (lane 0 Down) 0 (Replies (HeardFact true 3 (key 1))) ∷
-          Passes (lane 0 Down) 1 (Replies (HeardFact true 2 (note 1 1))) ∷
-          Ticks 0 1 0 ∷
-          Sends (lane 0 Up) 1 74 17 ∷
-          Passes (lane 0 Up) 1 (Replies (HeardFact true 3 (note 1 1))) ∷
-          Says Armed ∷
-          Says (Replies Stopped) ∷
-          Says Started ∷
-          Says (Replies (Few 0)) ∷ []),
+    row (two_nodes (octets_on 0 32))
+    (line (Bits 0 Both 2) ∷
+    line (Fill 0 1 256 1) ∷
+    line (Settle 10) ∷
+    line (Fail 0 4) ∷
+    line_by (Enc 0 0 1 1 256) (Says IoFault ∷ []) ∷
+    line_by (Start 0) (Finds (Recovers true) ∷ []) ∷
+    line (Enc 0 0 1 1 256) ∷ []) ≡ (
+      took 1 0 2 ++
+          (at 2 (items.Made 1 (key 1)) ∷
+          at 3 (items.Ticked 0 1 0) ∷
+          at 3 (items.Sent (lane 0 Up) 0 8 58) ∷
+          at 3 (items.Passed (lane 0 Up) 0 (Taken kinds.Key (key 1))) ∷
+          at 3 (items.Ticked 1 2 0) ∷
+          at 3 (items.Sent (lane 0 Down) 0 8 17) ∷
+          at 3 (items.Sent (lane 0 Down) 1 33 36) ∷
+          at 3 (items.Passed (lane 0 Down) 0 (Taken kinds.Ack (key 1))) ∷
+          at 3 (items.Passed (lane 0 Down) 1 (Taken kinds.Stored (note 1 1))) ∷
+          at 3 (items.Ticked 0 1 0) ∷
+          at 3 (items.Sent (lane 0 Up) 1 74 17) ∷
+          at 3 (items.Passed (lane 0 Up) 1 (Taken kinds.Ack (note 1 1))) ∷
+          at 4 items.Armed ∷
+          at 5 (items.Refused refusals.Stopped) ∷
+          at 6 (items.Start starts.Started) ∷
+          at 7 (items.Refused (refusals.Few 0)) ∷ []),
+      Whole,
       true,
     )
 
 -- the disk fails in a handing that was not durable: the key is handed once
 abbrev pub HandingLost : Type 0
 HandingLost =
-    report (two_nodes (octets_on 0 32))
-    (Bits 0 true true 2 ∷
-    Asks 0 (Fill 0 1 256 1) Ok ∷
-    Settle 10 ∷
-    Do (Arm 0 (Fail 1)) ∷
-    Asks 0 (Enc 0 1 1 256) IoFault ∷
-    Do (Start 0 (Recovers false)) ∷
-    Asks 0 (Enc 0 1 1 256) Ok ∷
-    Asks 0 (Enc 0 1 1 256) Ok ∷ []) ≡ (
-      took_both 2 ++
-          (Says (Replies (MadeKeys 1 (key 1))) ∷
-          Ticks 0 1 0 ∷
-          Sends (lane 0 Up) 0 8 58 ∷
-          Passes (lane 0 Up) 0 (Replies (HeardFact true 1 (key 1))) ∷
-          Ticks 1 2 0 ∷
-          Sends (lane 0 Down) 0 8 17 ∷
-          Sends (lane 0 Down) 1 33 36 ∷
-          Passes (lane 0 Down) 0 (Replies (HeardFact true 3 (key 1))) ∷
-          Passes (lane 0 Down) 1 (Replies (HeardFact true 2 (note 1 1))) ∷
-          Ticks 0 1 0 ∷
-          Sends (lane 0 Up) 1 74 17 ∷
-          Passes (lane 0 Up) 1 (Replies (HeardFact true 3 (note 1 1))) ∷
-          Says Armed ∷
-          Says (Replies Stopped) ∷
-          Says Started ∷
-          Says (Replies (Handed (((key 1), (octets_on 0 32)) ∷ []))) ∷
-          Says (Replies (Few 0)) ∷ []),
+    row (two_nodes (octets_on 0 32))
+    (line (Bits 0 Both 2) ∷
+    line (Fill 0 1 256 1) ∷
+    line (Settle 10) ∷
+    line (Fail 0 1) ∷
+    line_by (Enc 0 0 1 1 256) (Says IoFault ∷ []) ∷
+    line (Start 0) ∷
+    line (Enc 0 0 1 1 256) ∷
+    line (Enc 0 0 1 1 256) ∷ []) ≡ (
+      took 1 0 2 ++
+          (at 2 (items.Made 1 (key 1)) ∷
+          at 3 (items.Ticked 0 1 0) ∷
+          at 3 (items.Sent (lane 0 Up) 0 8 58) ∷
+          at 3 (items.Passed (lane 0 Up) 0 (Taken kinds.Key (key 1))) ∷
+          at 3 (items.Ticked 1 2 0) ∷
+          at 3 (items.Sent (lane 0 Down) 0 8 17) ∷
+          at 3 (items.Sent (lane 0 Down) 1 33 36) ∷
+          at 3 (items.Passed (lane 0 Down) 0 (Taken kinds.Ack (key 1))) ∷
+          at 3 (items.Passed (lane 0 Down) 1 (Taken kinds.Stored (note 1 1))) ∷
+          at 3 (items.Ticked 0 1 0) ∷
+          at 3 (items.Sent (lane 0 Up) 1 74 17) ∷
+          at 3 (items.Passed (lane 0 Up) 1 (Taken kinds.Ack (note 1 1))) ∷
+          at 4 items.Armed ∷
+          at 5 (items.Refused refusals.Stopped) ∷
+          at 6 (items.Start starts.Started) ∷
+          at 7 (items.Keys (((key 1), (octets_on 0 32)) ∷ [])) ∷
+          at 8 (items.Refused (refusals.Few 0)) ∷ []),
+      Whole,
       true,
     )
 
 -- octets that a stopped fill drew stay drawn
 abbrev pub DrawnStays : Type 0
 DrawnStays =
-    report (two_nodes (octets_on 0 64))
-    (Bits 0 true true 2 ∷
-    Do (Arm 0 (Fail 1)) ∷
-    Asks 0 (Fill 0 1 256 1) IoFault ∷
-    Do (Start 0 (Recovers false)) ∷
-    Asks 0 (Fill 0 1 256 1) Ok ∷
-    Settle 10 ∷
-    Asks 0 (Enc 0 1 1 256) Ok ∷ []) ≡ (
-      took_both 2 ++
-          (Says Armed ∷
-          Says (Replies Stopped) ∷
-          Says Started ∷
-          Says (Replies (MadeKeys 1 (key 1))) ∷
-          Ticks 0 1 0 ∷
-          Sends (lane 0 Up) 0 8 58 ∷
-          Passes (lane 0 Up) 0 (Replies (HeardFact true 1 (key 1))) ∷
-          Ticks 1 2 0 ∷
-          Sends (lane 0 Down) 0 8 17 ∷
-          Sends (lane 0 Down) 1 33 36 ∷
-          Passes (lane 0 Down) 0 (Replies (HeardFact true 3 (key 1))) ∷
-          Passes (lane 0 Down) 1 (Replies (HeardFact true 2 (note 1 1))) ∷
-          Ticks 0 1 0 ∷
-          Sends (lane 0 Up) 1 74 17 ∷
-          Passes (lane 0 Up) 1 (Replies (HeardFact true 3 (note 1 1))) ∷
-          Says (Replies (Handed (((key 1), (octets_on 32 32)) ∷ []))) ∷ []),
+    row (two_nodes (octets_on 0 64))
+    (line (Bits 0 Both 2) ∷
+    line (Fail 0 1) ∷
+    line_by (Fill 0 1 256 1) (Says IoFault ∷ []) ∷
+    line (Start 0) ∷
+    line (Fill 0 1 256 1) ∷
+    line (Settle 10) ∷
+    line (Enc 0 0 1 1 256) ∷ []) ≡ (
+      took 1 0 2 ++
+          (at 2 items.Armed ∷
+          at 3 (items.Refused refusals.Stopped) ∷
+          at 4 (items.Start starts.Started) ∷
+          at 5 (items.Made 1 (key 1)) ∷
+          at 6 (items.Ticked 0 1 0) ∷
+          at 6 (items.Sent (lane 0 Up) 0 8 58) ∷
+          at 6 (items.Passed (lane 0 Up) 0 (Taken kinds.Key (key 1))) ∷
+          at 6 (items.Ticked 1 2 0) ∷
+          at 6 (items.Sent (lane 0 Down) 0 8 17) ∷
+          at 6 (items.Sent (lane 0 Down) 1 33 36) ∷
+          at 6 (items.Passed (lane 0 Down) 0 (Taken kinds.Ack (key 1))) ∷
+          at 6 (items.Passed (lane 0 Down) 1 (Taken kinds.Stored (note 1 1))) ∷
+          at 6 (items.Ticked 0 1 0) ∷
+          at 6 (items.Sent (lane 0 Up) 1 74 17) ∷
+          at 6 (items.Passed (lane 0 Up) 1 (Taken kinds.Ack (note 1 1))) ∷
+          at 7 (items.Keys (((key 1), (octets_on 32 32)) ∷ [])) ∷ []),
+      Whole,
       true,
     )
 
--- a start empties the window: a fact is sent again as a new order, an acknowledgement only if its frame comes again
+-- a start empties the window: a fact is told again as a new order, an acknowledgement only if its frame comes again
 abbrev pub NewLife : Type 0
 NewLife =
-    report (two_nodes (octets_on 0 32))
-    (Bits 0 true true 16 ∷
-    Asks 0 (Fill 0 1 256 1) Ok ∷
-    Tick 0 Ok Ok ∷
-    Pass (lane 0 Up) 0 ∷
-    Do (Crash 1) ∷
-    Do (Start 1 (Recovers false)) ∷
-    Tick 1 Ok Ok ∷
-    Pass (lane 0 Up) 0 ∷
-    Tick 1 Ok Ok ∷
-    Do (Crash 0) ∷
-    Do (Start 0 (Recovers false)) ∷
-    Tick 0 Ok Ok ∷ []) ≡ (
-      took_both 16 ++
-          (Says (Replies (MadeKeys 1 (key 1))) ∷
-          Ticks 0 1 0 ∷
-          Sends (lane 0 Up) 0 8 58 ∷
-          Passes (lane 0 Up) 0 (Replies (HeardFact true 1 (key 1))) ∷
-          Says Crashed ∷
-          Says Started ∷
-          Ticks 1 1 0 ∷
-          Sends (lane 0 Down) 0 8 36 ∷
-          Passes (lane 0 Up) 0 (Replies (HeardFact false 1 (key 1))) ∷
-          Ticks 1 1 0 ∷
-          Sends (lane 0 Down) 1 52 17 ∷
-          Says Crashed ∷
-          Says Started ∷
-          Ticks 0 1 0 ∷
-          Sends (lane 0 Up) 1 4096 58 ∷ []),
+    row (two_nodes (octets_on 0 32))
+    (line (Bits 0 Both 16) ∷
+    line (Fill 0 1 256 1) ∷
+    line (Tick 0) ∷
+    line (Pass (lane 0 Up) 0) ∷
+    line (Crash 1) ∷
+    line (Start 1) ∷
+    line (Tick 1) ∷
+    line (Pass (lane 0 Up) 0) ∷
+    line (Tick 1) ∷
+    line (Crash 0) ∷
+    line (Start 0) ∷
+    line (Tick 0) ∷ []) ≡ (
+      took 1 0 16 ++
+          (at 2 (items.Made 1 (key 1)) ∷
+          at 3 (items.Ticked 0 1 0) ∷
+          at 3 (items.Sent (lane 0 Up) 0 8 58) ∷
+          at 4 (items.Passed (lane 0 Up) 0 (Taken kinds.Key (key 1))) ∷
+          at 5 items.Crashed ∷
+          at 6 (items.Start starts.Started) ∷
+          at 7 (items.Ticked 1 1 0) ∷
+          at 7 (items.Sent (lane 0 Down) 0 8 36) ∷
+          at 8 (items.Passed (lane 0 Up) 0 (Again kinds.Key (key 1))) ∷
+          at 9 (items.Ticked 1 1 0) ∷
+          at 9 (items.Sent (lane 0 Down) 1 52 17) ∷
+          at 10 items.Crashed ∷
+          at 11 (items.Start starts.Started) ∷
+          at 12 (items.Ticked 0 1 0) ∷
+          at 12 (items.Sent (lane 0 Up) 1 4096 58) ∷ []),
+      Whole,
       true,
     )
 
@@ -229,10 +242,11 @@ abbrev pub is_counted : World → ℕ → Bool
 is_counted w v =
     adds_up (counted_of (port_of (view_of (two_nodes (octets_on 0 32)) w v) 0)) && nat_le (w.recovered (outgoing_lane (two_nodes []).site v 0)) (planned w (outgoing_lane (two_nodes []).site v 0))
 
-abbrev pub counted_after : List Command → List Bool
-counted_after cs = map (is_counted (done (two_nodes (octets_on 0 32)) cs).world) (count_up 2)
+abbrev pub counted_after : World → List Bool
+counted_after w = map (is_counted w) (count_up 2)
 
 abbrev pub OwnCounts : Type 0
 OwnCounts =
-    (counted_after [] ++ counted_after one_key ++ counted_after (one_key ++ restart) ++ counted_after (planned_only ++ Asks 0 (Enc 0 1 1 256) Ok ∷ [])) ≡
+    (counted_after (ran (two_nodes (octets_on 0 32)) []).world ++ counted_after (ran (two_nodes (octets_on 0 32)) one_key).world ++
+    counted_after (ran (two_nodes (octets_on 0 32)) (one_key ++ restart)).world ++ counted_after (run (two_nodes (octets_on 0 32)) first (started ++ planned_only))) ≡
     (true ∷ true ∷ true ∷ true ∷ true ∷ true ∷ true ∷ true ∷ [])

@@ -1,155 +1,159 @@
 -- Streams.
-use Rattle.std.specs.Prelude.{◌≡◌, true, false, [], ◌∷◌, ◌++◌, Some, None}
+use Rattle.std.specs.Prelude.{◌≡◌, ◌∷◌, ◌++◌, [], true, false, Some, None}
 use Rattle.qkd_base.specs.declared.lane.Way.TheVariants.{Up, Down}
 use Rattle.qkd_base.specs.declared.key_name.NameKind.TheVariants.{Stream as StreamKind}
-use Rattle.net_model.specs.declared.event.Event.TheVariants.{Fill, Feed, Open, Join, Get, Close}
-use Rattle.net_model.specs.declared.reply.Reply.TheVariants.{MadeKeys, HeardFact, Stream, UnknownStream}
-use Rattle.net_model.specs.Action.{Ok, SetLink, Replies, LinkSet}
-use Rattle.net_rows.specs.Lines.{Ticks, Sends, Passes, Says, Bits, Asks, Settle, Do, lane, a_name, key, note, stream, octets_on, took_both, two_nodes, with_third}
-use Rattle.net_rows.specs.Driver.{report}
+use Rattle.scenario_lines.specs.declared.command.Command.TheVariants.{Bits, Fill, Feed, Settle, LinkUp, LinkDown, Stream}
+use Rattle.scenario_lines.specs.declared.end.Ends.TheVariants.{Both}
+use Rattle.scenario_lines.specs.declared.stream_call.StreamCall.TheVariants.{Open, Join, Get, Close}
+use Rattle.report_items.specs.declared.frame_result.FrameResult.TheVariants.{Taken}
+use Rattle.report_items.specs.declared.stream_answer.StreamAnswer.TheVariants.{OpenConnect, GetKey}
+use Rattle.run_model.specs.Play.{Whole}
+use Rattle.net_rows.specs.Networks.{a_name, lane, key, note, stream, octets_on, two_nodes, with_third}
+use Rattle.net_rows.specs.Row.{row, line, at, took, chunk}
+use Rattle.report_items.specs.declared.stream_answer.StreamAnswer.TheVariants as answers
+use Rattle.report_items.specs.declared.item.Item.TheVariants as items
+use Rattle.report_items.specs.declared.payload_kind.PayloadKind.TheVariants as kinds
+use Rattle.report_items.specs.declared.refusal.Refusal.TheVariants as refusals
 
 -- a stream is opened, joined, fed, read at both ends and closed
 abbrev pub Streams : Type 0
 Streams =
-    report (two_nodes (octets_on 0 32))
-    (Bits 0 true true 2 ∷
-    Asks 0 (Open 0 1 256) Ok ∷
-    Asks 0 (Get 0 (stream 1) 0) Ok ∷
-    Settle 10 ∷
-    Asks 1 (Join 1 0 (stream 1) 256) Ok ∷
-    Settle 10 ∷
-    Asks 0 (Get 0 (stream 1) 0) Ok ∷
-    Asks 0 (Feed (stream 1) 1) Ok ∷
-    Asks 0 (Get 0 (stream 1) 0) Ok ∷
-    Settle 10 ∷
-    Asks 0 (Get 0 (stream 1) 0) Ok ∷
-    Asks 1 (Get 1 (stream 1) 0) Ok ∷
-    Asks 0 (Get 0 (stream 1) 0) Ok ∷
-    Asks 0 (Close 0 (stream 1)) Ok ∷
-    Asks 0 (Get 0 (stream 1) 1) Ok ∷
-    Asks 0 (Feed (stream 1) 1) Ok ∷
-    Asks 1 (Get 1 (stream 1) 0) Ok ∷
-    Asks 1 (Get 1 (stream 1) 1) Ok ∷ []) ≡ (
-      took_both 2 ++
-          (Says (Replies (Stream 1 (Some (stream 1)) 0 [])) ∷
-          Says (Replies (Stream 3 None 0 [])) ∷
-          Ticks 0 1 0 ∷
-          Sends (lane 0 Up) 0 8 26 ∷
-          Passes (lane 0 Up) 0 (Replies (HeardFact true 4 (stream 1))) ∷
-          Ticks 1 1 0 ∷
-          Sends (lane 0 Down) 0 8 17 ∷
-          Passes (lane 0 Down) 0 (Replies (HeardFact true 3 (stream 1))) ∷
-          Says (Replies (Stream 0 (Some (stream 1)) 0 [])) ∷
-          Ticks 1 1 0 ∷
-          Sends (lane 0 Down) 1 33 36 ∷
-          Passes (lane 0 Down) 1 (Replies (HeardFact true 5 (note 1 1))) ∷
-          Ticks 0 1 0 ∷
-          Sends (lane 0 Up) 1 42 17 ∷
-          Passes (lane 0 Up) 1 (Replies (HeardFact true 3 (note 1 1))) ∷
-          Says (Replies (Stream 2 None 0 [])) ∷
-          Says (Replies (MadeKeys 1 (key 2))) ∷
-          Says (Replies (Stream 2 None 0 [])) ∷
-          Ticks 0 1 0 ∷
-          Sends (lane 0 Up) 2 67 74 ∷
-          Passes (lane 0 Up) 2 (Replies (HeardFact true 6 (key 2))) ∷
-          Ticks 1 2 0 ∷
-          Sends (lane 0 Down) 2 77 17 ∷
-          Sends (lane 0 Down) 3 102 36 ∷
-          Passes (lane 0 Down) 2 (Replies (HeardFact true 3 (key 2))) ∷
-          Passes (lane 0 Down) 3 (Replies (HeardFact true 2 (note 1 2))) ∷
-          Ticks 0 1 0 ∷
-          Sends (lane 0 Up) 3 149 17 ∷
-          Passes (lane 0 Up) 3 (Replies (HeardFact true 3 (note 1 2))) ∷
-          Says (Replies (Stream 0 None 0 (octets_on 0 32))) ∷
-          Says (Replies (Stream 0 None 0 (octets_on 0 32))) ∷
-          Says (Replies (Stream 10 None 0 [])) ∷
-          Says (Replies (Stream 0 None 0 [])) ∷
-          Says (Replies (Stream 9 None 0 [])) ∷
-          Says (Replies UnknownStream) ∷
-          Says (Replies (Stream 10 None 0 [])) ∷
-          Says (Replies (Stream 2 None 0 [])) ∷ []),
+    row (two_nodes (octets_on 0 32))
+    (line (Bits 0 Both 2) ∷
+    line (Stream 0 (Open 0 1 256)) ∷
+    line (Stream 0 (Get 0 (stream 1) 0)) ∷
+    line (Settle 10) ∷
+    line (Stream 1 (Join 1 0 (stream 1) 256)) ∷
+    line (Settle 10) ∷
+    line (Stream 0 (Get 0 (stream 1) 0)) ∷
+    line (Feed (stream 1) 1) ∷
+    line (Stream 0 (Get 0 (stream 1) 0)) ∷
+    line (Settle 10) ∷
+    line (Stream 0 (Get 0 (stream 1) 0)) ∷
+    line (Stream 1 (Get 1 (stream 1) 0)) ∷
+    line (Stream 0 (Get 0 (stream 1) 0)) ∷
+    line (Stream 0 (Close 0 (stream 1))) ∷
+    line (Stream 0 (Get 0 (stream 1) 1)) ∷
+    line (Feed (stream 1) 1) ∷
+    line (Stream 1 (Get 1 (stream 1) 0)) ∷
+    line (Stream 1 (Get 1 (stream 1) 1)) ∷ []) ≡ (
+      took 1 0 2 ++
+          (at 2 (items.Stream (OpenConnect 1 (Some (stream 1)))) ∷
+          at 3 (items.Stream (GetKey 3 None)) ∷
+          at 4 (items.Ticked 0 1 0) ∷
+          at 4 (items.Sent (lane 0 Up) 0 8 26) ∷
+          at 4 (items.Passed (lane 0 Up) 0 (Taken kinds.Open (stream 1))) ∷
+          at 4 (items.Ticked 1 1 0) ∷
+          at 4 (items.Sent (lane 0 Down) 0 8 17) ∷
+          at 4 (items.Passed (lane 0 Down) 0 (Taken kinds.Ack (stream 1))) ∷
+          at 5 (items.Stream (OpenConnect 0 (Some (stream 1)))) ∷
+          at 6 (items.Ticked 1 1 0) ∷
+          at 6 (items.Sent (lane 0 Down) 1 33 36) ∷
+          at 6 (items.Passed (lane 0 Down) 1 (Taken kinds.Joined (note 1 1))) ∷
+          at 6 (items.Ticked 0 1 0) ∷
+          at 6 (items.Sent (lane 0 Up) 1 42 17) ∷
+          at 6 (items.Passed (lane 0 Up) 1 (Taken kinds.Ack (note 1 1))) ∷
+          at 7 (items.Stream (GetKey 2 None)) ∷
+          at 8 (items.Made 1 (key 2)) ∷
+          at 9 (items.Stream (GetKey 2 None)) ∷
+          at 10 (items.Ticked 0 1 0) ∷
+          at 10 (items.Sent (lane 0 Up) 2 67 74) ∷
+          at 10 (items.Passed (lane 0 Up) 2 (Taken kinds.Chunk (key 2))) ∷
+          at 10 (items.Ticked 1 2 0) ∷
+          at 10 (items.Sent (lane 0 Down) 2 77 17) ∷
+          at 10 (items.Sent (lane 0 Down) 3 102 36) ∷
+          at 10 (items.Passed (lane 0 Down) 2 (Taken kinds.Ack (key 2))) ∷
+          at 10 (items.Passed (lane 0 Down) 3 (Taken kinds.Stored (note 1 2))) ∷
+          at 10 (items.Ticked 0 1 0) ∷
+          at 10 (items.Sent (lane 0 Up) 3 149 17) ∷
+          at 10 (items.Passed (lane 0 Up) 3 (Taken kinds.Ack (note 1 2))) ∷
+          at 11 (items.Stream (GetKey 0 (Some (chunk 0 (octets_on 0 32))))) ∷
+          at 12 (items.Stream (GetKey 0 (Some (chunk 0 (octets_on 0 32))))) ∷
+          at 13 (items.Stream (GetKey 10 None)) ∷
+          at 14 (items.Stream (answers.Close 0)) ∷
+          at 15 (items.Stream (GetKey 9 None)) ∷
+          at 16 (items.Refused refusals.UnknownStream) ∷
+          at 17 (items.Stream (GetKey 10 None)) ∷
+          at 18 (items.Stream (GetKey 2 None)) ∷ []),
+      Whole,
       true,
     )
 
 -- who may join, once, of which size, and where; the other statuses of a stream
 abbrev pub Joining : Type 0
 Joining =
-    report (with_third (octets_on 0 32))
-    (Bits 0 true true 2 ∷
-    Asks 0 (Open 0 1 100) Ok ∷
-    Asks 0 (Open 1 0 256) Ok ∷
-    Do (SetLink 0 false) ∷
-    Asks 0 (Open 0 1 256) Ok ∷
-    Do (SetLink 0 true) ∷
-    Asks 1 (Join 1 0 (stream 1) 256) Ok ∷
-    Asks 0 (Open 0 1 256) Ok ∷
-    Settle 10 ∷
-    Asks 1 (Join 2 0 (stream 1) 256) Ok ∷
-    Asks 1 (Join 1 2 (stream 1) 256) Ok ∷
-    Asks 1 (Join 0 1 (stream 1) 256) Ok ∷
-    Asks 1 (Join 1 0 (stream 1) 128) Ok ∷
-    Asks 1 (Get 1 (stream 1) 0) Ok ∷
-    Asks 1 (Close 1 (stream 1)) Ok ∷
-    Asks 1 (Join 1 0 (stream 1) 256) Ok ∷
-    Asks 1 (Join 1 0 (stream 1) 256) Ok ∷
-    Asks 1 (Join 2 0 (stream 1) 256) Ok ∷
-    Asks 1 (Join 1 2 (stream 1) 64) Ok ∷
-    Asks 1 (Get 2 (stream 1) 0) Ok ∷
-    Asks 1 (Get 1 (stream 1) 0) Ok ∷
-    Asks 1 (Feed (stream 1) 1) Ok ∷
-    Asks 0 (Feed (stream 1) 1) Ok ∷
-    Asks 0 (Get 0 (stream 1) 0) Ok ∷
-    Asks 1 (Close 1 (stream 1)) Ok ∷
-    Asks 1 (Get 1 (stream 1) 0) Ok ∷
-    Asks 1 (Join 1 0 (stream 1) 256) Ok ∷ []) ≡ (
-      took_both 2 ++
-          (Says (Replies (Stream 7 None 0 [])) ∷
-          Says (Replies (Stream 8 None 0 [])) ∷
-          Says LinkSet ∷
-          Says (Replies (Stream 4 None 0 [])) ∷
-          Says LinkSet ∷
-          Says (Replies (Stream 9 None 0 [])) ∷
-          Says (Replies (Stream 1 (Some (stream 1)) 0 [])) ∷
-          Ticks 0 1 0 ∷
-          Sends (lane 0 Up) 0 8 26 ∷
-          Passes (lane 0 Up) 0 (Replies (HeardFact true 4 (stream 1))) ∷
-          Ticks 1 1 0 ∷
-          Sends (lane 0 Down) 0 8 17 ∷
-          Passes (lane 0 Down) 0 (Replies (HeardFact true 3 (stream 1))) ∷
-          Says (Replies (Stream 8 None 0 [])) ∷
-          Says (Replies (Stream 8 None 0 [])) ∷
-          Says (Replies (Stream 5 None 0 [])) ∷
-          Says (Replies (Stream 7 None 0 [])) ∷
-          Says (Replies (Stream 9 None 0 [])) ∷
-          Says (Replies (Stream 9 None 0 [])) ∷
-          Says (Replies (Stream 0 (Some (stream 1)) 0 [])) ∷
-          Says (Replies (Stream 5 None 0 [])) ∷
-          Says (Replies (Stream 8 None 0 [])) ∷
-          Says (Replies (Stream 5 None 0 [])) ∷
-          Says (Replies (Stream 8 None 0 [])) ∷
-          Says (Replies (Stream 2 None 0 [])) ∷
-          Says (Replies UnknownStream) ∷
-          Says (Replies (MadeKeys 1 (key 2))) ∷
-          Says (Replies (Stream 3 None 0 [])) ∷
-          Says (Replies (Stream 0 None 0 [])) ∷
-          Says (Replies (Stream 9 None 0 [])) ∷
-          Says (Replies (Stream 9 None 0 [])) ∷ []),
+    row (with_third (octets_on 0 32))
+    (line (Bits 0 Both 2) ∷
+    line (Stream 0 (Open 0 1 100)) ∷
+    line (Stream 0 (Open 1 0 256)) ∷
+    line (LinkDown 0) ∷
+    line (Stream 0 (Open 0 1 256)) ∷
+    line (LinkUp 0) ∷
+    line (Stream 1 (Join 1 0 (stream 1) 256)) ∷
+    line (Stream 0 (Open 0 1 256)) ∷
+    line (Settle 10) ∷
+    line (Stream 1 (Join 2 0 (stream 1) 256)) ∷
+    line (Stream 1 (Join 1 2 (stream 1) 256)) ∷
+    line (Stream 1 (Join 0 1 (stream 1) 256)) ∷
+    line (Stream 1 (Join 1 0 (stream 1) 128)) ∷
+    line (Stream 1 (Get 1 (stream 1) 0)) ∷
+    line (Stream 1 (Close 1 (stream 1))) ∷
+    line (Stream 1 (Join 1 0 (stream 1) 256)) ∷
+    line (Stream 1 (Join 1 0 (stream 1) 256)) ∷
+    line (Stream 1 (Join 2 0 (stream 1) 256)) ∷
+    line (Stream 1 (Join 1 2 (stream 1) 64)) ∷
+    line (Stream 1 (Get 2 (stream 1) 0)) ∷
+    line (Stream 1 (Get 1 (stream 1) 0)) ∷
+    line (Feed (stream 1) 1) ∷
+    line (Stream 0 (Get 0 (stream 1) 0)) ∷
+    line (Stream 1 (Close 1 (stream 1))) ∷
+    line (Stream 1 (Get 1 (stream 1) 0)) ∷
+    line (Stream 1 (Join 1 0 (stream 1) 256)) ∷ []) ≡ (
+      took 1 0 2 ++
+          (at 2 (items.Stream (OpenConnect 7 None)) ∷
+          at 3 (items.Stream (OpenConnect 8 None)) ∷
+          at 4 (items.LinkSet 0 false) ∷
+          at 5 (items.Stream (OpenConnect 4 None)) ∷
+          at 6 (items.LinkSet 0 true) ∷
+          at 7 (items.Stream (OpenConnect 9 None)) ∷
+          at 8 (items.Stream (OpenConnect 1 (Some (stream 1)))) ∷
+          at 9 (items.Ticked 0 1 0) ∷
+          at 9 (items.Sent (lane 0 Up) 0 8 26) ∷
+          at 9 (items.Passed (lane 0 Up) 0 (Taken kinds.Open (stream 1))) ∷
+          at 9 (items.Ticked 1 1 0) ∷
+          at 9 (items.Sent (lane 0 Down) 0 8 17) ∷
+          at 9 (items.Passed (lane 0 Down) 0 (Taken kinds.Ack (stream 1))) ∷
+          at 10 (items.Stream (OpenConnect 8 None)) ∷
+          at 11 (items.Stream (OpenConnect 8 None)) ∷
+          at 12 (items.Stream (OpenConnect 5 None)) ∷
+          at 13 (items.Stream (OpenConnect 7 None)) ∷
+          at 14 (items.Stream (GetKey 9 None)) ∷
+          at 15 (items.Stream (answers.Close 9)) ∷
+          at 16 (items.Stream (OpenConnect 0 (Some (stream 1)))) ∷
+          at 17 (items.Stream (OpenConnect 5 None)) ∷
+          at 18 (items.Stream (OpenConnect 8 None)) ∷
+          at 19 (items.Stream (OpenConnect 5 None)) ∷
+          at 20 (items.Stream (GetKey 8 None)) ∷
+          at 21 (items.Stream (GetKey 2 None)) ∷
+          at 22 (items.Made 1 (key 2)) ∷
+          at 23 (items.Stream (GetKey 3 None)) ∷
+          at 24 (items.Stream (answers.Close 0)) ∷
+          at 25 (items.Stream (GetKey 9 None)) ∷
+          at 26 (items.Stream (OpenConnect 9 None)) ∷ []),
+      Whole,
       true,
     )
 
--- a name of any kind and of any node may be fed: it is no stream here
+-- a name of any kind may be fed: it is no stream here
 abbrev pub FedByAnyName : Type 0
 FedByAnyName =
-    report (two_nodes (octets_on 0 8))
-    (Bits 0 true true 2 ∷
-    Asks 0 (Fill 0 1 64 1) Ok ∷
-    Asks 0 (Feed (key 1) 1) Ok ∷
-    Asks 0 (Feed (note 0 7) 128) Ok ∷
-    Asks 1 (Feed (a_name 9 StreamKind 1) 2) Ok ∷ []) ≡ (
-      took_both 2 ++
-          (Says (Replies (MadeKeys 1 (key 1))) ∷
-          Says (Replies UnknownStream) ∷
-          Says (Replies UnknownStream) ∷
-          Says (Replies UnknownStream) ∷ []),
+    row (two_nodes (octets_on 0 8))
+    (line (Bits 0 Both 2) ∷ line (Fill 0 1 64 1) ∷ line (Feed (key 1) 1) ∷ line (Feed (note 0 7) 128) ∷ line (Feed (a_name 1 StreamKind 1) 2) ∷ []) ≡ (
+      took 1 0 2 ++
+          (at 2 (items.Made 1 (key 1)) ∷
+          at 3 (items.Refused refusals.UnknownStream) ∷
+          at 4 (items.Refused refusals.UnknownStream) ∷
+          at 5 (items.Refused refusals.UnknownStream) ∷ []),
+      Whole,
       true,
     )

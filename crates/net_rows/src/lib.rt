@@ -2,9 +2,9 @@
 //! action in it is one that may happen.
 #![tactic(auto)]
 
-ghost use Rattle.net_rows.specs.TickRows.{OneKey, EmptyLanes, HeardAgain, AnyOrder, FullLane, ShortLane, FewBytes, RefusedPut, Ages, ManyRepeats, LinkDown};
+ghost use Rattle.net_rows.specs.TickRows.{OneKey, EmptyLanes, HeardAgain, AnyOrder, FullLane, ShortLane, FewBytes, RefusedPut, Ages, ManyRepeats, DownLink};
 ghost use Rattle.net_rows.specs.RelayRows.{Relay, RelayCrash};
-ghost use Rattle.net_rows.specs.KeyRows.{Pools, Faults, Entitled, NotReady, ShownKeys, ShortEntropy};
+ghost use Rattle.net_rows.specs.KeyRows.{Pools, Faults, Entitled, NotReady, ShownKeys, ShortEntropy, FullPool};
 ghost use Rattle.net_rows.specs.StreamRows.{Streams, Joining, FedByAnyName};
 ghost use Rattle.net_rows.specs.StartRows.{Leases, PlanCommitted, PlanLost, HandingCommitted, HandingLost, DrawnStays, NewLife, OwnCounts};
 ghost use Rattle.net_rows.specs.GroupRows.{GroupKey, GroupWaits, GroupNames, TwoAtHome};
@@ -12,7 +12,10 @@ ghost use Rattle.net_rows.specs.FrameRows.{Tampered, ForgedFrames, Blocks, Frame
 ghost use Rattle.net_rows.specs.JournalRows.{Checkpoints, CheckpointInDoubt, Migration, CheckpointOnce, FullJournal, HandingRuns, UsedKeys, BlankOfVersion1};
 ghost use Rattle.net_rows.specs.WorldRows.{Resting, SameFrame, Ownership, FirstStarts, FirstForeign, Legal, Illegal};
 ghost use Rattle.net_rows.specs.ManagerRows.{KeysFollowed, StreamsFollowed, GroupsFollowed, RelayFollowed};
-ghost use Rattle.net_rows.specs.PartRows.{TwoPlans, AckedMeanwhile, FullPools, Walks, LaneBytes};
+ghost use Rattle.net_rows.specs.RunRows.{StoppedStart, ForeignStart, NoMemoryAtStart, DownInSettle, RefusedInSettle, LossInSettle, Refusals, FullLink, ForgedRefusals, RefusedReplies, ForgedRun, GroupOrder, Requests};
+ghost use Rattle.net_rows.specs.BlockRows.{TwoWorkers, MergedHistory, Parts, PutByLine, NoMemoryInBlock, RefusedInBlock, ThreeManagers, InBlocks, ShortRun, BatchesFold, FoundBatches, Left};
+ghost use Rattle.net_rows.specs.LoadRows.{SiteOfLoad, LoadOfOne, LaterRound};
+ghost use Rattle.net_rows.specs.PartRows.{TwoPlans, AckedMeanwhile, FullPools, AskedElsewhere, Walks, LaneBytes};
 
 /// Frames over one link: ticks, acknowledgements, repeats and shorts come out as written.
 pub fn tick_rows()
@@ -26,7 +29,7 @@ pub fn tick_rows()
     ensures refused_put { RefusedPut }
     ensures ages { Ages }
     ensures many_repeats { ManyRepeats }
-    ensures link_down { LinkDown }
+    ensures down_link { DownLink }
 {}
 
 /// A key over a relay node comes out as written, also where that node crashes.
@@ -43,6 +46,7 @@ pub fn key_rows()
     ensures not_ready { NotReady }
     ensures shown_keys { ShownKeys }
     ensures short_entropy { ShortEntropy }
+    ensures full_pool { FullPool }
 {}
 
 /// Streams come out as written.
@@ -116,6 +120,47 @@ pub fn part_rows()
     ensures two_plans { TwoPlans }
     ensures acked_meanwhile { AckedMeanwhile }
     ensures full_pools { FullPools }
+    ensures asked_elsewhere { AskedElsewhere }
     ensures walks { Walks }
     ensures lane_bytes { LaneBytes }
+{}
+
+/// Runs in which the outside fails, nodes are down, or frames are forged come out as written.
+pub fn run_rows()
+    ensures stopped_start { StoppedStart }
+    ensures foreign_start { ForeignStart }
+    ensures no_memory_at_start { NoMemoryAtStart }
+    ensures down_in_settle { DownInSettle }
+    ensures refused_in_settle { RefusedInSettle }
+    ensures loss_in_settle { LossInSettle }
+    ensures refusals { Refusals }
+    ensures full_link { FullLink }
+    ensures forged_refusals { ForgedRefusals }
+    ensures refused_replies { RefusedReplies }
+    ensures forged_run { ForgedRun }
+    ensures group_order { GroupOrder }
+    ensures requests { Requests }
+{}
+
+/// Blocks of several workers and managers, and what runs leave, come out as written.
+pub fn block_rows()
+    ensures two_workers { TwoWorkers }
+    ensures merged_history { MergedHistory }
+    ensures parts { Parts }
+    ensures put_by_line { PutByLine }
+    ensures no_memory_in_block { NoMemoryInBlock }
+    ensures refused_in_block { RefusedInBlock }
+    ensures three_managers { ThreeManagers }
+    ensures in_blocks { InBlocks }
+    ensures short_run { ShortRun }
+    ensures batches_fold { BatchesFold }
+    ensures found_batches { FoundBatches }
+    ensures left { Left }
+{}
+
+/// The generated load of one round comes out as written.
+pub fn load_rows()
+    ensures site_of_load { SiteOfLoad }
+    ensures load_of_one { LoadOfOne }
+    ensures later_round { LaterRound }
 {}

@@ -1,17 +1,22 @@
 -- Its runs and its block, as they compute.
-use Rattle.std.proofs.Common.{◌≡◌, ℕ, zero, suc, ◌++◌, false, refl, arith}
-use Rattle.std.specs.Prelude.{◌==◌, count_by}
+use Rattle.std.proofs.Common.{◌≡◌, ℕ, zero, suc, List, [], ◌∷◌, ◌++◌, map, false, Some, None, refl, subst, arith}
+use Rattle.std.specs.Prelude.{◌==◌, count_by, slice_get}
 use Rattle.std.proofs.lemmas.Bool.Decides.{nat_tests}
 use Rattle.qkd_base.specs.declared.lane.Way.{Way}
 use Rattle.qkd_base.specs.declared.lane.Way.TheVariants.{Up, Down}
-use Rattle.net_model.specs.Site.{lane_of}
 use Rattle.net_model.specs.World.{Transmission, Outgoing}
 use Rattle.net_model.specs.Window.{transmission_eq}
 use Rattle.net_model.specs.Step.{run}
 use Rattle.net_model.specs.Deliveries.{deliveries}
-use Rattle.net_model.specs.BlockOrder.{claimed_on, put_on, all_histories}
+use Rattle.net_model.specs.declared.event.Event.TheVariants.{Plan}
+use Rattle.net_model.specs.Site.{lane_of, count_up}
+use Rattle.net_model.specs.Action.{Ask, Ok}
+use Rattle.net_model.specs.BlockOrder.{IsMerge, Done, Next, claimed_on, put_on, all_histories}
+use Rattle.scenario_lines.specs.declared.command.Command.TheVariants.{Tick}
+use Rattle.run_model.specs.Works.{Work, asked_by, plain_work}
+use Rattle.net_rows.specs.Row.{no_http}
 use Rattle.net_rows.proofs.Opened.{opened}
-use Rattle.net_witness.specs.Witness.{here, Runs, Relays, Hands, Doubts, Blocks, block_start, parts}
+use Rattle.net_witness.specs.Witness.{here, Runs, Relays, Hands, Doubts, Blocks, BlocksOfLines, block_start, parts, works}
 
 pub runs : Runs
 unfolding opened
@@ -64,3 +69,21 @@ blocks = record {
   put_order = refl;
   put = λ l j. put l.link l.way j;
 }
+
+abbrev planned : Work
+planned = record { place = 0; action = Ask 0 Plan Ok }
+
+some_same : {A : Type 0} (x y : A) → Some x ≡ Some y → x ≡ y
+some_same x y h = cc
+
+merged : (v : ℕ) (h : List Work) → slice_get works.histories v ≡ Some h →
+    IsMerge (map (λ k. asked_by no_http here.site block_start None 1 k v 0 (record { number = 9; command = Tick 0 } ∷ [])) (count_up 1)) (map plain_work h)
+unfolding opened
+merged zero h at =
+    subst (λ (xs : List Work). IsMerge ((planned ∷ []) ∷ []) (map plain_work xs)) (some_same (planned ∷ []) h at) (Next [] [] planned [] [] (Done ([] ∷ []) refl))
+merged (suc zero) h at = subst (λ (xs : List Work). IsMerge ([] ∷ []) (map plain_work xs)) (some_same [] h at) (Done ([] ∷ []) refl)
+merged (suc (suc v)) h at = cc
+
+pub blocks_of_lines : BlocksOfLines
+unfolding opened
+blocks_of_lines = record { may_stand = refl; block = blocks; merged = merged; put = refl }

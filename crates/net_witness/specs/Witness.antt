@@ -1,15 +1,19 @@
 -- A network that meets the premises of the laws, with runs and a block of it.
 use Rattle.std.specs.Prelude.{◌≡◌, true, List, [], ◌∷◌, ◌++◌, length, None}
 use Rattle.qkd_base.specs.declared.lane.Way.TheVariants.{Up, Down}
-use Rattle.net_model.specs.declared.event.Event.TheVariants.{Fill, Enc, Dec, Plan}
+use Rattle.net_model.specs.declared.event.Event.TheVariants.{Plan}
 use Rattle.net_model.specs.World.{Network, World, first}
-use Rattle.net_model.specs.Action.{Action, Ok, IoFault, Ask, Allocate, Transmit, Start, Recovers}
+use Rattle.net_model.specs.Action.{Action, Ok, IoFault, Ask, Allocate, Transmit, Recovers}
 use Rattle.net_model.specs.Step.{IsRun, run}
 use Rattle.net_model.specs.Deliveries.{deliveries, pairs_of}
 use Rattle.net_model.specs.BlockOrder.{Parts, IsBlock}
 use Rattle.hop_frames.specs.Sealing.{hop_sealing}
-use Rattle.net_rows.specs.Lines.{Command, Bits, Asks, Do, two_nodes, lane, key}
-use Rattle.net_rows.specs.Runs.{done, one_key}
+use Rattle.scenario_lines.specs.declared.command.Command.TheVariants as commands
+use Rattle.scenario_lines.specs.declared.end.Ends.TheVariants.{Both}
+use Rattle.net_rows.specs.Networks.{two_nodes, lane, key}
+use Rattle.run_model.specs.Works.{Works, IsBlockOf}
+use Rattle.net_rows.specs.Row.{Step, Says, Finds, line, line_by, ran, no_http}
+use Rattle.net_rows.specs.Runs.{one_key}
 use Rattle.net_rows.specs.WorldRows.{first_order}
 
 -- two nodes and a link, with entropies that tell sevens without an end
@@ -21,10 +25,10 @@ abbrev pub here : Network
 here = record sevens { sealing = hop_sealing }
 
 -- what a worked scenario does
-abbrev pub actions_of : List Command → List Action
-actions_of lines = (done sevens lines).actions
+abbrev pub actions_of : List Step → List Action
+actions_of lines = (ran sevens lines).actions
 
-abbrev pub after : List Command → World
+abbrev pub after : List Step → World
 after lines = run here first (actions_of lines)
 
 -- a key is made, told and confirmed
@@ -32,18 +36,18 @@ abbrev pub Runs : Type 0
 Runs = IsRun here first (actions_of one_key)
 
 -- and handed to both applications
-abbrev pub handed_lines : List Command
-handed_lines = one_key ++ Asks 0 (Enc 0 1 1 256) Ok ∷ Asks 1 (Dec 1 0 (key 1 ∷ [])) Ok ∷ []
+abbrev pub handed_lines : List Step
+handed_lines = one_key ++ line (commands.Enc 0 0 1 1 256) ∷ line (commands.Dec 1 1 0 (key 1 ∷ [])) ∷ []
 
 abbrev pub Hands : Type 0
 Hands = IsRun here first (actions_of handed_lines) × (pairs_of (deliveries here first (actions_of handed_lines)) ≡ (key 1, 0) ∷ (key 1, 1) ∷ [])
 
 -- or its handing is stopped, in doubt, and found by the next start
-abbrev pub stopped_lines : List Command
-stopped_lines = one_key ++ Asks 0 (Enc 0 1 1 256) IoFault ∷ []
+abbrev pub stopped_lines : List Step
+stopped_lines = one_key ++ line_by (commands.Enc 0 0 1 1 256) (Says IoFault ∷ []) ∷ []
 
 abbrev pub Doubts : Type 0
-Doubts = IsRun here first (actions_of (stopped_lines ++ Do (Start 0 (Recovers true)) ∷ [])) × (length ((after stopped_lines).in_doubt 0).batch ≡ 1)
+Doubts = IsRun here first (actions_of (stopped_lines ++ line_by (commands.Start 0) (Finds (Recovers true) ∷ []) ∷ [])) × (length ((after stopped_lines).in_doubt 0).batch ≡ 1)
 
 -- two frames on each wire, and two facts
 abbrev pub Relays : Type 0
@@ -52,7 +56,7 @@ Relays = let end = after one_key in
 
 -- a block in which a manager plans, and its one order is claimed and put
 abbrev pub block_start : World
-block_start = after (Bits 0 true true 2 ∷ Asks 0 (Fill 0 1 256 1) Ok ∷ [])
+block_start = after (line (commands.Bits 0 Both 2) ∷ line (commands.Fill 0 1 256 1) ∷ [])
 
 abbrev pub parts : Parts
 parts = record {
@@ -63,3 +67,16 @@ parts = record {
 
 abbrev pub Blocks : Type 0
 Blocks = IsBlock here block_start parts
+
+-- the same as a block of lines: one worker does a tick
+abbrev pub works : Works
+works =
+    record {
+      histories = (record { place = 0; action = Ask 0 Plan Ok } ∷ []) ∷ [] ∷ [];
+      claims = Allocate first_order ∷ [];
+      puts = record { place = 0; action = Transmit (lane 0 Up) 0 Ok } ∷ [];
+      left_out = None;
+    }
+
+abbrev pub BlocksOfLines : Type 0
+BlocksOfLines = IsBlockOf no_http here 1 block_start (record { number = 9; command = commands.Tick 0 } ∷ []) works

@@ -1,4 +1,4 @@
-use Rattle.net_rows.proofs.JournalRowsProofs.{checkpoints, checkpoint_in_doubt, migration, checkpoint_once, full_journal, handing_runs, used_keys, blank_of_version_1}
+use Rattle.net_rows.proofs.JournalRowsProofs.{checkpoints, checkpoint_in_doubt, migration, checkpoint_once, blank_of_version_1, full_journal, handing_runs, used_keys}
 use Rattle.net_rows.proofs.journal_rows.Goals as goal
 
 pub returns-clause-checkpoints : goal.returns-clause-checkpoints
@@ -13,6 +13,9 @@ returns-clause-migration c = migration
 pub returns-clause-checkpoint_once : goal.returns-clause-checkpoint_once
 returns-clause-checkpoint_once c = checkpoint_once
 
+pub returns-clause-blank_of_version_1 : goal.returns-clause-blank_of_version_1
+returns-clause-blank_of_version_1 c = blank_of_version_1
+
 pub returns-clause-full_journal : goal.returns-clause-full_journal
 returns-clause-full_journal c = full_journal
 
@@ -21,6 +24,3 @@ returns-clause-handing_runs c = handing_runs
 
 pub returns-clause-used_keys : goal.returns-clause-used_keys
 returns-clause-used_keys c = used_keys
-
-pub returns-clause-blank_of_version_1 : goal.returns-clause-blank_of_version_1
-returns-clause-blank_of_version_1 c = blank_of_version_1

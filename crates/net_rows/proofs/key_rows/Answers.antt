@@ -1,4 +1,4 @@
-use Rattle.net_rows.proofs.KeyRowsProofs.{pools, faults, entitled, not_ready, shown_keys, short_entropy}
+use Rattle.net_rows.proofs.KeyRowsProofs.{pools, faults, entitled, not_ready, shown_keys, short_entropy, full_pool}
 use Rattle.net_rows.proofs.key_rows.Goals as goal
 
 pub returns-clause-pools : goal.returns-clause-pools
@@ -18,3 +18,6 @@ returns-clause-shown_keys c = shown_keys
 
 pub returns-clause-short_entropy : goal.returns-clause-short_entropy
 returns-clause-short_entropy c = short_entropy
+
+pub returns-clause-full_pool : goal.returns-clause-full_pool
+returns-clause-full_pool c = full_pool

@@ -1,4 +1,4 @@
-use Rattle.net_rows.proofs.PartRowsProofs.{two_plans, acked_meanwhile, full_pools, walks, lane_bytes}
+use Rattle.net_rows.proofs.PartRowsProofs.{two_plans, acked_meanwhile, full_pools, asked_elsewhere, walks, lane_bytes}
 use Rattle.net_rows.proofs.part_rows.Goals as goal
 
 pub returns-clause-two_plans : goal.returns-clause-two_plans
@@ -9,6 +9,9 @@ returns-clause-acked_meanwhile c = acked_meanwhile
 
 pub returns-clause-full_pools : goal.returns-clause-full_pools
 returns-clause-full_pools c = full_pools
+
+pub returns-clause-asked_elsewhere : goal.returns-clause-asked_elsewhere
+returns-clause-asked_elsewhere c = asked_elsewhere
 
 pub returns-clause-walks : goal.returns-clause-walks
 returns-clause-walks c = walks

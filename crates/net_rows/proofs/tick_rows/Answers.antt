@@ -1,4 +1,4 @@
-use Rattle.net_rows.proofs.TickRowsProofs.{one_key, empty_lanes, heard_again, any_order, full_lane, short_lane, few_bytes, refused_put, ages, many_repeats, link_down}
+use Rattle.net_rows.proofs.TickRowsProofs.{one_key, empty_lanes, heard_again, any_order, full_lane, short_lane, few_bytes, refused_put, ages, many_repeats, down_link}
 use Rattle.net_rows.proofs.tick_rows.Goals as goal
 
 pub returns-clause-one_key : goal.returns-clause-one_key
@@ -31,5 +31,5 @@ returns-clause-ages c = ages
 pub returns-clause-many_repeats : goal.returns-clause-many_repeats
 returns-clause-many_repeats c = many_repeats
 
-pub returns-clause-link_down : goal.returns-clause-link_down
-returns-clause-link_down c = link_down
+pub returns-clause-down_link : goal.returns-clause-down_link
+returns-clause-down_link c = down_link

@@ -1,5 +1,5 @@
 use Rattle.net_witness.proofs.Networks.{is_network}
-use Rattle.net_witness.proofs.Running.{runs, relays, hands, doubts, blocks}
+use Rattle.net_witness.proofs.Running.{runs, relays, hands, doubts, blocks, blocks_of_lines}
 use Rattle.net_witness.proofs.law_premises_are_met.Goals as goal
 
 pub returns-clause-network : goal.returns-clause-network
@@ -19,3 +19,6 @@ returns-clause-doubts c = doubts
 
 pub returns-clause-blocks : goal.returns-clause-blocks
 returns-clause-blocks c = blocks
+
+pub returns-clause-blocks_of_lines : goal.returns-clause-blocks_of_lines
+returns-clause-blocks_of_lines c = blocks_of_lines

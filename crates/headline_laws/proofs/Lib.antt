@@ -1,0 +1,11 @@
+pub mod Fronts
+pub mod Owned
+pub mod Within
+pub mod Plays
+pub mod Tasks
+pub mod Served
+pub mod Outcomes
+pub mod Succeeds
+pub mod Shown
+pub mod Keys
+pub mod Nothing
