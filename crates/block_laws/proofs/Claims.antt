@@ -12,8 +12,8 @@ use Rattle.net_model.specs.Action.{Action, Allocate}
 use Rattle.net_model.specs.Frames.{without, is_unclaimed, allocate}
 use Rattle.net_model.specs.Step.{step, is_enabled, IsStep, run, IsRun}
 use Rattle.net_model.specs.BlockOrder.{is_claim, claimed_on}
-use Rattle.record_laws.proofs.Base.{and_left, and_right, and_both, lane_eq_from, not_both}
-use Rattle.lane_laws.proofs.Lists.{lane_same, transmission_from, transmission_same}
+use Rattle.record_laws.proofs.Base.{and_left, and_right, and_both, lane_eq_from, not_both, lane_same}
+use Rattle.lane_laws.proofs.Lists.{transmission_from, transmission_same}
 use Rattle.block_laws.proofs.Counting.{one_if, count_more, counted_is_there, none_counted}
 use Rattle.block_laws.proofs.Runs.{one_more, nothing_runs, run_none, run_one}
 

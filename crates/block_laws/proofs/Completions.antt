@@ -7,7 +7,7 @@ use Rattle.std.proofs.lemmas.List.Folds.{list_all-append}
 use Rattle.qkd_base.specs.declared.lane.Lane.{Lane}
 use Rattle.net_model.specs.declared.event.Event.TheVariants.{Note}
 use Rattle.net_model.specs.declared.placing.Placing.{Placing}
-use Rattle.net_model.specs.Told.{tells}
+use Rattle.net_model.specs.OctetSequence.{has_octets}
 use Rattle.net_model.specs.Site.{count_up, outgoing_lanes}
 use Rattle.net_model.specs.Journal.{journal_limit, added_len, is_nil}
 use Rattle.net_model.specs.World.{Network, World}
@@ -17,6 +17,7 @@ use Rattle.net_model.specs.Action.{Environment, Complete, Ok, Outcome, is_no_mem
 use Rattle.net_model.specs.Handle.{is_numbered, commit, stopped, perform, handle}
 use Rattle.net_model.specs.Step.{step, is_node, is_sent, is_enabled, IsStep, IsRun}
 use Rattle.record_laws.proofs.Base.{by_test, and_left, and_right, and_both}
+use Rattle.record_laws.proofs.Walks.{perform_walk}
 use Rattle.block_laws.proofs.Runs.{one_more, nothing_runs}
 
 module _ (net : Network) where
@@ -34,13 +35,8 @@ module _ (net : Network) where
   was_stopped w d v octets e = record { orders = d.orders; puts = d.puts }
 
   performed : (w : World) → IsDone w → (v octets : ℕ) (environment : Environment) (e : Effect) → e.orders ≡ [] → e.repeats ≡ [] → IsDone (perform net w v octets environment e).0
-  unfolding perform
   performed w d v octets environment e none less =
-      let P : World × Outcome → Type 0 = λ r. IsDone r.0 in
-      by_test P (is_no_memory environment || not (list_all is_numbered e.batch)) _ _ (λ x. d)
-      (λ x. by_test P (nat_lt journal_limit ((w.journal v).length' + added_len (w.journal v).version e.batch)) _ _ (λ y. d)
-      (λ y. by_test P (nat_lt 0 octets && (not (tells (net.entropy v) (w.drawn v + octets)) || is_entropy_fault environment)) _ _ (λ z. d)
-      (λ z. by_test P (is_io_fault environment && not (is_nil e.batch)) _ _ (λ u. was_stopped w d v octets e) (λ u. committed w d v octets e none less))))
+      perform_walk net w IsDone d v octets environment e (λ numbered fits. was_stopped w d v octets e) (λ numbered fits. committed w d v octets e none less)
 
   noted : (w : World) → IsDone w → (v : ℕ) (placings : List Placing) → IsDone (handle net w v (Note placings) Ok).0
   unfolding handle decide random_need

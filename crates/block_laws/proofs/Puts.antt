@@ -11,8 +11,7 @@ use Rattle.net_model.specs.Action.{Environment, Ok, OutOfMemory, IoFault, Entrop
 use Rattle.net_model.specs.Frames.{outgoing_of, without_frame, transmit_one, transmit}
 use Rattle.net_model.specs.Step.{step, is_enabled, IsStep, run, IsRun}
 use Rattle.net_model.specs.BlockOrder.{is_wire_answer, is_put, put_on}
-use Rattle.record_laws.proofs.Base.{and_left, and_right, and_both, lane_eq_from, eq_from, eq_same, by_test}
-use Rattle.lane_laws.proofs.Lists.{lane_same}
+use Rattle.record_laws.proofs.Base.{and_left, and_right, and_both, lane_eq_from, eq_from, eq_same, by_test, lane_same}
 use Rattle.block_laws.proofs.Claims.{lanes_apart}
 use Rattle.block_laws.proofs.Counting.{one_if, count_more, counted_is_there}
 use Rattle.block_laws.proofs.Runs.{one_more, nothing_runs, run_none, run_one}

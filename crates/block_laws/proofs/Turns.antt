@@ -10,11 +10,11 @@ use Rattle.net_model.specs.declared.event.Event.{Event}
 use Rattle.net_model.specs.declared.event.Event.TheVariants.{Plan}
 use Rattle.net_model.specs.declared.fact.Fact.{Fact}
 use Rattle.net_model.specs.declared.payload.Payload.{Payload}
-use Rattle.net_model.specs.declared.payload.Payload.TheVariants.{Told, Ack}
+use Rattle.net_model.specs.declared.payload.Payload.TheVariants.{Data, Ack}
 use Rattle.net_model.specs.declared.reply.Reply.TheVariants.{Down as DownReply, NoBits}
-use Rattle.net_model.specs.Item.{Item, DataItem, AckItem, payload, need, told_of}
+use Rattle.net_model.specs.Item.{Item, DataItem, AckItem, payload, need, data_payload}
 use Rattle.net_model.specs.Premises.{IsNetwork}
-use Rattle.net_model.specs.Told.{octets_from}
+use Rattle.net_model.specs.OctetSequence.{octets_from}
 use Rattle.net_model.specs.Site.{Site, sender, receiver, lane_of}
 use Rattle.net_model.specs.World.{Network, World, Allocation, Transmission, received_there}
 use Rattle.net_model.specs.View.{View}
@@ -31,16 +31,18 @@ use Rattle.net_model.specs.Frames.{receive_item, deliver_frame, deliver_number, 
 use Rattle.net_model.specs.Step.{step, is_node, is_asked, is_enabled}
 use Rattle.net_model.specs.BlockOrder.{is_block_event, is_turn_of}
 use Rattle.record_laws.proofs.Base.{and_left, and_right, eq_from, by_test}
+use Rattle.record_laws.proofs.Walks.{deliver_walk}
+use Rattle.event_laws.proofs.Receives.{receive_orders}
 use Rattle.record_laws.proofs.Grow.{need_grows}
 use Rattle.event_laws.specs.May.{MayDecide, is_plan, decided}
-use Rattle.event_laws.proofs.Decisions.{event_may, receive_may}
+use Rattle.event_laws.proofs.Decisions.{event_may, receive_may, plan_is}
 use Rattle.window_laws.proofs.Orders.{plan_may, plan_order_at}
 use Rattle.block_laws.proofs.Views.{SameFor, same_for, view_same}
 use Rattle.block_laws.proofs.Performs.{SameResult, both_tests, IsTurn, performs_same, performs_unseen}
 
 -- what a manager decides is a turn
 
-abbrev IsTurnDecision : Network → World → ℕ → Decision → Type 0
+abbrev pub IsTurnDecision : Network → World → ℕ → Decision → Type 0
 IsTurnDecision net w v (Refuses reply) = Unit {0}
 IsTurnDecision net w v (Does e) = IsTurn net w v e
 
@@ -57,10 +59,6 @@ module _ (net : Network) (w : World) (c : Conserved net w) (v : ℕ) where
   unfolding decide
   plan_turn = record { batch = λ numbered. plan_may net w v c; orders = λ n t h. (plan_order_at net w v c n t h).at }
 
-  plan_is : (event : Event) → is_plan event ≡ true → event ≡ Plan
-  plan_is Plan h = refl
-  plan_is _ h = cc
-
   event_turn : IsNetwork net → (event : Event) → v < net.site.nodes → is_asked event ≡ true → is_valid_event net.site v event ≡ true → IsTurnDecision net w v (decided net w v event)
   event_turn network event here asked valid = elim (is_plan event) as (λ t. is_plan event ≡ t → IsTurnDecision net w v (decided net w v event)) [
     | true ↦ λ is. subst (λ (x : Event). IsTurnDecision net w v (decided net w v x)) (sym (plan_is event is)) plan_turn
@@ -68,19 +66,7 @@ module _ (net : Network) (w : World) (c : Conserved net w) (v : ℕ) where
   ] refl
 
 -- a frame that comes is a turn of its receiver
-fact_orders : (see : View) (l : Lane) (offset : ℕ) (f : Fact) → (receive_fact see l offset f).orders ≡ []
-unfolding receive_fact
-fact_orders see l offset f = refl
-
-ack_orders : (see : View) (l : Lane) (from : ℕ) (n : _) → (receive_ack see l from n).orders ≡ []
-unfolding receive_ack
-ack_orders see l from n = refl
-
-receive_orders : (s : Site) (see : View) (l : Lane) (offset : ℕ) (p : Payload) → (receive s see l offset p).orders ≡ []
-receive_orders s see l offset (Told f) = fact_orders see l offset f
-receive_orders s see l offset (Ack n) = ack_orders see l (sender s l) n
-
-receive_turn : (net : Network) (w : World) → Conserved net w → (l : Lane) (j : ℕ) (a : Allocation) (p : Payload) → slice_get (w.frames l) j ≡ Some a → payload w.durable.facts a.item ≡ Some p →
+pub receive_turn : (net : Network) (w : World) → Conserved net w → (l : Lane) (j : ℕ) (a : Allocation) (p : Payload) → slice_get (w.frames l) j ≡ Some a → payload w.durable.facts a.item ≡ Some p →
     IsTurn net w (receiver net.site l) (receive net.site (view_of net w (receiver net.site l)) l a.offset p)
 receive_turn net w c l j a p at e =
     record {
@@ -130,11 +116,11 @@ module _ (net : Network) (l : Lane) (a b : World) (c : Conserved net a) (d : Con
 
   there_same : (way : Way) (link : ℕ) (at : ℕ) → receiver net.site (lane_of link way) ≡ at → SameFor net at a b →
       received_there b.durable (lane_of link way) ≡ received_there a.durable (lane_of link way)
-  there_same Up link at is k = ap (lane_len Up) (k.durable.extends.highs link is)
-  there_same Down link at is k = ap (lane_len Down) (k.durable.extends.lows link is)
+  there_same Up link at is k = ap (lane_len Up) (k.durable.extends.taken (lane_of link Down) is)
+  there_same Down link at is k = ap (lane_len Down) (k.durable.extends.taken (lane_of link Up) is)
 
   payload_same : (item : Item) → MayCarry a.durable.facts a.durable.known (sender net.site l) v item → payload b.durable.facts item ≡ payload a.durable.facts item
-  payload_same (DataItem n) x = ap told_of (h.durable.extends.grows n x.fact x.there ∙ sym x.there)
+  payload_same (DataItem n) x = ap data_payload (h.durable.extends.grows n x.fact x.there ∙ sym x.there)
   payload_same (AckItem n) x = refl
 
   item_same : (j : ℕ) (x : Allocation) (environment : Environment) → slice_get (a.frames l) j ≡ Some x → (o : Option Payload) → payload a.durable.facts x.item ≡ o →
@@ -191,34 +177,19 @@ module _ (net : Network) (w : World) (c : Conserved net w) (v u : ℕ) (apart : 
       (λ up. resolve_unseen (random_need (view_of net w u) event) environment (decided net w u event) turn) (λ down. same_for net v w)
 
 module _ (net : Network) (w : World) (c : Conserved net w) (v : ℕ) (l : Lane) (apart : v ≢ receiver net.site l) (environment : Environment) where
-  abbrev Unseen : World × Outcome → Type 0
-  Unseen r = SameFor net v w r.0
-
   item_unseen : (j : ℕ) (x : Allocation) → slice_get (w.frames l) j ≡ Some x → (o : Option Payload) → payload w.durable.facts x.item ≡ o →
-      Unseen (receive_item net w l x.offset environment o)
+      SameFor net v w (receive_item net w l x.offset environment o).0
   item_unseen j x at None e = same_for net v w
   item_unseen j x at (Some p) e =
       performs_unseen net v (receiver net.site l) apart w c 0 (receive net.site (view_of net w (receiver net.site l)) l x.offset p) (receive_turn net w c l j x p at e) environment
 
-  frame_unseen : (j : ℕ) (o : Option Allocation) → slice_get (w.frames l) j ≡ o → Unseen (deliver_frame net w l environment o)
-  unfolding deliver_frame
-  frame_unseen j None at = same_for net v w
-  frame_unseen j (Some x) at =
-      by_test Unseen (not (w.up (receiver net.site l))) _ _ (λ e. same_for net v w)
-      (λ up. by_test Unseen (nat_lt (received_there w.durable l) (x.offset + need w.durable.facts x.item)) _ _ (λ e. same_for net v w)
-      (λ e. item_unseen j x at (payload w.durable.facts x.item) refl))
-
-  number_unseen : (o : Option ℕ) → Unseen (deliver_number net w l environment o)
-  number_unseen None = same_for net v w
-  number_unseen (Some j) = frame_unseen j (slice_get (w.frames l) j) refl
-
-  deliver_unseen : (number : ℕ) → Unseen (deliver net w l number environment)
-  unfolding deliver
-  deliver_unseen number = number_unseen (slice_get (w.wire l) number)
+  deliver_unseen : (number : ℕ) → SameFor net v w (deliver net w l number environment).0
+  deliver_unseen number =
+      deliver_walk net w (SameFor net v w) (same_for net v w) l environment (λ j x at up. item_unseen j x at (payload w.durable.facts x.item) refl) number
 
 -- a block's turn, whichever it is
 
-asked_turn : (net : Network) (w : World) → IsNetwork net → Conserved net w → (v : ℕ) (event : Event) (environment : Environment) → is_enabled net w (Ask v event environment) ≡ true →
+pub asked_turn : (net : Network) (w : World) → IsNetwork net → Conserved net w → (v : ℕ) (event : Event) (environment : Environment) → is_enabled net w (Ask v event environment) ≡ true →
     IsTurnDecision net w v (decided net w v event)
 unfolding is_enabled
 asked_turn net w network c v event environment may =

@@ -1,4 +1,5 @@
 pub mod Before
+pub mod Counted
 pub mod Covers
 pub mod Entitled
 pub mod Fresh

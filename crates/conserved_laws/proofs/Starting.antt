@@ -9,10 +9,8 @@ use Rattle.net_model.specs.Action.{Start, Recovers}
 use Rattle.net_model.specs.Step.{step, is_node, is_quiet, is_enabled}
 use Rattle.net_model.specs.Invariant.{Invariant, Conserved}
 use Rattle.record_laws.proofs.Base.{and_both, when_true, when_false}
+use Rattle.lane_laws.proofs.Lists.{burnt_length}
 use Rattle.record_laws.proofs.Keeping.{replay_keeps}
-
-burnt_length : (lease : ℕ) (own : List Owner) → length own ≤ lease → length (burnt_to lease own) ≡ lease
-burnt_length lease own h = let a = length-append own (replicate (lease - length own) Burnt) in let b = length-replicate (lease - length own) Burnt in omega (arith, h, a, b)
 
 settled : (net : Network) (w : World) → Conserved net w → (v : ℕ) (committed : Bool) → Invariant net.site (resolved_durable net.site w v committed) w.frames w.unclaimed
 settled net w c v true = replay_keeps net.site w.durable w.frames w.unclaimed c.now v (w.in_doubt v).batch (c.doubts v)

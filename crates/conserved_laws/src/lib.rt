@@ -7,7 +7,8 @@ ghost use Rattle.qkd_base.specs.declared.lane.Lane.{Lane};
 ghost use Rattle.net_model.specs.declared.fact.Fact.{Fact};
 ghost use Rattle.net_model.specs.Table.{PartOf, part_of, bytes_of, route_of, is_secret, fact_at, is_stored_about, was_handed};
 ghost use Rattle.net_model.specs.declared.payload.Payload.{Payload};
-ghost use Rattle.net_model.specs.declared.reply.Reply.TheVariants.{NoBits};
+ghost use Rattle.net_model.specs.declared.counts.Counts4.{Counts4};
+ghost use Rattle.net_model.specs.declared.reply.Reply.TheVariants.{Counted, NoBits};
 ghost use Rattle.net_model.specs.Item.{need, payload};
 ghost use Rattle.net_model.specs.Sealing.{Opens, Rejected};
 ghost use Rattle.net_model.specs.Journal.{is_nil};
@@ -23,6 +24,8 @@ ghost use Rattle.net_model.specs.Knowledge.{IsOn, IsTargetOf, IsAdjacent};
 ghost use Rattle.net_model.specs.Handings.{PairsDiffer};
 ghost use Rattle.net_model.specs.Drawn.{IsDrawn};
 ghost use Rattle.net_model.specs.Deliveries.{is_of_name};
+ghost use Rattle.net_model.specs.View.{port_of};
+ghost use Rattle.net_model.specs.Show.{counted_of};
 ghost use Rattle.net_model.specs.Needed.{view_of};
 ghost use Rattle.net_model.specs.Decision.{next_count};
 ghost use Rattle.net_model.specs.Invariant.{Conserved};
@@ -86,6 +89,12 @@ pub fn law_stored_is_known()
 /// Each received byte of a lane is unused, spent or burnt.
 pub fn law_received_is_counted()
     ensures { (net : Network) (w : World) → Conserved net w → (l : Lane) → (ledger w l).received ≡ (ledger w l).unused + (ledger w l).spent + (ledger w l).burnt }
+{}
+
+/// So is each in the count that a manager gives of a lane of its own, from what it received, planned and recovered.
+pub fn law_own_count_adds_up()
+    ensures { (net : Network) (w : World) → Conserved net w → (v link : ℕ) (counts : Counts4) → counted_of (port_of (view_of net w v) link) ≡ Counted counts →
+        counts.received ≡ counts.unused + counts.spent + counts.burnt }
 {}
 
 /// The next name of a node is new: its count is above those of all names that the node gave, to facts and to group keys.

@@ -5,7 +5,7 @@ use Rattle.std.proofs.lemmas.Bool.{ltb-true}
 use Rattle.net_model.specs.declared.event.Event.{Event}
 use Rattle.net_model.specs.declared.event.Event.TheVariants.{Plan}
 use Rattle.net_model.specs.Premises.{IsNetwork}
-use Rattle.net_model.specs.Told.{octets_from}
+use Rattle.net_model.specs.OctetSequence.{octets_from}
 use Rattle.net_model.specs.World.{Network, World}
 use Rattle.net_model.specs.View.{View}
 use Rattle.net_model.specs.Needed.{view_of}
@@ -20,10 +20,10 @@ use Rattle.net_model.specs.Step.{is_node, is_asked, is_enabled}
 use Rattle.record_laws.proofs.Base.{and_left, and_right}
 use Rattle.view_laws.proofs.Seen.{view_me}
 use Rattle.event_laws.specs.May.{MayDecide, is_plan, decided}
-use Rattle.event_laws.proofs.Decisions.{event_may}
+use Rattle.event_laws.proofs.Decisions.{event_may, plan_is}
 use Rattle.window_laws.proofs.Orders.{plan_may}
 use Rattle.net_laws.proofs.Draws.{DecidesDrawn, event_draws}
-use Rattle.entropy_laws.proofs.Cuts.{DecidesCut, event_cuts}
+use Rattle.net_laws.proofs.Cuts.{DecidesCut, event_cuts}
 use Rattle.entropy_laws.proofs.Names.{learned_own, formed_size, last}
 use Rattle.entropy_laws.proofs.Effects.{AreLaid, MayResolve, handle_lays}
 
@@ -52,10 +52,6 @@ module _ (net : Network) (w : World) (network : IsNetwork net) (c : Conserved ne
   unfolding decide random_need
   plan_replays numbered = plan_may net w v c
 
-  plan_is : (event : Event) → is_plan event ≡ true → event ≡ Plan
-  plan_is Plan h = refl
-  plan_is _ h = cc
-
   event_replays : (event : Event) → v < net.site.nodes → is_asked event ≡ true → is_valid_event net.site v event ≡ true → Replays (decided net w v event)
   event_replays event here asked valid = elim (is_plan event) as (λ t. is_plan event ≡ t → Replays (decided net w v event)) [
     | true ↦ λ is. subst (λ (x : Event). Replays (decided net w v x)) (sym (plan_is event is)) plan_replays
@@ -69,7 +65,7 @@ module _ (net : Network) (w : World) (network : IsNetwork net) (c : Conserved ne
       record {
         batch = may numbered;
         secrets = inl (λ k f at secret. elim (learned_own net.site w.durable v e.batch (may numbered) k f at) [
-          | inl told ↦ told
+          | inl came ↦ came
           | inr own ↦
               let cut = drawn k f at secret in
               let none = cut.within in

@@ -5,10 +5,12 @@ use Rattle.std.proofs.lemmas.Bool.Decides.{nat_tests}
 use Rattle.qkd_base.specs.Name.{Name}
 use Rattle.net_model.specs.declared.fact.Fact.{Fact}
 use Rattle.net_model.specs.Table.{bytes_of, origin, is_secret}
-use Rattle.net_model.specs.Told.{octets_from}
+use Rattle.net_model.specs.OctetSequence.{octets_from}
 use Rattle.net_model.specs.World.{Network}
 use Rattle.record_laws.proofs.Base.{eq_from, eq_same, and_left, and_right, and_both, not_false, when_true, when_false}
-use Rattle.entropy_laws.specs.Places.{handed_name, IsAtPlace, AreApart}
+use Rattle.entropy_laws.specs.Places.{IsAtPlace}
+use Rattle.net_laws.proofs.Cuts.{IsCutAt, apart_as}
+use Rattle.net_laws.specs.HandedName.{handed_name, AreApart}
 
 -- the facts of a set have places below what was drawn, apart from each other
 pub record IsLaid (net : Network) (T : Fact → Type 0) (drawn : ℕ → ℕ) : Type 0 where
@@ -25,22 +27,10 @@ laid_stays net T T' drawn drawn' back more h =
       apart = λ f g t u secret secret'. h.apart f g (back f t secret) (back g u secret') secret secret';
     }
 
--- a fact cut from the octets between two places, under a new name of a node: its count is past all older ones
-pub record IsCutAt (octet : ℕ → ℕ) (v c from to : ℕ) (place : Name → ℕ) (f : Fact) : Type 0 where
-  pub node : (handed_name f).node ≡ v
-  pub above : c < (handed_name f).count
-  pub bytes : bytes_of f ≡ octets_from octet (place (handed_name f)) (length (bytes_of f))
-  pub after : from ≤ place (handed_name f)
-  pub within : place (handed_name f) + length (bytes_of f) ≤ to
-
 -- a fact whose name is its origin's, and no new one of a node
 pub record IsOlder (v c : ℕ) (f : Fact) : Type 0 where
   pub named : (handed_name f).node ≡ origin f
   pub below : origin f ≡ v → (handed_name f).count ≤ c
-
-pub apart_as : (place place' : Name → ℕ) (f g : Fact) → place' (handed_name f) ≡ place (handed_name f) → place' (handed_name g) ≡ place (handed_name g) → AreApart place f g →
-    AreApart place' f g
-apart_as place place' f g e e' h = elim h [ inl le ↦ inl (omega (arith, e, e', le)) | inr le ↦ inr (omega (arith, e, e', le)) ]
 
 module _ (net : Network) (T T' N : Fact → Type 0) (drawn drawn' : ℕ → ℕ) (v c to : ℕ) (at : Name → ℕ) (h : IsLaid net T drawn) where
   -- new names of the node have their new places

@@ -1,5 +1,4 @@
 pub mod Asking
-pub mod Cuts
 pub mod Effects
 pub mod Laid
 pub mod Names

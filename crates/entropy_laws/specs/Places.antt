@@ -1,30 +1,16 @@
 -- Where in its origin's entropy the octets of each key, chunk and group key stand: no octet goes into two of them.
-use Rattle.std.specs.Prelude.{◌≡◌, ◌≢◌, ℕ, ◌+◌, ◌≤◌, true, length, Some, ◌⊎◌}
+use Rattle.std.specs.Prelude.{◌≡◌, ◌≢◌, ℕ, ◌+◌, ◌≤◌, true, length, Some}
 use Rattle.qkd_base.specs.Name.{Name}
 use Rattle.net_model.specs.declared.fact.Fact.{Fact}
-use Rattle.net_model.specs.declared.fact.Fact.TheVariants.{Key, Chunk, Stored, Open, Joined, Part}
 use Rattle.net_model.specs.Table.{bytes_of, origin, fact_at, is_secret}
-use Rattle.net_model.specs.Told.{octets_from}
+use Rattle.net_model.specs.OctetSequence.{octets_from}
 use Rattle.net_model.specs.World.{Network, World}
-
--- the name under which bytes are handed out: a key's or chunk's own, a part's group key
-abbrev pub handed_name : Fact → Name
-handed_name (Key name master slave route bytes) = name
-handed_name (Chunk name stream index route bytes) = name
-handed_name (Part name key master slave route bytes) = key
-handed_name (Stored note about route) = note
-handed_name (Open stream source peer size route) = stream
-handed_name (Joined note about route) = note
+use Rattle.net_laws.specs.HandedName.{handed_name, AreApart}
 
 -- its bytes are the octets from its name's place on, among those drawn so far
 pub record IsAtPlace (net : Network) (drawn : ℕ → ℕ) (place : Name → ℕ) (f : Fact) : Type 0 where
   pub bytes : bytes_of f ≡ octets_from (net.entropy (origin f)).octet (place (handed_name f)) (length (bytes_of f))
   pub within : place (handed_name f) + length (bytes_of f) ≤ drawn (origin f)
-
--- one ends before the other begins
-abbrev pub AreApart : (Name → ℕ) → Fact → Fact → Type 0
-AreApart place f g =
-    (place (handed_name f) + length (bytes_of f) ≤ place (handed_name g)) ⊎ (place (handed_name g) + length (bytes_of g) ≤ place (handed_name f))
 
 -- all keys, chunks and parts of the network
 pub record ArePlaced (net : Network) (w : World) : Type 0 where

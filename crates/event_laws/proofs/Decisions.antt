@@ -1,5 +1,5 @@
 -- Each event that a manager is asked makes only what may be made.
-use Rattle.std.proofs.Common.{◌≡◌, ℕ, ◌*◌, ◌/◌, ◌<◌, Bool, true, false, ◌&&◌, List, length, sym, ◌∙◌, ap, subst, arith, Some}
+use Rattle.std.proofs.Common.{◌≡◌, ℕ, ◌*◌, ◌/◌, ◌<◌, Bool, true, false, ◌&&◌, List, length, refl, sym, ◌∙◌, ap, subst, arith, Some}
 use Rattle.std.specs.Prelude.{nat_le, slice_get}
 use Rattle.std.specs.List.{list_all}
 use Rattle.std.proofs.lemmas.Bool.Decides.{nat_tests}
@@ -11,7 +11,7 @@ use Rattle.net_model.specs.Table.{fact_at}
 use Rattle.net_model.specs.Item.{payload}
 use Rattle.net_model.specs.Site.{Site, sender, receiver}
 use Rattle.net_model.specs.Sealing.{Sealing}
-use Rattle.net_model.specs.Told.{octets_from}
+use Rattle.net_model.specs.OctetSequence.{octets_from}
 use Rattle.net_model.specs.World.{Network, World, Durable, Allocation, Transmission}
 use Rattle.net_model.specs.Knowledge.{MayCarry}
 use Rattle.net_model.specs.Invariant.{Invariant, Conserved}
@@ -114,3 +114,7 @@ receive_may net w l j offset a p c frame e numbered =
     subst (λ (u : ℕ). MayReplay net.site w.durable u (receive net.site (view_of net w v) l offset p).batch) (view_me net w v)
     (received_may net.site w.durable w.frames w.unclaimed c.now (view_of net w v) (bare_view net w v) (view_sees net w v) l offset a.item p
     (subst (λ (u : ℕ). MayCarry w.durable.facts w.durable.known (sender net.site l) u a.item) (sym (view_me net w v)) ((c.now.carried l).framed j a frame)) e numbered)
+
+pub plan_is : (event : Event) → is_plan event ≡ true → event ≡ Plan
+plan_is Plan h = refl
+plan_is _ h = cc

@@ -20,6 +20,7 @@ use Rattle.net_model.specs.Groups.{same_slaves, is_part_from, is_unhanded_group,
 use Rattle.net_model.specs.View.{View}
 use Rattle.net_model.specs.Needed.{masked_fact}
 use Rattle.record_laws.proofs.Base.{name_eq_from, name_eq_same, eq_from, and_left, and_right, not_true, was_not}
+use Rattle.record_laws.proofs.Parts.{part_starts}
 use Rattle.record_laws.proofs.Tables.{found_name}
 use Rattle.view_laws.proofs.Masked.{with_other_bytes, masked_same, name_blind, part_blind}
 use Rattle.view_laws.proofs.Seen.{Sees, IsSeen, seen_found, seen_all, seen_stored, handed_seen}
@@ -59,14 +60,6 @@ part_seen n m bits _ f shape named from = cc
 abbrev master_or : ℕ → Option PartOf → ℕ
 master_or m None = m
 master_or m (Some p) = p.master
-
-pub part_origin : (s : Site) (T : List Fact) (f : Fact) (p : PartOf) → part_of f ≡ Some p → IsEntitled s T f → origin f ≡ s.home p.master
-part_origin s T (Part name key master slave route bytes) p is x = x.from ∙ ap (λ (o : Option PartOf). s.home (master_or 0 o)) is
-part_origin s T (Key name master slave route bytes) p is x = cc
-part_origin s T (Chunk name stream index route bytes) p is x = cc
-part_origin s T (Stored note about route) p is x = cc
-part_origin s T (Open stream source peer size route) p is x = cc
-part_origin s T (Joined note about route) p is x = cc
 
 module _ (s : Site) (d : Durable) (frames : Lane → List Allocation) (unclaimed : Lane → List Transmission) (inv : Invariant s d frames unclaimed) (see bare : View)
     (h : Sees s d see bare) where
@@ -109,7 +102,7 @@ module _ (s : Site) (d : Durable) (frames : Lane → List Allocation) (unclaimed
       let x = pooled_group m bits slaves n some e in
       let name : Name = name_of x.first in
       let fact = inv.table name x.seen.fact x.seen.there in
-      let mine : origin x.seen.fact ≡ see.me = part_origin s d.facts x.seen.fact x.part.part x.part.is fact.entitled ∙ ap s.home x.part.master ∙ home in (
+      let mine : origin x.seen.fact ≡ see.me = part_starts s d.facts x.seen.fact x.part.part x.part.is fact.entitled ∙ ap s.home x.part.master ∙ home in (
         sym (handed_seen s d see bare h n m home) ∙ x.unhanded,
         inr (record {
           name = name;

@@ -24,7 +24,7 @@ use Rattle.event_laws.specs.May.{decided}
 use Rattle.record_laws.proofs.Base.{lane_eq_from}
 use Rattle.lane_laws.proofs.Lists.{kept_at, all_from}
 use Rattle.window_laws.proofs.Seen.{seen_is, needs_seen}
-use Rattle.window_laws.proofs.Orders.{on, with_orders_is, plan_may, plan_order_at}
+use Rattle.window_laws.proofs.Orders.{on, with_orders_is, plan_may, plan_order_at, needs-append}
 use Rattle.fold_laws.specs.Fitting.{AllFit}
 use Rattle.fold_laws.proofs.Batches.{AllFitHere, here_fits}
 use Rattle.fold_laws.proofs.Commits.{commit_goes}
@@ -63,10 +63,6 @@ unfolding plan
 plan_leases site up v = are_leases site v (filter (λ (p : Port). up p.lane.link) v.ports)
 
 -- its orders need what the view says
-
-needs-append : (facts : List Fact) (xs ys : List Transmission) → needs facts (xs ++ ys) ≡ needs facts xs + needs facts ys
-needs-append facts [] ys = omega arith
-needs-append facts (x ∷ xs) ys = omega (arith, needs-append facts xs ys)
 
 module _ (net : Network) (w : World) (v : ℕ) (c : Conserved net w) where
   abbrev planned : Effect

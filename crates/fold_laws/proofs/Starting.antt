@@ -21,6 +21,7 @@ use Rattle.net_model.specs.Action.{Start, Recovers, Started, WasUp, Outcome}
 use Rattle.net_model.specs.Step.{step, is_sent, is_quiet, is_node, is_enabled}
 use Rattle.net_model.specs.Fold.{view_records, view_batch, view_restarted}
 use Rattle.record_laws.proofs.Base.{eq_same, and_left, and_right, and_both, number_set_same, when_false}
+use Rattle.lane_laws.proofs.Lists.{burnt_length}
 use Rattle.record_laws.proofs.Extending.{end_of}
 use Rattle.record_laws.proofs.Keeping.{replay_keeps}
 use Rattle.fold_laws.specs.Fitting.{AllFit}
@@ -35,7 +36,7 @@ one_leaves s v link less at =
     let low : nat_lt link s.links ≡ true = grind (arith, nat_tests) in
     and_both (is_lane s (outgoing_lane s v link)) (sender s (outgoing_lane s v link) == v) low (ap (λ (u : ℕ). u == v) (end_of s v link at) ∙ eq_same v)
 
-abbrev AllLeave : Site → ℕ → List Lane → Type 0
+abbrev pub AllLeave : Site → ℕ → List Lane → Type 0
 AllLeave s v [] = Unit {0}
 AllLeave s v (l ∷ ls) = (leaves s v l ≡ true) × AllLeave s v ls
 
@@ -56,7 +57,7 @@ lanes_leave s v (suc n) h =
     subst (AllLeave s v) (sym split)
     (both_leave s v (map (outgoing_lane s v) (filter (is_incident s v) (count_up n))) (map (outgoing_lane s v) (filter (is_incident s v) (n ∷ []))) (lanes_leave s v n (omega (arith, h))) last)
 
-outgoing_leave : (s : Site) (v : ℕ) → AllLeave s v (outgoing_lanes s v)
+pub outgoing_leave : (s : Site) (v : ℕ) → AllLeave s v (outgoing_lanes s v)
 unfolding outgoing_lanes
 outgoing_leave s v = lanes_leave s v s.links (omega arith)
 
@@ -64,10 +65,7 @@ nothing_needed : (facts : List Fact) (ts : List Transmission) → is_nil ts ≡ 
 nothing_needed facts [] h = refl
 nothing_needed facts (t ∷ ts) h = cc
 
-burnt_len : (lease : ℕ) (own : List Owner) → length own ≤ lease → length (burnt_to lease own) ≡ lease
-burnt_len lease own h = omega (arith, h, length-append own (replicate (lease - length own) Burnt), length-replicate (lease - length own) Burnt)
-
-abbrev at_lease : Port → Port
+abbrev pub at_lease : Port → Port
 at_lease p = record p { planned = p.lease; recovered = p.lease }
 
 module _ (net : Network) (w : World) (v : ℕ) (inv : Invariant net.site w.durable w.frames w.unclaimed) where
@@ -77,7 +75,7 @@ module _ (net : Network) (w : World) (v : ℕ) (inv : Invariant net.site w.durab
       let room = inv.room l in
       let fits : length (w.durable.own l) ≤ w.durable.lease l = omega (arith, room.planned) in
       let all : length (burnt_to (w.durable.lease l) (w.durable.own l)) + needs w.durable.facts (w.unclaimed l) ≡ w.durable.lease l =
-      omega (arith, burnt_len (w.durable.lease l) (w.durable.own l) fits, nothing_needed w.durable.facts (w.unclaimed l) none) in
+      omega (arith, burnt_length (w.durable.lease l) (w.durable.own l) fits, nothing_needed w.durable.facts (w.unclaimed l) none) in
       (λ i. record (port_at net w l) {
         planned = length (if away i then burnt_to (w.durable.lease l) (w.durable.own l) else w.durable.own l) + needs w.durable.facts (w.unclaimed l);
         recovered = if away i then w.durable.lease l else w.recovered l;
@@ -116,29 +114,41 @@ restart_same a b h =
     λ i. record { me = me i; facts = facts i; acked = acked i; handed = handed i; closed = closed i; ports = ports i; volatile = no_volatile }
 
 module _ (net : Network) (w : World) (v : ℕ) (c : Conserved net w) (sent : is_sent net w v ≡ true) where
+  resolved_restarts : (committed : Bool) → view_of net (restarted net (resolved net.site w v committed) v) v ≡ view_restarted (view_of net (resolved net.site w v committed) v)
+  resolved_restarts false = restart_goes net (resolved net.site w v false) v c.now sent
+  resolved_restarts true =
+      let inv : Invariant net.site (replay net.site v (w.in_doubt v).batch w.durable) w.frames w.unclaimed =
+      replay_keeps net.site w.durable w.frames w.unclaimed c.now v (w.in_doubt v).batch (c.doubts v) in
+      restart_goes net (resolved net.site w v true) v inv sent
+
   resolved_goes : (committed : Bool) → (committed ≡ true → AllFit net (view_of net w v) (w.in_doubt v).batch) →
       view_of net (restarted net (resolved net.site w v committed) v) v ≡
       view_restarted (if committed then view_batch (view_of net w v) (w.in_doubt v).batch else view_of net w v)
   unfolding view_of
-  resolved_goes false fits = restart_goes net (resolved net.site w v false) v c.now sent
+  resolved_goes false fits = resolved_restarts false
   resolved_goes true fits =
       let may : MayReplay net.site w.durable v (w.in_doubt v).batch = c.doubts v in
-      let inv : Invariant net.site (replay net.site v (w.in_doubt v).batch w.durable) w.frames w.unclaimed =
-      replay_keeps net.site w.durable w.frames w.unclaimed c.now v (w.in_doubt v).batch may in
       let h = batch_follows net w v (w.in_doubt v).batch w.durable c.now (view_of net w v) may (fits refl) (view_follows net w v) in
-      restart_goes net (resolved net.site w v true) v inv sent ∙
-      sym (restart_same (view_records (w.in_doubt v).batch (view_of net w v)) (seen net w v (replay net.site v (w.in_doubt v).batch w.durable)) h)
+      resolved_restarts true ∙ sym (restart_same (view_records (w.in_doubt v).batch (view_of net w v)) (seen net w v (replay net.site v (w.in_doubt v).batch w.durable)) h)
 
-pub start_goes : (net : Network) (w : World) (v : ℕ) (committed : Bool) → Conserved net w → w.up v ≡ false → is_enabled net w (Start v (Recovers committed)) ≡ true →
-    (committed ≡ true → AllFit net (view_of net w v) (w.in_doubt v).batch) →
-    view_of net (step net w (Start v (Recovers committed))).0 v ≡
-    view_restarted (if committed then view_batch (view_of net w v) (w.in_doubt v).batch else view_of net w v)
-unfolding is_enabled step start
-start_goes net w v committed c down enabled fits =
-    let asked : Bool = is_quiet net w v && may_recover net w v (Recovers committed) in
-    let may : asked ≡ true =
-    sym (when_false (w.up v) (is_plain (Recovers committed)) asked down) ∙ and_right (is_node net v) (if w.up v then is_plain (Recovers committed) else asked) enabled in
-    let quiet = and_left (is_quiet net w v) (may_recover net w v (Recovers committed)) may in
-    let sent = and_left (is_sent net w v) (is_nil (w.placings v)) quiet in
-    ap (λ (r : World × Outcome). view_of net (r.0) v) (when_false (w.up v) (w, WasUp) (restarted net (resolved net.site w v committed) v, Started) down) ∙
-    resolved_goes net w v c sent committed fits
+module _ (net : Network) (w : World) (v : ℕ) (committed : Bool) (down : w.up v ≡ false) (enabled : is_enabled net w (Start v (Recovers committed)) ≡ true) where
+  sent_before : is_sent net w v ≡ true
+  unfolding is_enabled
+  sent_before =
+      let asked : Bool = is_quiet net w v && may_recover net w v (Recovers committed) in
+      let may : asked ≡ true =
+      sym (when_false (w.up v) (is_plain (Recovers committed)) asked down) ∙ and_right (is_node net v) (if w.up v then is_plain (Recovers committed) else asked) enabled in
+      and_left (is_sent net w v) (is_nil (w.placings v)) (and_left (is_quiet net w v) (may_recover net w v (Recovers committed)) may)
+
+  pub started_is : (step net w (Start v (Recovers committed))).0 ≡ restarted net (resolved net.site w v committed) v
+  unfolding step start
+  started_is = ap (λ (r : World × Outcome). r.0) (when_false (w.up v) (w, WasUp) (restarted net (resolved net.site w v committed) v, Started) down)
+
+  pub start_goes : Conserved net w → (committed ≡ true → AllFit net (view_of net w v) (w.in_doubt v).batch) →
+      view_of net (step net w (Start v (Recovers committed))).0 v ≡
+      view_restarted (if committed then view_batch (view_of net w v) (w.in_doubt v).batch else view_of net w v)
+  start_goes c fits = ap (λ (x : World). view_of net x v) started_is ∙ resolved_goes net w v c sent_before committed fits
+
+  -- what is settled is seen behind the start as before it
+  pub start_restarts : Conserved net w → view_of net (step net w (Start v (Recovers committed))).0 v ≡ view_restarted (view_of net (resolved net.site w v committed) v)
+  start_restarts c = ap (λ (x : World). view_of net x v) started_is ∙ resolved_restarts net w v c sent_before committed

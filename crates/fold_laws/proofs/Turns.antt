@@ -5,7 +5,7 @@ use Rattle.std.specs.List.{list_all}
 use Rattle.net_model.specs.declared.event.Event.{Event}
 use Rattle.net_model.specs.declared.reply.Reply.TheVariants.{Down}
 use Rattle.net_model.specs.World.{Network, World}
-use Rattle.net_model.specs.Told.{tells}
+use Rattle.net_model.specs.OctetSequence.{has_octets}
 use Rattle.net_model.specs.Journal.{added_len, is_nil, journal_limit}
 use Rattle.net_model.specs.Action.{Environment, Outcome, Replies, is_no_memory, is_entropy_fault, is_io_fault}
 use Rattle.net_model.specs.Invariant.{Conserved}
@@ -17,7 +17,8 @@ use Rattle.net_model.specs.Decision.{Decision, Refuses, Does, Effect}
 use Rattle.net_model.specs.Decide.{random_need}
 use Rattle.net_model.specs.Handle.{is_numbered, commit, perform, resolve, handle}
 use Rattle.net_model.specs.Fold.{view_after}
-use Rattle.record_laws.proofs.Base.{or_second, not_true, by_test, when_true}
+use Rattle.record_laws.proofs.Base.{when_true}
+use Rattle.record_laws.proofs.Walks.{perform_walk}
 use Rattle.event_laws.specs.May.{decided}
 use Rattle.fold_laws.specs.Turns.{GoesBy}
 use Rattle.fold_laws.proofs.Asked.{event_goes}
@@ -26,14 +27,8 @@ use Rattle.fold_laws.proofs.Doubtful.{stopped_view}
 perform_goes : (net : Network) (w : World) (v octets : ℕ) (environment : Environment) (e : Effect) →
     (list_all is_numbered e.batch ≡ true → view_of net (commit net.site w v octets e) v ≡ view_after (view_of net w v) e) →
     GoesBy net w v (Does e) (perform net w v octets environment e).0
-unfolding perform
 perform_goes net w v octets environment e h =
-    let P : World × Outcome → Type 0 = λ r. GoesBy net w v (Does e) (r.0) in
-    by_test P (is_no_memory environment || not (list_all is_numbered e.batch)) _ _ (λ x. inl refl)
-    (λ numbered. let all = not_true (list_all is_numbered e.batch) (or_second (is_no_memory environment) _ numbered) in
-    by_test P (nat_lt journal_limit ((w.journal v).length' + added_len (w.journal v).version e.batch)) _ _ (λ x. inl refl)
-    (λ x. by_test P (nat_lt 0 octets && (not (tells (net.entropy v) (w.drawn v + octets)) || is_entropy_fault environment)) _ _ (λ y. inl refl)
-    (λ y. by_test P (is_io_fault environment && not (is_nil e.batch)) _ _ (λ z. inr (inl (stopped_view net w v octets e))) (λ z. inr (inr (h all))))))
+    perform_walk net w (GoesBy net w v (Does e)) (inl refl) v octets environment e (λ numbered fits. inr (inl (stopped_view net w v octets e))) (λ numbered fits. inr (inr (h numbered)))
 
 pub ask_goes : (net : Network) (w : World) (v : ℕ) (event : Event) (environment : Environment) → IsNetwork net → Conserved net w → v < net.site.nodes → w.up v ≡ true →
     is_asked event ≡ true → is_valid_event net.site v event ≡ true → GoesBy net w v (decided net w v event) (handle net w v event environment).0

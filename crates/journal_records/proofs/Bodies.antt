@@ -7,7 +7,7 @@ use Rattle.std.proofs.lemmas.List.Concat.{length-flat_map}
 use Rattle.std.proofs.lemmas.List.Elements.{All-nil, All-cons, All-head, All-tail, All-append}
 use Rattle.qkd_base.specs.Name.{Name, IsName}
 use Rattle.net_model.specs.declared.fact.Fact.{Fact}
-use Rattle.net_model.specs.declared.payload.Payload.TheVariants.{Told}
+use Rattle.net_model.specs.declared.payload.Payload.TheVariants.{Data}
 use Rattle.net_model.specs.Facts.{IsWellFormedFact}
 use Rattle.net_model.specs.Formed.{IsWellFormedRecord}
 use Rattle.net_model.specs.declared.record.Record.{Record}
@@ -179,7 +179,7 @@ second_count rs count e = e ∙ sym (grouped_count rs)
 
 -- what has a spelling is well formed
 fact_formed : (f : Fact) → IsFact f → IsWellFormedFact f
-fact_formed f h = is_formed (Told f) h
+fact_formed f h = is_formed (Data f) h
 
 record_formed : (r : Record) → IsRecord r → IsWellFormedRecord r
 record_formed (Block link number bytes) h = h.2

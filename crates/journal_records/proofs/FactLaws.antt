@@ -7,7 +7,7 @@ use Rattle.qkd_base.specs.Name.{Name, octets_of}
 use Rattle.net_model.specs.declared.fact.Fact.{Fact}
 use Rattle.net_model.specs.declared.fact.Fact.TheVariants.{Key, Chunk, Stored, Open, Joined, Part}
 use Rattle.net_model.specs.declared.payload.Payload.{Payload}
-use Rattle.net_model.specs.declared.payload.Payload.TheVariants.{Told, Ack}
+use Rattle.net_model.specs.declared.payload.Payload.TheVariants.{Data, Ack}
 use Rattle.net_model.specs.Facts.{IsSize, fact_len}
 use Rattle.net_model.specs.Formed.{IsBareFact}
 use Rattle.net_model.specs.Table.{is_secret, bytes_of}
@@ -32,21 +32,21 @@ not_ok n x e = cc
 -- ---- whole facts
 
 record Found (n : ℕ) (octets : List ℕ) (r : Result Payload ℕ) (x : Fact × List ℕ) : Type 0 where
-  told : r ≡ Ok (Told x.0)
+  read : r ≡ Ok (Data x.0)
   rest : x.1 ≡ drop n octets
 
 fact_found : (n : ℕ) (octets : List ℕ) (r : Result Payload ℕ) (x : Fact × List ℕ) → fact_in n octets r ≡ Ok x → Found n octets r x
-fact_found n octets (Ok (Told f)) x e = subst (λ y. Found n octets (Ok (Told f)) y) (ok_is (f, drop n octets) x e) (record { told = refl; rest = refl })
+fact_found n octets (Ok (Data f)) x e = subst (λ y. Found n octets (Ok (Data f)) y) (ok_is (f, drop n octets) x e) (record { read = refl; rest = refl })
 fact_found n octets (Ok (Ack name)) x e = absurd (not_ok (length octets) x e)
 fact_found n octets (Err place) x e = absurd (not_ok (length octets - place) x e)
 
-payload_is : (octets : List ℕ) (f : Fact) → AreOctets octets → payload_of octets ≡ Ok (Told f) → IsFact f × (octets ≡ fact_octets f)
+payload_is : (octets : List ℕ) (f : Fact) → AreOctets octets → payload_of octets ≡ Ok (Data f) → IsFact f × (octets ≡ fact_octets f)
 unfolding payload_octets
-payload_is octets f fits e = payload_takes octets (Told f) fits e
+payload_is octets f fits e = payload_takes octets (Data f) fits e
 
-payload_back : (f : Fact) → IsFact f → payload_of (fact_octets f) ≡ Ok (Told f)
+payload_back : (f : Fact) → IsFact f → payload_of (fact_octets f) ≡ Ok (Data f)
 unfolding payload_octets
-payload_back f h = payload_again (Told f) h
+payload_back f h = payload_again (Data f) h
 
 pub whole_takes : (n : ℕ) (octets : List ℕ) (x : Fact × List ℕ) → AreOctets octets → whole_fact n octets ≡ Ok x → Takes octets (fact_octets x.0) x.1 × (IsFact x.0 × (length (fact_octets x.0) ≡ n))
 unfolding whole_fact
@@ -56,7 +56,7 @@ whole_takes n octets x fits e =
     let k = guard_ok (eqb (get_or octets 0 0) 3) (length octets) read x g.1 in
     let enough : n ≤ length octets = ltb-false _ _ g.0 in
     let f = fact_found n octets (payload_of (take n octets)) x k.1 in
-    let p = payload_is (take n octets) x.0 (AreOctets-take n octets fits) f.told in
+    let p = payload_is (take n octets) x.0 (AreOctets-take n octets fits) f.read in
     let whole : octets ≡ fact_octets x.0 ++ x.1 =
     sym (take-append-drop n octets) ∙ ap (λ (l : List ℕ). l ++ drop n octets) p.1 ∙ ap (λ (l : List ℕ). fact_octets x.0 ++ l) (sym f.rest) in
     (record { parts = whole; rest_fits = subst AreOctets (sym f.rest) (AreOctets-drop n octets fits) }, (p.0, sym (ap length p.1) ∙ omega (arith, length-take n octets, enough)))
@@ -76,7 +76,7 @@ whole_again f rest h =
     let room : ltb (length (os ++ rest)) (length os) ≡ false = le-ltb _ _ (omega (arith, length-append os rest)) in
     let taken : take (length os) (os ++ rest) ≡ os = take_at os rest (length os) refl in
     let left : drop (length os) (os ++ rest) ≡ rest = drop_at os rest (length os) refl in
-    let read : payload_of (take (length os) (os ++ rest)) ≡ Ok (Told f) = ap payload_of taken ∙ payload_back f h in
+    let read : payload_of (take (length os) (os ++ rest)) ≡ Ok (Data f) = ap payload_of taken ∙ payload_back f h in
     let none : eqb (get_or (os ++ rest) 0 0) 3 ≡ false = no_ack f rest in
     ap (λ b. cond b (Err (length (os ++ rest))) (cond (eqb (get_or (os ++ rest) 0 0) 3) (Err (length (os ++ rest))) (fact_in (length os) (os ++ rest) (payload_of (take (length os) (os ++ rest)))))) room
     ∙ ap (λ b. cond b (Err (length (os ++ rest))) (fact_in (length os) (os ++ rest) (payload_of (take (length os) (os ++ rest))))) none

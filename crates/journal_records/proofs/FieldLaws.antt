@@ -9,8 +9,8 @@ use Rattle.qkd_base.specs.declared.lane.Way.{Way}
 use Rattle.qkd_base.specs.declared.lane.Way.TheVariants.{Up, Down}
 use Rattle.qkd_base.specs.Name.{Name, IsName, kind_number, kind_of_octet, kind_eq}
 use Rattle.frame_codec.specs.Payload.{IsNameOf, AreOctets, fields, short}
-use Rattle.frame_codec.specs.Reading.{front, number_at, named, of_kind, any_kind}
-use Rattle.frame_codec.proofs.FieldLaws.{Takes, front_takes, front_again, two_octets, short_back, named_takes, named_again, any_takes, any_again}
+use Rattle.frame_codec.specs.Reading.{prefix, number_at, named, of_kind, any_kind}
+use Rattle.frame_codec.proofs.FieldLaws.{Takes, prefix_takes, prefix_again, two_octets, short_back, named_takes, named_again, any_takes, any_again}
 use Rattle.frame_codec.proofs.KindLaws.{chosen}
 use Rattle.journal_records.specs.declared.version.Version.{Version}
 use Rattle.journal_records.specs.declared.version.Version.TheVariants.{First, Second}
@@ -45,11 +45,11 @@ one_octet (a ∷ b ∷ os) n len e = absurd (omega (arith, len))
 
 pub octet_takes : (octets : List ℕ) (x : ℕ × List ℕ) → AreOctets octets → octet octets ≡ Ok x → Takes octets (x.0 ∷ []) x.1 × Unit {0}
 unfolding octet
-octet_takes octets x fits e = front_takes 1 octet_at (λ n. true) (λ n. n ∷ []) (λ n. Unit {0}) octets x (λ os a len ok is passes. (one_octet os a len is, tt)) fits e
+octet_takes octets x fits e = prefix_takes 1 octet_at (λ n. true) (λ n. n ∷ []) (λ n. Unit {0}) octets x (λ os a len ok is passes. (one_octet os a len is, tt)) fits e
 
 pub octet_again : (n : ℕ) (rest : List ℕ) → octet (n ∷ rest) ≡ Ok (n, rest)
 unfolding octet
-octet_again n rest = front_again 1 octet_at (λ m. true) (n ∷ []) rest n refl refl refl
+octet_again n rest = prefix_again 1 octet_at (λ m. true) (n ∷ []) rest n refl refl refl
 
 link_small : (n : ℕ) → ltb n 32 ≡ true → n < 32
 link_small n e = grind arith
@@ -59,11 +59,11 @@ link_test n h = grind arith
 
 pub link_takes : (octets : List ℕ) (x : ℕ × List ℕ) → AreOctets octets → link_no octets ≡ Ok x → Takes octets (x.0 ∷ []) x.1 × (x.0 < 32)
 unfolding link_no
-link_takes octets x fits e = front_takes 1 octet_at (λ n. ltb n 32) (λ n. n ∷ []) (λ n. n < 32) octets x (λ os a len ok is passes. (one_octet os a len is, link_small a passes)) fits e
+link_takes octets x fits e = prefix_takes 1 octet_at (λ n. ltb n 32) (λ n. n ∷ []) (λ n. n < 32) octets x (λ os a len ok is passes. (one_octet os a len is, link_small a passes)) fits e
 
 pub link_again : (n : ℕ) (rest : List ℕ) → n < 32 → link_no (n ∷ rest) ≡ Ok (n, rest)
 unfolding link_no
-link_again n rest h = front_again 1 octet_at (λ m. ltb m 32) (n ∷ []) rest n refl refl (link_test n h)
+link_again n rest h = prefix_again 1 octet_at (λ m. ltb m 32) (n ∷ []) rest n refl refl (link_test n h)
 
 way_is : (a : ℕ) (w : Way) → cond (eqb a 0) (Some Up) (cond (eqb a 1) (Some Down) None) ≡ Some w → a ≡ way_number w
 way_is a w e = elim (chosen (eqb a 0) (some Up) (cond (eqb a 1) (Some Down) None) (Some w) e) [
@@ -81,12 +81,12 @@ way_octet (a ∷ b ∷ os) w len e = absurd (omega (arith, len))
 
 pub way_takes : (octets : List ℕ) (x : Way × List ℕ) → AreOctets octets → direction octets ≡ Ok x → Takes octets (way_number x.0 ∷ []) x.1 × Unit {0}
 unfolding direction
-way_takes octets x fits e = front_takes 1 way_at (λ w. true) (λ w. way_number w ∷ []) (λ w. Unit {0}) octets x (λ os a len ok is passes. (way_octet os a len is, tt)) fits e
+way_takes octets x fits e = prefix_takes 1 way_at (λ w. true) (λ w. way_number w ∷ []) (λ w. Unit {0}) octets x (λ os a len ok is passes. (way_octet os a len is, tt)) fits e
 
 pub way_again : (w : Way) (rest : List ℕ) → direction (way_number w ∷ rest) ≡ Ok (w, rest)
 unfolding direction
-way_again Up rest = front_again 1 way_at (λ w. true) (0 ∷ []) rest Up refl refl refl
-way_again Down rest = front_again 1 way_at (λ w. true) (1 ∷ []) rest Down refl refl refl
+way_again Up rest = prefix_again 1 way_at (λ w. true) (0 ∷ []) rest Up refl refl refl
+way_again Down rest = prefix_again 1 way_at (λ w. true) (1 ∷ []) rest Down refl refl refl
 
 -- ---- numbers
 
@@ -102,11 +102,11 @@ eight_below os n fits e =
 
 pub end_takes : (octets : List ℕ) (x : ℕ × List ℕ) → AreOctets octets → lane_end octets ≡ Ok x → Takes octets (to_be_bytes w64 x.0) x.1 × (x.0 < 2 ^ 64)
 unfolding lane_end
-end_takes octets x fits e = front_takes 8 (number_at w64) (λ n. true) (λ n. to_be_bytes w64 n) (λ n. n < 2 ^ 64) octets x (λ os a len ok is passes. (eight_octets os a len ok is, eight_below os a ok is)) fits e
+end_takes octets x fits e = prefix_takes 8 (number_at w64) (λ n. true) (λ n. to_be_bytes w64 n) (λ n. n < 2 ^ 64) octets x (λ os a len ok is passes. (eight_octets os a len ok is, eight_below os a ok is)) fits e
 
 pub end_again : (n : ℕ) (rest : List ℕ) → n < 2 ^ 64 → lane_end (to_be_bytes w64 n ++ rest) ≡ Ok (n, rest)
 unfolding lane_end
-end_again n rest h = front_again 8 (number_at w64) (λ m. true) (to_be_bytes w64 n) rest n refl (ap Some (from_be_bytes-to_be_bytes_8 n h)) refl
+end_again n rest h = prefix_again 8 (number_at w64) (λ m. true) (to_be_bytes w64 n) rest n refl (ap Some (from_be_bytes-to_be_bytes_8 n h)) refl
 
 within_from : (least most n : ℕ) → (leb least n && leb n most) ≡ true → (least ≤ n) × (n ≤ most)
 within_from least most n e = (grind arith, grind arith)
@@ -117,11 +117,11 @@ within_test least most n a b = grind arith
 pub within_takes : (least most : ℕ) (octets : List ℕ) (x : ℕ × List ℕ) → AreOctets octets → within least most octets ≡ Ok x → Takes octets (short x.0) x.1 × ((least ≤ x.0) × (x.0 ≤ most))
 unfolding within
 within_takes least most octets x fits e =
-    front_takes 2 (number_at w16) (λ n. leb least n && leb n most) short (λ n. (least ≤ n) × (n ≤ most)) octets x (λ os a len ok is passes. (two_octets os a len ok is, within_from least most a passes)) fits e
+    prefix_takes 2 (number_at w16) (λ n. leb least n && leb n most) short (λ n. (least ≤ n) × (n ≤ most)) octets x (λ os a len ok is passes. (two_octets os a len ok is, within_from least most a passes)) fits e
 
 pub within_again : (least most n : ℕ) (rest : List ℕ) → n < 65536 → least ≤ n → n ≤ most → within least most (short n ++ rest) ≡ Ok (n, rest)
 unfolding within
-within_again least most n rest small a b = front_again 2 (number_at w16) (λ m. leb least m && leb m most) (short n) rest n refl (ap Some (short_back n small)) (within_test least most n a b)
+within_again least most n rest small a b = prefix_again 2 (number_at w16) (λ m. leb least m && leb m most) (short n) rest n refl (ap Some (short_back n small)) (within_test least most n a b)
 
 -- the number n alone
 pub exact_takes : (n : ℕ) (octets : List ℕ) (x : ℕ × List ℕ) → AreOctets octets → within n n octets ≡ Ok x → Takes octets (short n) x.1 × Unit {0}
@@ -135,12 +135,12 @@ exact_takes n octets x fits e =
 pub plain_takes : (n : ℕ) (octets : List ℕ) (x : List ℕ × List ℕ) → AreOctets octets → plain n octets ≡ Ok x → Takes octets x.0 x.1 × ((length x.0 ≡ n) × AreOctets x.0)
 unfolding plain
 plain_takes n octets x fits e =
-    front_takes n as_they_are (λ os. true) (λ os. os) (λ os. (length os ≡ n) × AreOctets os) octets x
+    prefix_takes n as_they_are (λ os. true) (λ os. os) (λ os. (length os ≡ n) × AreOctets os) octets x
     (λ os a len ok is passes. let same : os ≡ a = some_is os a is in (same, (sym (ap length same) ∙ len, subst AreOctets same ok))) fits e
 
 pub plain_again : (n : ℕ) (os rest : List ℕ) → length os ≡ n → plain n (os ++ rest) ≡ Ok (os, rest)
 unfolding plain
-plain_again n os rest len = front_again n as_they_are (λ l. true) os rest os len refl refl
+plain_again n os rest len = prefix_again n as_they_are (λ l. true) os rest os len refl refl
 
 -- ---- names
 
@@ -227,11 +227,11 @@ seven_again n h =
 
 pub short_takes : (octets : List ℕ) (x : Name × List ℕ) → AreOctets octets → short_named any_kind octets ≡ Ok x → Takes octets (short_name x.0) x.1 × IsName x.0
 unfolding short_named
-short_takes octets x fits e = front_takes 7 short_name_at any_kind short_name IsName octets x (λ os a len ok is passes. seven_octets os a len ok is) fits e
+short_takes octets x fits e = prefix_takes 7 short_name_at any_kind short_name IsName octets x (λ os a len ok is passes. seven_octets os a len ok is) fits e
 
 pub short_again : (n : Name) (rest : List ℕ) → IsName n → short_named any_kind (short_name n ++ rest) ≡ Ok (n, rest)
 unfolding short_named
-short_again n rest h = front_again 7 short_name_at any_kind (short_name n) rest n refl (seven_again n h) refl
+short_again n rest h = prefix_again 7 short_name_at any_kind (short_name n) rest n refl (seven_again n h) refl
 
 kind_of-true : (k : NameKind) (n : Name) → of_kind k n ≡ true → n.kind ≡ k
 kind_of-true k n e = grind arith
@@ -239,11 +239,11 @@ kind_of-true k n e = grind arith
 short_stream_takes : (octets : List ℕ) (x : Name × List ℕ) → AreOctets octets → short_named (of_kind Stream) octets ≡ Ok x → Takes octets (short_name x.0) x.1 × IsNameOf Stream x.0
 unfolding short_named
 short_stream_takes octets x fits e =
-    front_takes 7 short_name_at (of_kind Stream) short_name (IsNameOf Stream) octets x (λ os a len ok is passes. let t = seven_octets os a len ok is in (t.0, (t.1, kind_of-true Stream a passes))) fits e
+    prefix_takes 7 short_name_at (of_kind Stream) short_name (IsNameOf Stream) octets x (λ os a len ok is passes. let t = seven_octets os a len ok is in (t.0, (t.1, kind_of-true Stream a passes))) fits e
 
 short_stream_again : (n : Name) (rest : List ℕ) → IsNameOf Stream n → short_named (of_kind Stream) (short_name n ++ rest) ≡ Ok (n, rest)
 unfolding short_named
-short_stream_again n rest h = front_again 7 short_name_at (of_kind Stream) (short_name n) rest n refl (seven_again n h.0) (ap (λ j. kind_eq j Stream) h.1)
+short_stream_again n rest h = prefix_again 7 short_name_at (of_kind Stream) (short_name n) rest n refl (seven_again n h.0) (ap (λ j. kind_eq j Stream) h.1)
 
 pub name_takes : (v : Version) (octets : List ℕ) (x : Name × List ℕ) → AreOctets octets → name_in v any_kind octets ≡ Ok x → Takes octets (name_octets v x.0) x.1 × IsName x.0
 name_takes First octets x fits e = any_takes octets x fits e

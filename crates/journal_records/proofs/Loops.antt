@@ -117,8 +117,8 @@ run_past sae most i rs d lt plain = ap (λ l. run_len sae most l) (drop_more rs 
 pub cut_is : (f : Fact) (size bytes : ℕ) → size ≡ fact_len f → bytes ≡ length (bytes_of f) → size - bytes ≡ fact_len f - length (bytes_of f)
 cut_is f size bytes a b = omega (arith, a, b)
 
-pub bare_front : (f : Fact) (room : List ℕ) (end : ℕ) → end ≡ length (fact_octets f) → take end room ≡ fact_octets f → take (fact_len f - length (bytes_of f)) room ≡ bare_octets f
-bare_front f room end is whole =
+pub bare_prefix : (f : Fact) (room : List ℕ) (end : ℕ) → end ≡ length (fact_octets f) → take end room ≡ fact_octets f → take (fact_len f - length (bytes_of f)) room ≡ bare_octets f
+bare_prefix f room end is whole =
     let size : ℕ = fact_len f - length (bytes_of f) in
     let long : length (bare_octets f) ≡ size = bare_length f in
     let within : size ≤ end = omega (arith, is, ap length (whole_is_bare f), length-append (bare_octets f) (bytes_of f), long) in
@@ -127,7 +127,7 @@ bare_front f room end is whole =
 -- ---- writing
 
 pub puts_on : {old new : List ℕ} {at end : ℕ} {text : List ℕ} → Puts old new at end text → (rest : List ℕ) → take end new ++ rest ≡ take at old ++ (text ++ rest)
-puts_on {old} {new} {at} {end} {text} p rest = ap (λ (l : List ℕ). l ++ rest) p.front ∙ append_assoc (take at old) text rest
+puts_on {old} {new} {at} {end} {text} p rest = ap (λ (l : List ℕ). l ++ rest) p.prefix ∙ append_assoc (take at old) text rest
 
 module _ (records : List Record) (n : Name) (to : ℕ) (first : records ≡ Handed n to ∷ drop 1 records) where
   pub more_left : (left : ℕ) → 0 < left → octets_left left records ≡ short_name n ++ octets_left (left - 1) (drop 1 records)
@@ -193,7 +193,7 @@ body_written v rs old mid new count at end is long same p q =
     let body : List ℕ = short (length (items v rs)) ++ texts v (items v rs) in
     let text : texts v (items v rs) ≡ rest_octets v 0 rs = texts_are v rs in
     let whole : take end new ≡ body =
-    q.front ∙ ap (λ (l : List ℕ). l ++ rest_octets v 0 rs) p.front ∙ ap (λ (k : ℕ). short k ++ rest_octets v 0 rs) is ∙ ap (λ (l : List ℕ). short (length (items v rs)) ++ l) (sym text) in
+    q.prefix ∙ ap (λ (l : List ℕ). l ++ rest_octets v 0 rs) p.prefix ∙ ap (λ (k : ℕ). short k ++ rest_octets v 0 rs) is ∙ ap (λ (l : List ℕ). short (length (items v rs)) ++ l) (sym text) in
     sym (take_all end new (omega (arith, same, long, q.end_is, p.end_is, length-append (short (length (items v rs))) (texts v (items v rs)), ap length text))) ∙ whole
 
 pub body_fits : (v : Version) (rs : List Record) (size at : ℕ) → size ≡ length (body_octets v rs) → at ≡ 2 → at + length (rest_octets v 0 rs) ≤ size
@@ -225,7 +225,7 @@ all_written old now rest whole at end is none within fits =
     let front : take end now ≡ take at old ++ whole = sym (append-nil (take end now)) ∙ ap (λ (l : List ℕ). take end now ++ l) (sym none) ∙ is in
     record {
       end_is = omega (arith, ap length front, length-append (take at old) whole, length-take-le end now within, length-take at old, fits);
-      front = front;
+      prefix = front;
     }
 
 pub end_within : (v : Version) (r : Record) (rest whole : List ℕ) (at size end : ℕ) → whole ≡ record_octets v r ++ rest → at + length whole ≤ size → end ≡ at + length (record_octets v r) → end ≤ size

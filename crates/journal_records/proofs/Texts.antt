@@ -120,12 +120,12 @@ run_then sae all names rest = run_head sae all ++ (names_octets names ++ rest)
 run_text : (sae : ℕ) (names : List Name) (rest : List ℕ) → item_octets Second (Run sae names) ++ rest ≡ run_then sae (length names) names rest
 run_text sae names rest = refl
 
-record Told (rs : List Record) : Type 0 where
+record Written (rs : List Record) : Type 0 where
   none : texts Second (grouped 0 [] rs) ≡ octets_left 0 rs
   run : (sae : ℕ) (n : Name) (names : List Name) (k : ℕ) → k ≡ length (n ∷ names) → k ≤ 128
       → texts Second (grouped sae (n ∷ names) rs) ≡ run_then sae (k + run_len sae (128 - k) rs) (n ∷ names) (octets_left (run_len sae (128 - k) rs) rs)
 
-fresh : (rs : List Record) → Told rs → (m : Name) (to : ℕ) → texts Second (grouped to (m ∷ []) rs) ≡ octets_left 0 (Handed m to ∷ rs)
+fresh : (rs : List Record) → Written rs → (m : Name) (to : ℕ) → texts Second (grouped to (m ∷ []) rs) ≡ octets_left 0 (Handed m to ∷ rs)
 fresh rs later m to =
     let one : run_len to 128 (Handed m to ∷ rs) ≡ 1 + run_len to 127 rs = run_more to 127 m rs in
     let tail : octets_left (run_len to 127 rs) rs ≡ octets_left (1 + run_len to 127 rs - 1) rs = ap (λ (j : ℕ). octets_left j rs) (omega arith) in
@@ -134,7 +134,7 @@ fresh rs later m to =
     ∙ ap (λ (j : ℕ). run_head to j ++ (short_name m ++ octets_left (j - 1) rs)) (sym one)
     ∙ sym (left_new m to rs)
 
-handed : (rs : List Record) → Told rs → (m : Name) (to : ℕ) → Told (Handed m to ∷ rs)
+handed : (rs : List Record) → Written rs → (m : Name) (to : ℕ) → Written (Handed m to ∷ rs)
 handed rs later m to = record {
   none = ap (λ is. texts Second is) (grouped_new 0 [] m to rs refl) ∙ fresh rs later m to;
   run = λ sae n names k is few. elim (cases_Bool (goes_on sae (length (n ∷ names)) to)) [
@@ -161,8 +161,8 @@ handed rs later m to = record {
   ];
 }
 
-told : (rs : List Record) → Told rs
-told [] = record {
+written : (rs : List Record) → Written rs
+written [] = record {
   none = ap (λ is. texts Second is) (grouped_end 0 []) ∙ sym (left_end 0);
   run = λ sae n names k is few.
       let zero_more : run_len sae (128 - k) [] ≡ 0 = run_end sae (128 - k) in
@@ -170,10 +170,10 @@ told [] = record {
       ∙ ap (λ (m : ℕ). run_then sae m (n ∷ names) []) (omega (arith, is, zero_more))
       ∙ ap (λ (l : List ℕ). run_then sae (k + run_len sae (128 - k) []) (n ∷ names) l) (sym (left_end (run_len sae (128 - k) [])));
 }
-told (r ∷ rs) = elim (cases_handing r) [
-  | inl h ↦ subst (λ q. Told (q ∷ rs)) (sym h.is) (handed rs (told rs) h.name h.to)
+written (r ∷ rs) = elim (cases_handing r) [
+  | inl h ↦ subst (λ q. Written (q ∷ rs)) (sym h.is) (handed rs (written rs) h.name h.to)
   | inr plain ↦
-      let later = told rs in
+      let later = written rs in
       record {
         none = ap (λ is. texts Second is) (grouped_other 0 [] r rs plain) ∙ ap (λ (l : List ℕ). record_octets Second r ++ l) later.none ∙ sym (left_other 0 r rs plain);
         run = λ sae n names k is few.
@@ -190,7 +190,7 @@ told (r ∷ rs) = elim (cases_handing r) [
 -- the spelled records are written so, in both versions
 pub texts_are : (v : Version) (rs : List Record) → texts v (items v rs) ≡ rest_octets v 0 rs
 texts_are First rs = first_texts rs
-texts_are Second rs = (told rs).none
+texts_are Second rs = (written rs).none
 
 -- ---- what is known alike in both
 

@@ -9,10 +9,10 @@ use Rattle.qkd_base.specs.declared.key_name.NameKind.TheVariants.{Key as KeyKind
 use Rattle.net_model.specs.declared.fact.Fact.{Fact}
 use Rattle.net_model.specs.declared.fact.Fact.TheVariants.{Key, Chunk, Part}
 use Rattle.net_model.specs.declared.payload.Payload.{Payload}
-use Rattle.net_model.specs.declared.payload.Payload.TheVariants.{Told, Ack}
+use Rattle.net_model.specs.declared.payload.Payload.TheVariants.{Data, Ack}
 use Rattle.net_model.specs.declared.record.Record.{Record}
 use Rattle.net_model.specs.declared.record.Record.TheVariants.{Block, Lease, Learned, Acked, Handed, Closed, Bare}
-use Rattle.frame_codec.specs.Reading.{◌>>=◌, front, named, of_kind, any_kind, number_at, sae, size, index, route, last, payload_of, place_in}
+use Rattle.frame_codec.specs.Reading.{◌>>=◌, prefix, named, of_kind, any_kind, number_at, sae, size, index, route, last, payload_of, place_in}
 use Rattle.journal_records.specs.declared.version.Version.{Version}
 use Rattle.journal_records.specs.declared.version.Version.TheVariants.{First, Second}
 
@@ -22,30 +22,30 @@ abbrev pub octet_at : List ℕ → Option ℕ
 octet_at octets = Some (slice_index octets 0)
 
 unfoldable pub octet : List ℕ → Result (ℕ × List ℕ) ℕ
-octet octets = front 1 octet_at (λ n. true) octets
+octet octets = prefix 1 octet_at (λ n. true) octets
 
 unfoldable pub link_no : List ℕ → Result (ℕ × List ℕ) ℕ
-link_no octets = front 1 octet_at (λ n. nat_lt n 32) octets
+link_no octets = prefix 1 octet_at (λ n. nat_lt n 32) octets
 
 abbrev pub way_at : List ℕ → Option Way
 way_at octets = if slice_index octets 0 == 0 then Some Up else if slice_index octets 0 == 1 then Some Down else None
 
 unfoldable pub direction : List ℕ → Result (Way × List ℕ) ℕ
-direction octets = front 1 way_at (λ w. true) octets
+direction octets = prefix 1 way_at (λ w. true) octets
 
 unfoldable pub lane_end : List ℕ → Result (ℕ × List ℕ) ℕ
-lane_end octets = front 8 (number_at w64) (λ n. true) octets
+lane_end octets = prefix 8 (number_at w64) (λ n. true) octets
 
 -- a number of two octets in a range
 unfoldable pub within : ℕ → ℕ → List ℕ → Result (ℕ × List ℕ) ℕ
-within least most octets = front 2 (number_at w16) (λ n. nat_le least n && nat_le n most) octets
+within least most octets = prefix 2 (number_at w16) (λ n. nat_le least n && nat_le n most) octets
 
 abbrev pub as_they_are : List ℕ → Option (List ℕ)
 as_they_are octets = Some octets
 
 -- so many octets
 unfoldable pub plain : ℕ → List ℕ → Result (List ℕ × List ℕ) ℕ
-plain n octets = front n as_they_are (λ os. true) octets
+plain n octets = prefix n as_they_are (λ os. true) octets
 
 abbrev pub count_in : List ℕ → ℕ
 count_in octets = from_be_bytes w64 (replicate 2 0 ++ drop 1 octets)
@@ -56,7 +56,7 @@ short_name_at octets =
     then Some (record { node = slice_index octets 0 % 16; kind = kind_of_octet (slice_index octets 0 / 16); count = count_in octets }) else None
 
 unfoldable pub short_named : (Name → Bool) → List ℕ → Result (Name × List ℕ) ℕ
-short_named test octets = front 7 short_name_at test octets
+short_named test octets = prefix 7 short_name_at test octets
 
 -- a name as the version spells it
 abbrev pub name_in : Version → (Name → Bool) → List ℕ → Result (Name × List ℕ) ℕ
@@ -67,7 +67,7 @@ name_in Second test octets = short_named test octets
 
 -- A payload of n octets that tells a fact. An acknowledgement, of kind 3, is none.
 abbrev pub fact_in : ℕ → List ℕ → Result Payload ℕ → Result (Fact × List ℕ) ℕ
-fact_in n octets (Ok (Told f)) = Ok (f, drop n octets)
+fact_in n octets (Ok (Data f)) = Ok (f, drop n octets)
 fact_in n octets (Ok (Ack name)) = Err (length octets)
 fact_in n octets (Err place) = Err (length octets - place)
 

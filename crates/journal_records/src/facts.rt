@@ -35,7 +35,7 @@ pub fn whole_fact(alloc: Global, cursor: &mut Cursor<'_>, size: u16) -> Result<F
         return Err(Fault::Left(left));
     }
     match frame_codec::read(alloc, &cursor.left()[..size]) {
-        Ok(Payload::Told(fact)) => {
+        Ok(Payload::Data(fact)) => {
             cursor.skip(size);
             Ok(fact)
         }

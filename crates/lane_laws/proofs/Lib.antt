@@ -1,5 +1,6 @@
 pub mod Allocating
 pub mod Blocks
+pub mod Bytes
 pub mod Growth
 pub mod Lasting
 pub mod Lists

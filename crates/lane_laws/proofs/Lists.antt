@@ -1,8 +1,9 @@
 -- Elements of lists with one more at their end or one less, and transmissions that a test finds equal.
-use Rattle.std.proofs.Common.{◌≡◌, ℕ, zero, suc, ◌+◌, Bool, true, false, ◌&&◌, ◌||◌, List, [], ◌∷◌, ◌++◌, length, refl, sym, ◌∙◌, ap, subst, arith, Option, Some, None, ◌⊎◌, inl, inr}
+use Rattle.std.proofs.Common.{◌≡◌, ℕ, zero, suc, ◌+◌, ◌-◌, ◌≤◌, replicate, length-append, Bool, true, false, ◌&&◌, ◌||◌, List, [], ◌∷◌, ◌++◌, length, refl, sym, ◌∙◌, ap, subst, arith, Option, Some, None, ◌⊎◌, inl, inr}
 use Rattle.std.specs.Prelude.{◌==◌, slice_get, find, filter, map, if◌then◌else◌}
 use Rattle.std.specs.List.{list_any, AllByRecursion}
 use Rattle.std.proofs.lemmas.Option.{slice_get_within}
+use Rattle.std.proofs.lemmas.List.{length-replicate}
 use Rattle.qkd_base.specs.Lane.{lane_eq, way_eq, reverse_lane, reverse_way}
 use Rattle.qkd_base.specs.Family.{lane_set}
 use Rattle.qkd_base.specs.declared.lane.Way.{Way}
@@ -10,13 +11,14 @@ use Rattle.qkd_base.specs.declared.lane.Way.TheVariants.{Up, Down}
 use Rattle.qkd_base.specs.declared.lane.Lane.{Lane}
 use Rattle.net_model.specs.declared.fact.Fact.{Fact}
 use Rattle.net_model.specs.Item.{Item, DataItem, AckItem, item_eq, need}
-use Rattle.net_model.specs.World.{Transmission, needs}
+use Rattle.net_model.specs.World.{Transmission, Owner, Burnt, needs}
 use Rattle.net_model.specs.Window.{offset_eq, transmission_eq}
 use Rattle.net_model.specs.Frames.{without}
-use Rattle.record_laws.proofs.Base.{slice_get-append_left, slice_get-append_right, get_cases, eq_from, eq_same, name_eq_from, name_eq_same, lane_eq_from, and_left, and_right, and_both, or_cases, or_left, or_right}
+use Rattle.net_model.specs.Start.{burnt_to}
+use Rattle.record_laws.proofs.Base.{slice_get-append_left, slice_get-append_right, get_cases, eq_from, eq_same, name_eq_from, name_eq_same, lane_eq_from, and_left, and_right, and_both, or_cases, or_left, or_right, lane_same}
 
-pub get_front : {A : Type 0} (xs ys : List A) (i : ℕ) (a : A) → slice_get xs i ≡ Some a → slice_get (xs ++ ys) i ≡ Some a
-get_front xs ys i a h = slice_get-append_left xs ys i (slice_get_within xs i a h) ∙ h
+pub get_prefix : {A : Type 0} (xs ys : List A) (i : ℕ) (a : A) → slice_get xs i ≡ Some a → slice_get (xs ++ ys) i ≡ Some a
+get_prefix xs ys i a h = slice_get-append_left xs ys i (slice_get_within xs i a h) ∙ h
 
 pub get_last : {A : Type 0} (xs : List A) (y : A) → slice_get (xs ++ y ∷ []) (length xs) ≡ Some y
 get_last {A} xs y = let e : length xs ≡ length xs + 0 = omega arith in ap (slice_get {X = A} (xs ++ y ∷ [])) e ∙ slice_get-append_right xs (y ∷ []) 0
@@ -112,13 +114,6 @@ any_of p (y ∷ ys) x (suc i) e h = or_right (p y) (list_any p ys) (any_of p ys 
 
 -- tests of lanes, items and transmissions
 
-way_same : (d : Way) → way_eq d d ≡ true
-way_same Up = refl
-way_same Down = refl
-
-pub lane_same : (l : Lane) → lane_eq l l ≡ true
-lane_same l = and_both (l.link == l.link) (way_eq l.way l.way) (eq_same l.link) (way_same l.way)
-
 pub lane_set_same : {A : Type 0} (f : Lane → A) (l : Lane) (a : A) → lane_set f l a l ≡ a
 lane_set_same f l a = rw (lane_same l) refl
 
@@ -189,3 +184,7 @@ order_before t (y ∷ ys) x j h =
       | true ↦ λ g. (suc j, g)
       | false ↦ λ g. later_order y ys (without t ys) x (order_before t ys x) j g
     ] h
+
+-- what is burnt up to a lease ends there
+pub burnt_length : (lease : ℕ) (own : List Owner) → length own ≤ lease → length (burnt_to lease own) ≡ lease
+burnt_length lease own h = omega (arith, h, length-append own (replicate (lease - length own) Burnt), length-replicate (lease - length own) Burnt)

@@ -12,11 +12,11 @@ use Rattle.net_model.specs.declared.record.Record.{Record}
 use Rattle.net_model.specs.declared.record.Record.TheVariants.{Lease, Learned, Handed, Closed}
 use Rattle.net_model.specs.declared.reply.Reply.{Reply}
 use Rattle.net_model.specs.Table.{bytes_of, is_secret, fact_at, was_handed, name_of}
-use Rattle.net_model.specs.Told.{octets_from}
+use Rattle.net_model.specs.OctetSequence.{octets_from}
 use Rattle.net_model.specs.Site.{Site}
 use Rattle.net_model.specs.Sealing.{Sealing}
 use Rattle.net_model.specs.View.{View, Port, received_of}
-use Rattle.net_model.specs.Decision.{Decision, Refuses, Does, fresh_name, is_confirmed}
+use Rattle.net_model.specs.Decision.{Decision, Refuses, Does, last_count, fresh_name, is_confirmed}
 use Rattle.net_model.specs.Decide.{decide, random_need}
 use Rattle.net_model.specs.Plan.{end_on, raise, leases_on, plan}
 use Rattle.net_model.specs.Routes.{route}
@@ -25,18 +25,15 @@ use Rattle.net_model.specs.Groups.{new_parts, new_groups, filled_group, fill_gro
 use Rattle.net_model.specs.Streams.{opened, open_stream, is_size, joins, join_stream, stream_here, at_end, has_joined, gives_chunk, chunk_at, get_chunk, close_stream, new_chunks, fed, fed_stream, has_end, waiting, feed, chunk_size}
 use Rattle.net_model.specs.Step.{is_asked}
 use Rattle.record_laws.proofs.Base.{by_test, get_cases}
-use Rattle.pair_laws.proofs.Supply.{Supply, supply, bytes_len}
+use Rattle.pair_laws.proofs.Supply.{supply}
+use Rattle.net_laws.specs.HandedName.{handed_name}
+use Rattle.net_laws.proofs.Cuts.{DecidesCut, fill_cut, feed_cut, fill_group_cut}
 
 -- they stand from a place on, below a limit
 pub record IsCut (octet : ℕ → ℕ) (limit : ℕ) (bytes : List ℕ) : Type 0 where
   pub place : ℕ
   pub is : bytes ≡ octets_from octet place (length bytes)
   pub within : place + length bytes ≤ limit
-
-pub cut : (octet : ℕ → ℕ) (limit place size : ℕ) (bytes : List ℕ) → bytes ≡ octets_from octet place size → place + size ≤ limit → IsCut octet limit bytes
-cut octet limit place size bytes is within =
-    let len : length bytes ≡ size = bytes_len octet place size bytes is in
-    record { place = place; is = is ∙ ap (octets_from octet place) (sym len); within = omega (arith, len, within) }
 
 module _ (octet : ℕ → ℕ) (limit : ℕ) where
   -- so are those of all that a batch learns
@@ -71,41 +68,6 @@ module _ (octet : ℕ → ℕ) (limit : ℕ) where
   either : (b : Bool) (x y : Decision) → (b ≡ true → DecidesDrawn x) → (b ≡ false → DecidesDrawn y) → DecidesDrawn (if b then x else y)
   either b x y = by_test DecidesDrawn b x y
 
-  -- new keys, chunks and parts
-
-  keys_drawn : (see : View) (place m t size more n : ℕ) (way random : List ℕ) → Supply octet place size n random → place + size * n ≤ limit →
-      Draws (new_keys see m t way size random more n)
-  keys_drawn see place m t size more zero way random from within = none_drawn
-  keys_drawn see place m t size more (suc n) way random from within =
-      let product : size * suc n ≡ size * n + size = omega arith in
-      fact_drawn (Key (fresh_name see KeyKind more) m t way (take size random)) _
-      (λ secret. cut octet limit place size (take size random) from.0 (omega (arith, product, within)))
-      (keys_drawn see (place + size) m t size (more + 1) n way (drop size random) from.1 (omega (arith, product, within)))
-
-  chunks_drawn : (see : View) (stream : Name) (place size next more n : ℕ) (way random : List ℕ) → Supply octet place size n random → place + size * n ≤ limit →
-      Draws (new_chunks see stream way size next random more n)
-  chunks_drawn see stream place size next more zero way random from within = none_drawn
-  chunks_drawn see stream place size next more (suc n) way random from within =
-      let product : size * suc n ≡ size * n + size = omega arith in
-      fact_drawn (Chunk (fresh_name see KeyKind more) stream (next + more) way (take size random)) _
-      (λ secret. cut octet limit place size (take size random) from.0 (omega (arith, product, within)))
-      (chunks_drawn see stream (place + size) size next (more + 1) n way (drop size random) from.1 (omega (arith, product, within)))
-
-  parts_drawn : (see : View) (key : Name) (m more : ℕ) (ways : List (ℕ × List ℕ)) (bytes : List ℕ) → IsCut octet limit bytes → Draws (new_parts see key m ways bytes more)
-  parts_drawn see key m more [] bytes is = none_drawn
-  parts_drawn see key m more (x ∷ xs) bytes is =
-      fact_drawn (Part (fresh_name see KeyKind more) key m x.0 x.1 bytes) _ (λ secret. is) (parts_drawn see key m (more + 1) xs bytes is)
-
-  groups_drawn : (see : View) (place m : ℕ) (ways : List (ℕ × List ℕ)) (size more n : ℕ) (random : List ℕ) → Supply octet place size n random → place + size * n ≤ limit →
-      Draws (new_groups see m ways size random more n)
-  groups_drawn see place m ways size more zero random from within = none_drawn
-  groups_drawn see place m ways size more (suc n) random from within =
-      let product : size * suc n ≡ size * n + size = omega arith in
-      both_drawn (new_parts see (fresh_name see KeyKind more) m ways (take size random) (more + 1)) _
-      (parts_drawn see (fresh_name see KeyKind more) m (more + 1) ways (take size random)
-      (cut octet limit place size (take size random) from.0 (omega (arith, product, within))))
-      (groups_drawn see (place + size) m ways size (more + 1 + length ways) n (drop size random) from.1 (omega (arith, product, within)))
-
   leases_drawn : (s : Site) (see : View) (ports : List Port) → Draws (flat_map (leases_on s see) ports)
   leases_drawn s see [] = none_drawn
   leases_drawn s see (p ∷ ps) =
@@ -120,47 +82,6 @@ module _ (octet : ℕ → ℕ) (limit : ℕ) where
   -- decisions
 
   module _ (s : Site) (up : ℕ → Bool) (see : View) where
-    filled_drawn : (place m t bits count : ℕ) (random : List ℕ) (o : Option (List ℕ)) → Supply octet place (bits / 8) count random → place + (bits / 8) * count ≤ limit →
-        DecidesDrawn (filled see m t bits count random o)
-    filled_drawn place m t bits count random None from within = tt
-    filled_drawn place m t bits count random (Some way) from within =
-        either (nat_lt 4096 (unhanded see m t bits + count)) _ _ (λ e. tt) (λ e. keys_drawn see place m t (bits / 8) 0 count way random from within)
-
-    fill_drawn : (place m t bits count : ℕ) (random : List ℕ) → Supply octet place (bits / 8) count random → place + (bits / 8) * count ≤ limit →
-        DecidesDrawn (fill s up see m t bits count random)
-    unfolding fill
-    fill_drawn place m t bits count random from within =
-        either (not (is_entitled s see m m t)) _ _ (λ e. tt) (λ e. filled_drawn place m t bits count random (route s up see.me (s.home t)) from within)
-
-    fed_drawn : (place : ℕ) (stream : Name) (source size count : ℕ) (random : List ℕ) (o : Option (List ℕ)) → Supply octet place size count random → place + size * count ≤ limit →
-        DecidesDrawn (fed see stream source size count random o)
-    fed_drawn place stream source size count random None from within = tt
-    fed_drawn place stream source size count random (Some way) from within =
-        either (nat_lt 4096 (waiting see stream source + count)) _ _ (λ e. tt) (λ e. chunks_drawn see stream place size _ 0 count way random from within)
-
-    fed_stream_drawn : (place count : ℕ) (random : List ℕ) (o : Option Fact) → Supply octet place (chunk_size o) count random → place + chunk_size o * count ≤ limit →
-        DecidesDrawn (fed_stream s up see count random o)
-    fed_stream_drawn place count random (Some (Open' stream source peer size way)) from within =
-        either (has_end s see stream source) _ _ (λ e. fed_drawn place stream source size count random (route s up see.me (s.home peer)) from within) (λ e. tt)
-    fed_stream_drawn place count random _ from within = tt
-
-    feed_drawn : (place : ℕ) (stream : Name) (count : ℕ) (random : List ℕ) → Supply octet place (chunk_size (fact_at see.facts stream)) count random →
-        place + chunk_size (fact_at see.facts stream) * count ≤ limit → DecidesDrawn (feed s up see stream count random)
-    unfolding feed
-    feed_drawn place stream count random from within = fed_stream_drawn place count random (fact_at see.facts stream) from within
-
-    filled_group_drawn : (place m : ℕ) (slaves : List ℕ) (bits count : ℕ) (random : List ℕ) (o : Option (List (ℕ × List ℕ))) → Supply octet place (bits / 8) count random →
-        place + (bits / 8) * count ≤ limit → DecidesDrawn (filled_group see m slaves bits count random o)
-    filled_group_drawn place m slaves bits count random None from within = tt
-    filled_group_drawn place m slaves bits count random (Some ways) from within =
-        either (nat_lt 4096 (unhanded_group see m slaves bits + count)) _ _ (λ e. tt) (λ e. groups_drawn see place m ways (bits / 8) 0 count random from within)
-
-    fill_group_drawn : (place m : ℕ) (slaves : List ℕ) (bits count : ℕ) (random : List ℕ) → Supply octet place (bits / 8) count random → place + (bits / 8) * count ≤ limit →
-        DecidesDrawn (fill_group s up see m slaves bits count random)
-    unfolding fill_group
-    fill_group_drawn place m slaves bits count random from within =
-        either (not (is_entitled_group s see m slaves)) _ _ (λ e. tt) (λ e. filled_group_drawn place m slaves bits count random (routes_to s up see.me slaves) from within)
-
     -- the others learn nothing that is secret
 
     enc_drawn : (m t n bits : ℕ) → DecidesDrawn (enc s see m t n bits)
@@ -232,16 +153,23 @@ module _ (octet : ℕ → ℕ) (limit : ℕ) where
         either (not (is_entitled_group s see m slaves)) _ _ (λ e. tt)
         (λ e. either (nat_lt (length (group see m slaves bits)) n) _ _ (λ e2. tt) (λ e2. hands_drawn m (take n (group see m slaves bits))))
 
+-- what is cut up is drawn
+cut_decides : (octet : ℕ → ℕ) (v c from to : ℕ) (x : Decision) → DecidesCut octet v c from to x → DecidesDrawn octet to x
+cut_decides octet v c from to (Refuses reply) h = tt
+cut_decides octet v c from to (Does e) h = λ n f at secret. let k = h.each n f at secret in record { place = h.place (handed_name f); is = k.bytes; within = k.within }
+
 -- each event that a manager is asked
 pub event_draws : (s : Site) (sealing : Sealing) (up : ℕ → Bool) (see : View) (octet : ℕ → ℕ) (place : ℕ) (event : Event) → is_asked event ≡ true →
     DecidesDrawn octet (place + random_need see event) (decide s sealing up see (octets_from octet place (random_need see event)) event)
 unfolding decide random_need
 event_draws s sealing up see octet place (Fill m t bits count) asked =
-    fill_drawn octet (place + (bits / 8) * count) s up see place m t bits count (octets_from octet place ((bits / 8) * count))
-    (supply octet place (bits / 8) count ((bits / 8) * count) (omega arith)) (omega arith)
+    cut_decides octet see.me (last_count see.me see.facts + 0) place (place + (bits / 8) * count) _
+    (fill_cut octet see (place + (bits / 8) * count) s up place m t bits count (octets_from octet place ((bits / 8) * count))
+    (supply octet place (bits / 8) count ((bits / 8) * count) (omega arith)) (omega arith))
 event_draws s sealing up see octet place (Feed stream count) asked =
     let size : ℕ = chunk_size (fact_at see.facts stream) in
-    feed_drawn octet (place + size * count) s up see place stream count (octets_from octet place (size * count)) (supply octet place size count (size * count) (omega arith)) (omega arith)
+    cut_decides octet see.me (last_count see.me see.facts + 0) place (place + size * count) _
+    (feed_cut octet see (place + size * count) s up place stream count (octets_from octet place (size * count)) (supply octet place size count (size * count) (omega arith)) (omega arith))
 event_draws s sealing up see octet place (Enc m t n bits) asked = enc_drawn octet (place + 0) s up see m t n bits
 event_draws s sealing up see octet place (Dec t m names) asked = dec_drawn octet (place + 0) s up see t m names
 event_draws s sealing up see octet place (Status m t) asked = status_drawn octet (place + 0) s up see m t
@@ -252,8 +180,9 @@ event_draws s sealing up see octet place (Close caller stream) asked = close_dra
 event_draws s sealing up see octet place (Show name) asked = none_drawn octet (place + 0)
 event_draws s sealing up see octet place (Ledger lane) asked = none_drawn octet (place + 0)
 event_draws s sealing up see octet place (FillGroup m slaves bits count) asked =
-    fill_group_drawn octet (place + (bits / 8) * count) s up see place m slaves bits count (octets_from octet place ((bits / 8) * count))
-    (supply octet place (bits / 8) count ((bits / 8) * count) (omega arith)) (omega arith)
+    cut_decides octet see.me (last_count see.me see.facts + 0) place (place + (bits / 8) * count) _
+    (fill_group_cut octet see (place + (bits / 8) * count) s up place m slaves bits count (octets_from octet place ((bits / 8) * count))
+    (supply octet place (bits / 8) count ((bits / 8) * count) (omega arith)) (omega arith))
 event_draws s sealing up see octet place (EncGroup m slaves n bits) asked = enc_group_drawn octet (place + 0) s up see m slaves n bits
 event_draws s sealing up see octet place Plan asked = plan_drawn octet (place + 0) s up see
 event_draws s sealing up see octet place (Block link number bytes) asked = cc

@@ -11,3 +11,4 @@ pub mod Delivering
 pub mod Draws
 pub mod Asking
 pub mod Steps
+pub mod Cuts

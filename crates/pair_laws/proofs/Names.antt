@@ -13,6 +13,7 @@ use Rattle.net_model.specs.Handings.{MayHave}
 use Rattle.net_model.specs.Doubt.{MayReplay}
 use Rattle.net_model.specs.Pools.{names_up_to, hand_to}
 use Rattle.record_laws.proofs.Base.{name_eq_from, name_eq_same, and_left, or_cases, or_left, or_right, or_both, not_false, not_both}
+use Rattle.record_laws.proofs.Knowing.{differ_push}
 use Rattle.record_laws.proofs.Tables.{has-push}
 
 pub has_take : (ns : List Name) (i : ℕ) (n : Name) → has (take i ns) n ≡ true → has ns n ≡ true
@@ -44,15 +45,6 @@ differ_filter p (x ∷ ns) d = elim (p x) as (λ t. AllDiffer (cond t (x ∷ fil
   | true ↦ (not_false (has (filter p ns) x) (λ e. not_both (has ns x) (has_filter p ns x e).0 d.0), differ_filter p ns d.1)
   | false ↦ differ_filter p ns d.1
 ]
-
-differ_push : (ns : List Name) (n : Name) → AllDiffer ns → has ns n ≡ false → AllDiffer (ns ++ n ∷ [])
-differ_push [] n d h = (refl, tt)
-differ_push (x ∷ ns) n d h = (
-  has-push ns n x ∙ or_both (has ns x) (name_eq n x) d.0 (not_false (name_eq n x) (λ e.
-      let same : n ≡ x = name_eq_from n x e in
-      not_both (name_eq x n || has ns n) (or_left (name_eq x n) (has ns n) (ap (name_eq x) same ∙ name_eq_same x)) h)),
-  differ_push ns n d.1 (not_false (has ns n) (λ e. not_both (name_eq x n || has ns n) (or_right (name_eq x n) (has ns n) e) h)),
-)
 
 counts_to : (me : ℕ) (kind : NameKind) (c : ℕ) (n : Name) → has (names_up_to me kind c) n ≡ true → n.count ≤ c
 counts_to me kind zero n h = cc

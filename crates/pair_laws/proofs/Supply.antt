@@ -3,20 +3,12 @@ use Rattle.std.proofs.Common.{◌≡◌, ℕ, zero, suc, ◌+◌, ◌-◌, ◌*�
 use Rattle.std.specs.Prelude.{nat_lt}
 use Rattle.std.specs.List.{list_all}
 use Rattle.std.proofs.lemmas.Bool.Decides.{nat_tests}
-use Rattle.net_model.specs.Told.{octets_from}
+use Rattle.net_model.specs.OctetSequence.{octets_from}
 use Rattle.net_model.specs.Facts.{IsSize}
 use Rattle.net_model.specs.Ranges.{IsOctets}
 use Rattle.net_model.specs.Streams.{is_size}
 use Rattle.record_laws.proofs.Base.{and_both}
-use Rattle.record_laws.proofs.Octets.{length-octets_from}
-
-pub drawn_octets : (octet : ℕ → ℕ) → ((i : ℕ) → octet i < 256) → (place n : ℕ) → IsOctets (octets_from octet place n)
-unfolding octets_from
-drawn_octets octet h place zero = refl
-drawn_octets octet h place (suc n) =
-    let first : octet place < 256 = h place in
-    let small : nat_lt (octet place) 256 ≡ true = grind (arith, nat_tests, first) in
-    and_both (nat_lt (octet place) 256) (list_all (λ b. nat_lt b 256) (octets_from octet (place + 1) n)) small (drawn_octets octet h (place + 1) n)
+use Rattle.record_laws.proofs.Octets.{length-octets_from, from_octets}
 
 take_drawn : (octet : ℕ → ℕ) (place size n : ℕ) → size ≤ n → take size (octets_from octet place n) ≡ octets_from octet place size
 unfolding octets_from
@@ -53,7 +45,7 @@ pub bytes_len : (octet : ℕ → ℕ) (place size : ℕ) (bytes : List ℕ) → 
 bytes_len octet place size bytes h = ap length h ∙ length-octets_from octet place size
 
 pub bytes_octets : (octet : ℕ → ℕ) → ((i : ℕ) → octet i < 256) → (place size : ℕ) (bytes : List ℕ) → bytes ≡ octets_from octet place size → IsOctets bytes
-bytes_octets octet h place size bytes is = ap (list_all (λ b. nat_lt b 256)) is ∙ drawn_octets octet h place size
+bytes_octets octet h place size bytes is = ap (list_all (λ b. nat_lt b 256)) is ∙ from_octets octet h place size
 
 pub size_is : (bits : ℕ) → is_size bits ≡ true → IsSize (bits / 8)
 size_is bits h =

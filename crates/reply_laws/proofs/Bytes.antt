@@ -25,7 +25,8 @@ use Rattle.record_laws.proofs.Tables.{found_name, is_some_of_some}
 use Rattle.record_laws.proofs.Grow.{Grows}
 use Rattle.view_laws.proofs.Seen.{Sees, IsSeen, seen_at, seen_found, seen_needed}
 use Rattle.pair_laws.proofs.Hands.{key_is}
-use Rattle.event_laws.proofs.Groups.{pooled_group, part_origin}
+use Rattle.event_laws.proofs.Groups.{pooled_group}
+use Rattle.record_laws.proofs.Parts.{part_starts}
 
 -- the bytes of a name
 
@@ -155,7 +156,7 @@ module _ (s : Site) (d : Durable) (frames : Lane → List Allocation) (unclaimed
       let x = pooled_group s d frames unclaimed inv see bare h m bits slaves n some e in
       let f : Fact = x.seen.fact in
       let fact = inv.table (name_of x.first) f x.seen.there in
-      let at : origin f ≡ see.me = part_origin s d.facts f x.part.part x.part.is fact.entitled ∙ ap s.home x.part.master ∙ home in
+      let at : origin f ≡ see.me = part_starts s d.facts f x.part.part x.part.is fact.entitled ∙ ap s.home x.part.master ∙ home in
       let open' : not (was_handed bare.handed x.part.part.key x.part.part.master) ≡ true =
       ap (λ (k : Name). not (was_handed bare.handed k x.part.part.master)) x.part.key ∙ ap (λ (u : ℕ). not (was_handed bare.handed n u)) x.part.master ∙ unhanded n m x.unhanded in
       let ends : end_needs bare true f (part_of f) ≡ true =

@@ -17,7 +17,7 @@ use Rattle.net_model.specs.Premises.{IsSite}
 use Rattle.net_model.specs.Streams.{is_chunk_at}
 use Rattle.net_model.specs.View.{View}
 use Rattle.net_model.specs.Needed.{has_it, is_needed}
-use Rattle.record_laws.proofs.Base.{name_eq_from, eq_from, and_left}
+use Rattle.record_laws.proofs.Base.{name_eq_from, eq_from, and_left, and_right}
 use Rattle.record_laws.proofs.Tables.{found_name}
 use Rattle.view_laws.proofs.Masked.{masked_same, place_blind}
 use Rattle.view_laws.proofs.Seen.{Sees, IsSeen, seen_needed, bare_there}
@@ -34,12 +34,8 @@ pub record IsChunk (stream : Name) (index : ℕ) (f : Fact) : Type 0 where
 pub chunk_is : (stream : Name) (index : ℕ) (f : Fact) → is_chunk_at stream index f ≡ true → IsChunk stream index f
 chunk_is stream index (Chunk name stream' index' way bytes) h =
     let a : stream' ≡ stream = name_eq_from stream' stream (and_left (name_eq stream' stream) (index' == index) h) in
-    let b : index' ≡ index = eq_from index' index (and_second (name_eq stream' stream) (index' == index) h) in
+    let b : index' ≡ index = eq_from index' index (and_right (name_eq stream' stream) (index' == index) h) in
     record { name = name; way = way; bytes = bytes; is = ap (λ (x : Name). Chunk name x index' way bytes) a ∙ ap (λ (x : ℕ). Chunk name stream x way bytes) b }
-  where
-    and_second : (a b : Bool) → (a && b) ≡ true → b ≡ true
-    and_second true b h = h
-    and_second false b h = cc
 chunk_is stream index _ h = cc
 
 module _ (s : Site) (d : Durable) (frames : Lane → List Allocation) (unclaimed : Lane → List Transmission) (inv : Invariant s d frames unclaimed) (see bare : View)

@@ -12,8 +12,8 @@ use Rattle.net_model.specs.World.{Network, World, Transmission, Entry, PendingAc
 use Rattle.net_model.specs.Knowledge.{IsAdjacent}
 use Rattle.net_model.specs.Window.{offset_eq, answers_frame, acknowledge}
 use Rattle.net_model.specs.Windows.{IsVolatile, IsPending, IsAwaitedAck, is_same_ack, PlacesDiffer, has_place, answered_at}
-use Rattle.record_laws.proofs.Base.{by_test, eq_from, eq_same, lane_eq_from, and_left, and_right, and_both, or_first, or_second, or_both, or_left, not_false, not_both}
-use Rattle.lane_laws.proofs.Lists.{lane_same, reverse_twice, last_cases}
+use Rattle.record_laws.proofs.Base.{by_test, eq_from, eq_same, lane_eq_from, and_left, and_right, and_both, or_first, or_second, or_both, or_left, not_false, not_both, lane_same}
+use Rattle.lane_laws.proofs.Lists.{reverse_twice, last_cases}
 use Rattle.window_laws.proofs.Places.{has_both, differ_between}
 use Rattle.window_laws.proofs.Entries.{pending_place, answer_of, due_keeps}
 

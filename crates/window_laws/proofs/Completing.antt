@@ -13,8 +13,8 @@ use Rattle.net_model.specs.World.{Network, World, Transmission, Entry, PendingAc
 use Rattle.net_model.specs.Window.{offset_eq, transmission_eq, is_pending_of, stands_at, record_retransmission, transmission_of, entry_of, is_acked_item, complete_one, complete}
 use Rattle.net_model.specs.Windows.{IsShaped, IsOnWire, IsEntry, IsPlaced, IsVolatile, IsAwaitedAck, is_same_ack, PlacesDiffer, has_place, place_of, answered_at}
 use Rattle.net_model.specs.Invariant.{Conserved}
-use Rattle.record_laws.proofs.Base.{by_test, eq_from, eq_same, name_eq_from, or_left, or_right, lane_eq_from, and_left, and_right, and_both, not_false, not_both, was_not}
-use Rattle.lane_laws.proofs.Lists.{lane_same, offset_from, reverse_twice, transmission_same, order_at, any_at, kept_at, last_cases}
+use Rattle.record_laws.proofs.Base.{by_test, eq_from, eq_same, name_eq_from, or_left, or_right, lane_eq_from, and_left, and_right, and_both, not_false, not_both, was_not, lane_same}
+use Rattle.lane_laws.proofs.Lists.{offset_from, reverse_twice, transmission_same, order_at, any_at, kept_at, last_cases}
 use Rattle.lane_laws.proofs.Owners.{same_frame}
 use Rattle.window_laws.proofs.Places.{has_both, differ_last, differ_kept, one_place, apart}
 use Rattle.window_laws.proofs.Entries.{pending_place, answer_of, IsChange, changed_keeps}

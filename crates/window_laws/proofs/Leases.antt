@@ -19,9 +19,8 @@ use Rattle.net_model.specs.Records.{apply_record, replay}
 use Rattle.net_model.specs.Doubt.{MayReplay}
 use Rattle.net_model.specs.Plan.{wanted_on, that_fit, orders_on, end_on, raise, leases_on}
 use Rattle.net_model.specs.Invariant.{Conserved}
-use Rattle.record_laws.proofs.Base.{lane_eq_from, or_cases, not_both}
+use Rattle.record_laws.proofs.Base.{lane_eq_from, or_cases, not_both, lane_same}
 use Rattle.lane_laws.proofs.Blocks.{count_blocks}
-use Rattle.lane_laws.proofs.Lists.{lane_same}
 use Rattle.window_laws.proofs.Outgoing.{AreOutgoing}
 use Rattle.window_laws.proofs.Seen.{seen}
 use Rattle.window_laws.proofs.Wanted.{IsWanted, all_wanted, fitting}
@@ -56,7 +55,7 @@ module _ (net : Network) (w : World) (v : ℕ) (c : Conserved net w) where
   orders_wanted l = fitting net w v c l (seen net w v).facts (received_of (port_at net w l)) (planned w l) (wanted_on net.site (seen net w v) l) (all_wanted net w v c l)
 
   got_is : (l : Lane) → received_of (port_at net w l) ≡ received w.durable l
-  got_is l = ap (lane_len l.way) (count_blocks (net.device l.link) (of_way l.way (w.durable.low_blocks l.link) (w.durable.high_blocks l.link)))
+  got_is l = ap (lane_len l.way) (count_blocks (net.device l.link) (w.durable.blocks l))
 
   end_bound : (l : Lane) → end_at l ≤ received_of (port_at net w l)
   unfolding orders_on

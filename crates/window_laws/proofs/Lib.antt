@@ -1,4 +1,5 @@
 pub mod Acknowledging
+pub mod Clearing
 pub mod Completing
 pub mod Entries
 pub mod Leases

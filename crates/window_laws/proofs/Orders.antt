@@ -35,7 +35,7 @@ pub with_orders_is : (ts : List Transmission) (unclaimed : Lane → List Transmi
 with_orders_is [] unclaimed l = sym (append-nil (unclaimed l))
 with_orders_is (t ∷ ts) unclaimed l = refl
 
-needs-append : (facts : List Fact) (xs ys : List Transmission) → needs facts (xs ++ ys) ≡ needs facts xs + needs facts ys
+pub needs-append : (facts : List Fact) (xs ys : List Transmission) → needs facts (xs ++ ys) ≡ needs facts xs + needs facts ys
 needs-append facts [] ys = omega arith
 needs-append facts (x ∷ xs) ys = omega (arith, needs-append facts xs ys)
 

@@ -19,7 +19,7 @@ sender_back s l = by_way l.way (s.low l.link) (s.high l.link)
     by_way Up a b = refl
     by_way Down a b = refl
 
-abbrev LinksDiffer : List ℕ → Type 0
+abbrev pub LinksDiffer : List ℕ → Type 0
 LinksDiffer [] = Unit {0}
 LinksDiffer (x ∷ xs) = (list_any (λ y. y == x) xs ≡ false) × LinksDiffer xs
 
@@ -84,7 +84,7 @@ all_below (suc n) x h = elim (or_cases (list_any (λ y. y == x) (count_up n)) (n
   | inr e ↦ let is = eq_from n x e in omega arith
 ]
 
-links_differ : (n : ℕ) → LinksDiffer (count_up n)
+pub links_differ : (n : ℕ) → LinksDiffer (count_up n)
 links_differ zero = tt
 links_differ (suc n) = links_push (count_up n) n (links_differ n) (not_false _ (λ e. let r = all_below n n e in absurd (omega arith)))
 

@@ -18,8 +18,8 @@ use Rattle.net_model.specs.Relay.{is_some_of, owed}
 use Rattle.net_model.specs.Plan.{acks_on, facts_on, wanted_on, that_fit}
 use Rattle.net_model.specs.Windows.{IsShaped, is_same_ack, IsAwaitedAck}
 use Rattle.net_model.specs.Invariant.{Conserved}
-use Rattle.record_laws.proofs.Base.{eq_from, eq_same, name_eq_same, lane_eq_from, and_left, and_both}
-use Rattle.lane_laws.proofs.Lists.{lane_same, reverse_twice, mapped_at, kept_at, all_both, all_kept, all_made, any_of}
+use Rattle.record_laws.proofs.Base.{eq_from, eq_same, name_eq_same, lane_eq_from, and_left, and_both, lane_same}
+use Rattle.lane_laws.proofs.Lists.{reverse_twice, mapped_at, kept_at, all_both, all_kept, all_made, any_of}
 use Rattle.window_laws.proofs.Outgoing.{sender_back}
 use Rattle.window_laws.proofs.Seen.{seen, known_at}
 use Rattle.view_laws.proofs.Masked.{masked_same, name_blind, route_blind}
@@ -60,7 +60,7 @@ module _ (net : Network) (w : World) (v : ℕ) (c : Conserved net w) where
   abbrev tell : Lane → Name → Transmission
   tell l n = record { lane = l; item = DataItem n; received_offset = None }
 
-  owed_known : (to : ℕ) (i : ℕ) (n : Name) → slice_get (owed (seen net w v) to) i ≡ Some n → IsAdjacent w.durable.facts w.durable.known v v to n
+  pub owed_known : (to : ℕ) (i : ℕ) (n : Name) → slice_get (owed (seen net w v) to) i ≡ Some n → IsAdjacent w.durable.facts w.durable.known v v to n
   unfolding owed
   owed_known to i n at =
       let p : Fact → Bool = λ f. is_some_of (next_after (route_of f) v) to && not (has (w.durable.acked v) (name_of f)) in

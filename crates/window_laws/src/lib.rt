@@ -2,17 +2,21 @@
 //! notes what became of its frames.
 #![tactic(auto)]
 
-ghost use Rattle.std.specs.Prelude.{◌≡◌, ℕ};
-ghost use Rattle.qkd_base.specs.Name.{Name};
+ghost use Rattle.std.specs.Prelude.{◌≡◌, ℕ, List, [], ◌∷◌, ◌++◌, true, slice_get, Some};
+ghost use Rattle.qkd_base.specs.Name.{Name, has};
+ghost use Rattle.qkd_base.specs.Lane.{reverse_lane};
 ghost use Rattle.qkd_base.specs.declared.lane.Lane.{Lane as LaneValue};
 ghost use Rattle.net_model.specs.Site.{sender, receiver};
-ghost use Rattle.net_model.specs.World.{Network, World, Volatile};
+ghost use Rattle.net_model.specs.Item.{DataItem};
+ghost use Rattle.net_model.specs.Events.{is_lane};
+ghost use Rattle.net_model.specs.World.{Network, World, Entry, Volatile};
 ghost use Rattle.net_model.specs.Ownership.{IsWired};
 ghost use Rattle.net_model.specs.Knowledge.{IsAdjacent};
 ghost use Rattle.net_model.specs.Windows.{IsPosted, IsVolatile};
 ghost use Rattle.net_model.specs.Premises.{IsNetwork};
 ghost use Rattle.net_model.specs.Needed.{view_of};
 ghost use Rattle.net_model.specs.Window.{acknowledge, cleared};
+ghost use Rattle.net_model.specs.Relay.{owed, receive_ack};
 ghost use Rattle.net_model.specs.Plan.{plan};
 ghost use Rattle.net_model.specs.Records.{replay};
 ghost use Rattle.net_model.specs.Doubt.{MayReplay};
@@ -67,4 +71,21 @@ pub fn law_acknowledge_keeps()
 pub fn law_cleared_keeps()
     ensures { (net : Network) (w : World) (v : ℕ) (vol : Volatile) (l : LaneValue) (n : Name) →
         IsVolatile net w v vol → IsVolatile net w v (record vol { window = cleared l n vol.window }) }
+{}
+
+/// Of a window exactly the entries of that fact towards the neighbour that acknowledged it leave; all others stay, in order.
+pub fn law_cleared_leaves()
+    ensures leaves { (l : LaneValue) (n : Name) (prefix rest : List Entry) (e : Entry) → e.transmission.lane ≡ reverse_lane l → e.transmission.item ≡ DataItem n →
+        cleared l n (prefix ++ e ∷ rest) ≡ cleared l n (prefix ++ rest) }
+    ensures stays { (l : LaneValue) (n : Name) (prefix rest : List Entry) (e : Entry) → (e.transmission.lane ≡ reverse_lane l → e.transmission.item ≡ DataItem n → ⊥) →
+        cleared l n (prefix ++ e ∷ rest) ≡ cleared l n prefix ++ e ∷ cleared l n rest }
+    ensures nothing { (l : LaneValue) (n : Name) → cleared l n [] ≡ [] }
+{}
+
+/// Where the acknowledgement of an owed fact is taken, no entry of the fact is left: all stood on the one lane to that neighbour.
+pub fn law_acknowledged_leaves_the_window()
+    ensures { (net : Network) (w : World) (l : LaneValue) (n : Name) (k : ℕ) (e : Entry) → IsNetwork net → Conserved net w → is_lane net.site l ≡ true →
+        has (owed (view_of net w (receiver net.site l)) (sender net.site l)) n ≡ true →
+        slice_get (receive_ack (view_of net w (receiver net.site l)) l (sender net.site l) n).volatile.window k ≡ Some e →
+        e.transmission.item ≡ DataItem n → ⊥ }
 {}

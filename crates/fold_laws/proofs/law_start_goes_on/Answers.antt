@@ -2,4 +2,4 @@ use Rattle.fold_laws.proofs.Starting.{start_goes}
 use Rattle.fold_laws.proofs.law_start_goes_on.Goals as goal
 
 pub returns : goal.returns
-returns c = start_goes
+returns c = λ net w v committed conserved down enabled fits. start_goes net w v committed down enabled conserved fits

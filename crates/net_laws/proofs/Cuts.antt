@@ -1,4 +1,4 @@
--- The bytes of new keys, chunks and parts are cut one behind the other from the octets that were drawn for their event.
+-- The bytes of new keys, chunks and parts are cut one after the other from the octets that were drawn for their event.
 use Rattle.std.proofs.Common.{◌≡◌, ◌≢◌, ℕ, zero, suc, ◌+◌, ◌*◌, ◌/◌, ◌<◌, ◌≤◌, Bool, true, false, not, List, [], ◌∷◌, ◌++◌, length, take, drop, refl, sym, ◌∙◌, ap, subst, arith, Option, Some, None, ◌⊎◌, inl, inr}
 use Rattle.std.specs.Prelude.{nat_lt, nat_le, slice_get, count_by, if◌then◌else◌}
 use Rattle.std.proofs.lemmas.Bool.Decides.{nat_tests}
@@ -11,7 +11,7 @@ use Rattle.net_model.specs.declared.fact.Fact.TheVariants.{Key, Chunk, Part, Ope
 use Rattle.net_model.specs.declared.record.Record.{Record}
 use Rattle.net_model.specs.declared.record.Record.TheVariants.{Learned}
 use Rattle.net_model.specs.Table.{bytes_of, is_secret, fact_at}
-use Rattle.net_model.specs.Told.{octets_from}
+use Rattle.net_model.specs.OctetSequence.{octets_from}
 use Rattle.net_model.specs.Site.{Site}
 use Rattle.net_model.specs.Sealing.{Sealing}
 use Rattle.net_model.specs.View.{View}
@@ -24,8 +24,19 @@ use Rattle.net_model.specs.Streams.{is_chunk_of, new_chunks, fed, fed_stream, ha
 use Rattle.net_model.specs.Step.{is_asked}
 use Rattle.record_laws.proofs.Base.{by_test, get_cases, when_true, when_false}
 use Rattle.pair_laws.proofs.Supply.{Supply, supply, bytes_len}
-use Rattle.entropy_laws.specs.Places.{handed_name, AreApart}
-use Rattle.entropy_laws.proofs.Laid.{IsCutAt, apart_as}
+use Rattle.net_laws.specs.HandedName.{handed_name, AreApart}
+
+-- a fact cut from the octets between two places, under a new name of a node: its count is past all older ones
+pub record IsCutAt (octet : ℕ → ℕ) (v c from to : ℕ) (place : Name → ℕ) (f : Fact) : Type 0 where
+  pub node : (handed_name f).node ≡ v
+  pub above : c < (handed_name f).count
+  pub bytes : bytes_of f ≡ octets_from octet (place (handed_name f)) (length (bytes_of f))
+  pub after : from ≤ place (handed_name f)
+  pub within : place (handed_name f) + length (bytes_of f) ≤ to
+
+pub apart_as : (place place' : Name → ℕ) (f g : Fact) → place' (handed_name f) ≡ place (handed_name f) → place' (handed_name g) ≡ place (handed_name g) → AreApart place f g →
+    AreApart place' f g
+apart_as place place' f g e e' h = elim h [ inl le ↦ inl (omega (arith, e, e', le)) | inr le ↦ inr (omega (arith, e, e', le)) ]
 
 module _ (octet : ℕ → ℕ) (v : ℕ) where
   -- what a batch learns has places between two, apart from each other, under new names
