@@ -1,7 +1,10 @@
 ghost use Rattle.std.specs.Prelude.{◌≤◌, length, IsTrue};
+ghost use Rattle.std.specs.List.{All};
+ghost use Rattle.journal_records.specs.Grammar.{IsLearned};
 
-use crate::{RecordRefusal, read_batch, read_batch_2, spell_batch, spell_batch_2};
-use net_model::Records;
+use crate::{RecordRefusal, read_batch, read_batch_2, respell, spell_batch, spell_batch_2};
+use net_model::{Record, Records};
+use qkd_base::Octets;
 use std::alloc::Global;
 use std::test::Fail;
 
@@ -183,5 +186,44 @@ fn handings_stand_in_runs_of_128(rt: HostRuntime) -> Result<(), Fail> {
     ];
     let why = read_batch_2(alloc, &run).err();
     assert_eq!(rt; why, Some(RecordRefusal::NotARecord(14)));
+    Ok(())
+}
+
+// A key that a node has learned, in both versions.
+const LEARNED: [u8; 39] = [
+    0, 1, 3, 0, 34, 1, 0, 0, 0, 0, 0, 0, 0x80, 0, 0x80, 0, 0, 0, 0, 0, 0, 1, 0, 2, 0, 0xff, 0, 8, 2, 0,
+    1, 0xa0, 0xa1, 0xa2, 0xa3, 0xa4, 0xa5, 0xa6, 0xa7,
+];
+
+// Whether a batch has learned facts alone.
+fn is_learned(batch: &Records) -> bool
+    ensures { IsTrue result → All IsLearned batch.now }
+{
+    let records = batch.as_slice();
+    for change in records {
+        match change {
+            Record::Learned { .. } => {}
+            _ => return false,
+        }
+    }
+    true
+}
+
+#[test]
+fn a_batch_is_spelled_over_one_as_long(rt: HostRuntime) -> Result<(), Fail> {
+    let alloc = rt.alloc();
+    let batch = read_batch(alloc, &LEARNED)?;
+    assert!(rt; is_short(&batch));
+    assert!(rt; is_learned(&batch));
+    let spelled = spell_batch(alloc, &batch)?;
+    assert_eq!(rt; spelled.len(), 39);
+    let mut zeros = LEARNED;
+    zeros[31..].fill(0);
+    let mut octets = Octets::from_slice(alloc, &zeros)?;
+    assert_eq!(rt; octets.len(), 39);
+    respell(alloc, &batch, &mut octets);
+    assert!(rt; octets.as_slice() == LEARNED.as_slice());
+    let second = spell_batch_2(alloc, &batch)?;
+    assert!(rt; second.as_slice() == LEARNED.as_slice());
     Ok(())
 }
