@@ -11,6 +11,7 @@ mod spelling;
 #[cfg(test)]
 mod tests;
 mod version;
+mod writing;
 
 pub use laws::{read_is_spelled, spelled_is_read};
 pub use net_model;

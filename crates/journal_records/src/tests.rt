@@ -191,8 +191,8 @@ fn handings_stand_in_runs_of_128(rt: HostRuntime) -> Result<(), Fail> {
 
 // A key that a node has learned, in both versions.
 const LEARNED: [u8; 39] = [
-    0, 1, 3, 0, 34, 1, 0, 0, 0, 0, 0, 0, 0x80, 0, 0x80, 0, 0, 0, 0, 0, 0, 1, 0, 2, 0, 0xff, 0, 8, 2, 0,
-    1, 0xa0, 0xa1, 0xa2, 0xa3, 0xa4, 0xa5, 0xa6, 0xa7,
+    0, 1, 3, 0, 34, 1, 0, 0, 0, 0, 0, 0, 0x80, 0, 0x80, 0, 0, 0, 0, 0, 0, 1, 0, 2, 0, 0xff, 0, 8,
+    2, 0, 1, 0xa0, 0xa1, 0xa2, 0xa3, 0xa4, 0xa5, 0xa6, 0xa7,
 ];
 
 // Whether a batch has learned facts alone.

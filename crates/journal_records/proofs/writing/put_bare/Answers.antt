@@ -3,7 +3,7 @@ use Rattle.frame_codec.specs.Writing.{Puts}
 use Rattle.frame_codec.proofs.Writes.{fact_length}
 use Rattle.journal_records.specs.Grammar.{bare_octets}
 use Rattle.journal_records.proofs.Loops.{bare_prefix, cut_is}
-use Rattle.journal_records.proofs.spelling.put_bare.Goals as goal
+use Rattle.journal_records.proofs.writing.put_bare.Goals as goal
 
 pub returns-clause-octets : goal.returns-clause-octets
 returns-clause-octets c =
