@@ -49,7 +49,7 @@ passing_again test left a e = rw e refl
 pub AreOctets-drop : (n : ℕ) (octets : List ℕ) → AreOctets octets → AreOctets (drop n octets)
 AreOctets-drop n octets h i = rw get_or-drop (h (n + i))
 
-AreOctets-take : (n : ℕ) (octets : List ℕ) → AreOctets octets → AreOctets (take n octets)
+pub AreOctets-take : (n : ℕ) (octets : List ℕ) → AreOctets octets → AreOctets (take n octets)
 AreOctets-take n octets h i =
     elim (cases_lt i n) [
       | inl lt ↦ rw (get_or-take n octets i 0 lt) (h i)
@@ -63,7 +63,7 @@ pub record Takes (octets text rest : List ℕ) : Type 0 where
 
 -- ---- a value of so many octets
 
-prefix_takes : {A : Type 0} (n : ℕ) (value : List ℕ → Option A) (test : A → Bool) (text : A → List ℕ) (Fits : A → Type 0) (octets : List ℕ) (x : A × List ℕ)
+pub prefix_takes : {A : Type 0} (n : ℕ) (value : List ℕ → Option A) (test : A → Bool) (text : A → List ℕ) (Fits : A → Type 0) (octets : List ℕ) (x : A × List ℕ)
     → ((os : List ℕ) (a : A) → length os ≡ n → AreOctets os → value os ≡ Some a → test a ≡ true → (os ≡ text a) × Fits a)
     → AreOctets octets → prefix n value test octets ≡ Ok x → Takes octets (text x.0) x.1 × Fits x.0
 prefix_takes n value test text Fits octets x is fits e =
@@ -75,7 +75,7 @@ prefix_takes n value test text Fits octets x is fits e =
     subst (λ y. Takes octets (text y.0) y.1 × Fits y.0) (ok_is (b.0, drop n octets) x b.2)
     (record { parts = sym (take-append-drop n octets) ∙ ap (λ (l : List ℕ). l ++ drop n octets) t.0; rest_fits = AreOctets-drop n octets fits }, t.1)
 
-prefix_again : {A : Type 0} (n : ℕ) (value : List ℕ → Option A) (test : A → Bool) (text rest : List ℕ) (a : A) → length text ≡ n → value text ≡ Some a → test a ≡ true → prefix n value test (text ++ rest) ≡ Ok (a, rest)
+pub prefix_again : {A : Type 0} (n : ℕ) (value : List ℕ → Option A) (test : A → Bool) (text rest : List ℕ) (a : A) → length text ≡ n → value text ≡ Some a → test a ≡ true → prefix n value test (text ++ rest) ≡ Ok (a, rest)
 prefix_again n value test text rest a len is passes =
     let room : ltb (length (text ++ rest)) n ≡ false = le-ltb _ _ (omega (arith, length-append text rest, len)) in
     let taken : take n (text ++ rest) ≡ text = take_at text rest n len in
@@ -158,7 +158,7 @@ any_again n rest h = prefix_again 16 name_at any_kind (octets_of n) rest n refl 
 some_is : (x y : ℕ) (o p : Option ℕ) → o ≡ Some x → p ≡ Some y → o ≡ p → x ≡ y
 some_is x y o p a b e = cc
 
-two_octets : (os : List ℕ) (n : ℕ) → length os ≡ 2 → AreOctets os → number_at w16 os ≡ Some n → os ≡ short n
+pub two_octets : (os : List ℕ) (n : ℕ) → length os ≡ 2 → AreOctets os → number_at w16 os ≡ Some n → os ≡ short n
 two_octets [] n len fits e = absurd (omega (arith, len))
 two_octets (a ∷ []) n len fits e = absurd (omega (arith, len))
 two_octets (a ∷ b ∷ []) n len fits e =
@@ -170,12 +170,12 @@ two_octets (a ∷ b ∷ []) n len fits e =
     ap (λ (x : ℕ). x ∷ b ∷ []) first ∙ ap (λ (x : ℕ). (from_be_bytes w16 (a ∷ b ∷ []) / 256 ^ 1) % 256 ∷ x ∷ []) second ∙ ap short is
 two_octets (a ∷ b ∷ c ∷ os) n len fits e = absurd (omega (arith, len))
 
-four_octets : (os : List ℕ) (n : ℕ) → length os ≡ 4 → AreOctets os → number_at w32 os ≡ Some n → os ≡ long n
+pub four_octets : (os : List ℕ) (n : ℕ) → length os ≡ 4 → AreOctets os → number_at w32 os ≡ Some n → os ≡ long n
 four_octets os n len fits e =
     let is : from_be_bytes w32 os ≡ n = some_is (from_be_bytes w32 os) n _ _ refl refl e in
     rw (← is) (sym (be_bytes_4 os _ len fits refl))
 
-short_back : (n : ℕ) → n < 65536 → from_be_bytes w16 (short n) ≡ n
+pub short_back : (n : ℕ) → n < 65536 → from_be_bytes w16 (short n) ≡ n
 short_back n lt = omega arith
 
 sae_small : (n : ℕ) → ltb n 256 ≡ true → n < 256

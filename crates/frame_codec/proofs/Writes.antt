@@ -15,7 +15,7 @@ then_puts {a} {b} {c} {x} {y} {z} {s} {t} p q = record {
   prefix = q.prefix ∙ ap (λ (l : List ℕ). l ++ t) p.prefix ∙ append_assoc (take x a) s t;
 }
 
-fact_length : (f : Fact) → length (fact_octets f) ≡ fact_len f
+pub fact_length : (f : Fact) → length (fact_octets f) ≡ fact_len f
 fact_length (Key name master slave route bytes) = omega (arith, length-append route bytes)
 fact_length (Chunk name stream index route bytes) = omega (arith, length-append route bytes)
 fact_length (Stored note about route) = omega arith
@@ -28,7 +28,7 @@ unfolding payload_octets
 payload_length (Data f) = fact_length f
 payload_length (Ack n) = refl
 
-nine_of : (ns : List ℕ) → is_route ns ≡ true → length ns ≤ 9
+pub nine_of : (ns : List ℕ) → is_route ns ≡ true → length ns ≤ 9
 nine_of ns h = grind arith
 
 pub payload_range : (p : Payload) → IsPayload p → (17 ≤ payload_len p) × (payload_len p ≤ 561)

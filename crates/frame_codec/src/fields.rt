@@ -18,7 +18,7 @@ fn name_at(octets: &[u8]) -> Option<KeyName>
     KeyName::from_octets(&name)
 }
 
-// A name of any kind.
+/// A name of any kind.
 #[tactic(auto, unfolding(crate::specs::Reading::named))]
 pub fn name_of(octets: &[u8]) -> Result<KeyName, Fault>
     ensures found { Finds (λ x. (x, drop 16 octets.now)) result (named any_kind octets.now) }
@@ -33,7 +33,7 @@ pub fn name_of(octets: &[u8]) -> Result<KeyName, Fault>
     }
 }
 
-// A name of this kind.
+/// A name of this kind.
 #[tactic(auto, unfolding(crate::specs::Reading::named))]
 pub fn name_of_kind(octets: &[u8], kind: NameKind) -> Result<KeyName, Fault>
     ensures found { Finds (λ x. (x, drop 16 octets.now)) result (named (of_kind kind) octets.now) }
@@ -56,7 +56,7 @@ fn short_at(octets: &[u8]) -> u16
     u16::from_be_bytes([octets[0], octets[1]])
 }
 
-// An application.
+/// An application.
 #[tactic(auto, unfolding(crate::specs::Reading::sae))]
 pub fn sae_of(octets: &[u8]) -> Result<SaeNo, Fault>
     ensures found { Finds (λ x. (x, drop 2 octets.now)) result (sae octets.now) }
@@ -71,7 +71,7 @@ pub fn sae_of(octets: &[u8]) -> Result<SaeNo, Fault>
     }
 }
 
-// How many octets a key, a chunk or a part has.
+/// How many octets a key, a chunk or a part has.
 #[tactic(auto, unfolding(crate::specs::Reading::size))]
 pub fn size_of(octets: &[u8]) -> Result<u16, Fault>
     ensures found { Finds (λ x. (x, drop 2 octets.now)) result (size octets.now) }
@@ -88,7 +88,7 @@ pub fn size_of(octets: &[u8]) -> Result<u16, Fault>
     }
 }
 
-// The index of a chunk.
+/// The index of a chunk.
 #[tactic(auto, unfolding(crate::specs::Reading::index))]
 pub fn index_of(octets: &[u8]) -> Result<u32, Fault>
     ensures found { Finds (λ x. (x, drop 4 octets.now)) result (index octets.now) }
@@ -114,7 +114,7 @@ fn way_of(numbers: &[u8]) -> Option<Route>
     Route::new(&room[..numbers.len()])
 }
 
-// How many nodes a route has, and then they.
+/// How many nodes a route has, and then they.
 #[tactic(auto, unfolding(crate::specs::Reading::route))]
 pub fn route_of(octets: &[u8]) -> Result<Route, Fault>
     ensures found { Finds (λ x. (x, drop (1 + length x) octets.now)) result (route octets.now) }
@@ -133,7 +133,7 @@ pub fn route_of(octets: &[u8]) -> Result<Route, Fault>
     }
 }
 
-// The last field: so many octets, and nothing after them.
+/// The last field: so many octets, and nothing after them.
 #[tactic(auto, unfolding(crate::specs::Reading::last))]
 pub fn last_of(octets: &[u8], size: u16) -> Result<(), Fault>
     ensures { Finds (λ x. octets.now) result (last size octets.now) }

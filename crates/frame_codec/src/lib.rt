@@ -1,12 +1,12 @@
 //! The spelling of payloads, both ways.
 #![tactic(auto)]
 
-mod fault;
-mod fields;
+pub mod fault;
+pub mod fields;
 mod laws;
 mod payload_refusal;
 mod reading;
-mod spelling;
+pub mod spelling;
 #[cfg(test)]
 mod tests;
 

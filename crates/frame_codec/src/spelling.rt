@@ -8,8 +8,8 @@ ghost use Rattle.frame_codec.specs.Writing.{Puts};
 use net_model::{Fact, Payload, spelled_len};
 use qkd_base::{FrameOctets, KeyName, Octets, Route, SaeNo};
 
-// Writes octets at a place, and says the place after them.
-fn put(into: &mut [u8], at: usize, octets: &[u8]) -> usize
+/// Writes octets at a place, and says the place after them.
+pub fn put(into: &mut [u8], at: usize, octets: &[u8]) -> usize
     requires { at + length octets.now ≤ length into.old }
     ensures octets { Puts into.old into.new at result octets.now }
     ensures are_octets { AreOctets octets.now }
@@ -19,7 +19,8 @@ fn put(into: &mut [u8], at: usize, octets: &[u8]) -> usize
     end
 }
 
-fn put_name(into: &mut [u8], at: usize, name: KeyName) -> usize
+/// Writes the 16 octets of a name.
+pub fn put_name(into: &mut [u8], at: usize, name: KeyName) -> usize
     requires { at + 16 ≤ length into.old }
     ensures octets { Puts into.old into.new at result (octets_of name) }
     ensures named { IsName name }
@@ -27,21 +28,24 @@ fn put_name(into: &mut [u8], at: usize, name: KeyName) -> usize
     put(into, at, &name.to_octets())
 }
 
-fn put_short(into: &mut [u8], at: usize, number: u16) -> usize
+/// Writes a number of two octets.
+pub fn put_short(into: &mut [u8], at: usize, number: u16) -> usize
     requires { at + 2 ≤ length into.old }
     ensures { Puts into.old into.new at result (short number) }
 {
     put(into, at, &number.to_be_bytes())
 }
 
-fn put_long(into: &mut [u8], at: usize, number: u32) -> usize
+/// Writes a number of four octets.
+pub fn put_long(into: &mut [u8], at: usize, number: u32) -> usize
     requires { at + 4 ≤ length into.old }
     ensures { Puts into.old into.new at result (long number) }
 {
     put(into, at, &number.to_be_bytes())
 }
 
-fn put_sae(into: &mut [u8], at: usize, sae: SaeNo) -> usize
+/// Writes the two octets of an application.
+pub fn put_sae(into: &mut [u8], at: usize, sae: SaeNo) -> usize
     requires { at + 2 ≤ length into.old }
     ensures octets { Puts into.old into.new at result (short sae) }
     ensures below { IsSae sae }
@@ -155,8 +159,8 @@ fn put_chunk(
     put_secret(into, at, route, bytes)
 }
 
-// Writes a fact.
-fn put_fact(into: &mut [u8], at: usize, fact: &Fact) -> usize
+/// Writes a fact as the payload that tells it.
+pub fn put_fact(into: &mut [u8], at: usize, fact: &Fact) -> usize
     requires formed { IsWellFormedFact fact.now }
     requires fits { at + fact_len fact.now ≤ length into.old }
     ensures octets { Puts into.old into.new at result (fact_octets fact.now) }

@@ -20,7 +20,7 @@ pub use event::Event;
 pub use fact::Fact;
 pub use held::Held;
 pub use order::{Order, Orders};
-pub use payload::{Payload, spelled_len, well_formed};
+pub use payload::{Payload, fact_size, spelled_len, well_formed};
 pub use placing::{Placing, Placings};
 pub use record::{Record, Records};
 pub use repeat::{Repeat, Repeats};

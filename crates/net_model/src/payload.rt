@@ -74,8 +74,8 @@ pub fn well_formed(payload: &Payload) -> bool
     }
 }
 
-// The number of octets that a fact is spelled in.
-fn fact_size(fact: &Fact) -> u16
+/// The number of octets in which a fact is spelled, at most 561.
+pub fn fact_size(fact: &Fact) -> u16
     requires { IsWellFormedFact fact.now }
     ensures length { result ≡ fact_len fact.now }
     ensures range { (17 ≤ result) × (result ≤ 561) }

@@ -1,0 +1,21 @@
+//! The spelling of journal records, both ways, in both versions.
+#![tactic(auto)]
+
+mod counting;
+mod cursor;
+mod facts;
+mod laws;
+mod reading;
+mod record_refusal;
+mod spelling;
+#[cfg(test)]
+mod tests;
+mod version;
+mod writing;
+
+pub use laws::{read_is_spelled, spelled_is_read};
+pub use net_model;
+pub use reading::{read_batch, read_batch_2};
+pub use record_refusal::RecordRefusal;
+pub use spelling::{respell, spell_batch, spell_batch_2};
+pub use version::Version;

@@ -1,0 +1,24 @@
+// Why octets are no record body.
+use std::error::Error;
+use std::fmt;
+
+/// Why no records were read.
+#[derive(Clone, Copy, Debug, PartialEq, Eq)]
+pub enum RecordRefusal {
+    /// The octets aren't the spelling of a batch. The place, counted from 0, is that of the first octet of the field
+    /// that doesn't fit or is cut off, or of the first octet behind the last record.
+    NotARecord(usize),
+    /// Want of memory.
+    Memory,
+}
+
+impl fmt::Display for RecordRefusal {
+    fn fmt<W: fmt::Write>(&self, f: &mut fmt::Formatter<W>) -> fmt::Result {
+        match self {
+            RecordRefusal::NotARecord(place) => write!(f, "no records, from octet {place} on"),
+            RecordRefusal::Memory => write!(f, "out of memory"),
+        }
+    }
+}
+
+impl Error for RecordRefusal {}
