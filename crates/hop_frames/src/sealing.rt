@@ -6,7 +6,7 @@ ghost use Rattle.hop_frames.specs.Frame.{framed, hash_key, spell};
 
 use crate::header::{number_at, put_header};
 use crate::mask::{put, put_masked};
-use crate::parts::{behind, front};
+use crate::parts::{after, prefix};
 use frame_codec::spell;
 use net_model::{Payload, spelled_len};
 use pad_ledger::PadRange;
@@ -24,14 +24,15 @@ fn put_frame(into: &mut [u8], lane: &Lane, offset: u64, key: u64, pads: &[u8], p
     let size = payload.len();
     put_header(into, lane, offset, size as u16);
     put_masked(into, 16, payload, pads);
-    let mask = number_at(behind(pads, size));
-    let tag = tag(key, front(into, 16 + size), mask);
+    let mask = number_at(after(pads, size));
+    let tag = tag(key, prefix(into, 16 + size), mask);
     put(into, 16 + size, &tag.to_be_bytes());
 }
 
 /// Writes the frame of a payload on a lane and says its length, 41 to 585. It uses up the range: `pads` are the lane's
 /// bytes from the range's start on, which mask the payload and then its tag, and no other frame gets them (one-time
-/// pad). `key` is the number of the lane's first 8 bytes.
+/// pad). `key` is the number of the lane's first 8 bytes. The room behind the frame stays as it was, so no octet of the
+/// clear payload is left there.
 pub fn seal(
     range: PadRange,
     lane: Lane,
@@ -47,6 +48,7 @@ pub fn seal(
     // whatever the lane's other bytes are
     ensures frame { (bytes : List ℕ) → key ≡ hash_key bytes → pads.now ≡ take range.len (drop range.start bytes)
         → take result into.new.octets ≡ spell lane range.start bytes (payload_octets payload.now) }
+    ensures rest { drop result into.new.octets ≡ drop result into.old.octets }
     ensures grammar { IsPayload payload.now }
 {
     let offset = range.start();
@@ -54,7 +56,7 @@ pub fn seal(
     let size = usize::from(spelled_len(payload));
     let mut clear = FrameOctets::new();
     spell(payload, &mut clear, 0);
-    let clear = front(&clear.octets, size);
-    put_frame(&mut into.octets, &lane, offset, key, pads, clear);
+    let clear = prefix(&clear.octets, size);
+    put_frame(&mut into.octets[..24 + size], &lane, offset, key, pads, clear);
     24 + size
 }

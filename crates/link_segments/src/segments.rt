@@ -53,7 +53,7 @@ fn copy_lane(blocks: &[[u8; 1024]], way: Way, off: usize, into: &mut [u8])
 impl Segments {
     /// No blocks. It takes no memory.
     pub fn new(alloc: Global) -> Self
-        ensures { result.blocks ≡ [] }
+        ensures { result ≡ record { blocks = []; spare = 0 } }
     {
         Segments {
             blocks: Vec::new(alloc),

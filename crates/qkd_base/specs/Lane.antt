@@ -1,5 +1,5 @@
 -- The lanes of a link, and what tells them apart.
-use Rattle.std.specs.Prelude.{ℕ, Bool, true, false, ◌==◌, ◌&&◌}
+use Rattle.std.specs.Prelude.{ℕ, ◌+◌, ◌*◌, Bool, true, false, ◌==◌, ◌&&◌}
 use Rattle.qkd_base.specs.declared.lane.Way.{Way}
 use Rattle.qkd_base.specs.declared.lane.Way.TheVariants.{Up, Down}
 use Rattle.qkd_base.specs.declared.lane.Lane.{Lane}
@@ -17,6 +17,10 @@ way_eq Down Down = true
 
 abbrev pub lane_eq : Lane → Lane → Bool
 lane_eq a b = (a.link == b.link) && way_eq a.way b.way
+
+-- the place of a lane among all lanes: link by link, up before down
+abbrev pub lane_place : Lane → ℕ
+lane_place l = 2 * l.link + way_number l.way
 
 -- the other direction of the same link
 abbrev pub reverse_way : Way → Way

@@ -1,5 +1,10 @@
 // The two lanes of a link.
+ghost use Rattle.std.specs.Prelude.{◌≡◌};
+ghost use Rattle.std.specs.Ordering.{nat_cmp};
+ghost use Rattle.qkd_base.specs.Lane.{lane_place};
+
 use crate::LinkNo;
+use std::cmp::Ordering;
 
 /// Up goes from the lower node number to the higher, Down the other way.
 #[derive(Clone, Copy, Debug, PartialEq, Eq, PartialOrd, Ord, Hash)]
@@ -13,4 +18,11 @@ pub enum Way {
 pub struct Lane {
     pub link: LinkNo,
     pub way: Way,
+}
+
+/// The order of lanes, which is that of their places: link by link, Up before Down. Reports and maps keep it.
+pub fn compare_lanes(lane: &Lane, other: &Lane) -> Ordering
+    ensures { result ≡ nat_cmp (lane_place lane.now) (lane_place other.now) }
+{
+    lane.cmp(other)
 }

@@ -18,7 +18,7 @@ mod text;
 pub use frame_octets::FrameOctets;
 pub use items::{Dues, Fields, Items, Keys, Lists, Names, Octets, Saes, Texts};
 pub use key_name::{KeyName, NameKind};
-pub use lane::{Lane, Way};
+pub use lane::{Lane, Way, compare_lanes};
 pub use link_no::LinkNo;
 pub use memory::Memory;
 pub use node_no::NodeNo;

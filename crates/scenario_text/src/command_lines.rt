@@ -55,7 +55,7 @@ impl Declarations {
 
     /// Takes a `bits` line.
     #[tactic(auto, unfolding(crate::specs::Commanding::bits_at))]
-    pub fn bits_line(&mut self, rest: &[u8]) -> Result<Taken, LineRefusal>
+    pub(crate) fn bits_line(&mut self, rest: &[u8]) -> Result<Taken, LineRefusal>
         ensures { Gives self.new (bits_at self.old rest.now) result }
     {
         let Some((link, rest)) = word(rest) else {
@@ -98,7 +98,7 @@ impl Declarations {
 
     /// Takes a `fill` line.
     #[tactic(auto, unfolding(crate::specs::Commanding::fill_at))]
-    pub fn fill_line(&mut self, rest: &[u8]) -> Result<Taken, LineRefusal>
+    pub(crate) fn fill_line(&mut self, rest: &[u8]) -> Result<Taken, LineRefusal>
         ensures { Gives self.new (fill_at self.old rest.now) result }
     {
         let Some((master, rest)) = word(rest) else {
@@ -145,7 +145,7 @@ impl Declarations {
 
     /// Takes a `tick` line.
     #[tactic(auto, unfolding(crate::specs::Commanding::tick_at))]
-    pub fn tick_line(&mut self, rest: &[u8]) -> Result<Taken, LineRefusal>
+    pub(crate) fn tick_line(&mut self, rest: &[u8]) -> Result<Taken, LineRefusal>
         ensures { Gives self.new (tick_at self.old rest.now) result }
     {
         let Some((node, rest)) = word(rest) else {
@@ -167,7 +167,7 @@ impl Declarations {
 
     /// Takes a `pass` line.
     #[tactic(auto, unfolding(crate::specs::Commanding::pass_at))]
-    pub fn pass_line(&mut self, rest: &[u8]) -> Result<Taken, LineRefusal>
+    pub(crate) fn pass_line(&mut self, rest: &[u8]) -> Result<Taken, LineRefusal>
         ensures { Gives self.new (pass_at self.old rest.now) result }
     {
         let Some((link, rest)) = word(rest) else {
@@ -202,7 +202,7 @@ impl Declarations {
 
     /// Takes a `show` line.
     #[tactic(auto, unfolding(crate::specs::Commanding::show_at))]
-    pub fn show_line(&mut self, rest: &[u8]) -> Result<Taken, LineRefusal>
+    pub(crate) fn show_line(&mut self, rest: &[u8]) -> Result<Taken, LineRefusal>
         ensures { Gives self.new (show_at self.old rest.now) result }
     {
         let Some((node, rest)) = word(rest) else {
@@ -230,7 +230,7 @@ impl Declarations {
 
     /// Takes a `ledger` line.
     #[tactic(auto, unfolding(crate::specs::Commanding::ledger_at))]
-    pub fn ledger_line(&mut self, rest: &[u8]) -> Result<Taken, LineRefusal>
+    pub(crate) fn ledger_line(&mut self, rest: &[u8]) -> Result<Taken, LineRefusal>
         ensures { Gives self.new (ledger_at self.old rest.now) result }
     {
         let Some((link, rest)) = word(rest) else {
@@ -263,7 +263,7 @@ impl Declarations {
 
     /// Takes an `end` line.
     #[tactic(auto, unfolding(crate::specs::Commanding::end_at))]
-    pub fn end_line(&mut self, rest: &[u8]) -> Result<Taken, LineRefusal>
+    pub(crate) fn end_line(&mut self, rest: &[u8]) -> Result<Taken, LineRefusal>
         ensures { Gives self.new (end_at self.old rest.now) result }
     {
         let Some(_) = self.phase().after_other() else {

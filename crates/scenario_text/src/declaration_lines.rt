@@ -9,7 +9,7 @@ impl Declarations {
 
     /// Takes a `node` line.
     #[tactic(auto, unfolding(crate::specs::Declaring::node_at))]
-    pub fn node_line(&mut self, rest: &[u8]) -> Result<Taken, LineRefusal>
+    pub(crate) fn node_line(&mut self, rest: &[u8]) -> Result<Taken, LineRefusal>
         ensures { Gives self.new (node_at self.old rest.now) result }
     {
         let Some((name, rest)) = word(rest) else {
@@ -29,7 +29,7 @@ impl Declarations {
 
     /// Takes a `link` line.
     #[tactic(auto, unfolding(crate::specs::Declaring::link_at))]
-    pub fn link_line(&mut self, rest: &[u8]) -> Result<Taken, LineRefusal>
+    pub(crate) fn link_line(&mut self, rest: &[u8]) -> Result<Taken, LineRefusal>
         ensures { Gives self.new (link_at self.old rest.now) result }
     {
         let Some((a, rest)) = word(rest) else {
@@ -57,7 +57,7 @@ impl Declarations {
 
     /// Takes an `sae` line.
     #[tactic(auto, unfolding(crate::specs::Declaring::sae_at, crate::specs::Declaring::is_new_sae))]
-    pub fn sae_line(&mut self, rest: &[u8]) -> Result<Taken, LineRefusal>
+    pub(crate) fn sae_line(&mut self, rest: &[u8]) -> Result<Taken, LineRefusal>
         ensures { Gives self.new (sae_at self.old rest.now) result }
     {
         let Some((id, rest)) = word(rest) else {
@@ -83,7 +83,7 @@ impl Declarations {
 
     /// Takes an `allow` line.
     #[tactic(auto, unfolding(crate::specs::Declaring::allow_at))]
-    pub fn allow_line(&mut self, rest: &[u8]) -> Result<Taken, LineRefusal>
+    pub(crate) fn allow_line(&mut self, rest: &[u8]) -> Result<Taken, LineRefusal>
         ensures { Gives self.new (allow_at self.old rest.now) result }
     {
         let Some((master, rest)) = word(rest) else {

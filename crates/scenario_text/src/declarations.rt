@@ -1,7 +1,7 @@
 // What the lines so far have declared.
 ghost use Rattle.std.specs.Prelude.{◌≡◌, ◌<◌, ◌==◌, not, length, IfSome};
 ghost use Rattle.std.specs.List.{list_all};
-ghost use Rattle.scenario_text.specs.Stage.{place_of, sae_of};
+ghost use Rattle.scenario_text.specs.DeclaredSite.{place_of, sae_of};
 
 use crate::phase::Phase;
 use crate::words::{is_name, text_of};
@@ -27,9 +27,9 @@ pub struct Declarations {
 
 impl Model for Declarations {
     ghost use Rattle.std.specs.Prelude.{◌≤◌, length};
-    ghost use Rattle.scenario_text.specs.Stage.{Stage};
+    ghost use Rattle.scenario_text.specs.DeclaredSite.{DeclaredSite};
 
-    ghost Value = { Stage };
+    ghost Value = { DeclaredSite };
 
     ghost view = { λ d. record { phase = d.phase; nodes = d.nodes; saes = d.saes } };
 
@@ -76,13 +76,13 @@ fn lives_elsewhere(home: NodeNo, saes: &[Sae]) -> bool
 
 impl Declarations {
     ghost use Rattle.std.specs.Prelude.{◌≡◌, ◌==◌, ◌<◌, ◌++◌, ◌∷◌, ◌&&◌, [], true, length, nat_lt, is_none, OnOk, OnErr};
-    ghost use Rattle.scenario_text.specs.Stage.{first_stage, place_of, sae_of};
+    ghost use Rattle.scenario_text.specs.DeclaredSite.{nothing_declared, place_of, sae_of};
     ghost use Rattle.scenario_text.specs.Words.{is_name};
     ghost use Rattle.scenario_text.specs.Declaring.{is_new_sae};
 
     /// Nothing was declared.
     pub fn new(alloc: Global) -> Self
-        ensures { result ≡ first_stage }
+        ensures { result ≡ nothing_declared }
     {
         Declarations {
             alloc,
@@ -100,7 +100,7 @@ impl Declarations {
     }
 
     /// Another line may come next.
-    pub fn go_on(&mut self, phase: Phase)
+    pub(crate) fn go_on(&mut self, phase: Phase)
         ensures { self.new ≡ record self.old { phase = phase } }
     {
         self.phase = phase;
@@ -149,7 +149,7 @@ impl Declarations {
     }
 
     /// One more node. An `Err` changes nothing.
-    pub fn add_node(&mut self, name: &[u8]) -> Result<(), Memory>
+    pub(crate) fn add_node(&mut self, name: &[u8]) -> Result<(), Memory>
         requires room { length self.old.nodes < 16 }
         requires name { is_name 32 name.now ≡ true }
         ensures ok { OnOk result (self.new ≡ record self.old { nodes = self.old.nodes ++ name.now ∷ [] }) }
@@ -160,7 +160,7 @@ impl Declarations {
     }
 
     /// One more application. An `Err` changes nothing.
-    pub fn add_sae(&mut self, id: &[u8], home: NodeNo) -> Result<(), Memory>
+    pub(crate) fn add_sae(&mut self, id: &[u8], home: NodeNo) -> Result<(), Memory>
         requires room { length self.old.saes < 256 }
         requires id { is_name 64 id.now ≡ true }
         ensures ok { OnOk result (self.new ≡ record self.old { saes = self.old.saes ++ record { id = id.now; home = home } ∷ [] }) }

@@ -116,7 +116,7 @@ impl Declarations {
 
     /// Takes a line without its end.
     #[tactic(auto, unfolding(crate::specs::Line::line_at))]
-    pub fn line(&mut self, line: &[u8]) -> Result<Taken, LineRefusal>
+    pub(crate) fn line(&mut self, line: &[u8]) -> Result<Taken, LineRefusal>
         ensures { Gives self.new (line_at self.old line.now) result }
     {
         if !is_printable(line) {

@@ -1,0 +1,13 @@
+// The declared site.
+use qkd_base::Texts;
+use route_table::RouteTable;
+use sae_entitlements::Entitlements;
+
+/// The nodes by name, the links with their ends, and the applications with their homes and their allowed pairs. Nodes,
+/// links and applications are numbered from 0 in order of declaration.
+#[derive(Drop)]
+pub struct Site {
+    pub nodes: Texts,
+    pub routes: RouteTable,
+    pub entitlements: Entitlements,
+}

@@ -1,0 +1,9 @@
+pub mod Allowance
+pub mod Calls
+pub mod Images
+pub mod FileForm
+pub mod History
+pub mod Laws
+pub mod MemForm
+pub mod Plan
+pub mod Record

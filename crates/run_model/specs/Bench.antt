@@ -1,0 +1,60 @@
+-- What the call is given beside its words and its scenario, and what the bench's parts tell after it.
+use Rattle.std.specs.Prelude.{◌≡◌, ◌⊎◌, ℕ, ◌+◌, ◌≤◌, List, [], ◌∷◌, length, Option, Some, None}
+use Rattle.qkd_base.specs.declared.lane.Lane.{Lane}
+use Rattle.net_model.specs.declared.record.Record.{Record}
+use Rattle.net_model.specs.OctetSequence.{OctetSequence, sequence_of}
+use Rattle.net_model.specs.Sealing.{Sealing}
+use Rattle.net_model.specs.Action.{Fault}
+use Rattle.run_model.specs.Turn.{HttpTexts}
+
+-- what other layers define: how payloads become frames, the texts of HTTP, and the batches that a disk's octets stand for, if they do
+pub record Layers : Type 0 where
+  pub sealing : Sealing
+  pub http : HttpTexts
+  pub batches : List ℕ → Option (List (List Record))
+
+-- the octets that each link's device and each node's entropy tell, where they tell them
+pub record Sources : Type 0 where
+  pub devices : ℕ → Option (List ℕ)
+  pub entropies : ℕ → Option (List ℕ)
+
+-- what doesn't tell its octets has some
+abbrev pub Tells : Option (List ℕ) → OctetSequence → Type 0
+Tells None stream = Unit {0}
+Tells (Some octets) stream = stream ≡ sequence_of octets
+
+-- a count of faults before the call and after it, and the last value of its counter, where it stands still
+pub record Count : Type 0 where
+  pub old : ℕ
+  pub new : ℕ
+  pub greatest : ℕ
+
+-- it rose by so many at least; but a counter at its last value says nothing
+abbrev pub RoseBy : Count → ℕ → Type 0
+RoseBy c n = (c.old + n ≤ c.new) ⊎ (c.new ≡ c.greatest)
+
+-- how often a disk was armed in the call, and the fault that it was armed with last, before and after
+pub record Arming : Type 0 where
+  pub times : ℕ
+  pub old : Option Fault
+  pub new : Option Fault
+
+abbrev pub last_of_both : Option Fault → List Fault → Option Fault
+last_of_both old [] = old
+last_of_both old (f ∷ fs) = last_of_both (Some f) fs
+
+-- it was armed with just these, one after another
+abbrev pub IsArmedWith : Arming → List Fault → Type 0
+IsArmedWith a faults = (a.times ≡ length faults) × (a.new ≡ last_of_both a.old faults)
+
+-- after the call: the counts of faults; the armings of disks; the frames of each wire that tells them; the octets of each disk's one image; and
+-- what is left of each entropy that tells
+pub record Seen : Type 0 where
+  pub disk_count : ℕ → Count
+  pub entropy_count : ℕ → Count
+  pub device_count : ℕ → Count
+  pub wire_count : Lane → Count
+  pub arming : ℕ → Arming
+  pub wire : Lane → Option (List (List ℕ))
+  pub disk : ℕ → List ℕ
+  pub entropy : ℕ → Option (List ℕ)

@@ -1,0 +1,106 @@
+-- The run that a call makes: of a scenario, and of what connections asked after it.
+use Rattle.std.specs.Prelude.{◌≡◌, ◌⊎◌, ℕ, ◌*◌, Bool, true, false, List, [], ◌++◌, length, take, nat_lt, if◌then◌else◌}
+use Rattle.std.specs.List.{flat_map, list_all}
+use Rattle.net_model.specs.declared.event.Event.{Event}
+use Rattle.net_model.specs.declared.event.Event.TheVariants.{Enc, Dec, Status, EncGroup}
+use Rattle.net_model.specs.Premises.{IsNetwork}
+use Rattle.net_model.specs.World.{Network, World, first}
+use Rattle.net_model.specs.Action.{Action, Ask}
+use Rattle.net_model.specs.Step.{run, IsRun}
+use Rattle.net_model.specs.BlockOrder.{AreChains}
+use Rattle.net_model.specs.Deliveries.{Delivery, deliveries}
+use Rattle.declared_site.specs.SiteOf.{site_of}
+use Rattle.scenario_lines.specs.declared.scenario.Scenario.{Scenario}
+use Rattle.run_model.specs.Play.{Played, Whole}
+use Rattle.run_model.specs.Report.{Task, tasks, Performed, report, actions_of, IsRunOf}
+use Rattle.run_model.specs.Bench.{Layers, Sources, Tells}
+use Rattle.run_model.specs.Load.{load_scenario}
+
+-- the words of the call: `run W`, `load N`, `serve W C PORT`
+pub data Words : Type 0 where
+  Run : (workers : ℕ) → Words
+  Load : (rounds : ℕ) → Words
+  Serve : (workers connections port : ℕ) → Words
+
+-- how many workers do its blocks
+abbrev pub workers_of : Words → ℕ
+workers_of (Run workers) = workers
+workers_of (Load rounds) = 1
+workers_of (Serve workers connections port) = workers
+
+-- how many connections are served: each worker so many, but none where there is no node
+abbrev pub served_by : Words → (nodes : ℕ) → ℕ
+served_by (Serve workers connections port) nodes = if nat_lt 0 nodes then workers * connections else 0
+served_by _ nodes = 0
+
+-- A generated load has its scenario; that of the other words is what the source told.
+abbrev pub IsOfWords : Words → Scenario → Type 0
+IsOfWords (Load rounds) scenario = scenario ≡ load_scenario rounds
+IsOfWords _ scenario = Unit {0}
+
+-- of a network: what was done for each task, and after that what connections had the managers do, one history for each node, in order of node
+pub record Course : Type 0 where
+  pub net : Network
+  pub done : List Performed
+  pub served : List (List Action)
+
+abbrev pub lines_run : Course → List Action
+lines_run c = actions_of c.net c.done
+
+abbrev pub whole_run : Course → List Action
+whole_run c = lines_run c ++ flat_map (λ h. h) c.served
+
+-- the world after the first so many actions, and after all
+abbrev pub world_after : Course → ℕ → World
+world_after c n = run c.net first (take n (whole_run c))
+
+abbrev pub last_world : Course → World
+last_world c = run c.net first (whole_run c)
+
+abbrev pub tasks_of : Scenario → List Task
+tasks_of scenario = tasks scenario.node_lines scenario.entries
+
+-- what the lines reported, and how far they came
+abbrev pub lines_played : Layers → Scenario → Course → Played
+lines_played layers scenario c = report layers.http c.net first (tasks_of scenario) c.done
+
+-- what its replies handed out
+abbrev pub handed_out : Course → List Delivery
+handed_out c = deliveries c.net first (whole_run c)
+
+-- what a connection may have a manager do: the requests of GS QKD 014
+abbrev pub is_request : Event → Bool
+is_request (Enc m s n bits) = true
+is_request (Dec s m names) = true
+is_request (Status m s) = true
+is_request (EncGroup m slaves n bits) = true
+is_request _ = false
+
+abbrev pub is_request_of : Action → Bool
+is_request_of (Ask v event environment) = is_request event
+is_request_of _ = false
+
+-- Connections are served for `serve` alone, where all lines were done: each manager's turns are its own chain, of requests.
+abbrev pub AreServed : Words → Layers → Scenario → Course → Type 0
+AreServed (Serve workers connections port) layers scenario c =
+    (c.served ≡ []) ⊎
+    (((lines_played layers scenario c).ending ≡ Whole) × (length c.served ≡ c.net.site.nodes) × AreChains c.net (run c.net first (lines_run c)) 0 c.served ×
+    (list_all (list_all is_request_of) c.served ≡ true))
+AreServed _ layers scenario c = c.served ≡ []
+
+-- The run is the list of actions that the scenario's lines make from the first world, with what this bench's devices and entropies told and with
+-- the answers that this bench gave.
+pub record IsCourseOf (words : Words) (layers : Layers) (sources : Sources) (scenario : Scenario) (c : Course) : Type 0 where
+  pub network : IsNetwork c.net
+  pub scenario_is : IsOfWords words scenario
+  pub site : c.net.site ≡ site_of scenario.site
+  pub sealing : c.net.sealing ≡ layers.sealing
+  -- each device told one list, which both ends read
+  pub devices : (link : ℕ) → Tells (sources.devices link) (c.net.device link)
+  pub entropies : (v : ℕ) → Tells (sources.entropies v) (c.net.entropy v)
+  -- the lines, with each block as its workers did it
+  pub lines : IsRunOf layers.http c.net (workers_of words) first (tasks_of scenario) c.done
+  -- for `serve` the run goes on with the managers' turns that the connections made, in order of node
+  pub served : AreServed words layers scenario c
+  -- the whole is one list of actions, each of which may happen
+  pub steps : IsRun c.net first (whole_run c)

@@ -1,0 +1,15 @@
+pub mod Refusals
+pub mod Script
+pub mod Outcomes
+pub mod Turn
+pub mod Lines
+pub mod Play
+pub mod Works
+pub mod Block
+pub mod Report
+pub mod Left
+pub mod Load
+pub mod Bench
+pub mod Course
+pub mod Keys
+pub mod Headline
