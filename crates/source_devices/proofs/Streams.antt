@@ -1,7 +1,7 @@
 -- The octets of a key stream at places that go on.
 use Rattle.std.proofs.Common.{◌≡◌, ℕ, zero, suc, ◌+◌, ◌%◌, List, ◌∷◌, ◌^◌, sym, refl, ap, ap₂, subst, ◌∙◌, add_assoc, add-zero, zero-add}
 use Rattle.std.proofs.Math.Nat.{mod-add-mod}
-use Rattle.net_model.specs.Told.{octets_from}
+use Rattle.net_model.specs.OctetSequence.{octets_from}
 use Rattle.source_devices.specs.Telling.{IsRest}
 use Rattle.source_devices.specs.KeyStream.{told_from, octet_at, stream_octet, StreamForm}
 

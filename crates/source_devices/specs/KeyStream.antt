@@ -1,7 +1,7 @@
 -- The octets that a generator tells: a key stream of ChaCha20 (RFC 8439, with a block counter of 64 bits).
 use Rattle.std.specs.Prelude.{ℕ, ◌+◌, ◌*◌, ◌/◌, ◌%◌, ◌^◌, List, ◌∷◌, replicate, Option, Some, None}
 use Rattle.rand_chacha.specs.ChaCha.{word_at, key_of}
-use Rattle.net_model.specs.Told.{Told}
+use Rattle.net_model.specs.OctetSequence.{OctetSequence}
 
 -- a key of 32 octets: a letter, a number and thirty zeros
 abbrev pub seed : ℕ → ℕ → List ℕ
@@ -30,13 +30,13 @@ pub record StreamForm : Type 0 where
   pub place : ℕ
 
 -- what a generator tells from its place on
-abbrev pub told_from : StreamForm → Told
+abbrev pub told_from : StreamForm → OctetSequence
 told_from s = record { octet = λ i. stream_octet s.letter s.number (s.place + i); end = None }
 
 -- what the generated device of a link tells (4c is the letter L): 1,048,576 octets
-abbrev pub device_told : ℕ → Told
+abbrev pub device_told : ℕ → OctetSequence
 device_told link = record { octet = stream_octet 0x4c link; end = Some 1048576 }
 
 -- what the generated entropy of a node tells (45 is the letter E), without end
-abbrev pub entropy_told : ℕ → Told
+abbrev pub entropy_told : ℕ → OctetSequence
 entropy_told node = record { octet = stream_octet 0x45 node; end = None }

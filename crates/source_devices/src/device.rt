@@ -1,7 +1,7 @@
 // Where the blocks of a link come from.
 ghost use Rattle.std.specs.Prelude.{◌≡◌, ◌≤◌, ℕ, Option, IsErrOf};
 ghost use Rattle.qkd_base.specs.Faults.{Rose};
-ghost use Rattle.net_model.specs.Told.{Told};
+ghost use Rattle.net_model.specs.OctetSequence.{OctetSequence};
 ghost use Rattle.source_devices.specs.declared.shortage.Shortage.TheVariants.{Failed as ShortageFailed};
 ghost use Rattle.source_devices.specs.Telling.{GivesBlock};
 
@@ -10,7 +10,7 @@ use crate::Shortage;
 /// A quantum key distribution link: it has one list of octets, which both of its ends read in blocks of 1,024.
 pub trait Device {
     /// The list, where it is told.
-    ghost told: { Self → Option Told };
+    ghost told: { Self → Option OctetSequence };
 
     /// How often a block failed.
     ghost faults: { Self → ℕ };

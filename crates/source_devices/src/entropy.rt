@@ -1,7 +1,7 @@
 // Where random octets come from.
 ghost use Rattle.std.specs.Prelude.{◌≡◌, ◌≤◌, ℕ, Option, IsErrOf, length};
 ghost use Rattle.qkd_base.specs.Faults.{Rose};
-ghost use Rattle.net_model.specs.Told.{Told};
+ghost use Rattle.net_model.specs.OctetSequence.{OctetSequence};
 ghost use Rattle.source_devices.specs.declared.shortage.Shortage.TheVariants.{Failed as ShortageFailed};
 ghost use Rattle.source_devices.specs.Telling.{Draws};
 
@@ -10,7 +10,7 @@ use crate::Shortage;
 /// Where random octets come from.
 pub trait Entropy {
     /// The octets that are left, where they are told.
-    ghost left: { Self → Option Told };
+    ghost left: { Self → Option OctetSequence };
 
     /// How often a draw failed.
     ghost faults: { Self → ℕ };

@@ -1,6 +1,6 @@
 // The octets of a key stream of ChaCha20.
 ghost use Rattle.std.specs.Prelude.{◌≡◌, ◌+◌, ◌*◌, ◌%◌, ◌^◌, ◌<◌, length};
-ghost use Rattle.net_model.specs.Told.{octets_from};
+ghost use Rattle.net_model.specs.OctetSequence.{octets_from};
 ghost use Rattle.source_devices.specs.KeyStream.{octet_at, octet_of, stream_octet};
 
 use rand_chacha::ChaCha20Rng;

@@ -1,7 +1,7 @@
 // A device in memory.
 ghost use Rattle.std.specs.Prelude.{◌≡◌, ◌≤◌, Some, None, OnErr, IsErrOf, MatchResult};
 ghost use Rattle.qkd_base.specs.Faults.{Rose, one_more};
-ghost use Rattle.net_model.specs.Told.{told_list};
+ghost use Rattle.net_model.specs.OctetSequence.{sequence_of};
 ghost use Rattle.source_devices.specs.declared.shortage.Shortage.TheVariants.{Failed as ShortageFailed};
 ghost use Rattle.source_devices.specs.Telling.{GivesBlock};
 ghost use Rattle.source_devices.specs.Forms.{block_refusal, faults_after};
@@ -43,13 +43,13 @@ impl MemDevice {
 }
 
 impl Device for MemDevice {
-    ghost told = { λ s. Some (told_list s.octets) };
+    ghost told = { λ s. Some (sequence_of s.octets) };
 
     ghost faults = { λ s. s.faults };
 
     fn block(&mut self, number: u32, into: &mut [u8; 1024]) -> Result<(), Shortage>
-        ensures block { GivesBlock (Some (told_list self.old.octets)) number result into.new }
-        ensures told { Some (told_list self.new.octets) ≡ Some (told_list self.old.octets) }
+        ensures block { GivesBlock (Some (sequence_of self.old.octets)) number result into.new }
+        ensures told { Some (sequence_of self.new.octets) ≡ Some (sequence_of self.old.octets) }
         ensures cause { IsErrOf result ShortageFailed → Rose self.old.faults self.new.faults }
         ensures later { self.old.faults ≤ self.new.faults }
         ensures calm { (IsErrOf result ShortageFailed → ⊥) → self.new.faults ≡ self.old.faults }

@@ -1,7 +1,7 @@
 // An entropy in memory.
 ghost use Rattle.std.specs.Prelude.{◌≡◌, ◌≤◌, Some, None, OnOk, OnErr, IsErrOf, MatchResult, length, take, drop};
 ghost use Rattle.qkd_base.specs.Faults.{Rose, one_more};
-ghost use Rattle.net_model.specs.Told.{told_list};
+ghost use Rattle.net_model.specs.OctetSequence.{sequence_of};
 ghost use Rattle.source_devices.specs.declared.shortage.Shortage.TheVariants.{Failed as ShortageFailed};
 ghost use Rattle.source_devices.specs.Telling.{Draws};
 ghost use Rattle.source_devices.specs.Forms.{draw_refusal, faults_after};
@@ -58,12 +58,12 @@ impl MemEntropy {
 }
 
 impl Entropy for MemEntropy {
-    ghost left = { λ s. Some (told_list s.left) };
+    ghost left = { λ s. Some (sequence_of s.left) };
 
     ghost faults = { λ s. s.faults };
 
     fn draw(&mut self, into: &mut [u8]) -> Result<(), Shortage>
-        ensures drawn { Draws (Some (told_list self.old.left)) (Some (told_list self.new.left)) result (length into.old) into.new }
+        ensures drawn { Draws (Some (sequence_of self.old.left)) (Some (sequence_of self.new.left)) result (length into.old) into.new }
         ensures cause { IsErrOf result ShortageFailed → Rose self.old.faults self.new.faults }
         ensures later { self.old.faults ≤ self.new.faults }
         ensures calm { (IsErrOf result ShortageFailed → ⊥) → self.new.faults ≡ self.old.faults }

@@ -1,5 +1,5 @@
 use Rattle.std.proofs.Common.{◌≡◌, true, refl, sym, subst, ◌∙◌, Some, length}
-use Rattle.net_model.specs.Told.{Told, octets_from}
+use Rattle.net_model.specs.OctetSequence.{OctetSequence, octets_from}
 use Rattle.source_devices.specs.KeyStream.{StreamForm, told_from, stream_octet}
 use Rattle.source_devices.specs.Telling.{IsRest}
 use Rattle.source_devices.proofs.Streams.{shifted_here, rest_there}
@@ -14,5 +14,5 @@ returns-clause-drawn c =
     let Rests : StreamForm → Type 0 = λ s. IsRest (told_from at) n (told_from s) in
     let rest : IsRest (told_from at) n after = subst Rests (sym c.read.ensures.place) (rest_there at n) in
     let Drawn : StreamForm → Type 0 = λ s.
-    (true ≡ true) × (c.read.new.into ≡ octets_from (told_from s).octet 0 n) × ((x : Told) × (Some after ≡ Some x) × IsRest (told_from s) n x) in
+    (true ≡ true) × (c.read.new.into ≡ octets_from (told_from s).octet 0 n) × ((x : OctetSequence) × (Some after ≡ Some x) × IsRest (told_from s) n x) in
     subst Drawn c.self.view_is (refl, given, (after, refl, rest))

@@ -1,6 +1,6 @@
 use Rattle.std.proofs.Common.{arith, ap, ◌∙◌, ◌<◌, ◌≢◌, length, get_or-set_other, get_or-set_same, below_more}
 use Rattle.source_devices.specs.KeyStream.{StreamForm, stream_octet}
-use Rattle.net_model.specs.Told.{octets_from}
+use Rattle.net_model.specs.OctetSequence.{octets_from}
 use Rattle.source_devices.proofs.Octets.{octets_are}
 use Rattle.source_devices.proofs.Streams.{octet_there, next_place}
 use Rattle.source_devices.proofs.key_stream.KeyStream.read.Goals as goal
