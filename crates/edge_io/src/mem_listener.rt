@@ -43,6 +43,8 @@ impl Model for MemListener {
 }
 
 impl MemListener {
+    ghost use Rattle.edge_io.specs.Done.{done_of};
+
     // A listener that nobody has asked anything.
     fn of_queue(port: u16, queue: MemQueue, twins: VecDeque<MemQueue>) -> Self
         ensures { result ≡ door_of port queue twins.items }
@@ -73,7 +75,9 @@ impl MemListener {
     }
 
     /// The connections that were finished, in this order.
-    pub fn done(&self) -> &[MemFinished] {
+    pub fn done(&self) -> &[MemFinished]
+        ensures { done_of result.now ≡ self.now.done }
+    {
         self.done.as_slice()
     }
 }

@@ -1,0 +1,78 @@
+// An entropy over a random file.
+ghost use Rattle.std.specs.Prelude.{◌≡◌, ◌≤◌, OnOk, OnErr, IsErrOf, None, length};
+ghost use Rattle.qkd_base.specs.Faults.{Rose, one_more};
+ghost use Rattle.source_devices.specs.declared.shortage.Shortage.TheVariants.{Failed as ShortageFailed, End as ShortageEnd};
+ghost use Rattle.source_devices.specs.Telling.{Draws};
+
+use crate::{Entropy, Shortage};
+use std::io::Read;
+use std::marker::Model;
+
+/// An entropy over a file of random octets, or any other reader. It tells nothing of them, and counts each draw that
+/// failed: by an error, or at the end of the file.
+#[derive(Drop)]
+pub struct RandomFile<R> {
+    file: R,
+    faults: u64,
+}
+
+impl<R> Model for RandomFile<R> {
+    ghost use Rattle.std.specs.Prelude.{ℕ};
+
+    ghost Value = { ℕ };
+
+    ghost view = { λ s. s.faults };
+}
+
+impl<R> RandomFile<R> {
+    /// An entropy over this file, that has not failed yet.
+    pub fn new(file: R) -> Self
+        ensures { result ≡ 0 }
+    {
+        RandomFile { file, faults: 0 }
+    }
+
+    /// How often a draw failed.
+    pub fn faults(&self) -> u64
+        ensures { result ≡ self.now }
+    {
+        self.faults
+    }
+}
+
+// Fills the buffer. The answer is whether that went to its end.
+fn read_whole<R: Read>(file: &mut R, into: &mut [u8]) -> bool {
+    let mut at = 0;
+    for _ in 0..u64::MAX {
+        if at == into.len() {
+            return true;
+        }
+        match file.read(&mut into[at..]) {
+            Ok(0) => return false,
+            Ok(count) => at += count,
+            Err(_) => return false,
+        }
+    }
+    false
+}
+
+impl<R: Read> Entropy for RandomFile<R> {
+    ghost left = { λ _. None };
+
+    ghost faults = { λ s. s };
+
+    fn draw(&mut self, into: &mut [u8]) -> Result<(), Shortage>
+        ensures drawn { Draws None None result (length into.old) into.new }
+        ensures cause { IsErrOf result ShortageFailed → Rose self.old self.new }
+        ensures later { self.old ≤ self.new }
+        ensures calm { (IsErrOf result ShortageFailed → ⊥) → self.new ≡ self.old }
+        ensures once { OnErr result (self.new ≡ one_more self.old) }
+    {
+        if read_whole(&mut self.file, into) {
+            Ok(())
+        } else {
+            self.faults = self.faults.saturating_add(1);
+            Err(Shortage::Failed)
+        }
+    }
+}
