@@ -7,7 +7,7 @@ use Rattle.std.proofs.lemmas.List.Folds.{list_all-append}
 use Rattle.qkd_base.specs.declared.lane.Lane.{Lane}
 use Rattle.net_model.specs.declared.event.Event.TheVariants.{Note}
 use Rattle.net_model.specs.declared.placing.Placing.{Placing}
-use Rattle.net_model.specs.Told.{tells}
+use Rattle.net_model.specs.OctetSequence.{has_octets}
 use Rattle.net_model.specs.Site.{count_up, outgoing_lanes}
 use Rattle.net_model.specs.Journal.{journal_limit, added_len, is_nil}
 use Rattle.net_model.specs.World.{Network, World}
@@ -39,7 +39,7 @@ module _ (net : Network) where
       let P : World × Outcome → Type 0 = λ r. IsDone r.0 in
       by_test P (is_no_memory environment || not (list_all is_numbered e.batch)) _ _ (λ x. d)
       (λ x. by_test P (nat_lt journal_limit ((w.journal v).length' + added_len (w.journal v).version e.batch)) _ _ (λ y. d)
-      (λ y. by_test P (nat_lt 0 octets && (not (tells (net.entropy v) (w.drawn v + octets)) || is_entropy_fault environment)) _ _ (λ z. d)
+      (λ y. by_test P (nat_lt 0 octets && (not (has_octets (net.entropy v) (w.drawn v + octets)) || is_entropy_fault environment)) _ _ (λ z. d)
       (λ z. by_test P (is_io_fault environment && not (is_nil e.batch)) _ _ (λ u. was_stopped w d v octets e) (λ u. committed w d v octets e none less))))
 
   noted : (w : World) → IsDone w → (v : ℕ) (placings : List Placing) → IsDone (handle net w v (Note placings) Ok).0

@@ -6,12 +6,10 @@ use Rattle.qkd_base.specs.Name.{Name}
 use Rattle.qkd_base.specs.Family.{number_set, lane_set}
 use Rattle.qkd_base.specs.Lane.{lane_eq}
 use Rattle.qkd_base.specs.LaneBytes.{lane_len}
-use Rattle.qkd_base.specs.declared.lane.Way.{Way}
-use Rattle.qkd_base.specs.declared.lane.Way.TheVariants.{Up, Down}
 use Rattle.qkd_base.specs.declared.lane.Lane.{Lane}
 use Rattle.net_model.specs.declared.record.Record.{Record}
 use Rattle.net_model.specs.declared.record.Record.TheVariants.{Block, Lease, Learned, Acked, Handed, Closed, Bare}
-use Rattle.net_model.specs.Site.{Site, sender, lane_of, outgoing_way}
+use Rattle.net_model.specs.Site.{Site, sender, outgoing_lane}
 use Rattle.net_model.specs.World.{Durable, Owner, Allocation, Transmission}
 use Rattle.net_model.specs.View.{handed_at}
 use Rattle.net_model.specs.Records.{apply_record, replay, block_taken, keyed_own}
@@ -53,30 +51,18 @@ module _ (s : Site) (v : ℕ) (a b : Durable) (h : SameDurable s v a b) where
   set_both : {A : Type 0} (f g : Lane → A) (k l : Lane) (x y : A) → x ≡ y → g l ≡ f l → lane_set g k y l ≡ lane_set f k x l
   set_both f g k l x y e e2 = elim (lane_eq l k) as (λ t. (if t then y else g l) ≡ (if t then x else f l)) [ true ↦ sym e | false ↦ e2 ]
 
-  block_both : (link : ℕ) (way : Way) → sender s (lane_of link way) ≡ v → Extends s v (block_taken way link a) (block_taken way link b) →
-      SameDurable s v (block_taken way link a) (block_taken way link b)
+  block_both : (k : Lane) → sender s k ≡ v → Extends s v (block_taken k a) (block_taken k b) → SameDurable s v (block_taken k a) (block_taken k b)
   unfolding block_taken
-  block_both link Up at x =
+  block_both k at x =
       record {
         extends = x;
         acked = h.acked;
         closed = h.closed;
         handed = h.handed;
-        own = λ l e. let p = sym (h.extends.lows link at) in let q = sym (h.own (lane_of link Up) at) in
-            set_both a.own b.own (lane_of link Up) l (keyed_own (lane_len Up (a.low_blocks link)) (lane_len Up (a.low_blocks link + 1)) (a.own (lane_of link Up)))
-            (keyed_own (lane_len Up (b.low_blocks link)) (lane_len Up (b.low_blocks link + 1)) (b.own (lane_of link Up)))
-            (λ i. keyed_own (lane_len Up (p i)) (lane_len Up (p i + 1)) (q i)) (h.own l e);
-      }
-  block_both link Down at x =
-      record {
-        extends = x;
-        acked = h.acked;
-        closed = h.closed;
-        handed = h.handed;
-        own = λ l e. let p = sym (h.extends.highs link at) in let q = sym (h.own (lane_of link Down) at) in
-            set_both a.own b.own (lane_of link Down) l (keyed_own (lane_len Down (a.high_blocks link)) (lane_len Down (a.high_blocks link + 1)) (a.own (lane_of link Down)))
-            (keyed_own (lane_len Down (b.high_blocks link)) (lane_len Down (b.high_blocks link + 1)) (b.own (lane_of link Down)))
-            (λ i. keyed_own (lane_len Down (p i)) (lane_len Down (p i + 1)) (q i)) (h.own l e);
+        own = λ l e. let p = sym (h.extends.taken k at) in let q = sym (h.own k at) in
+            set_both a.own b.own k l (keyed_own (lane_len k.way (a.blocks k)) (lane_len k.way (a.blocks k + 1)) (a.own k))
+            (keyed_own (lane_len k.way (b.blocks k)) (lane_len k.way (b.blocks k + 1)) (b.own k))
+            (λ i. keyed_own (lane_len k.way (p i)) (lane_len k.way (p i + 1)) (q i)) (h.own l e);
       }
 
   with_one : {A : Type 0} (f g : ℕ → List A) (x : A) → g v ≡ f v → number_set g v (g v ++ x ∷ []) v ≡ number_set f v (f v ++ x ∷ []) v
@@ -85,7 +71,7 @@ module _ (s : Site) (v : ℕ) (a b : Durable) (h : SameDurable s v a b) where
 
   both_apply : (r : Record) → MayApply s a v r → Extends s v (apply_record s v r a) (apply_record s v r b) → SameDurable s v (apply_record s v r a) (apply_record s v r b)
   unfolding apply_record
-  both_apply (Block link number bytes) m x = block_both link (outgoing_way s v link) (end_of s v link m.0) x
+  both_apply (Block link number bytes) m x = block_both (outgoing_lane s v link) (end_of s v link m.0) x
   both_apply (Lease l end) m x = record { extends = x; acked = h.acked; closed = h.closed; handed = h.handed; own = h.own }
   both_apply (Learned f) m x = record { extends = x; acked = h.acked; closed = h.closed; handed = h.handed; own = h.own }
   both_apply (Acked n) m x = record { extends = x; acked = with_one a.acked b.acked n h.acked; closed = h.closed; handed = h.handed; own = h.own }
@@ -120,15 +106,14 @@ module _ (s : Site) (v u : ℕ) (apart : v ≢ u) (d : Durable) where
   other_set : {A : Type 0} (f : ℕ → A) (x : A) → number_set f u x v ≡ f v
   other_set f x = ap (λ (t : Bool). if t then x else f v) (not_false (v == u) (λ e. apart (eq_from v u e)))
 
-  other_own : (link : ℕ) (way : Way) → sender s (lane_of link way) ≡ u → (l : Lane) (x : List Owner) → sender s l ≡ v → lane_set d.own (lane_of link way) x l ≡ d.own l
-  other_own link way at l x to =
+  other_own : (k : Lane) → sender s k ≡ u → (l : Lane) (x : List Owner) → sender s l ≡ v → lane_set d.own k x l ≡ d.own l
+  other_own k at l x to =
       ap (λ (t : Bool). if t then x else d.own l)
-      (not_false (lane_eq l (lane_of link way)) (λ e. let is : l ≡ lane_of link way = lane_eq_from l (lane_of link way) e in apart (sym to ∙ ap (sender s) is ∙ at)))
+      (not_false (lane_eq l k) (λ e. let is : l ≡ k = lane_eq_from l k e in apart (sym to ∙ ap (sender s) is ∙ at)))
 
-  block_other : (link : ℕ) (way : Way) → sender s (lane_of link way) ≡ u → Extends s v d (block_taken way link d) → SameDurable s v d (block_taken way link d)
+  block_other : (k : Lane) → sender s k ≡ u → Extends s v d (block_taken k d) → SameDurable s v d (block_taken k d)
   unfolding block_taken
-  block_other link Up at x = record { extends = x; acked = refl; closed = refl; handed = refl; own = λ l to. other_own link Up at l _ to }
-  block_other link Down at x = record { extends = x; acked = refl; closed = refl; handed = refl; own = λ l to. other_own link Down at l _ to }
+  block_other k at x = record { extends = x; acked = refl; closed = refl; handed = refl; own = λ l to. other_own k at l _ to }
 
   other_handed : (n : Name) (sae : ℕ) → s.home sae ≡ u → handed_at s v (d.handed ++ (n, sae) ∷ []) ≡ handed_at s v d.handed
   other_handed n sae at =
@@ -142,7 +127,7 @@ module _ (s : Site) (v u : ℕ) (apart : v ≢ u) (d : Durable) where
 
   other_apply : (r : Record) → MayApply s d u r → Extends s v d (apply_record s u r d) → SameDurable s v d (apply_record s u r d)
   unfolding apply_record
-  other_apply (Block link number bytes) m x = block_other link (outgoing_way s u link) (end_of s u link m.0) x
+  other_apply (Block link number bytes) m x = block_other (outgoing_lane s u link) (end_of s u link m.0) x
   other_apply (Lease l end) m x = record { extends = x; acked = refl; closed = refl; handed = refl; own = λ l to. refl }
   other_apply (Learned f) m x = record { extends = x; acked = refl; closed = refl; handed = refl; own = λ l to. refl }
   other_apply (Acked n) m x = record { extends = x; acked = other_set d.acked _; closed = refl; handed = refl; own = λ l to. refl }

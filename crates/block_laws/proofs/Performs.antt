@@ -6,7 +6,7 @@ use Rattle.qkd_base.specs.Family.{number_set}
 use Rattle.qkd_base.specs.Lane.{lane_eq}
 use Rattle.qkd_base.specs.declared.lane.Lane.{Lane}
 use Rattle.net_model.specs.declared.reply.Reply.TheVariants.{JournalFull}
-use Rattle.net_model.specs.Told.{tells}
+use Rattle.net_model.specs.OctetSequence.{has_octets}
 use Rattle.net_model.specs.Site.{sender}
 use Rattle.net_model.specs.World.{Network, World, Transmission, Journal, no_volatile}
 use Rattle.net_model.specs.Journal.{journal_limit, added_len, is_nil, extended}
@@ -88,8 +88,8 @@ module _ (net : Network) (v : ℕ) (a b : World) (c : Conserved net a) (d : Cons
       both_tests (SameResult net v) (nat_lt journal_limit ((a.journal v).length' + added_len (a.journal v).version e.batch)) _ _ _ _ _
       (ap (λ (j : Journal). nat_lt journal_limit (j.length' + added_len j.version e.batch)) h.journal)
       (λ x. record { outcome = ap (λ (j : Journal). Replies (JournalFull j.length' (added_len j.version e.batch))) h.journal; world = h })
-      (λ x. both_tests (SameResult net v) (nat_lt 0 octets && (not (tells (net.entropy v) (a.drawn v + octets)) || is_entropy_fault environment)) _ _ _ _ _
-      (ap (λ n. nat_lt 0 octets && (not (tells (net.entropy v) (n + octets)) || is_entropy_fault environment)) h.drawn)
+      (λ x. both_tests (SameResult net v) (nat_lt 0 octets && (not (has_octets (net.entropy v) (a.drawn v + octets)) || is_entropy_fault environment)) _ _ _ _ _
+      (ap (λ n. nat_lt 0 octets && (not (has_octets (net.entropy v) (n + octets)) || is_entropy_fault environment)) h.drawn)
       (λ y. record { outcome = refl; world = h })
       (λ y. both_tests (SameResult net v) (is_io_fault environment && not (is_nil e.batch)) _ _ _ _ _ refl
       (λ z. record { outcome = refl; world = stopped_same }) (λ z. record { outcome = refl; world = commit_same may }))))
@@ -107,14 +107,14 @@ module _ (net : Network) (v u : ℕ) (apart : v ≢ u) (w : World) (c : Conserve
       let away : lane_eq t.lane l ≡ false = not_false (lane_eq t.lane l) (λ e. apart (sym at ∙ ap (sender net.site) (sym (lane_eq_from t.lane l e)) ∙ each 0 t refl)) in
       rw away (none_here ts (λ n x y. each (suc n) x y) l at)
 
-  nothing_behind : {A : Type 0} (xs : List A) → xs ++ [] ≡ xs
-  nothing_behind [] = refl
-  nothing_behind (x ∷ xs) = ap (λ ys. x ∷ ys) (nothing_behind xs)
+  nothing_after : {A : Type 0} (xs : List A) → xs ++ [] ≡ xs
+  nothing_after [] = refl
+  nothing_after (x ∷ xs) = ap (λ ys. x ∷ ys) (nothing_after xs)
 
   orders_elsewhere : (ts : List Transmission) → ((n : ℕ) (t : Transmission) → slice_get ts n ≡ Some t → sender net.site t.lane ≡ u) → (l : Lane) → sender net.site l ≡ v →
       with_orders ts w.unclaimed l ≡ w.unclaimed l
   orders_elsewhere [] each l at = refl
-  orders_elsewhere (t ∷ ts) each l at = ap (λ xs. w.unclaimed l ++ xs) (none_here (t ∷ ts) each l at) ∙ nothing_behind (w.unclaimed l)
+  orders_elsewhere (t ∷ ts) each l at = ap (λ xs. w.unclaimed l ++ xs) (none_here (t ∷ ts) each l at) ∙ nothing_after (w.unclaimed l)
 
   commit_unseen : MayReplay net.site w.durable u e.batch → SameFor net v w (commit net.site w u octets e)
   unfolding commit
@@ -155,5 +155,5 @@ module _ (net : Network) (v u : ℕ) (apart : v ≢ u) (w : World) (c : Conserve
       by_test P (is_no_memory environment || not (list_all is_numbered e.batch)) _ _ (λ x. same_for net v w)
       (λ numbered. let may = m.batch (not_true (list_all is_numbered e.batch) (or_second (is_no_memory environment) _ numbered)) in
       by_test P (nat_lt journal_limit ((w.journal u).length' + added_len (w.journal u).version e.batch)) _ _ (λ x. same_for net v w)
-      (λ x. by_test P (nat_lt 0 octets && (not (tells (net.entropy u) (w.drawn u + octets)) || is_entropy_fault environment)) _ _ (λ y. same_for net v w)
+      (λ x. by_test P (nat_lt 0 octets && (not (has_octets (net.entropy u) (w.drawn u + octets)) || is_entropy_fault environment)) _ _ (λ y. same_for net v w)
       (λ y. by_test P (is_io_fault environment && not (is_nil e.batch)) _ _ (λ z. stopped_unseen) (λ z. commit_unseen may))))

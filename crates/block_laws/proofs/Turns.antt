@@ -10,11 +10,11 @@ use Rattle.net_model.specs.declared.event.Event.{Event}
 use Rattle.net_model.specs.declared.event.Event.TheVariants.{Plan}
 use Rattle.net_model.specs.declared.fact.Fact.{Fact}
 use Rattle.net_model.specs.declared.payload.Payload.{Payload}
-use Rattle.net_model.specs.declared.payload.Payload.TheVariants.{Told, Ack}
+use Rattle.net_model.specs.declared.payload.Payload.TheVariants.{Data, Ack}
 use Rattle.net_model.specs.declared.reply.Reply.TheVariants.{Down as DownReply, NoBits}
-use Rattle.net_model.specs.Item.{Item, DataItem, AckItem, payload, need, told_of}
+use Rattle.net_model.specs.Item.{Item, DataItem, AckItem, payload, need, data_payload}
 use Rattle.net_model.specs.Premises.{IsNetwork}
-use Rattle.net_model.specs.Told.{octets_from}
+use Rattle.net_model.specs.OctetSequence.{octets_from}
 use Rattle.net_model.specs.Site.{Site, sender, receiver, lane_of}
 use Rattle.net_model.specs.World.{Network, World, Allocation, Transmission, received_there}
 use Rattle.net_model.specs.View.{View}
@@ -77,7 +77,7 @@ unfolding receive_ack
 ack_orders see l from n = refl
 
 receive_orders : (s : Site) (see : View) (l : Lane) (offset : ℕ) (p : Payload) → (receive s see l offset p).orders ≡ []
-receive_orders s see l offset (Told f) = fact_orders see l offset f
+receive_orders s see l offset (Data f) = fact_orders see l offset f
 receive_orders s see l offset (Ack n) = ack_orders see l (sender s l) n
 
 receive_turn : (net : Network) (w : World) → Conserved net w → (l : Lane) (j : ℕ) (a : Allocation) (p : Payload) → slice_get (w.frames l) j ≡ Some a → payload w.durable.facts a.item ≡ Some p →
@@ -130,11 +130,11 @@ module _ (net : Network) (l : Lane) (a b : World) (c : Conserved net a) (d : Con
 
   there_same : (way : Way) (link : ℕ) (at : ℕ) → receiver net.site (lane_of link way) ≡ at → SameFor net at a b →
       received_there b.durable (lane_of link way) ≡ received_there a.durable (lane_of link way)
-  there_same Up link at is k = ap (lane_len Up) (k.durable.extends.highs link is)
-  there_same Down link at is k = ap (lane_len Down) (k.durable.extends.lows link is)
+  there_same Up link at is k = ap (lane_len Up) (k.durable.extends.taken (lane_of link Down) is)
+  there_same Down link at is k = ap (lane_len Down) (k.durable.extends.taken (lane_of link Up) is)
 
   payload_same : (item : Item) → MayCarry a.durable.facts a.durable.known (sender net.site l) v item → payload b.durable.facts item ≡ payload a.durable.facts item
-  payload_same (DataItem n) x = ap told_of (h.durable.extends.grows n x.fact x.there ∙ sym x.there)
+  payload_same (DataItem n) x = ap data_payload (h.durable.extends.grows n x.fact x.there ∙ sym x.there)
   payload_same (AckItem n) x = refl
 
   item_same : (j : ℕ) (x : Allocation) (environment : Environment) → slice_get (a.frames l) j ≡ Some x → (o : Option Payload) → payload a.durable.facts x.item ≡ o →

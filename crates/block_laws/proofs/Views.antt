@@ -4,7 +4,7 @@ use Rattle.std.specs.Prelude.{map, filter}
 use Rattle.qkd_base.specs.declared.lane.Lane.{Lane}
 use Rattle.qkd_base.specs.declared.lane.Way.{Way}
 use Rattle.qkd_base.specs.declared.lane.Way.TheVariants.{Up, Down}
-use Rattle.net_model.specs.Told.{first_blocks}
+use Rattle.net_model.specs.OctetSequence.{first_blocks}
 use Rattle.net_model.specs.Site.{sender, receiver, lane_of, of_way, outgoing_lanes}
 use Rattle.net_model.specs.World.{Network, World, Owner, needs, planned}
 use Rattle.net_model.specs.View.{Port}
@@ -74,17 +74,12 @@ module _ (net : Network) (v : ℕ) (a b : World) (c : Conserved net a) (h : Same
       ap (λ (os : List Owner). length os + needs b.durable.facts (b.unclaimed l)) (h.durable.own l at) ∙
       ap (λ (n : ℕ). length (a.durable.own l) + n) (needs_same l at)
 
-  taken_same : (link : ℕ) (way : Way) → sender net.site (lane_of link way) ≡ v →
-      of_way way (b.durable.low_blocks link) (b.durable.high_blocks link) ≡ of_way way (a.durable.low_blocks link) (a.durable.high_blocks link)
-  taken_same link Up at = h.durable.extends.lows link at
-  taken_same link Down at = h.durable.extends.highs link at
-
   abbrev port_with : Lane → ℕ → ℕ → ℕ → ℕ → Port
   port_with l blocks lease end again = record { lane = l; blocks = first_blocks (net.device l.link) blocks; lease = lease; planned = end; recovered = again }
 
   port_same : (l : Lane) → sender net.site l ≡ v → port_at net b l ≡ port_at net a l
   port_same l at =
-      let blocks = taken_same l.link l.way at in
+      let blocks = h.durable.extends.taken l at in
       let lease = h.durable.extends.leases l at in
       let end = planned_same l at in
       let again = ap (λ (f : Lane → ℕ). f l) h.recovered in

@@ -56,16 +56,16 @@ one_before (a ∷ b ∷ rest) x u v d h k =
     elim (a == x) as (λ t. (a == x) ≡ t → (if t then Some b else next_after (b ∷ rest) x) ≡ Some v → x ≡ u) [
       | true ↦ λ e y. elim (a == u) as (λ t. (a == u) ≡ t → (if t then Some b else next_after (b ∷ rest) u) ≡ Some v → x ≡ u) [
         | true ↦ λ e2 z. sym (eq_from a x e) ∙ eq_from a u e2
-        | false ↦ λ e2 z. let is : b ≡ v = cc in absurd (behind_first u z is)
+        | false ↦ λ e2 z. let is : b ≡ v = cc in absurd (after_first u z is)
       ] refl k
       | false ↦ λ e y. elim (a == u) as (λ t. (a == u) ≡ t → (if t then Some b else next_after (b ∷ rest) u) ≡ Some v → x ≡ u) [
-        | true ↦ λ e2 z. let is : b ≡ v = cc in absurd (behind_first x y is)
+        | true ↦ λ e2 z. let is : b ≡ v = cc in absurd (after_first x y is)
         | false ↦ λ e2 z. one_before (b ∷ rest) x u v (others_differ a (b ∷ rest) d) y z
       ] refl k
     ] refl h
   where
-    behind_first : (y : ℕ) → next_after (b ∷ rest) y ≡ Some v → b ≡ v → ⊥
-    behind_first y z is = first_apart b rest (others_differ a (b ∷ rest) d) (subst (λ (w : ℕ). IsIn w rest) (sym is) (step_to b rest y v z))
+    after_first : (y : ℕ) → next_after (b ∷ rest) y ≡ Some v → b ≡ v → ⊥
+    after_first y z is = first_apart b rest (others_differ a (b ∷ rest) d) (subst (λ (w : ℕ). IsIn w rest) (sym is) (step_to b rest y v z))
 
 first_has_none_before : (route : List ℕ) (u v : ℕ) → is_distinct route ≡ true → first_of route ≡ v → next_after route u ≡ Some v → ⊥
 first_has_none_before [] u v d h k = cc

@@ -4,15 +4,14 @@ use Rattle.std.specs.Prelude.{slice_get, true}
 use Rattle.std.proofs.lemmas.Bool.{cases_lt}
 use Rattle.qkd_base.specs.Name.{IsName}
 use Rattle.qkd_base.specs.declared.lane.Lane.{Lane}
-use Rattle.qkd_base.specs.declared.lane.Way.{Way}
-use Rattle.qkd_base.specs.declared.lane.Way.TheVariants.{Up, Down}
+use Rattle.qkd_base.specs.Lane.{reverse_lane}
 use Rattle.net_model.specs.declared.payload.Payload.{Payload}
-use Rattle.net_model.specs.declared.payload.Payload.TheVariants.{Told, Ack}
+use Rattle.net_model.specs.declared.payload.Payload.TheVariants.{Data, Ack}
 use Rattle.net_model.specs.declared.reply.Reply.TheVariants.{NoBits}
 use Rattle.net_model.specs.Facts.{payload_len, IsWellFormed}
 use Rattle.net_model.specs.Ranges.{IsRanged}
-use Rattle.net_model.specs.Item.{Item, DataItem, AckItem, told_of, payload, need}
-use Rattle.net_model.specs.Site.{of_way, sender, receiver}
+use Rattle.net_model.specs.Item.{Item, DataItem, AckItem, data_payload, payload, need}
+use Rattle.net_model.specs.Site.{sender, receiver}
 use Rattle.net_model.specs.Sealing.{Opens, Rejected, IsSealable}
 use Rattle.net_model.specs.World.{Network, World, Allocation, received_there}
 use Rattle.net_model.specs.Events.{is_lane}
@@ -32,29 +31,25 @@ record IsFormed (p : Payload) : Type 0 where
 formed_payload : (net : Network) (w : World) → Conserved net w → (from to : ℕ) (i : Item) (p : Payload) → MayCarry w.durable.facts w.durable.known from to i →
     payload w.durable.facts i ≡ Some p → IsFormed p
 formed_payload net w c from to (DataItem n) p m e =
-    let is : Told m.fact ≡ p = some_is (sym (ap told_of m.there) ∙ e) in
+    let is : Data m.fact ≡ p = some_is (sym (ap data_payload m.there) ∙ e) in
     let t = c.now.table n m.fact m.there in
     subst IsFormed is (record { formed = t.formed; ranged = t.ranged })
   where
-    some_is : Some (Told m.fact) ≡ Some p → Told m.fact ≡ p
+    some_is : Some (Data m.fact) ≡ Some p → Data m.fact ≡ p
     some_is h = cc
 formed_payload net w c from to (AckItem n) p m e =
     let is : Ack n ≡ p = cc in
     let t = c.now.table n m.fact m.there in
     subst IsFormed is (record { formed = tt; ranged = subst IsName (found_name w.durable.facts n m.fact m.there) (ranged_name m.fact t.ranged) })
 
-few_blocks : (way : Way) (low high : ℕ) → low ≤ 1024 → high ≤ 1024 → of_way way low high ≤ 1024
-few_blocks Up low high h k = h
-few_blocks Down low high h k = k
-
 module _ (net : Network) (w : World) (network : IsNetwork net) (c : Conserved net w) (l : Lane) (at : is_lane net.site l ≡ true) (j : ℕ) (a : Allocation) (p : Payload)
     (there : slice_get (w.frames l) j ≡ Some a) (is : payload w.durable.facts a.item ≡ Some p) where
   -- the blocks at the sender's end and at the receiver's
   abbrev sent : ℕ
-  sent = of_way l.way (w.durable.low_blocks l.link) (w.durable.high_blocks l.link)
+  sent = w.durable.blocks l
 
   abbrev came : ℕ
-  came = of_way l.way (w.durable.high_blocks l.link) (w.durable.low_blocks l.link)
+  came = w.durable.blocks (reverse_lane l)
 
   needed : need w.durable.facts a.item ≡ payload_len p + 8
   needed = rw is refl
@@ -71,7 +66,7 @@ module _ (net : Network) (w : World) (network : IsNetwork net) (c : Conserved ne
   -- with the bytes that came, where they suffice
   receiver_seals : a.offset + payload_len p + 8 ≤ length (octets_received net w l) → IsSealable l (octets_received net w l) a.offset p
   receiver_seals reach =
-      let small = lane_small l.way came (few_blocks l.way _ _ (c.high_blocks l.link) (c.low_blocks l.link)) in
+      let small = lane_small l.way came (c.few_blocks (reverse_lane l)) in
       record {
         link = sender_seals.link;
         octets = lane_are_octets l.way (net.device l.link) (network.devices l.link) came;

@@ -7,8 +7,8 @@ use Rattle.net_model.specs.World.{Network, World, Owner, HashKey, Frame, Burnt}
 use Rattle.net_model.specs.Ledger.{is_spent, is_burnt, ledger}
 use Rattle.net_model.specs.Invariant.{Conserved}
 
-one_behind : (a b n : ℕ) → a + b ≡ n → a + suc b ≡ suc n
-one_behind a b n h = omega (arith, h)
+one_after : (a b n : ℕ) → a + b ≡ n → a + suc b ≡ suc n
+one_after a b n h = omega (arith, h)
 
 one_before : (a b n : ℕ) → a + b ≡ n → suc a + b ≡ suc n
 one_before a b n h = omega (arith, h)
@@ -17,7 +17,7 @@ both_kinds : (own : List Owner) → length (filter is_spent own) + length (filte
 both_kinds [] = refl
 both_kinds (HashKey ∷ own) = one_before (length (filter is_spent own)) (length (filter is_burnt own)) (length own) (both_kinds own)
 both_kinds (Frame j ∷ own) = one_before (length (filter is_spent own)) (length (filter is_burnt own)) (length own) (both_kinds own)
-both_kinds (Burnt ∷ own) = one_behind (length (filter is_spent own)) (length (filter is_burnt own)) (length own) (both_kinds own)
+both_kinds (Burnt ∷ own) = one_after (length (filter is_spent own)) (length (filter is_burnt own)) (length own) (both_kinds own)
 
 spent_or_burnt : (own : List Owner) → count_by is_spent own + count_by is_burnt own ≡ length own
 spent_or_burnt own = let s = length-filter is_spent own in let b = length-filter is_burnt own in let h = both_kinds own in omega (arith, s, b, h)

@@ -13,11 +13,11 @@ use Rattle.net_model.specs.Site.{Site, receiver}
 use Rattle.net_model.specs.Sealing.{Opened, Opens, Rejected, Forged}
 use Rattle.net_model.specs.World.{Network, World, Durable, Allocation, Transmission, Outgoing, received_there}
 use Rattle.net_model.specs.Journal.{journal_limit, added_len, is_nil}
-use Rattle.net_model.specs.Told.{tells}
+use Rattle.net_model.specs.OctetSequence.{has_octets}
 use Rattle.net_model.specs.Decision.{Decision, Refuses, Does, Effect}
 use Rattle.net_model.specs.Action.{Environment, Outcome, Action, Start, Crash, Arm, SetLink, TakeBlock, Ask, Allocate, Transmit, Complete, Deliver, Flip, Forge, WantMemory, Recovery, Recovers, Interrupted, NoMemory, Foreign, is_no_memory, is_entropy_fault, is_io_fault, is_device_fault}
 use Rattle.net_model.specs.Handle.{is_numbered, commit, stopped, perform, resolve, handle, blocks_at, take_block}
-use Rattle.net_model.specs.Frames.{allocate, transmit_one, transmit, outgoing_of, receive_item, deliver_frame, deliver_number, deliver, strange, tampered_or_put, tampered, frame_octets, flip_number, flip, with_flipped}
+use Rattle.net_model.specs.Frames.{allocate, transmit_one, transmit, outgoing_of, receive_item, deliver_frame, deliver_number, deliver, unmatched, tampered_or_put, tampered, frame_octets, flip_number, flip, with_flipped}
 use Rattle.net_model.specs.Start.{resolved, restarted, interrupted_start, recovers, start}
 use Rattle.net_model.specs.Step.{crash, step}
 use Rattle.net_model.specs.Records.{replay}
@@ -42,7 +42,7 @@ module _ (P : List Fact → List (Name × ℕ) → Type 0)
   keeps_perform net w v octets environment e h =
       by_test After (is_no_memory environment || not (list_all is_numbered e.batch)) _ _ (λ e1. h) (λ e1.
       by_test After (nat_lt journal_limit ((w.journal v).length' + added_len (w.journal v).version e.batch)) _ _ (λ e2. h) (λ e2.
-      by_test After (nat_lt 0 octets && (not (tells (net.entropy v) (w.drawn v + octets)) || is_entropy_fault environment)) _ _ (λ e3. h) (λ e3.
+      by_test After (nat_lt 0 octets && (not (has_octets (net.entropy v) (w.drawn v + octets)) || is_entropy_fault environment)) _ _ (λ e3. h) (λ e3.
       by_test After (is_io_fault environment && not (is_nil e.batch)) _ _ (λ e4. keeps_stopped w v octets e h) (λ e4. keeps_commit net.site w v octets e h))))
 
   keeps_resolve : (net : Network) (w : World) (v octets : ℕ) (environment : Environment) (decision : Decision) → P w.durable.facts w.durable.handed → After (resolve net w v octets environment decision)
@@ -58,7 +58,7 @@ module _ (P : List Fact → List (Name × ℕ) → Type 0)
   keeps_block net w v link environment h =
       by_test After (not (w.up v)) _ _ (λ e1. h) (λ e1.
       by_test After (blocks_at net w v link == 1024) _ _ (λ e2. h) (λ e2.
-      by_test After (not (tells (net.device link) (1024 + 1024 * blocks_at net w v link))) _ _ (λ e3. h) (λ e3.
+      by_test After (not (has_octets (net.device link) (1024 + 1024 * blocks_at net w v link))) _ _ (λ e3. h) (λ e3.
       by_test After (is_device_fault environment) _ _ (λ e4. h) (λ e4. keeps_handle net w v _ environment h))))
 
   -- frames
@@ -95,15 +95,15 @@ module _ (P : List Fact → List (Name × ℕ) → Type 0)
   unfolding deliver
   keeps_deliver net w l number environment h = keeps_number net w l environment (slice_get (w.wire l) number) h
 
-  keeps_strange : (w : World) (o : Opened) → P w.durable.facts w.durable.handed → After (strange w o)
-  keeps_strange w (Opens offset p) h = h
-  keeps_strange w (Rejected reply) h = h
-  keeps_strange w (Forged place) h = h
+  keeps_unmatched : (w : World) (o : Opened) → P w.durable.facts w.durable.handed → After (unmatched w o)
+  keeps_unmatched w (Opens offset p) h = h
+  keeps_unmatched w (Rejected reply) h = h
+  keeps_unmatched w (Forged place) h = h
 
   keeps_tampered_or : (net : Network) (w : World) (l : Lane) (octets : List ℕ) (environment : Environment) (j : Option ℕ) → P w.durable.facts w.durable.handed →
       After (tampered_or_put net w l octets environment j)
   keeps_tampered_or net w l octets environment (Some j) h = keeps_frame net w l environment (slice_get (w.frames l) j) h
-  keeps_tampered_or net w l octets environment None h = by_test After (not (w.up (receiver net.site l))) _ _ (λ e. h) (λ e. keeps_strange w _ h)
+  keeps_tampered_or net w l octets environment None h = by_test After (not (w.up (receiver net.site l))) _ _ (λ e. h) (λ e. keeps_unmatched w _ h)
 
   keeps_tampered : (net : Network) (w : World) (l : Lane) (octets : List ℕ) (environment : Environment) → P w.durable.facts w.durable.handed → After (tampered net w l octets environment)
   unfolding tampered

@@ -6,7 +6,7 @@ use Rattle.net_model.specs.declared.fact.Fact.{Fact}
 use Rattle.net_model.specs.declared.record.Record.{Record}
 use Rattle.net_model.specs.declared.record.Record.TheVariants.{Block, Lease, Learned, Acked, Handed, Closed, Bare}
 use Rattle.net_model.specs.Table.{fact_at}
-use Rattle.net_model.specs.Site.{Site, outgoing_way}
+use Rattle.net_model.specs.Site.{Site, outgoing_lane}
 use Rattle.net_model.specs.World.{Network, World, Durable}
 use Rattle.net_model.specs.Records.{apply_record, replay}
 use Rattle.net_model.specs.Action.{Action}
@@ -21,7 +21,7 @@ use Rattle.record_laws.proofs.Growing.{taken_facts}
 
 grows_record : (s : Site) (v : ℕ) (r : Record) (d : Durable) (n : Name) (f : Fact) → fact_at d.facts n ≡ Some f → fact_at (apply_record s v r d).facts n ≡ Some f
 unfolding apply_record
-grows_record s v (Block link number bytes) d n f h = ap (λ (T : List Fact). fact_at T n) (taken_facts (outgoing_way s v link) link d) ∙ h
+grows_record s v (Block link number bytes) d n f h = ap (λ (T : List Fact). fact_at T n) (taken_facts (outgoing_lane s v link) d) ∙ h
 grows_record s v (Lease lane end') d n f h = h
 grows_record s v (Learned g) d n f h = learned_keeps d.facts g n f h
 grows_record s v (Acked m) d n f h = h

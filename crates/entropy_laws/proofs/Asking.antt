@@ -5,7 +5,7 @@ use Rattle.std.proofs.lemmas.Bool.{ltb-true}
 use Rattle.net_model.specs.declared.event.Event.{Event}
 use Rattle.net_model.specs.declared.event.Event.TheVariants.{Plan}
 use Rattle.net_model.specs.Premises.{IsNetwork}
-use Rattle.net_model.specs.Told.{octets_from}
+use Rattle.net_model.specs.OctetSequence.{octets_from}
 use Rattle.net_model.specs.World.{Network, World}
 use Rattle.net_model.specs.View.{View}
 use Rattle.net_model.specs.Needed.{view_of}
@@ -69,7 +69,7 @@ module _ (net : Network) (w : World) (network : IsNetwork net) (c : Conserved ne
       record {
         batch = may numbered;
         secrets = inl (λ k f at secret. elim (learned_own net.site w.durable v e.batch (may numbered) k f at) [
-          | inl told ↦ told
+          | inl came ↦ came
           | inr own ↦
               let cut = drawn k f at secret in
               let none = cut.within in

@@ -11,7 +11,7 @@ use Rattle.net_model.specs.declared.fact.Fact.TheVariants.{Key, Chunk, Part, Ope
 use Rattle.net_model.specs.declared.record.Record.{Record}
 use Rattle.net_model.specs.declared.record.Record.TheVariants.{Learned}
 use Rattle.net_model.specs.Table.{bytes_of, is_secret, fact_at}
-use Rattle.net_model.specs.Told.{octets_from}
+use Rattle.net_model.specs.OctetSequence.{octets_from}
 use Rattle.net_model.specs.Site.{Site}
 use Rattle.net_model.specs.Sealing.{Sealing}
 use Rattle.net_model.specs.View.{View}

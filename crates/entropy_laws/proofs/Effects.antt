@@ -8,7 +8,7 @@ use Rattle.net_model.specs.declared.fact.Fact.{Fact}
 use Rattle.net_model.specs.declared.record.Record.TheVariants.{Learned}
 use Rattle.net_model.specs.declared.reply.Reply.TheVariants.{Down}
 use Rattle.net_model.specs.Table.{name_of, fact_at, is_secret}
-use Rattle.net_model.specs.Told.{tells}
+use Rattle.net_model.specs.OctetSequence.{has_octets}
 use Rattle.net_model.specs.World.{Network, World, InDoubt}
 use Rattle.net_model.specs.Needed.{view_of}
 use Rattle.net_model.specs.Doubt.{MayReplay}
@@ -31,14 +31,14 @@ abbrev pub AreLaid : Network → World → Type 0
 AreLaid net w = IsLaid net (IsThere w) w.drawn
 
 -- the secrets that an effect's batch learns are the table's
-abbrev pub TellsOnly : World → Effect → Type 0
-TellsOnly w e = (k : ℕ) (f : Fact) → slice_get e.batch k ≡ Some (Learned f) → is_secret f ≡ true → fact_at w.durable.facts (name_of f) ≡ Some f
+abbrev pub ReceivesOnly : World → Effect → Type 0
+ReceivesOnly w e = (k : ℕ) (f : Fact) → slice_get e.batch k ≡ Some (Learned f) → is_secret f ≡ true → fact_at w.durable.facts (name_of f) ≡ Some f
 
 module _ (net : Network) (w : World) (c : Conserved net w) (v : ℕ) where
   -- an effect whose batch may be made
   pub record MayLay (octets : ℕ) (e : Effect) : Type 0 where
     pub batch : MayReplay net.site w.durable v e.batch
-    pub secrets : TellsOnly w e ⊎ IsCutUp (net.entropy v).octet v (last net w c v) (w.drawn v) (w.drawn v + octets) e.batch
+    pub secrets : ReceivesOnly w e ⊎ IsCutUp (net.entropy v).octet v (last net w c v) (w.drawn v) (w.drawn v + octets) e.batch
 
   abbrev pub MayResolve : ℕ → Decision → Type 0
   MayResolve octets (Refuses reply) = Unit {0}
@@ -58,20 +58,20 @@ module _ (net : Network) (w : World) (c : Conserved net w) (v : ℕ) where
       there_or_made : (f : Fact) → IsThere w f ⊎ IsLearned f → IsThere w f ⊎ IsMade f
       there_or_made f (inl there) = inl there
       there_or_made f (inr (k, at)) = elim (learned_own net.site w.durable v e.batch may.batch k f at) [
-        | inl told ↦ inl (inl (name_of f, told))
+        | inl came ↦ inl (inl (name_of f, came))
         | inr own ↦ inr ((k, at), own)
       ]
 
-      told_there : TellsOnly w e → (f : Fact) → is_secret f ≡ true → IsThere w f ⊎ IsLearned f → IsThere w f
-      told_there told f secret (inl there) = there
-      told_there told f secret (inr (k, at)) = inl (name_of f, told k f at secret)
+      came_there : ReceivesOnly w e → (f : Fact) → is_secret f ≡ true → IsThere w f ⊎ IsLearned f → IsThere w f
+      came_there came f secret (inl there) = there
+      came_there came f secret (inr (k, at)) = inl (name_of f, came k f at secret)
 
       -- a world in which nothing is new but what the batch learns
       lays : (w' : World) → ((u : ℕ) → w'.drawn u ≡ (with_drawn w v octets).drawn u) → ((f : Fact) → IsThere w' f → IsThere w f ⊎ IsLearned f) → AreLaid net w'
       lays w' same cases =
           let more : (u : ℕ) → w.drawn u ≤ w'.drawn u = λ u. let a = drawn_more w v octets u in let b = same u in omega (arith, a, b) in
           elim may.secrets [
-            | inl told ↦ laid_stays net (IsThere w) (IsThere w') w.drawn w'.drawn (λ f t secret. told_there told f secret (cases f t)) more laid
+            | inl came ↦ laid_stays net (IsThere w) (IsThere w') w.drawn w'.drawn (λ f t secret. came_there came f secret (cases f t)) more laid
             | inr cut ↦
                 laid_more net (IsThere w) (IsThere w') IsMade w.drawn w'.drawn v (last net w c v) (w.drawn v + octets) cut.place laid (λ f t secret. older net w c v up f t)
                 (λ f n secret. (n.1.starts, cut.each n.0.0 f n.0.1 secret))
@@ -113,7 +113,7 @@ module _ (net : Network) (w : World) (c : Conserved net w) (v : ℕ) where
         by_test P (is_no_memory environment || not (list_all is_numbered e.batch)) _ _ (λ x. laid)
         (λ numbered. let m = may (not_true (list_all is_numbered e.batch) (or_second (is_no_memory environment) _ numbered)) in
         by_test P (nat_lt journal_limit ((w.journal v).length' + added_len (w.journal v).version e.batch)) _ _ (λ x. laid)
-        (λ small. by_test P (nat_lt 0 octets && (not (tells (net.entropy v) (w.drawn v + octets)) || is_entropy_fault environment)) _ _ (λ x. laid)
+        (λ small. by_test P (nat_lt 0 octets && (not (has_octets (net.entropy v) (w.drawn v + octets)) || is_entropy_fault environment)) _ _ (λ x. laid)
         (λ x. by_test P (is_io_fault environment && not (is_nil e.batch)) _ _ (λ y. stopped_lays octets e m) (λ y. commit_lays octets e m))))
 
     pub resolve_lays : (octets : ℕ) (environment : Environment) (x : Decision) → MayResolve octets x → AreLaid net (resolve net w v octets environment x).0

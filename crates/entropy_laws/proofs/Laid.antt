@@ -5,7 +5,7 @@ use Rattle.std.proofs.lemmas.Bool.Decides.{nat_tests}
 use Rattle.qkd_base.specs.Name.{Name}
 use Rattle.net_model.specs.declared.fact.Fact.{Fact}
 use Rattle.net_model.specs.Table.{bytes_of, origin, is_secret}
-use Rattle.net_model.specs.Told.{octets_from}
+use Rattle.net_model.specs.OctetSequence.{octets_from}
 use Rattle.net_model.specs.World.{Network}
 use Rattle.record_laws.proofs.Base.{eq_from, eq_same, and_left, and_right, and_both, not_false, when_true, when_false}
 use Rattle.entropy_laws.specs.Places.{handed_name, IsAtPlace, AreApart}

@@ -43,7 +43,7 @@ own_named v (Part name key master slave route bytes) mine part = part (record { 
 -- what a node may learn is a fact of the table, or its own
 first_own : (s : Site) (d : Durable) (v : ℕ) (f : Fact) → MayApply s d v (Learned f) → (fact_at d.facts (name_of f) ≡ Some f) ⊎ IsOwn v f
 first_own s d v f m = elim m.1 [
-  | inl told ↦ inl told.there
+  | inl came ↦ inl came.there
   | inr made ↦ inr (record { starts = made.starts; named = own_named v f made.mine (λ p e. (made.part p e).mine); formed = made.formed })
 ]
 
@@ -120,6 +120,6 @@ module _ (net : Network) (w : World) (c : Conserved net w) (v : ℕ) where
     pub older : (f : Fact) → IsThere w f → IsOlder v last f
     older f (inl (n, there)) = table_older n f there
     older f (inr (u, k, at)) = elim (learned_own net.site w.durable u (w.in_doubt u).batch (c.doubts u) k f at) [
-      | inl told ↦ table_older (name_of f) f told
+      | inl came ↦ table_older (name_of f) f came
       | inr own ↦ record { named = own.named ∙ sym own.starts; below = λ mine. absurd (no_doubt_here u k f (sym own.starts ∙ mine) at) }
     ]

@@ -3,19 +3,17 @@ use Rattle.std.proofs.Common.{not, ◌≡◌, ℕ, zero, suc, ◌+◌, ◌*◌, 
 use Rattle.std.specs.Prelude.{◌==◌, nat_lt, nat_le, slice_get, find, if◌then◌else◌}
 use Rattle.std.proofs.lemmas.Bool.Decides.{nat_tests}
 use Rattle.qkd_base.specs.Name.{Name, has}
-use Rattle.qkd_base.specs.declared.lane.Way.{Way}
-use Rattle.qkd_base.specs.declared.lane.Way.TheVariants.{Up, Down}
 use Rattle.qkd_base.specs.declared.lane.Lane.{Lane}
 use Rattle.net_model.specs.declared.event.Event.TheVariants.{Block, Note}
 use Rattle.net_model.specs.declared.fact.Fact.{Fact}
 use Rattle.net_model.specs.declared.payload.Payload.{Payload}
-use Rattle.net_model.specs.declared.payload.Payload.TheVariants.{Told, Ack}
+use Rattle.net_model.specs.declared.payload.Payload.TheVariants.{Data, Ack}
 use Rattle.net_model.specs.declared.record.Record.TheVariants.{Block as Block', Learned, Acked}
 use Rattle.net_model.specs.declared.reply.Reply.TheVariants.{LinkFull, Took}
 use Rattle.net_model.specs.Table.{name_of, fact_at}
-use Rattle.net_model.specs.Item.{Item, DataItem, AckItem, need, payload, told_of}
-use Rattle.net_model.specs.Site.{sender, receiver, of_way, outgoing_way, is_incident}
-use Rattle.net_model.specs.Told.{tells, block_at}
+use Rattle.net_model.specs.Item.{Item, DataItem, AckItem, need, payload, data_payload}
+use Rattle.net_model.specs.Site.{sender, receiver, outgoing_lane, is_incident}
+use Rattle.net_model.specs.OctetSequence.{has_octets, block_at}
 use Rattle.net_model.specs.Sealing.{Opened, Opens, Rejected, Forged}
 use Rattle.net_model.specs.World.{Network, World, Allocation, received_there}
 use Rattle.net_model.specs.View.{View, port_of, blocks_of}
@@ -26,13 +24,13 @@ use Rattle.net_model.specs.Decide.{decide, random_need}
 use Rattle.net_model.specs.Invariant.{Conserved}
 use Rattle.net_model.specs.Action.{Environment, Outcome, Ok, is_device_fault}
 use Rattle.net_model.specs.Handle.{blocks_at, take_block}
-use Rattle.net_model.specs.Frames.{frame_octets, octets_received, octets_eq, with_flipped, strange, receive_item, deliver_frame, deliver_number, deliver, tampered_or_put, tampered, flip_octets, flip_number, flip}
+use Rattle.net_model.specs.Frames.{frame_octets, octets_received, octets_eq, with_flipped, unmatched, receive_item, deliver_frame, deliver_number, deliver, tampered_or_put, tampered, flip_octets, flip_number, flip}
 use Rattle.net_model.specs.Step.{complete_node}
-use Rattle.record_laws.proofs.Base.{by_test, not_true}
+use Rattle.record_laws.proofs.Base.{below_from, by_test, not_true}
 use Rattle.record_laws.proofs.Tables.{found_name}
 use Rattle.event_laws.specs.May.{decided}
 use Rattle.event_laws.proofs.Decisions.{receive_may}
-use Rattle.entropy_laws.proofs.Effects.{AreLaid, TellsOnly, MayResolve, perform_lays, handle_lays}
+use Rattle.entropy_laws.proofs.Effects.{AreLaid, ReceivesOnly, MayResolve, perform_lays, handle_lays}
 use Rattle.net_laws.proofs.Receiving.{note_not_secret}
 
 module _ (net : Network) (w : World) (c : Conserved net w) (laid : AreLaid net w) (l : Lane) (environment : Environment) where
@@ -44,44 +42,44 @@ module _ (net : Network) (w : World) (c : Conserved net w) (laid : AreLaid net w
 
   -- what came is of the table, and its note is no secret
 
-  fact_told : (offset : ℕ) (f : Fact) → fact_at w.durable.facts (name_of f) ≡ Some f → TellsOnly w (receive_fact see l offset f)
+  fact_received : (offset : ℕ) (f : Fact) → fact_at w.durable.facts (name_of f) ≡ Some f → ReceivesOnly w (receive_fact see l offset f)
   unfolding receive_fact
-  fact_told offset f there n g at secret = by_cases (not (knows see (name_of f))) n at
+  fact_received offset f there n g at secret = by_cases (not (knows see (name_of f))) n at
     where
       by_cases : (t : Bool) (n : ℕ) → slice_get (if t then Learned f ∷ stored_note see f else []) n ≡ Some (Learned g) → fact_at w.durable.facts (name_of g) ≡ Some g
       by_cases true zero h = let same : f ≡ g = cc in subst (λ (x : Fact). fact_at w.durable.facts (name_of x) ≡ Some x) same there
       by_cases true (suc n) h = absurd (note_not_secret see f g n h secret)
       by_cases false n h = cc
 
-  ack_told : (n : Name) → TellsOnly w (receive_ack see l (sender net.site l) n)
+  ack_received : (n : Name) → ReceivesOnly w (receive_ack see l (sender net.site l) n)
   unfolding receive_ack
-  ack_told n k g at secret = by_cases (has (owed see (sender net.site l)) n) k at
+  ack_received n k g at secret = by_cases (has (owed see (sender net.site l)) n) k at
     where
       by_cases : (t : Bool) (k : ℕ) → slice_get (if t then Acked n ∷ [] else []) k ≡ Some (Learned g) → fact_at w.durable.facts (name_of g) ≡ Some g
       by_cases true zero h = cc
       by_cases true (suc k) h = cc
       by_cases false k h = cc
 
-  some_told : (f : Fact) (p : Payload) → Some (Told f) ≡ Some p → Told f ≡ p
-  some_told f p e = cc
+  some_data : (f : Fact) (p : Payload) → Some (Data f) ≡ Some p → Data f ≡ p
+  some_data f p e = cc
 
-  found_told : (offset : ℕ) (n : Name) (p : Payload) (o : Option Fact) → fact_at w.durable.facts n ≡ o → told_of o ≡ Some p → TellsOnly w (receive net.site see l offset p)
-  found_told offset n p None there e = cc
-  found_told offset n p (Some f) there e =
-      subst (λ (q : Payload). TellsOnly w (receive net.site see l offset q)) (some_told f p e)
-      (fact_told offset f (ap (fact_at w.durable.facts) (found_name w.durable.facts n f there) ∙ there))
+  found_data : (offset : ℕ) (n : Name) (p : Payload) (o : Option Fact) → fact_at w.durable.facts n ≡ o → data_payload o ≡ Some p → ReceivesOnly w (receive net.site see l offset p)
+  found_data offset n p None there e = cc
+  found_data offset n p (Some f) there e =
+      subst (λ (q : Payload). ReceivesOnly w (receive net.site see l offset q)) (some_data f p e)
+      (fact_received offset f (ap (fact_at w.durable.facts) (found_name w.durable.facts n f there) ∙ there))
 
-  received_told : (offset : ℕ) (item : Item) (p : Payload) → payload w.durable.facts item ≡ Some p → TellsOnly w (receive net.site see l offset p)
-  received_told offset (DataItem n) p e = found_told offset n p (fact_at w.durable.facts n) refl e
-  received_told offset (AckItem n) p e =
-      let is : Ack n ≡ p = cc in subst (λ (q : Payload). TellsOnly w (receive net.site see l offset q)) is (ack_told n)
+  received_data : (offset : ℕ) (item : Item) (p : Payload) → payload w.durable.facts item ≡ Some p → ReceivesOnly w (receive net.site see l offset p)
+  received_data offset (DataItem n) p e = found_data offset n p (fact_at w.durable.facts n) refl e
+  received_data offset (AckItem n) p e =
+      let is : Ack n ≡ p = cc in subst (λ (q : Payload). ReceivesOnly w (receive net.site see l offset q)) is (ack_received n)
 
   item_lays : (j : ℕ) (a : Allocation) → slice_get (w.frames l) j ≡ Some a → w.up (receiver net.site l) ≡ true → (o : Option Payload) → payload w.durable.facts a.item ≡ o →
       Kept (receive_item net w l a.offset environment o)
   item_lays j a at up None e = laid
   item_lays j a at up (Some p) e =
       perform_lays net w c (receiver net.site l) laid up 0 environment (receive net.site see l a.offset p)
-      (λ numbered. record { batch = receive_may net w l j a.offset a p c at e numbered; secrets = inl (received_told a.offset a.item p e) })
+      (λ numbered. record { batch = receive_may net w l j a.offset a p c at e numbered; secrets = inl (received_data a.offset a.item p e) })
 
   -- a frame, as it is or changed on the way
 
@@ -101,15 +99,15 @@ module _ (net : Network) (w : World) (c : Conserved net w) (laid : AreLaid net w
   unfolding deliver
   deliver_lays number = number_lays (slice_get (w.wire l) number)
 
-  strange_lays : (o : Opened) → Kept (strange w o)
-  strange_lays (Opens offset p) = laid
-  strange_lays (Rejected reply) = laid
-  strange_lays (Forged place) = laid
+  unmatched_lays : (o : Opened) → Kept (unmatched w o)
+  unmatched_lays (Opens offset p) = laid
+  unmatched_lays (Rejected reply) = laid
+  unmatched_lays (Forged place) = laid
 
   or_put_lays : (octets : List ℕ) (o : Option ℕ) → Kept (tampered_or_put net w l octets environment o)
   or_put_lays octets (Some j) = frame_lays j (slice_get (w.frames l) j) refl
   or_put_lays octets None =
-      by_test Kept (not (w.up (receiver net.site l))) _ _ (λ e. laid) (λ e. strange_lays (net.sealing.unseal l (octets_received net w l) octets))
+      by_test Kept (not (w.up (receiver net.site l))) _ _ (λ e. laid) (λ e. unmatched_lays (net.sealing.unseal l (octets_received net w l) octets))
 
   pub tampered_lays : (octets : List ℕ) → Kept (tampered net w l octets environment)
   unfolding tampered
@@ -128,10 +126,6 @@ module _ (net : Network) (w : World) (c : Conserved net w) (laid : AreLaid net w
 
 -- blocks and notes
 
-few_blocks : (way : Way) (low high : ℕ) → low ≤ 1024 → high ≤ 1024 → (of_way way low high == 1024) ≡ false → of_way way low high < 1024
-few_blocks Up low high h k not_full = grind (arith, nat_tests)
-few_blocks Down low high h k not_full = grind (arith, nat_tests)
-
 module _ (net : Network) (w : World) (c : Conserved net w) (laid : AreLaid net w) (v : ℕ) where
   no_fact : (link number : ℕ) (bytes : List ℕ) (n : ℕ) (f : Fact) → slice_get (Block' link number bytes ∷ []) n ≡ Some (Learned f) → ⊥
   no_fact link number bytes zero f h = cc
@@ -146,7 +140,7 @@ module _ (net : Network) (w : World) (c : Conserved net w) (laid : AreLaid net w
       (λ full. tt)
       (λ x numbered. record {
         batch = (
-          (incident, refl, few_blocks (outgoing_way net.site v link) (w.durable.low_blocks link) (w.durable.high_blocks link) (c.low_blocks link) (c.high_blocks link) not_full),
+          (incident, refl, below_from (w.durable.blocks (outgoing_lane net.site v link)) 1024 (c.few_blocks (outgoing_lane net.site v link)) not_full),
           tt,
         );
         secrets = inl (λ n f at secret. absurd (no_fact link number bytes n f at));
@@ -159,7 +153,7 @@ module _ (net : Network) (w : World) (c : Conserved net w) (laid : AreLaid net w
       let number : ℕ = blocks_at net w v link in
       by_test P (not (w.up v)) _ _ (λ e. laid)
       (λ e. by_test P (number == 1024) _ _ (λ e2. laid)
-      (λ not_full. by_test P (not (tells (net.device link) (1024 + 1024 * number))) _ _ (λ e2. laid)
+      (λ not_full. by_test P (not (has_octets (net.device link) (1024 + 1024 * number))) _ _ (λ e2. laid)
       (λ e2. by_test P (is_device_fault environment) _ _ (λ e3. laid)
       (λ e3. handle_lays net w c v laid (Block link number (block_at (net.device link) number)) environment
       (λ up. block_resolves link (block_at (net.device link) number) incident not_full)))))

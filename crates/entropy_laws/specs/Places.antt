@@ -4,7 +4,7 @@ use Rattle.qkd_base.specs.Name.{Name}
 use Rattle.net_model.specs.declared.fact.Fact.{Fact}
 use Rattle.net_model.specs.declared.fact.Fact.TheVariants.{Key, Chunk, Stored, Open, Joined, Part}
 use Rattle.net_model.specs.Table.{bytes_of, origin, fact_at, is_secret}
-use Rattle.net_model.specs.Told.{octets_from}
+use Rattle.net_model.specs.OctetSequence.{octets_from}
 use Rattle.net_model.specs.World.{Network, World}
 
 -- the name under which bytes are handed out: a key's or chunk's own, a part's group key

@@ -11,7 +11,7 @@ use Rattle.net_model.specs.Table.{fact_at}
 use Rattle.net_model.specs.Item.{payload}
 use Rattle.net_model.specs.Site.{Site, sender, receiver}
 use Rattle.net_model.specs.Sealing.{Sealing}
-use Rattle.net_model.specs.Told.{octets_from}
+use Rattle.net_model.specs.OctetSequence.{octets_from}
 use Rattle.net_model.specs.World.{Network, World, Durable, Allocation, Transmission}
 use Rattle.net_model.specs.Knowledge.{MayCarry}
 use Rattle.net_model.specs.Invariant.{Invariant, Conserved}

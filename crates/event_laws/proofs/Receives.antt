@@ -10,11 +10,11 @@ use Rattle.qkd_base.specs.declared.lane.Lane.{Lane}
 use Rattle.net_model.specs.declared.fact.Fact.{Fact}
 use Rattle.net_model.specs.declared.fact.Fact.TheVariants.{Key, Chunk, Stored, Part}
 use Rattle.net_model.specs.declared.payload.Payload.{Payload}
-use Rattle.net_model.specs.declared.payload.Payload.TheVariants.{Told, Ack}
+use Rattle.net_model.specs.declared.payload.Payload.TheVariants.{Data, Ack}
 use Rattle.net_model.specs.declared.record.Record.TheVariants.{Learned, Acked}
 use Rattle.net_model.specs.Facts.{IsWellFormedFact}
 use Rattle.net_model.specs.Table.{name_of, route_of, target, is_secret, fact_at, learned, is_stored_about}
-use Rattle.net_model.specs.Item.{Item, DataItem, AckItem, payload, told_of}
+use Rattle.net_model.specs.Item.{Item, DataItem, AckItem, payload, data_payload}
 use Rattle.net_model.specs.Site.{Site, sender}
 use Rattle.net_model.specs.World.{Durable, Allocation, Transmission}
 use Rattle.net_model.specs.Records.{apply_record}
@@ -53,9 +53,9 @@ on_low (x ∷ way) v all h = elim (or_cases (x == v) (list_any (λ u. u == v) wa
     below x v same low = grind (arith, nat_tests)
 
 -- learning a fact of the table gives no new name
-below_told : (s : Site) (d : Durable) (v c : ℕ) (f : Fact) → fact_at d.facts (name_of f) ≡ Some f → IsBelow d v c → IsBelow (apply_record s v (Learned f) d) v c
+below_received : (s : Site) (d : Durable) (v c : ℕ) (f : Fact) → fact_at d.facts (name_of f) ≡ Some f → IsBelow d v c → IsBelow (apply_record s v (Learned f) d) v c
 unfolding apply_record
-below_told s d v c f there b =
+below_received s d v c f there b =
     record {
       table = λ n g e mine. b.table n g (old n g e) mine;
       known = λ n e mine.
@@ -80,9 +80,9 @@ knows_more : (s : Site) (d : Durable) (v : ℕ) (f : Fact) → has ((apply_recor
 unfolding apply_record
 knows_more s d v f = ap (λ (ns : List Name). has ns (name_of f)) (number_set_same d.known v (d.known v ++ name_of f ∷ [])) ∙ has_last (d.known v) (name_of f)
 
-table_told : (s : Site) (d : Durable) (v : ℕ) (f : Fact) → fact_at d.facts (name_of f) ≡ Some f → (apply_record s v (Learned f) d).facts ≡ d.facts
+table_received : (s : Site) (d : Durable) (v : ℕ) (f : Fact) → fact_at d.facts (name_of f) ≡ Some f → (apply_record s v (Learned f) d).facts ≡ d.facts
 unfolding apply_record
-table_told s d v f there = learned_there d.facts f there
+table_received s d v f there = learned_there d.facts f there
 
 module _ (s : Site) (d : Durable) (frames : Lane → List Allocation) (unclaimed : Lane → List Transmission) (inv : Invariant s d frames unclaimed) (see bare : View)
     (h : Sees s d see bare) where
@@ -97,8 +97,8 @@ module _ (s : Site) (d : Durable) (frames : Lane → List Allocation) (unclaimed
             let secret = and_left (is_secret f) (target f == see.me) e in
             let ends = eq_from (target f) see.me (and_right (is_secret f) (target f == see.me) e) in
             let fact = inv.table (name_of f) f there in
-            let there' : fact_at d'.facts (name_of f) ≡ Some f = ap (λ (fs : List Fact). fact_at fs (name_of f)) (table_told s d see.me f there) ∙ there in (
-              made_may s d' see.me (last_count see.me see.facts) note refl (omega arith) (below_told s d see.me (last_count see.me see.facts) f there (is_below s d frames unclaimed inv see bare h))
+            let there' : fact_at d'.facts (name_of f) ≡ Some f = ap (λ (fs : List Fact). fact_at fs (name_of f)) (table_received s d see.me f there) ∙ there in (
+              made_may s d' see.me (last_count see.me see.facts) note refl (omega arith) (below_received s d see.me (last_count see.me see.facts) f there (is_below s d frames unclaimed inv see bare h))
                   (record {
                     formed = (refl, secret_name f secret fact.formed);
                     ranged = (fresh_is see NoteKind 0 low (and_left (is_numbered (Learned note)) true numbered), ranged_name f fact.ranged, way_back (route_of f) (ranged_route f fact.ranged));
@@ -121,7 +121,7 @@ module _ (s : Site) (d : Durable) (frames : Lane → List Allocation) (unclaimed
 
       no_other : NoStoredBy see.me (apply_record s see.me (Learned f) d).facts (name_of f)
       no_other m g e node = not_false (is_stored_about (name_of f) g) (λ about.
-          let e2 : fact_at d.facts m ≡ Some g = sym (ap (λ (fs : List Fact). fact_at fs m) (table_told s d see.me f there)) ∙ e in
+          let e2 : fact_at d.facts m ≡ Some g = sym (ap (λ (fs : List Fact). fact_at fs m) (table_received s d see.me f there)) ∙ e in
           let k = (inv.stored.target m (name_of f) g e2 about).1 in
           not_both (has (d.known see.me) (name_of f)) (subst (λ (u : ℕ). has (d.known u) (name_of f) ≡ true) node k) new)
 
@@ -153,12 +153,12 @@ module _ (s : Site) (d : Durable) (frames : Lane → List Allocation) (unclaimed
   pub received_may : (l : Lane) (offset : ℕ) (item : Item) (p : Payload) → MayCarry d.facts d.known (sender s l) see.me item → payload d.facts item ≡ Some p →
       list_all is_numbered (receive s see l offset p).batch ≡ true → MayReplay s d see.me (receive s see l offset p).batch
   received_may l offset (DataItem n) p carried e =
-      let is : Told carried.fact ≡ p = some_told carried.fact p (sym (ap told_of carried.there) ∙ e) in
+      let is : Data carried.fact ≡ p = some_data carried.fact p (sym (ap data_payload carried.there) ∙ e) in
       subst (λ (q : Payload). list_all is_numbered (receive s see l offset q).batch ≡ true → MayReplay s d see.me (receive s see l offset q).batch) is
       (fact_may l offset (sender s l) n carried)
     where
-      some_told : (f : Fact) (p : Payload) → Some (Told f) ≡ Some p → Told f ≡ p
-      some_told f p e = cc
+      some_data : (f : Fact) (p : Payload) → Some (Data f) ≡ Some p → Data f ≡ p
+      some_data f p e = cc
   received_may l offset (AckItem n) p carried e =
       let is : Ack n ≡ p = cc in
       subst (λ (q : Payload). list_all is_numbered (receive s see l offset q).batch ≡ true → MayReplay s d see.me (receive s see l offset q).batch) is

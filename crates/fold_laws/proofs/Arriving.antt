@@ -5,21 +5,19 @@ use Rattle.std.specs.List.{list_any, list_all}
 use Rattle.std.proofs.lemmas.Bool.Decides.{nat_tests}
 use Rattle.qkd_base.specs.Name.{Name, name_eq, has}
 use Rattle.qkd_base.specs.Route.{next_after}
-use Rattle.qkd_base.specs.declared.lane.Way.{Way}
-use Rattle.qkd_base.specs.declared.lane.Way.TheVariants.{Up, Down}
 use Rattle.qkd_base.specs.declared.lane.Lane.{Lane}
 use Rattle.net_model.specs.declared.fact.Fact.{Fact}
 use Rattle.net_model.specs.declared.fact.Fact.TheVariants.{Stored}
 use Rattle.qkd_base.specs.declared.key_name.NameKind.TheVariants.{Note as NoteKind}
 use Rattle.net_model.specs.declared.payload.Payload.{Payload}
-use Rattle.net_model.specs.declared.payload.Payload.TheVariants.{Told, Ack}
+use Rattle.net_model.specs.declared.payload.Payload.TheVariants.{Data, Ack}
 use Rattle.net_model.specs.declared.event.Event.TheVariants.{Block}
 use Rattle.net_model.specs.declared.record.Record.TheVariants.{Block as Block', Learned, Acked}
 use Rattle.net_model.specs.declared.reply.Reply.TheVariants.{Took, LinkFull}
 use Rattle.net_model.specs.Table.{name_of, route_of, is_secret, target}
 use Rattle.net_model.specs.Item.{payload}
-use Rattle.net_model.specs.Told.{block_at}
-use Rattle.net_model.specs.Site.{Site, sender, receiver, is_incident, of_way, outgoing_way}
+use Rattle.net_model.specs.OctetSequence.{block_at}
+use Rattle.net_model.specs.Site.{Site, sender, receiver, is_incident, outgoing_lane}
 use Rattle.net_model.specs.World.{Network, World, Allocation}
 use Rattle.net_model.specs.Invariant.{Conserved}
 use Rattle.net_model.specs.View.{View, port_of, blocks_of}
@@ -31,16 +29,12 @@ use Rattle.net_model.specs.Handle.{is_numbered, commit, blocks_at}
 use Rattle.net_model.specs.Fold.{view_after, view_record}
 use Rattle.event_laws.specs.May.{decided}
 use Rattle.event_laws.proofs.Decisions.{receive_may}
-use Rattle.record_laws.proofs.Base.{and_left, and_right, and_both, or_cases, or_left, or_right, by_test}
+use Rattle.record_laws.proofs.Base.{below_from, and_left, and_right, and_both, or_cases, or_left, or_right, by_test}
 use Rattle.fold_laws.specs.Fitting.{AllFit}
 use Rattle.fold_laws.proofs.Batches.{AllFitHere, here_fits}
 use Rattle.fold_laws.proofs.Commits.{silent_goes}
 
 -- blocks
-
-few_blocks : (way : Way) (low high : ℕ) → low < 1025 → high < 1025 → (of_way way low high == 1024) ≡ false → of_way way low high < 1024
-few_blocks Up low high h k not_full = grind (arith, nat_tests)
-few_blocks Down low high h k not_full = grind (arith, nat_tests)
 
 module _ (net : Network) (w : World) (v link : ℕ) (c : Conserved net w) (incident : is_incident net.site v link ≡ true) where
   abbrev number : ℕ
@@ -56,7 +50,7 @@ module _ (net : Network) (w : World) (v link : ℕ) (c : Conserved net w) (incid
   unfolding Goes
   taken_goes not_full octets =
       let few : number < 1024 =
-      few_blocks (outgoing_way net.site v link) (w.durable.low_blocks link) (w.durable.high_blocks link) (omega (arith, c.low_blocks link)) (omega (arith, c.high_blocks link)) not_full in
+      below_from (w.durable.blocks (outgoing_lane net.site v link)) 1024 (c.few_blocks (outgoing_lane net.site v link)) not_full in
       silent_goes net w v octets (record { batch = Block' link number bytes ∷ []; volatile = (view_of net w v).volatile; orders = []; repeats = []; reply = Took number }) c
       ((incident, refl, few), tt) (refl, tt) refl
 
@@ -113,12 +107,12 @@ ack_fits v l from n =
     by_test (AllFitHere v) (has (owed v from) n) (Acked n ∷ []) [] (λ e. (owed_owes v from n v.facts e, tt)) (λ e. tt)
 
 received_fits : (site : Site) (v : View) (l : Lane) (offset : ℕ) (p : Payload) → AllFitHere v (receive site v l offset p).batch
-received_fits site v l offset (Told f) = fact_fits v l offset f
+received_fits site v l offset (Data f) = fact_fits v l offset f
 received_fits site v l offset (Ack n) = ack_fits v l (sender site l) n
 
 silent : (site : Site) (v : View) (l : Lane) (offset : ℕ) (p : Payload) → (receive site v l offset p).orders ≡ []
 unfolding receive_fact receive_ack
-silent site v l offset (Told f) = refl
+silent site v l offset (Data f) = refl
 silent site v l offset (Ack n) = refl
 
 pub receive_goes : (net : Network) (w : World) (l : Lane) (j offset octets : ℕ) (a : Allocation) (p : Payload) → Conserved net w → slice_get (w.frames l) j ≡ Some a →

@@ -3,7 +3,7 @@ use Rattle.std.proofs.Common.{◌≡◌, ℕ, ◌<◌, true, false, List, [], re
 use Rattle.std.specs.List.{list_all}
 use Rattle.net_model.specs.declared.event.Event.{Event}
 use Rattle.net_model.specs.declared.event.Event.TheVariants.{Block, Fill, Feed, Plan, Heard, Enc, Dec, Status, Open, Join, Get, Close, Show, Ledger, FillGroup, EncGroup, Note}
-use Rattle.net_model.specs.Told.{octets_from}
+use Rattle.net_model.specs.OctetSequence.{octets_from}
 use Rattle.net_model.specs.World.{Network, World}
 use Rattle.net_model.specs.Invariant.{Conserved}
 use Rattle.net_model.specs.Decision.{Does, Effect}

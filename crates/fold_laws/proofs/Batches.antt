@@ -57,7 +57,7 @@ here_fits net (r ∷ rs) a h = (one_fits net a r h.0, here_fits net rs (view_rec
 module _ (net : Network) (w : World) (v : ℕ) where
   -- the bytes received of a port's lane
   pub port_received : (d : Durable) (l : Lane) → received_of (port_at net (record w { durable = d }) l) ≡ received d l
-  port_received d l = ap (lane_len l.way) (count_blocks (net.device l.link) (of_way l.way (d.low_blocks l.link) (d.high_blocks l.link)))
+  port_received d l = ap (lane_len l.way) (count_blocks (net.device l.link) (d.blocks l))
 
   leased_port : (d : Durable) (l : Lane) (end : ℕ) → d.lease l ≤ end → end ≤ received d l → (k : Lane) →
       with_lease l end (port_at net (record w { durable = d }) k) ≡ port_at net (record w { durable = apply_record net.site v (Lease l end) d }) k

@@ -9,7 +9,7 @@ use Rattle.net_model.specs.View.{View}
 use Rattle.net_model.specs.Needed.{is_needed, masked, view_of}
 use Rattle.net_model.specs.Decision.{Effect}
 use Rattle.net_model.specs.Handle.{stopped}
-use Rattle.net_model.specs.Fold.{owes, is_end_of, is_got_by, is_stream_of, marked, view_record}
+use Rattle.net_model.specs.Fold.{owes, is_end_of, is_handed_by, is_stream_of, marked, view_record}
 use Rattle.record_laws.proofs.Base.{number_set_same}
 use Rattle.fold_laws.specs.Fitting.{Fits, AllFit}
 
@@ -26,7 +26,7 @@ record_with x (Block link number bytes) a = refl
 record_with x (Lease l end) a = refl
 record_with x (Learned f) a = refl
 record_with x (Acked n) a = kept x (owes a n) (record a { acked = a.acked ++ n ∷ [] }) a
-record_with x (Handed n sae) a = kept x (list_any (λ f. is_end_of a f && is_got_by n sae f) a.facts) (record a { handed = marked a.handed n sae }) a
+record_with x (Handed n sae) a = kept x (list_any (λ f. is_end_of a f && is_handed_by n sae f) a.facts) (record a { handed = marked a.handed n sae }) a
 record_with x (Closed n sae) a = kept x (list_any (λ f. is_end_of a f && is_stream_of n f) a.facts) (record a { closed = marked a.closed n sae }) a
 record_with x (Bare f) a = refl
 

@@ -13,7 +13,7 @@ use Rattle.net_model.specs.Knowledge.{IsOpenBetween, IsEntitled, IsTable}
 use Rattle.net_model.specs.Handings.{MayHave, is_single}
 use Rattle.net_model.specs.View.{View}
 use Rattle.net_model.specs.Needed.{masked, view_of}
-use Rattle.net_model.specs.Fold.{is_end_of, is_got_by}
+use Rattle.net_model.specs.Fold.{is_end_of, is_handed_by}
 use Rattle.record_laws.proofs.Base.{eq_same, name_eq_same, and_both, or_left, or_right}
 use Rattle.record_laws.proofs.Tables.{found_name}
 use Rattle.view_laws.proofs.Masked.{IsBlind}
@@ -75,13 +75,13 @@ module _ (s : Site) (T : List Fact) (known : ℕ → List Name) (table : IsTable
   named : (m n : Name) → m ≡ n → name_eq m n ≡ true
   named m n e = ap (λ (x : Name). name_eq x n) e ∙ name_eq_same n
 
-  single_got : (f : Fact) (n : Name) (sae : ℕ) → is_single f ≡ true → name_of f ≡ n → IsEnd f sae → is_got_by n sae f ≡ true
+  single_handed : (f : Fact) (n : Name) (sae : ℕ) → is_single f ≡ true → name_of f ≡ n → IsEnd f sae → is_handed_by n sae f ≡ true
   unfolding IsEnd
-  single_got (Key name master slave route bytes) n sae single e is = and_both (name_eq name n) ((master == sae) || (slave == sae)) (named name n e) (either master slave sae is)
-  single_got (Chunk name stream index route bytes) n sae single e is = named name n e
-  single_got _ n sae single e is = cc
+  single_handed (Key name master slave route bytes) n sae single e is = and_both (name_eq name n) ((master == sae) || (slave == sae)) (named name n e) (either master slave sae is)
+  single_handed (Chunk name stream index route bytes) n sae single e is = named name n e
+  single_handed _ n sae single e is = cc
 
-  part_end : (f : Fact) (p : PartOf) (n : Name) (sae : ℕ) → part_of f ≡ Some p → p.key ≡ n → (p.master ≡ sae) ⊎ (p.slave ≡ sae) → IsEnd f sae × (is_got_by n sae f ≡ true)
+  part_end : (f : Fact) (p : PartOf) (n : Name) (sae : ℕ) → part_of f ≡ Some p → p.key ≡ n → (p.master ≡ sae) ⊎ (p.slave ≡ sae) → IsEnd f sae × (is_handed_by n sae f ≡ true)
   unfolding IsEnd
   part_end (Part name key master slave route bytes) p n sae is e ends =
       let same : record { key = key; master = master; slave = slave; bytes = bytes } ≡ p = cc in
@@ -98,7 +98,7 @@ module _ (s : Site) (T : List Fact) (known : ℕ → List Name) (table : IsTable
     pub name : Name
     pub there : fact_at T name ≡ Some fact
     pub knows : has (known v) name ≡ true
-    pub is : (is_here v fact && is_got_by n sae fact) ≡ true
+    pub is : (is_here v fact && is_handed_by n sae fact) ≡ true
 
   pub got : (v : ℕ) (n : Name) (sae : ℕ) → s.home sae ≡ v → MayHave s T known n sae → IsGot v n sae
   unfolding IsEnd
@@ -110,8 +110,8 @@ module _ (s : Site) (T : List Fact) (known : ℕ → List Name) (table : IsTable
           name = n;
           there = m.there;
           knows = subst (λ (u : ℕ). has (known u) n ≡ true) home m.knows;
-          is = and_both (is_here v m.fact) (is_got_by n sae m.fact) (here v m.fact sae (table n m.fact m.there).entitled home is_end)
-              (single_got m.fact n sae m.single (found_name T n m.fact m.there) is_end);
+          is = and_both (is_here v m.fact) (is_handed_by n sae m.fact) (here v m.fact sae (table n m.fact m.there).entitled home is_end)
+              (single_handed m.fact n sae m.single (found_name T n m.fact m.there) is_end);
         }
     | inr m ↦
         let ends : (m.one.part.master ≡ sae) ⊎ (m.one.part.slave ≡ sae) = elim m.is_end [ inl (e, k) ↦ inl e | inr (e, k) ↦ inr e ] in
@@ -122,25 +122,25 @@ module _ (s : Site) (T : List Fact) (known : ℕ → List Name) (table : IsTable
           name = m.name;
           there = m.one.there;
           knows = subst (λ (u : ℕ). has (known u) m.name ≡ true) home knows;
-          is = and_both (is_here v m.one.fact) (is_got_by n sae m.one.fact) (here v m.one.fact sae (table m.name m.one.fact m.one.there).entitled home r.0) r.1;
+          is = and_both (is_here v m.one.fact) (is_handed_by n sae m.one.fact) (here v m.one.fact sae (table m.name m.one.fact m.one.there).entitled home r.0) r.1;
         }
   ]
 
-got_blind : (me : ℕ) (n : Name) (sae : ℕ) → IsBlind (λ f. is_here me f && is_got_by n sae f)
-got_blind me n sae (Key name master slave route bytes) = refl
-got_blind me n sae (Chunk name stream index route bytes) = refl
-got_blind me n sae (Stored note about route) = refl
-got_blind me n sae (Open stream source peer size route) = refl
-got_blind me n sae (Joined note about route) = refl
-got_blind me n sae (Part name key master slave route bytes) = refl
+handed_blind : (me : ℕ) (n : Name) (sae : ℕ) → IsBlind (λ f. is_here me f && is_handed_by n sae f)
+handed_blind me n sae (Key name master slave route bytes) = refl
+handed_blind me n sae (Chunk name stream index route bytes) = refl
+handed_blind me n sae (Stored note about route) = refl
+handed_blind me n sae (Open stream source peer size route) = refl
+handed_blind me n sae (Joined note about route) = refl
+handed_blind me n sae (Part name key master slave route bytes) = refl
 
 pub handed_fits : (net : Network) (w : World) (v : ℕ) (d : Durable) → IsTable net.site d.facts d.known → (a : View) → Follows a (seen net w v d) → (n : Name) (sae : ℕ) →
-    net.site.home sae ≡ v → MayHave net.site d.facts d.known n sae → list_any (λ f. is_end_of a f && is_got_by n sae f) a.facts ≡ true
+    net.site.home sae ≡ v → MayHave net.site d.facts d.known n sae → list_any (λ f. is_end_of a f && is_handed_by n sae f) a.facts ≡ true
 unfolding view_of masked
 handed_fits net w v d table a h n sae home may =
     let r = got net.site d.facts d.known table v n sae home may in
     let w' : World = record w { durable = d } in
     let found = bare_there net.site d (view_of net w' v) (bare_view net w' v) (view_sees net w' v) r.name r.fact r.there r.knows in
-    ap (λ (me : ℕ). list_any (λ f. is_here me f && is_got_by n sae f) a.facts) h.me ∙
-    any_same (λ f. is_here v f && is_got_by n sae f) (got_blind v n sae) a.facts (bare_view net w' v).facts (same_shapes a (seen net w v d) h) ∙
-    any_found (λ f. is_here v f && is_got_by n sae f) (λ x. name_eq (name_of x) r.name) (bare_view net w' v).facts r.fact found r.is
+    ap (λ (me : ℕ). list_any (λ f. is_here me f && is_handed_by n sae f) a.facts) h.me ∙
+    any_same (λ f. is_here v f && is_handed_by n sae f) (handed_blind v n sae) a.facts (bare_view net w' v).facts (same_shapes a (seen net w v d) h) ∙
+    any_found (λ f. is_here v f && is_handed_by n sae f) (λ x. name_eq (name_of x) r.name) (bare_view net w' v).facts r.fact found r.is

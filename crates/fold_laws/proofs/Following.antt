@@ -13,7 +13,7 @@ use Rattle.net_model.specs.World.{Network, World, Durable}
 use Rattle.net_model.specs.Records.{apply_record}
 use Rattle.net_model.specs.View.{View, handed_at}
 use Rattle.net_model.specs.Needed.{is_needed, masked_fact}
-use Rattle.net_model.specs.Fold.{owes, is_end_of, is_got_by, is_stream_of, marked, view_record}
+use Rattle.net_model.specs.Fold.{owes, is_end_of, is_handed_by, is_stream_of, marked, view_record}
 use Rattle.record_laws.proofs.Base.{name_eq_from, eq_from, eq_same, and_right, or_cases, or_first, or_second, or_left, or_right, number_set_same, when_true, when_false}
 use Rattle.record_laws.proofs.Tables.{found_name, has-push}
 use Rattle.record_laws.proofs.Keeping.{handed-push}
@@ -110,13 +110,13 @@ module _ (net : Network) (w : World) (v : ℕ) where
           (λ m g k. k) acks (λ m sae k. k) f (λ p is at has' none. owed_all v known known (d.acked v) (number_set d.acked v (d.acked v ++ n ∷ []) v)
           (handed_at net.site v d.handed) (handed_at net.site v d.handed) (λ m g k. k) acks (λ m sae k. k) (parts_of known p.key) none)
 
-  pub handed_follows : (d : Durable) (a : View) (n : Name) (sae : ℕ) → Follows a (seen d) → list_any (λ f. is_end_of a f && is_got_by n sae f) a.facts ≡ true →
+  pub handed_follows : (d : Durable) (a : View) (n : Name) (sae : ℕ) → Follows a (seen d) → list_any (λ f. is_end_of a f && is_handed_by n sae f) a.facts ≡ true →
       was_handed a.handed n sae ≡ false → net.site.home sae ≡ v → Follows (view_record (Handed n sae) a) (seen (apply_record net.site v (Handed n sae) d))
   unfolding view_record apply_record is_needed
   handed_follows d a n sae h fits fresh home =
       let push = handed_at-push net.site v d.handed n sae home in
       subst (λ (x : View). Follows x (seen (apply_record net.site v (Handed n sae) d)))
-      (sym (when_true (list_any (λ f. is_end_of a f && is_got_by n sae f) a.facts) (record a { handed = marked a.handed n sae }) a fits)) (record {
+      (sym (when_true (list_any (λ f. is_end_of a f && is_handed_by n sae f) a.facts) (record a { handed = marked a.handed n sae }) a fits)) (record {
         me = h.me;
         acked = h.acked;
         handed = when_false (was_handed a.handed n sae) a.handed (a.handed ++ (n, sae) ∷ []) fresh ∙ ap (λ (hs : List (Name × ℕ)). hs ++ (n, sae) ∷ []) h.handed ∙ sym push;

@@ -10,13 +10,13 @@ use Rattle.net_model.specs.Table.{PartOf, part_of, is_part_of, name_of, origin, 
 use Rattle.net_model.specs.Site.{sender, receiver, outgoing_lanes}
 use Rattle.net_model.specs.World.{Network, World, Durable, needs}
 use Rattle.net_model.specs.Records.{apply_record}
-use Rattle.net_model.specs.Doubt.{MayBeTold, MayBeMade}
+use Rattle.net_model.specs.Doubt.{MayBeReceived, MayBeMade}
 use Rattle.net_model.specs.Invariant.{Invariant}
 use Rattle.net_model.specs.View.{View, handed_at}
 use Rattle.net_model.specs.Needed.{is_needed, masked_fact, port_at}
 use Rattle.net_model.specs.Fold.{view_record}
 use Rattle.record_laws.proofs.Base.{not_false, not_both, number_set_same, when_false}
-use Rattle.record_laws.proofs.Tables.{learned_keeps, learned_there, learned_new, push_there, facts_of-push, facts_of_one, at_front}
+use Rattle.record_laws.proofs.Tables.{learned_keeps, learned_there, learned_new, push_there, facts_of-push, facts_of_one, at_prefix}
 use Rattle.record_laws.proofs.Grow.{Grows, needs_grows}
 use Rattle.record_laws.proofs.Knowing.{known_with_grows, AreThere, facts_stay}
 use Rattle.record_laws.proofs.Parts.{part_starts}
@@ -25,7 +25,7 @@ use Rattle.fold_laws.proofs.Staying.{needed_stays, parts_push}
 use Rattle.fold_laws.proofs.Following.{Follows, same_shapes, listed_stay, unlisted, handed_only, part_named, seen}
 
 module _ (net : Network) (w : World) (v : ℕ) (d : Durable) (inv : Invariant net.site d w.frames w.unclaimed) (f : Fact) (fresh : has (d.known v) (name_of f) ≡ false)
-    (may : MayBeTold d.facts d.known v f ⊎ MayBeMade net.site d.facts d.known d.handed v f) where
+    (may : MayBeReceived d.facts d.known v f ⊎ MayBeMade net.site d.facts d.known d.handed v f) where
   there : fact_at (learned d.facts f) (name_of f) ≡ Some f
   there = elim may [
     | inl m ↦ ap (λ (T : List Fact). fact_at T (name_of f)) (learned_there d.facts f m.there) ∙ m.there
@@ -67,7 +67,7 @@ module _ (net : Network) (w : World) (v : ℕ) (d : Durable) (inv : Invariant ne
       ])
 
   front : Grows known (known ++ f ∷ [])
-  front n g h = at_front known (f ∷ []) n g h
+  front n g h = at_prefix known (f ∷ []) n g h
 
   stays : (g : Fact) → fact_at d.facts (name_of g) ≡ Some g → is_needed (seen net w v d) g ≡ false →
       is_needed (knowing v (known ++ f ∷ []) (d.acked v) (handed_at net.site v d.handed)) g ≡ false

@@ -5,7 +5,7 @@ use Rattle.std.specs.List.{list_all}
 use Rattle.net_model.specs.declared.event.Event.{Event}
 use Rattle.net_model.specs.declared.reply.Reply.TheVariants.{Down}
 use Rattle.net_model.specs.World.{Network, World}
-use Rattle.net_model.specs.Told.{tells}
+use Rattle.net_model.specs.OctetSequence.{has_octets}
 use Rattle.net_model.specs.Journal.{added_len, is_nil, journal_limit}
 use Rattle.net_model.specs.Action.{Environment, Outcome, Replies, is_no_memory, is_entropy_fault, is_io_fault}
 use Rattle.net_model.specs.Invariant.{Conserved}
@@ -32,7 +32,7 @@ perform_goes net w v octets environment e h =
     by_test P (is_no_memory environment || not (list_all is_numbered e.batch)) _ _ (λ x. inl refl)
     (λ numbered. let all = not_true (list_all is_numbered e.batch) (or_second (is_no_memory environment) _ numbered) in
     by_test P (nat_lt journal_limit ((w.journal v).length' + added_len (w.journal v).version e.batch)) _ _ (λ x. inl refl)
-    (λ x. by_test P (nat_lt 0 octets && (not (tells (net.entropy v) (w.drawn v + octets)) || is_entropy_fault environment)) _ _ (λ y. inl refl)
+    (λ x. by_test P (nat_lt 0 octets && (not (has_octets (net.entropy v) (w.drawn v + octets)) || is_entropy_fault environment)) _ _ (λ y. inl refl)
     (λ y. by_test P (is_io_fault environment && not (is_nil e.batch)) _ _ (λ z. inr (inl (stopped_view net w v octets e))) (λ z. inr (inr (h all))))))
 
 pub ask_goes : (net : Network) (w : World) (v : ℕ) (event : Event) (environment : Environment) → IsNetwork net → Conserved net w → v < net.site.nodes → w.up v ≡ true →

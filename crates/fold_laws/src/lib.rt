@@ -8,7 +8,7 @@ ghost use Rattle.net_model.specs.declared.event.Event.TheVariants.{Block, Note};
 ghost use Rattle.net_model.specs.declared.payload.Payload.{Payload as PayloadValue};
 ghost use Rattle.qkd_base.specs.declared.lane.Lane.{Lane as LaneValue};
 ghost use Rattle.net_model.specs.Item.{payload};
-ghost use Rattle.net_model.specs.Told.{block_at};
+ghost use Rattle.net_model.specs.OctetSequence.{block_at};
 ghost use Rattle.net_model.specs.Site.{receiver, is_incident};
 ghost use Rattle.net_model.specs.Relay.{receive};
 ghost use Rattle.net_model.specs.declared.placing.Placing.{Placing as PlacingValue};

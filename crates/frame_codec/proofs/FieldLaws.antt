@@ -12,7 +12,7 @@ use Rattle.qkd_base.specs.Name.{Name, IsName, is_name, octets_of, kind_number, k
 use Rattle.qkd_base.specs.Route.{is_route, are_nodes}
 use Rattle.net_model.specs.Facts.{IsSize}
 use Rattle.frame_codec.specs.Payload.{IsNameOf, IsSae, IsWay, AreOctets, short, long, way}
-use Rattle.frame_codec.specs.Reading.{◌>>=◌, passing, before, front, named, of_kind, any_kind, number_at, sae, size, index, route, last}
+use Rattle.frame_codec.specs.Reading.{◌>>=◌, passing, before, prefix, named, of_kind, any_kind, number_at, sae, size, index, route, last}
 
 -- ---- answers
 
@@ -63,10 +63,10 @@ pub record Takes (octets text rest : List ℕ) : Type 0 where
 
 -- ---- a value of so many octets
 
-front_takes : {A : Type 0} (n : ℕ) (value : List ℕ → Option A) (test : A → Bool) (text : A → List ℕ) (Fits : A → Type 0) (octets : List ℕ) (x : A × List ℕ)
+prefix_takes : {A : Type 0} (n : ℕ) (value : List ℕ → Option A) (test : A → Bool) (text : A → List ℕ) (Fits : A → Type 0) (octets : List ℕ) (x : A × List ℕ)
     → ((os : List ℕ) (a : A) → length os ≡ n → AreOctets os → value os ≡ Some a → test a ≡ true → (os ≡ text a) × Fits a)
-    → AreOctets octets → front n value test octets ≡ Ok x → Takes octets (text x.0) x.1 × Fits x.0
-front_takes n value test text Fits octets x is fits e =
+    → AreOctets octets → prefix n value test octets ≡ Ok x → Takes octets (text x.0) x.1 × Fits x.0
+prefix_takes n value test text Fits octets x is fits e =
     let g = guard_ok (ltb (length octets) n) (length octets) (before (drop n octets) (passing test (length octets) (value (take n octets)))) x e in
     let long_enough : n ≤ length octets = ltb-false _ _ g.0 in
     let b = bind_ok (passing test (length octets) (value (take n octets))) (λ a. Ok (a, drop n octets)) x g.1 in
@@ -75,8 +75,8 @@ front_takes n value test text Fits octets x is fits e =
     subst (λ y. Takes octets (text y.0) y.1 × Fits y.0) (ok_is (b.0, drop n octets) x b.2)
     (record { parts = sym (take-append-drop n octets) ∙ ap (λ (l : List ℕ). l ++ drop n octets) t.0; rest_fits = AreOctets-drop n octets fits }, t.1)
 
-front_again : {A : Type 0} (n : ℕ) (value : List ℕ → Option A) (test : A → Bool) (text rest : List ℕ) (a : A) → length text ≡ n → value text ≡ Some a → test a ≡ true → front n value test (text ++ rest) ≡ Ok (a, rest)
-front_again n value test text rest a len is passes =
+prefix_again : {A : Type 0} (n : ℕ) (value : List ℕ → Option A) (test : A → Bool) (text rest : List ℕ) (a : A) → length text ≡ n → value text ≡ Some a → test a ≡ true → prefix n value test (text ++ rest) ≡ Ok (a, rest)
+prefix_again n value test text rest a len is passes =
     let room : ltb (length (text ++ rest)) n ≡ false = le-ltb _ _ (omega (arith, length-append text rest, len)) in
     let taken : take n (text ++ rest) ≡ text = take_at text rest n len in
     let left : drop n (text ++ rest) ≡ rest = drop_at text rest n len in
@@ -134,7 +134,7 @@ kind_of-true k n e = grind arith
 pub named_takes : (k : NameKind) (octets : List ℕ) (x : Name × List ℕ) → AreOctets octets → named (of_kind k) octets ≡ Ok x → Takes octets (octets_of x.0) x.1 × IsNameOf k x.0
 unfolding named
 named_takes k octets x fits e =
-    front_takes 16 name_at (of_kind k) octets_of (IsNameOf k) octets x (λ os a len ok is passes. let t = name_takes os a is in (t.0, (t.1, kind_of-true k a passes))) fits e
+    prefix_takes 16 name_at (of_kind k) octets_of (IsNameOf k) octets x (λ os a len ok is passes. let t = name_takes os a is in (t.0, (t.1, kind_of-true k a passes))) fits e
 
 kind_of-same : (k : NameKind) → kind_eq k k ≡ true
 kind_of-same Key = refl
@@ -143,15 +143,15 @@ kind_of-same Note = refl
 
 pub named_again : (k : NameKind) (n : Name) (rest : List ℕ) → IsNameOf k n → named (of_kind k) (octets_of n ++ rest) ≡ Ok (n, rest)
 unfolding named
-named_again k n rest h = front_again 16 name_at (of_kind k) (octets_of n) rest n refl (name_again n h.0) (ap (λ j. kind_eq j k) h.1 ∙ kind_of-same k)
+named_again k n rest h = prefix_again 16 name_at (of_kind k) (octets_of n) rest n refl (name_again n h.0) (ap (λ j. kind_eq j k) h.1 ∙ kind_of-same k)
 
 pub any_takes : (octets : List ℕ) (x : Name × List ℕ) → AreOctets octets → named any_kind octets ≡ Ok x → Takes octets (octets_of x.0) x.1 × IsName x.0
 unfolding named
-any_takes octets x fits e = front_takes 16 name_at any_kind octets_of IsName octets x (λ os a len ok is passes. name_takes os a is) fits e
+any_takes octets x fits e = prefix_takes 16 name_at any_kind octets_of IsName octets x (λ os a len ok is passes. name_takes os a is) fits e
 
 pub any_again : (n : Name) (rest : List ℕ) → IsName n → named any_kind (octets_of n ++ rest) ≡ Ok (n, rest)
 unfolding named
-any_again n rest h = front_again 16 name_at any_kind (octets_of n) rest n refl (name_again n h) refl
+any_again n rest h = prefix_again 16 name_at any_kind (octets_of n) rest n refl (name_again n h) refl
 
 -- ---- numbers
 
@@ -183,11 +183,11 @@ sae_small n e = grind arith
 
 pub sae_takes : (octets : List ℕ) (x : ℕ × List ℕ) → AreOctets octets → sae octets ≡ Ok x → Takes octets (short x.0) x.1 × IsSae x.0
 unfolding sae
-sae_takes octets x fits e = front_takes 2 (number_at w16) (λ n. ltb n 256) short IsSae octets x (λ os a len ok is passes. (two_octets os a len ok is, sae_small a passes)) fits e
+sae_takes octets x fits e = prefix_takes 2 (number_at w16) (λ n. ltb n 256) short IsSae octets x (λ os a len ok is passes. (two_octets os a len ok is, sae_small a passes)) fits e
 
 pub sae_again : (n : ℕ) (rest : List ℕ) → IsSae n → sae (short n ++ rest) ≡ Ok (n, rest)
 unfolding sae
-sae_again n rest h = front_again 2 (number_at w16) (λ m. ltb m 256) (short n) rest n refl (ap Some (short_back n (omega (arith, h)))) (grind arith)
+sae_again n rest h = prefix_again 2 (number_at w16) (λ m. ltb m 256) (short n) rest n refl (ap Some (short_back n (omega (arith, h)))) (grind arith)
 
 size_from : (n : ℕ) → (leb 8 n && leb n 512) ≡ true → IsSize n
 size_from n e = (grind arith, grind arith)
@@ -197,11 +197,11 @@ size_test n h = let a = h.0 in let b = h.1 in grind arith
 
 pub size_takes : (octets : List ℕ) (x : ℕ × List ℕ) → AreOctets octets → size octets ≡ Ok x → Takes octets (short x.0) x.1 × IsSize x.0
 unfolding size
-size_takes octets x fits e = front_takes 2 (number_at w16) (λ n. leb 8 n && leb n 512) short IsSize octets x (λ os a len ok is passes. (two_octets os a len ok is, size_from a passes)) fits e
+size_takes octets x fits e = prefix_takes 2 (number_at w16) (λ n. leb 8 n && leb n 512) short IsSize octets x (λ os a len ok is passes. (two_octets os a len ok is, size_from a passes)) fits e
 
 pub size_again : (n : ℕ) (rest : List ℕ) → IsSize n → size (short n ++ rest) ≡ Ok (n, rest)
 unfolding size
-size_again n rest h = front_again 2 (number_at w16) (λ m. leb 8 m && leb m 512) (short n) rest n refl (ap Some (short_back n (omega (arith, h.1)))) (size_test n h)
+size_again n rest h = prefix_again 2 (number_at w16) (λ m. leb 8 m && leb m 512) (short n) rest n refl (ap Some (short_back n (omega (arith, h.1)))) (size_test n h)
 
 four_below : (os : List ℕ) (n : ℕ) → length os ≡ 4 → AreOctets os → number_at w32 os ≡ Some n → n < 2 ^ 32
 four_below os n len fits e =
@@ -210,11 +210,11 @@ four_below os n len fits e =
 
 pub index_takes : (octets : List ℕ) (x : ℕ × List ℕ) → AreOctets octets → index octets ≡ Ok x → Takes octets (long x.0) x.1 × (x.0 < 2 ^ 32)
 unfolding index
-index_takes octets x fits e = front_takes 4 (number_at w32) (λ n. true) long (λ n. n < 2 ^ 32) octets x (λ os a len ok is passes. (four_octets os a len ok is, four_below os a len ok is)) fits e
+index_takes octets x fits e = prefix_takes 4 (number_at w32) (λ n. true) long (λ n. n < 2 ^ 32) octets x (λ os a len ok is passes. (four_octets os a len ok is, four_below os a len ok is)) fits e
 
 pub index_again : (n : ℕ) (rest : List ℕ) → n < 2 ^ 32 → index (long n ++ rest) ≡ Ok (n, rest)
 unfolding index
-index_again n rest h = front_again 4 (number_at w32) (λ m. true) (long n) rest n refl (ap Some (from_be_bytes-to_be_bytes_4 n h)) refl
+index_again n rest h = prefix_again 4 (number_at w32) (λ m. true) (long n) rest n refl (ap Some (from_be_bytes-to_be_bytes_4 n h)) refl
 
 -- ---- routes and last fields
 

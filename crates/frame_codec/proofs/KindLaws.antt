@@ -8,10 +8,10 @@ use Rattle.qkd_base.specs.Name.{Name, IsName, octets_of}
 use Rattle.net_model.specs.declared.fact.Fact.{Fact}
 use Rattle.net_model.specs.declared.fact.Fact.TheVariants.{Key, Chunk, Stored, Open, Joined, Part}
 use Rattle.net_model.specs.declared.payload.Payload.{Payload}
-use Rattle.net_model.specs.declared.payload.Payload.TheVariants.{Told, Ack}
+use Rattle.net_model.specs.declared.payload.Payload.TheVariants.{Data, Ack}
 use Rattle.net_model.specs.Facts.{IsSize}
 use Rattle.frame_codec.specs.Payload.{IsNameOf, IsSae, IsWay, IsSecret, IsFact, IsPayload, AreOctets, fields, short, long, way, fact_octets, payload_octets}
-use Rattle.frame_codec.specs.Reading.{◌>>=◌, named, of_kind, any_kind, sae, size, index, route, last, key_of, note_of, stored_of, joined_of, open_of, chunk_of, part_of, ack_of, told, acked, payload_left, place_in, payload_of}
+use Rattle.frame_codec.specs.Reading.{◌>>=◌, named, of_kind, any_kind, sae, size, index, route, last, key_of, note_of, stored_of, joined_of, open_of, chunk_of, part_of, ack_of, as_data, acked, payload_left, place_in, payload_of}
 use Rattle.frame_codec.proofs.FieldLaws.{bind_ok, ok_is, named_takes, named_again, any_takes, any_again, sae_takes, sae_again, size_takes, size_again, index_takes, index_again, route_takes, route_again, last_takes, last_again}
 
 size_of : {n m : ℕ} → IsSize n → m ≡ n → IsSize m
@@ -195,23 +195,23 @@ chosen true x y z e = inl (refl, e)
 chosen false x y z e = inr (refl, e)
 
 -- of a payload behind its kind
-abbrev Told_by : ℕ → List ℕ → Payload → Type 0
-Told_by kind octets p = IsPayload p × (kind ∷ octets ≡ payload_octets p)
+abbrev Spelled_by : ℕ → List ℕ → Payload → Type 0
+Spelled_by kind octets p = IsPayload p × (kind ∷ octets ≡ payload_octets p)
 
-same_kind : (k kind : ℕ) (octets : List ℕ) (p : Payload) → eqb kind k ≡ true → Told_by k octets p → Told_by kind octets p
+same_kind : (k kind : ℕ) (octets : List ℕ) (p : Payload) → eqb kind k ≡ true → Spelled_by k octets p → Spelled_by kind octets p
 same_kind k kind octets p e t = (t.0, ap (λ (n : ℕ). n ∷ octets) (eqb-true kind k e) ∙ t.1)
 
-by_fact : (k : ℕ) (octets : List ℕ) (read : Result Fact ℕ) (p : Payload) → ((f : Fact) → read ≡ Ok f → IsFact f × (k ∷ octets ≡ fact_octets f)) → told read ≡ Ok p → Told_by k octets p
+by_fact : (k : ℕ) (octets : List ℕ) (read : Result Fact ℕ) (p : Payload) → ((f : Fact) → read ≡ Ok f → IsFact f × (k ∷ octets ≡ fact_octets f)) → as_data read ≡ Ok p → Spelled_by k octets p
 unfolding payload_octets
 by_fact k octets read p is e =
-    let b = bind_ok read (λ fact. Ok (Told fact)) p e in
-    subst (Told_by k octets) (ok_is (Told b.0) p b.2) (is b.0 b.1)
+    let b = bind_ok read (λ fact. Ok (Data fact)) p e in
+    subst (Spelled_by k octets) (ok_is (Data b.0) p b.2) (is b.0 b.1)
 
-by_name : (octets : List ℕ) (read : Result Name ℕ) (p : Payload) → ((n : Name) → read ≡ Ok n → IsName n × (3 ∷ octets ≡ 3 ∷ octets_of n)) → acked read ≡ Ok p → Told_by 3 octets p
+by_name : (octets : List ℕ) (read : Result Name ℕ) (p : Payload) → ((n : Name) → read ≡ Ok n → IsName n × (3 ∷ octets ≡ 3 ∷ octets_of n)) → acked read ≡ Ok p → Spelled_by 3 octets p
 unfolding payload_octets
 by_name octets read p is e =
     let b = bind_ok read (λ name. Ok (Ack name)) p e in
-    subst (Told_by 3 octets) (ok_is (Ack b.0) p b.2) (is b.0 b.1)
+    subst (Spelled_by 3 octets) (ok_is (Ack b.0) p b.2) (is b.0 b.1)
 
 stored_takes : (octets : List ℕ) (f : Fact) → AreOctets octets → stored_of octets ≡ Ok f → IsFact f × (2 ∷ octets ≡ fact_octets f)
 stored_takes octets f fits e =
@@ -237,25 +237,25 @@ left_takes [] p fits e = absurd cc
 left_takes (kind ∷ octets) p fits e =
     let rest : AreOctets octets = λ i. fits (suc i) in
     let left = 1 + length octets in
-    let e7 = cond (eqb kind 7) (told (part_of octets)) (Err left) in
-    let e6 = cond (eqb kind 6) (told (chunk_of octets)) e7 in
-    let e5 = cond (eqb kind 5) (told (joined_of octets)) e6 in
-    let e4 = cond (eqb kind 4) (told (open_of octets)) e5 in
+    let e7 = cond (eqb kind 7) (as_data (part_of octets)) (Err left) in
+    let e6 = cond (eqb kind 6) (as_data (chunk_of octets)) e7 in
+    let e5 = cond (eqb kind 5) (as_data (joined_of octets)) e6 in
+    let e4 = cond (eqb kind 4) (as_data (open_of octets)) e5 in
     let e3 = cond (eqb kind 3) (acked (ack_of octets)) e4 in
-    let e2 = cond (eqb kind 2) (told (stored_of octets)) e3 in
-    elim (chosen (eqb kind 1) (told (key_of octets)) e2 (Ok p) e) [
+    let e2 = cond (eqb kind 2) (as_data (stored_of octets)) e3 in
+    elim (chosen (eqb kind 1) (as_data (key_of octets)) e2 (Ok p) e) [
       | inl h ↦ same_kind 1 kind octets p h.0 (by_fact 1 octets (key_of octets) p (λ f g. key_takes octets f rest g) h.1)
-      | inr h ↦ elim (chosen (eqb kind 2) (told (stored_of octets)) e3 (Ok p) h.1) [
+      | inr h ↦ elim (chosen (eqb kind 2) (as_data (stored_of octets)) e3 (Ok p) h.1) [
         | inl h ↦ same_kind 2 kind octets p h.0 (by_fact 2 octets (stored_of octets) p (λ f g. stored_takes octets f rest g) h.1)
         | inr h ↦ elim (chosen (eqb kind 3) (acked (ack_of octets)) e4 (Ok p) h.1) [
           | inl h ↦ same_kind 3 kind octets p h.0 (by_name octets (ack_of octets) p (λ n g. ack_takes octets n rest g) h.1)
-          | inr h ↦ elim (chosen (eqb kind 4) (told (open_of octets)) e5 (Ok p) h.1) [
+          | inr h ↦ elim (chosen (eqb kind 4) (as_data (open_of octets)) e5 (Ok p) h.1) [
             | inl h ↦ same_kind 4 kind octets p h.0 (by_fact 4 octets (open_of octets) p (λ f g. open_takes octets f rest g) h.1)
-            | inr h ↦ elim (chosen (eqb kind 5) (told (joined_of octets)) e6 (Ok p) h.1) [
+            | inr h ↦ elim (chosen (eqb kind 5) (as_data (joined_of octets)) e6 (Ok p) h.1) [
               | inl h ↦ same_kind 5 kind octets p h.0 (by_fact 5 octets (joined_of octets) p (λ f g. joined_takes octets f rest g) h.1)
-              | inr h ↦ elim (chosen (eqb kind 6) (told (chunk_of octets)) e7 (Ok p) h.1) [
+              | inr h ↦ elim (chosen (eqb kind 6) (as_data (chunk_of octets)) e7 (Ok p) h.1) [
                 | inl h ↦ same_kind 6 kind octets p h.0 (by_fact 6 octets (chunk_of octets) p (λ f g. chunk_takes octets f rest g) h.1)
-                | inr h ↦ elim (chosen (eqb kind 7) (told (part_of octets)) (Err left) (Ok p) h.1) [
+                | inr h ↦ elim (chosen (eqb kind 7) (as_data (part_of octets)) (Err left) (Ok p) h.1) [
                   | inl h ↦ same_kind 7 kind octets p h.0 (by_fact 7 octets (part_of octets) p (λ f g. part_takes octets f rest g) h.1)
                   | inr h ↦ absurd (not_ok left p h.1)
                 ]
@@ -268,12 +268,12 @@ left_takes (kind ∷ octets) p fits e =
 
 left_again : (p : Payload) → IsPayload p → payload_left (payload_octets p) ≡ Ok p
 unfolding payload_left payload_octets
-left_again (Told (Key name master slave nodes bytes)) h = rw (key_again name master slave nodes bytes h.0 h.1 h.2 h.3 h.4) refl
-left_again (Told (Stored note about nodes)) h = rw (note_again KeyKind note about nodes h.0 h.1 h.2) refl
-left_again (Told (Open stream source peer n nodes)) h = rw (open_again stream source peer n nodes h.0 h.1 h.2 h.3 h.4) refl
-left_again (Told (Joined note about nodes)) h = rw (note_again StreamKind note about nodes h.0 h.1 h.2) refl
-left_again (Told (Chunk name stream at nodes bytes)) h = rw (chunk_again name stream at nodes bytes h.0 h.1 h.2 h.3 h.4) refl
-left_again (Told (Part name key master slave nodes bytes)) h = rw (part_again name key master slave nodes bytes h.0 h.1 h.2 h.3 h.4 h.5) refl
+left_again (Data (Key name master slave nodes bytes)) h = rw (key_again name master slave nodes bytes h.0 h.1 h.2 h.3 h.4) refl
+left_again (Data (Stored note about nodes)) h = rw (note_again KeyKind note about nodes h.0 h.1 h.2) refl
+left_again (Data (Open stream source peer n nodes)) h = rw (open_again stream source peer n nodes h.0 h.1 h.2 h.3 h.4) refl
+left_again (Data (Joined note about nodes)) h = rw (note_again StreamKind note about nodes h.0 h.1 h.2) refl
+left_again (Data (Chunk name stream at nodes bytes)) h = rw (chunk_again name stream at nodes bytes h.0 h.1 h.2 h.3 h.4) refl
+left_again (Data (Part name key master slave nodes bytes)) h = rw (part_again name key master slave nodes bytes h.0 h.1 h.2 h.3 h.4 h.5) refl
 left_again (Ack n) h = rw (ack_again n h) refl
 
 placed_ok : {A : Type 0} (total : ℕ) (r : Result A ℕ) (x : A) → place_in total r ≡ Ok x → r ≡ Ok x

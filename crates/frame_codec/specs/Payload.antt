@@ -8,7 +8,7 @@ use Rattle.qkd_base.specs.declared.key_name.NameKind.TheVariants.{Key as KeyKind
 use Rattle.net_model.specs.declared.fact.Fact.{Fact}
 use Rattle.net_model.specs.declared.fact.Fact.TheVariants.{Key, Chunk, Stored, Open, Joined, Part}
 use Rattle.net_model.specs.declared.payload.Payload.{Payload}
-use Rattle.net_model.specs.declared.payload.Payload.TheVariants.{Told, Ack}
+use Rattle.net_model.specs.declared.payload.Payload.TheVariants.{Data, Ack}
 use Rattle.net_model.specs.Facts.{IsSize}
 
 -- ---- what has a spelling
@@ -40,12 +40,12 @@ IsFact (Chunk name stream index route bytes) = IsNameOf KeyKind name × IsNameOf
 IsFact (Part name key master slave route bytes) = IsNameOf KeyKind name × IsNameOf KeyKind key × IsSae master × IsSae slave × IsWay route × IsSecret bytes
 
 abbrev pub IsPayload : Payload → Type 0
-IsPayload (Told fact) = IsFact fact
+IsPayload (Data fact) = IsFact fact
 IsPayload (Ack name) = IsName name
 
 -- ---- its spelling
 
--- fields one behind another
+-- fields one after another
 abbrev pub fields : List (List ℕ) → List ℕ
 fields [] = []
 fields (f ∷ []) = f
@@ -70,5 +70,5 @@ fact_octets (Chunk name stream index route bytes) = 6 ∷ fields (octets_of name
 fact_octets (Part name key master slave route bytes) = 7 ∷ fields (octets_of name ∷ octets_of key ∷ short master ∷ short slave ∷ short (length bytes) ∷ way route ∷ bytes ∷ [])
 
 unfoldable pub payload_octets : Payload → List ℕ
-payload_octets (Told fact) = fact_octets fact
+payload_octets (Data fact) = fact_octets fact
 payload_octets (Ack name) = 3 ∷ octets_of name

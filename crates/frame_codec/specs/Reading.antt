@@ -1,5 +1,5 @@
--- Reading a payload field by field. A field that doesn't fit or is cut off is refused where it begins, and octets behind the
--- last field are refused at the first of them. A refusal tells how many octets are left there.
+-- Reading a payload field by field. A field that doesn't fit or is cut off is refused where it begins, and octets after the
+-- last field are refused at the first of them. A refusal says how many octets are left there.
 use Rattle.std.specs.Prelude.{◌≡◌, ℕ, ◌+◌, ◌-◌, List, [], ◌∷◌, length, take, drop, Option, Some, None, Result, Ok, Err, IsOk, Bool, true, nat_lt, nat_le, ◌==◌, ◌&&◌, if◌then◌else◌}
 use Rattle.std.specs.Int.{Width, w16, w32, from_be_bytes}
 use Rattle.qkd_base.specs.Name.{Name, name_at, kind_eq}
@@ -9,7 +9,7 @@ use Rattle.qkd_base.specs.declared.key_name.NameKind.TheVariants.{Key as KeyKind
 use Rattle.net_model.specs.declared.fact.Fact.{Fact}
 use Rattle.net_model.specs.declared.fact.Fact.TheVariants.{Key, Chunk, Stored, Open, Joined, Part}
 use Rattle.net_model.specs.declared.payload.Payload.{Payload}
-use Rattle.net_model.specs.declared.payload.Payload.TheVariants.{Told, Ack}
+use Rattle.net_model.specs.declared.payload.Payload.TheVariants.{Data, Ack}
 use Rattle.frame_codec.specs.declared.fault.Fault.{Fault}
 use Rattle.frame_codec.specs.declared.fault.Fault.TheVariants as faults
 use Rattle.frame_codec.specs.declared.payload_refusal.PayloadRefusal.{PayloadRefusal}
@@ -20,7 +20,7 @@ abbrev pub ◌>>=◌ : {A B : Type 0} → Result A ℕ → (A → Result B ℕ) 
 (Ok x) >>= f = f x
 (Err e) >>= f = Err e
 
--- ---- fields: a value, and the octets behind it
+-- ---- fields: a value, and the octets after it
 
 -- the value that passes a test
 abbrev pub passing : {A : Type 0} → (A → Bool) → ℕ → Option A → Result A ℕ
@@ -31,12 +31,12 @@ abbrev pub before : {A : Type 0} → List ℕ → Result A ℕ → Result (A × 
 before rest read = read >>= λ a. Ok (a, rest)
 
 -- a value of so many octets that passes a test
-abbrev pub front : {A : Type 0} → ℕ → (List ℕ → Option A) → (A → Bool) → List ℕ → Result (A × List ℕ) ℕ
-front n value test octets = if nat_lt (length octets) n then Err (length octets) else before (drop n octets) (passing test (length octets) (value (take n octets)))
+abbrev pub prefix : {A : Type 0} → ℕ → (List ℕ → Option A) → (A → Bool) → List ℕ → Result (A × List ℕ) ℕ
+prefix n value test octets = if nat_lt (length octets) n then Err (length octets) else before (drop n octets) (passing test (length octets) (value (take n octets)))
 
 -- a name that passes a test
 unfoldable pub named : (Name → Bool) → List ℕ → Result (Name × List ℕ) ℕ
-named test octets = front 16 name_at test octets
+named test octets = prefix 16 name_at test octets
 
 abbrev pub of_kind : NameKind → Name → Bool
 of_kind kind n = kind_eq n.kind kind
@@ -48,24 +48,24 @@ abbrev pub number_at : Width → List ℕ → Option ℕ
 number_at w octets = Some (from_be_bytes w octets)
 
 unfoldable pub sae : List ℕ → Result (ℕ × List ℕ) ℕ
-sae octets = front 2 (number_at w16) (λ n. nat_lt n 256) octets
+sae octets = prefix 2 (number_at w16) (λ n. nat_lt n 256) octets
 
 unfoldable pub size : List ℕ → Result (ℕ × List ℕ) ℕ
-size octets = front 2 (number_at w16) (λ n. nat_le 8 n && nat_le n 512) octets
+size octets = prefix 2 (number_at w16) (λ n. nat_le 8 n && nat_le n 512) octets
 
 unfoldable pub index : List ℕ → Result (ℕ × List ℕ) ℕ
-index octets = front 4 (number_at w32) (λ n. true) octets
+index octets = prefix 4 (number_at w32) (λ n. true) octets
 
 -- how many nodes, and then they
 unfoldable pub route : List ℕ → Result (List ℕ × List ℕ) ℕ
 route [] = Err 0
 route (n ∷ octets) = if nat_lt (length octets) n then Err (1 + length octets) else before (drop n octets) (passing (λ nodes. is_route nodes && are_nodes nodes) (1 + length octets) (Some (take n octets)))
 
--- the last field: so many octets, with nothing behind them
+-- the last field: so many octets, with nothing after them
 unfoldable pub last : ℕ → List ℕ → Result (List ℕ) ℕ
 last n octets = if nat_lt (length octets) n then Err (length octets) else if nat_lt n (length octets) then Err (length octets - n) else Ok octets
 
--- ---- facts, behind the octet of their kind
+-- ---- facts, after the octet of their kind
 
 unfoldable pub key_of : List ℕ → Result Fact ℕ
 key_of octets = do
@@ -135,26 +135,26 @@ ack_of octets = do
 
 -- ---- payloads
 
-abbrev pub told : Result Fact ℕ → Result Payload ℕ
-told read = do
+abbrev pub as_data : Result Fact ℕ → Result Payload ℕ
+as_data read = do
   fact ← read
-  Ok (Told fact)
+  Ok (Data fact)
 
 abbrev pub acked : Result Name ℕ → Result Payload ℕ
 acked read = do
   name ← read
   Ok (Ack name)
 
--- behind the octet of its kind, of which so many octets are left
+-- after the octet of its kind, of which so many octets are left
 abbrev pub of_kind_octet : ℕ → ℕ → List ℕ → Result Payload ℕ
 of_kind_octet kind left octets =
-    if kind == 1 then told (key_of octets) else
-    if kind == 2 then told (stored_of octets) else
+    if kind == 1 then as_data (key_of octets) else
+    if kind == 2 then as_data (stored_of octets) else
     if kind == 3 then acked (ack_of octets) else
-    if kind == 4 then told (open_of octets) else
-    if kind == 5 then told (joined_of octets) else
-    if kind == 6 then told (chunk_of octets) else
-    if kind == 7 then told (part_of octets) else Err left
+    if kind == 4 then as_data (open_of octets) else
+    if kind == 5 then as_data (joined_of octets) else
+    if kind == 6 then as_data (chunk_of octets) else
+    if kind == 7 then as_data (part_of octets) else Err left
 
 unfoldable pub payload_left : List ℕ → Result Payload ℕ
 payload_left [] = Err 0

@@ -120,20 +120,20 @@ pub fn route_of(octets: &[u8]) -> Result<Route, Fault>
     ensures found { Finds (λ x. (x, drop (1 + length x) octets.now)) result (route octets.now) }
     ensures whole { IfOk result (λ x. 1 + length x ≤ length octets.now) }
 {
-    let [size, behind @ ..] = octets else {
+    let [size, after @ ..] = octets else {
         return Err(Fault::Left(0));
     };
     let size = usize::from(*size);
-    if behind.len() < size {
+    if after.len() < size {
         return Err(Fault::Left(octets.len()));
     }
-    match way_of(&behind[..size]) {
+    match way_of(&after[..size]) {
         Some(route) => Ok(route),
         None => Err(Fault::Left(octets.len())),
     }
 }
 
-// The last field: so many octets, and nothing behind them.
+// The last field: so many octets, and nothing after them.
 #[tactic(auto, unfolding(crate::specs::Reading::last))]
 pub fn last_of(octets: &[u8], size: u16) -> Result<(), Fault>
     ensures { Finds (λ x. octets.now) result (last size octets.now) }

@@ -6,7 +6,7 @@ use std::fmt;
 #[derive(Clone, Copy, Debug, PartialEq, Eq)]
 pub enum PayloadRefusal {
     /// The octets aren't the spelling of a payload. The place, counted from 0, is that of the first octet of the field
-    /// that doesn't fit or is cut off, or of the first octet behind the last field.
+    /// that doesn't fit or is cut off, or of the first octet after the last field.
     NotAPayload(usize),
     /// Want of memory, for octets that are a payload.
     Memory,

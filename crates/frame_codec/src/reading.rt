@@ -11,29 +11,29 @@ use net_model::{Fact, Payload};
 use qkd_base::{KeyName, NameKind, Octets, Route};
 use std::alloc::Global;
 
-// What stands behind so many octets.
-fn behind(octets: &[u8], size: usize) -> &[u8]
+// What stands after so many octets.
+fn after(octets: &[u8], size: usize) -> &[u8]
     requires { size ≤ length octets.now }
     ensures { result.now ≡ drop size octets.now }
 {
     &octets[size..]
 }
 
-// A key, behind its kind.
+// A key, after its kind.
 #[tactic(auto, unfolding(crate::specs::Reading::key_of))]
 fn key_of(alloc: Global, octets: &[u8]) -> Result<Fact, Fault>
     ensures { Gives (λ x. x) result (key_of octets.now) }
 {
     let name = name_of_kind(octets, NameKind::Key)?;
-    let octets = behind(octets, 16);
+    let octets = after(octets, 16);
     let master = sae_of(octets)?;
-    let octets = behind(octets, 2);
+    let octets = after(octets, 2);
     let slave = sae_of(octets)?;
-    let octets = behind(octets, 2);
+    let octets = after(octets, 2);
     let size = size_of(octets)?;
-    let octets = behind(octets, 2);
+    let octets = after(octets, 2);
     let route = route_of(octets)?;
-    let octets = behind(octets, 1 + route.as_slice().len());
+    let octets = after(octets, 1 + route.as_slice().len());
     last_of(octets, size)?;
     let bytes = Octets::from_slice(alloc, octets)?;
     Ok(Fact::Key {
@@ -45,36 +45,36 @@ fn key_of(alloc: Global, octets: &[u8]) -> Result<Fact, Fault>
     })
 }
 
-// A note about a name of this kind, behind the note's kind.
+// A note about a name of this kind, after the note's kind.
 #[tactic(auto, unfolding(crate::specs::Reading::note_of))]
 fn note_of(octets: &[u8], kind: NameKind) -> Result<(KeyName, KeyName, Route), Fault>
     ensures { Gives (λ x. x) result (note_of kind octets.now) }
 {
     let note = name_of_kind(octets, NameKind::Note)?;
-    let octets = behind(octets, 16);
+    let octets = after(octets, 16);
     let about = name_of_kind(octets, kind)?;
-    let octets = behind(octets, 16);
+    let octets = after(octets, 16);
     let route = route_of(octets)?;
-    let octets = behind(octets, 1 + route.as_slice().len());
+    let octets = after(octets, 1 + route.as_slice().len());
     last_of(octets, 0)?;
     Ok((note, about, route))
 }
 
-// The beginning of a stream, behind its kind.
+// The beginning of a stream, after its kind.
 #[tactic(auto, unfolding(crate::specs::Reading::open_of))]
 fn open_of(octets: &[u8]) -> Result<Fact, Fault>
     ensures { Gives (λ x. x) result (open_of octets.now) }
 {
     let stream = name_of_kind(octets, NameKind::Stream)?;
-    let octets = behind(octets, 16);
+    let octets = after(octets, 16);
     let source = sae_of(octets)?;
-    let octets = behind(octets, 2);
+    let octets = after(octets, 2);
     let peer = sae_of(octets)?;
-    let octets = behind(octets, 2);
+    let octets = after(octets, 2);
     let length = size_of(octets)?;
-    let octets = behind(octets, 2);
+    let octets = after(octets, 2);
     let route = route_of(octets)?;
-    let octets = behind(octets, 1 + route.as_slice().len());
+    let octets = after(octets, 1 + route.as_slice().len());
     last_of(octets, 0)?;
     Ok(Fact::Open {
         stream,
@@ -85,21 +85,21 @@ fn open_of(octets: &[u8]) -> Result<Fact, Fault>
     })
 }
 
-// A chunk, behind its kind.
+// A chunk, after its kind.
 #[tactic(auto, unfolding(crate::specs::Reading::chunk_of))]
 fn chunk_of(alloc: Global, octets: &[u8]) -> Result<Fact, Fault>
     ensures { Gives (λ x. x) result (chunk_of octets.now) }
 {
     let name = name_of_kind(octets, NameKind::Key)?;
-    let octets = behind(octets, 16);
+    let octets = after(octets, 16);
     let stream = name_of_kind(octets, NameKind::Stream)?;
-    let octets = behind(octets, 16);
+    let octets = after(octets, 16);
     let index = index_of(octets)?;
-    let octets = behind(octets, 4);
+    let octets = after(octets, 4);
     let size = size_of(octets)?;
-    let octets = behind(octets, 2);
+    let octets = after(octets, 2);
     let route = route_of(octets)?;
-    let octets = behind(octets, 1 + route.as_slice().len());
+    let octets = after(octets, 1 + route.as_slice().len());
     last_of(octets, size)?;
     let bytes = Octets::from_slice(alloc, octets)?;
     Ok(Fact::Chunk {
@@ -111,23 +111,23 @@ fn chunk_of(alloc: Global, octets: &[u8]) -> Result<Fact, Fault>
     })
 }
 
-// A part of a group key, behind its kind.
+// A part of a group key, after its kind.
 #[tactic(auto, unfolding(crate::specs::Reading::part_of))]
 fn part_of(alloc: Global, octets: &[u8]) -> Result<Fact, Fault>
     ensures { Gives (λ x. x) result (part_of octets.now) }
 {
     let name = name_of_kind(octets, NameKind::Key)?;
-    let octets = behind(octets, 16);
+    let octets = after(octets, 16);
     let key = name_of_kind(octets, NameKind::Key)?;
-    let octets = behind(octets, 16);
+    let octets = after(octets, 16);
     let master = sae_of(octets)?;
-    let octets = behind(octets, 2);
+    let octets = after(octets, 2);
     let slave = sae_of(octets)?;
-    let octets = behind(octets, 2);
+    let octets = after(octets, 2);
     let size = size_of(octets)?;
-    let octets = behind(octets, 2);
+    let octets = after(octets, 2);
     let route = route_of(octets)?;
-    let octets = behind(octets, 1 + route.as_slice().len());
+    let octets = after(octets, 1 + route.as_slice().len());
     last_of(octets, size)?;
     let bytes = Octets::from_slice(alloc, octets)?;
     Ok(Fact::Part {
@@ -140,13 +140,13 @@ fn part_of(alloc: Global, octets: &[u8]) -> Result<Fact, Fault>
     })
 }
 
-// An acknowledgement, behind its kind.
+// An acknowledgement, after its kind.
 #[tactic(auto, unfolding(crate::specs::Reading::ack_of))]
 fn ack_of(octets: &[u8]) -> Result<KeyName, Fault>
     ensures { Gives (λ x. x) result (ack_of octets.now) }
 {
     let name = name_of(octets)?;
-    let octets = behind(octets, 16);
+    let octets = after(octets, 16);
     last_of(octets, 0)?;
     Ok(name)
 }
@@ -158,19 +158,19 @@ fn payload_of_kind(alloc: Global, octets: &[u8]) -> Result<Payload, Fault>
 {
     match octets {
         [] => Err(Fault::Left(0)),
-        [1, rest @ ..] => Ok(Payload::Told(key_of(alloc, rest)?)),
+        [1, rest @ ..] => Ok(Payload::Data(key_of(alloc, rest)?)),
         [2, rest @ ..] => {
             let (note, about, route) = note_of(rest, NameKind::Key)?;
-            Ok(Payload::Told(Fact::Stored { note, about, route }))
+            Ok(Payload::Data(Fact::Stored { note, about, route }))
         }
         [3, rest @ ..] => Ok(Payload::Ack(ack_of(rest)?)),
-        [4, rest @ ..] => Ok(Payload::Told(open_of(rest)?)),
+        [4, rest @ ..] => Ok(Payload::Data(open_of(rest)?)),
         [5, rest @ ..] => {
             let (note, about, route) = note_of(rest, NameKind::Stream)?;
-            Ok(Payload::Told(Fact::Joined { note, about, route }))
+            Ok(Payload::Data(Fact::Joined { note, about, route }))
         }
-        [6, rest @ ..] => Ok(Payload::Told(chunk_of(alloc, rest)?)),
-        [7, rest @ ..] => Ok(Payload::Told(part_of(alloc, rest)?)),
+        [6, rest @ ..] => Ok(Payload::Data(chunk_of(alloc, rest)?)),
+        [7, rest @ ..] => Ok(Payload::Data(part_of(alloc, rest)?)),
         [_, ..] => Err(Fault::Left(octets.len())),
     }
 }

@@ -8,7 +8,7 @@ ghost use Rattle.frame_codec.specs.Writing.{Puts};
 use net_model::{Fact, Payload};
 use qkd_base::{FrameOctets, KeyName, Octets, Route, SaeNo};
 
-// Writes octets at a place, and says the place behind them.
+// Writes octets at a place, and says the place after them.
 fn put(into: &mut [u8], at: usize, octets: &[u8]) -> usize
     requires { at + length octets.now ≤ length into.old }
     ensures octets { Puts into.old into.new at result octets.now }
@@ -76,7 +76,7 @@ fn put_secret(into: &mut [u8], at: usize, route: &Route, bytes: &Octets) -> usiz
     put(into, at, bytes.as_slice())
 }
 
-// Writes a key, behind its kind.
+// Writes a key, after its kind.
 fn put_key(
     into: &mut [u8],
     at: usize,
@@ -99,7 +99,7 @@ fn put_key(
     put_secret(into, at, route, bytes)
 }
 
-// Writes a note about a name, behind its kind.
+// Writes a note about a name, after its kind.
 fn put_note(into: &mut [u8], at: usize, note: KeyName, about: KeyName, route: &Route) -> usize
     requires { at + 33 + length route.now ≤ length into.old }
     ensures octets { Puts into.old into.new at result (fields (octets_of note ∷ octets_of about ∷ way route.now ∷ [])) }
@@ -111,7 +111,7 @@ fn put_note(into: &mut [u8], at: usize, note: KeyName, about: KeyName, route: &R
     put_route(into, at, route)
 }
 
-// Writes the beginning of a stream, behind its kind.
+// Writes the beginning of a stream, after its kind.
 fn put_open(
     into: &mut [u8],
     at: usize,
@@ -133,7 +133,7 @@ fn put_open(
     put_route(into, at, route)
 }
 
-// Writes a chunk, behind its kind.
+// Writes a chunk, after its kind.
 fn put_chunk(
     into: &mut [u8],
     at: usize,
@@ -224,7 +224,7 @@ fn put_payload(into: &mut [u8], at: usize, payload: &Payload) -> usize
     ensures grammar { IsPayload payload.now }
 {
     match payload {
-        Payload::Told(fact) => put_fact(into, at, fact),
+        Payload::Data(fact) => put_fact(into, at, fact),
         Payload::Ack(name) => {
             let at = put(into, at, &[3]);
             put_name(into, at, *name)
@@ -232,7 +232,7 @@ fn put_payload(into: &mut [u8], at: usize, payload: &Payload) -> usize
     }
 }
 
-/// Writes the one spelling of a payload at a place, and says how many octets it has: 17 to 561. What stands behind it
+/// Writes the one spelling of a payload at a place, and says how many octets it has: 17 to 561. What stands after it
 /// says nothing.
 pub fn spell(payload: &Payload, into: &mut FrameOctets, at: usize) -> usize
     requires formed { IsWellFormed payload.now }

@@ -163,7 +163,7 @@ fn a_part_has_its_fields(rt: HostRuntime) -> Result<(), Fail> {
     let named = KeyName::new(last, NameKind::Key, 281474976710655).ok_or("name")?;
     let payload = read(rt.alloc(), &PART)?;
     match &payload {
-        Payload::Told(
+        Payload::Data(
             Fact::Part {
                 name,
                 key,

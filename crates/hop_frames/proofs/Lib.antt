@@ -1,3 +1,4 @@
 pub mod Masks
 pub mod Openings
 pub mod Octets
+pub mod Rejections

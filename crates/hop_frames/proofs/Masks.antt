@@ -15,12 +15,12 @@ masked_suc (p ∷ ps) (l ∷ ls) zero lt le = refl
 masked_suc (p ∷ ps) (l ∷ ls) (suc i) lt le = ap (λ (x : List ℕ). bit_xor p l ∷ x) (masked_suc ps ls i (omega (arith, lt)) (omega (arith, le)))
 
 -- one more octet is masked
-pub mask_more : (room octets pads front : List ℕ) (at i : ℕ) → i < length octets → i < length pads → at + i < length room → take (at + i) room ≡ front ++ masked (take i octets) pads
-    → take (at + (i + 1)) (set room (at + i) (bit_xor (get_or octets i 0) (get_or pads i 0))) ≡ front ++ masked (take (i + 1) octets) pads
-mask_more room octets pads front at i lt le fits h =
+pub mask_more : (room octets pads prefix : List ℕ) (at i : ℕ) → i < length octets → i < length pads → at + i < length room → take (at + i) room ≡ prefix ++ masked (take i octets) pads
+    → take (at + (i + 1)) (set room (at + i) (bit_xor (get_or octets i 0) (get_or pads i 0))) ≡ prefix ++ masked (take (i + 1) octets) pads
+mask_more room octets pads prefix at i lt le fits h =
     let k : at + (i + 1) ≡ at + i + 1 = omega arith in
-    rw k (take_more_set room (at + i) _ fits ∙ ap (λ (l : List ℕ). l ++ bit_xor (get_or octets i 0) (get_or pads i 0) ∷ []) h ∙ append_assoc front (masked (take i octets) pads) _
-    ∙ ap (λ (l : List ℕ). front ++ l) (sym (masked_suc octets pads i lt le)) ∙ rw add-one refl)
+    rw k (take_more_set room (at + i) _ fits ∙ ap (λ (l : List ℕ). l ++ bit_xor (get_or octets i 0) (get_or pads i 0) ∷ []) h ∙ append_assoc prefix (masked (take i octets) pads) _
+    ∙ ap (λ (l : List ℕ). prefix ++ l) (sym (masked_suc octets pads i lt le)) ∙ rw add-one refl)
 
 pub length-masked : (octets pads : List ℕ) → length (masked octets pads) ≡ length octets
 length-masked [] pads = refl
@@ -37,15 +37,15 @@ masked_twice (p ∷ ps) (l ∷ ls) = rw (xor_twice p l) (ap (λ (x : List ℕ). 
 
 -- ---- the pads that count
 
-masked_front : (octets pads : List ℕ) → masked octets pads ≡ masked octets (take (length octets) pads)
-masked_front [] pads = refl
-masked_front (p ∷ ps) [] = refl
-masked_front (p ∷ ps) (l ∷ ls) = ap (λ (x : List ℕ). bit_xor p l ∷ x) (masked_front ps ls)
+masked_prefix : (octets pads : List ℕ) → masked octets pads ≡ masked octets (take (length octets) pads)
+masked_prefix [] pads = refl
+masked_prefix (p ∷ ps) [] = refl
+masked_prefix (p ∷ ps) (l ∷ ls) = ap (λ (x : List ℕ). bit_xor p l ∷ x) (masked_prefix ps ls)
 
 pub same_masked : (octets a b : List ℕ) (n : ℕ) → length octets ≤ n → take n a ≡ take n b → masked octets a ≡ masked octets b
 same_masked octets a b n le e =
     let one : (l : List ℕ) → masked octets (take n l) ≡ masked octets l =
-    λ l. masked_front octets (take n l) ∙ ap (masked octets) (take-take (length octets) n l le) ∙ sym (masked_front octets l) in
+    λ l. masked_prefix octets (take n l) ∙ ap (masked octets) (take-take (length octets) n l le) ∙ sym (masked_prefix octets l) in
     sym (one a) ∙ ap (masked octets) e ∙ one b
 
 pub same_number : (a b : List ℕ) (n : ℕ) → take (n + 8) a ≡ take (n + 8) b → number_of (drop n a) ≡ number_of (drop n b)
@@ -69,8 +69,8 @@ framed_of_range lane start key pads bytes payload len size is e =
     ∙ ap (λ (k : ℕ). framed lane start k (drop start bytes) payload) is
 
 -- the front of a lane that was received
-pub spell_front : (lane : Lane) (offset : ℕ) (bytes more payload : List ℕ) → offset + length payload + 8 ≤ length bytes → spell lane offset (bytes ++ more) payload ≡ spell lane offset bytes payload
-spell_front lane offset bytes more payload le =
+pub spell_prefix : (lane : Lane) (offset : ℕ) (bytes more payload : List ℕ) → offset + length payload + 8 ≤ length bytes → spell lane offset (bytes ++ more) payload ≡ spell lane offset bytes payload
+spell_prefix lane offset bytes more payload le =
     let pads : take (length payload + 8) (drop offset (bytes ++ more)) ≡ take (length payload + 8) (drop offset bytes) =
     ap (take (length payload + 8)) (drop-append-le offset bytes more (omega (arith, le))) ∙ take-append-le (length payload + 8) (drop offset bytes) more (omega (arith, length-drop offset bytes, le)) in
     let key : hash_key (bytes ++ more) ≡ hash_key bytes = ap (from_be_bytes w64) (take-append-le 8 bytes more (omega (arith, le))) in

@@ -17,7 +17,7 @@ use Rattle.qkd_base.specs.declared.lane.Lane.{Lane}
 use Rattle.net_model.specs.declared.fact.Fact.{Fact}
 use Rattle.net_model.specs.declared.fact.Fact.TheVariants.{Key, Chunk, Stored, Open, Joined, Part}
 use Rattle.net_model.specs.declared.payload.Payload.{Payload}
-use Rattle.net_model.specs.declared.payload.Payload.TheVariants.{Told, Ack}
+use Rattle.net_model.specs.declared.payload.Payload.TheVariants.{Data, Ack}
 use Rattle.net_model.specs.Facts.{IsWellFormed}
 use Rattle.net_model.specs.Ranges.{IsOctets, IsRoute, IsRangedFact, IsRanged}
 use Rattle.frame_codec.specs.Payload.{IsPayload, AreOctets, way, fact_octets, payload_octets}
@@ -81,8 +81,8 @@ kind_below NoteKind = omega arith
 name_below : (n : Name) → IsName n → Below (octets_of n)
 name_below n h =
     let count : Below (drop 2 (to_be_bytes w64 n.count)) = record { octets = dropped 2 (to_be_bytes w64 n.count) (bytes_below 8 n.count).octets } in
-    let front : Below (replicate 6 0) = record { octets = refl } in
-    append front (cons 128 (omega arith) (cons n.node (omega (arith, h.node)) (cons 128 (omega arith) (cons (kind_number n.kind) (kind_below n.kind) count))))
+    let prefix : Below (replicate 6 0) = record { octets = refl } in
+    append prefix (cons 128 (omega arith) (cons n.node (omega (arith, h.node)) (cons 128 (omega arith) (cons (kind_number n.kind) (kind_below n.kind) count))))
 
 nodes_below : (ns : List ℕ) → are_nodes ns ≡ true → Below ns
 nodes_below [] h = none
@@ -116,7 +116,7 @@ fact_below (Part name key master slave route bytes) h =
 
 payload_below : (p : Payload) → IsRanged p → Below (payload_octets p)
 unfolding payload_octets
-payload_below (Told f) h = fact_below f h
+payload_below (Data f) h = fact_below f h
 payload_below (Ack n) h = cons 3 (omega arith) (name_below n h)
 
 -- ---- what is well formed and in its ranges has a spelling
@@ -128,12 +128,12 @@ are_octets (x ∷ xs) h zero = first x xs h
 are_octets (x ∷ xs) h (suc i) = are_octets xs (others x xs h) i
 
 pub payload_is : (p : Payload) → IsWellFormed p → IsRanged p → IsPayload p
-payload_is (Told (Key name master slave route bytes)) f r = ((r.0, f.0), r.1, r.2, r.3, (f.1, are_octets bytes r.4))
-payload_is (Told (Chunk name stream index route bytes)) f r = ((r.0, f.0), (r.1, f.1), r.2, r.3, (f.2, are_octets bytes r.4))
-payload_is (Told (Stored note about route)) f r = ((r.0, f.0), (r.1, f.1), r.2)
-payload_is (Told (Open stream source peer size route)) f r = ((r.0, f.0), r.1, r.2, f.1, r.3)
-payload_is (Told (Joined note about route)) f r = ((r.0, f.0), (r.1, f.1), r.2)
-payload_is (Told (Part name key master slave route bytes)) f r = ((r.0, f.0), (r.1, f.1), r.2, r.3, r.4, (f.2, are_octets bytes r.5))
+payload_is (Data (Key name master slave route bytes)) f r = ((r.0, f.0), r.1, r.2, r.3, (f.1, are_octets bytes r.4))
+payload_is (Data (Chunk name stream index route bytes)) f r = ((r.0, f.0), (r.1, f.1), r.2, r.3, (f.2, are_octets bytes r.4))
+payload_is (Data (Stored note about route)) f r = ((r.0, f.0), (r.1, f.1), r.2)
+payload_is (Data (Open stream source peer size route)) f r = ((r.0, f.0), r.1, r.2, f.1, r.3)
+payload_is (Data (Joined note about route)) f r = ((r.0, f.0), (r.1, f.1), r.2)
+payload_is (Data (Part name key master slave route bytes)) f r = ((r.0, f.0), (r.1, f.1), r.2, r.3, r.4, (f.2, are_octets bytes r.5))
 payload_is (Ack n) f r = r
 
 -- ---- frames

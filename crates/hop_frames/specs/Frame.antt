@@ -31,7 +31,7 @@ text_of lane offset pads payload = header lane offset (length payload) ++ masked
 abbrev pub tag_octets : ℕ → List ℕ → ℕ → List ℕ
 tag_octets key text mask = to_be_bytes w64 (tag key text mask)
 
--- With its tag behind it, which is masked by the 8 pads behind the payload's (Wegman and Carter 1981, section 4).
+-- With its tag after it, which is masked by the 8 pads after the payload's (Wegman and Carter 1981, section 4).
 unfoldable pub framed : Lane → ℕ → ℕ → List ℕ → List ℕ → List ℕ
 framed lane offset key pads payload =
     text_of lane offset pads payload ++ tag_octets key (text_of lane offset pads payload) (number_of (drop (length payload) pads))

@@ -7,7 +7,7 @@ ghost use Rattle.hop_frames.specs.Opening.{header_of, on_lane};
 
 use crate::OpenRefusal;
 use crate::mask::put;
-use crate::parts::behind;
+use crate::parts::after;
 use qkd_base::{Lane, Way};
 
 /// The fields of a header that its grammar leaves open.
@@ -72,8 +72,8 @@ pub fn header_of(frame: &[u8]) -> Result<Header, OpenRefusal>
     let header = Header {
         link: frame[1],
         way: frame[2],
-        size: short_at(behind(frame, 4)),
-        offset: number_at(behind(frame, 8)),
+        size: short_at(after(frame, 4)),
+        offset: number_at(after(frame, 8)),
     };
     let size = u64::from(header.size);
     if frame[0] != 1 {

@@ -12,8 +12,8 @@ ghost use Rattle.hop_frames.specs.Sealing.{hop_sealing};
 
 use frame_codec::spelled_is_read;
 
-/// A frame over the front of a lane that was received is the frame over the whole lane.
-pub fn front_of_a_lane()
+/// A frame over the prefix of a lane that was received is the frame over the whole lane.
+pub fn prefix_of_a_lane()
     ensures { (lane : LaneValue) (offset : ℕ) (bytes more payload : List ℕ) → offset + length payload + 8 ≤ length bytes
         → spell lane offset (bytes ++ more) payload ≡ spell lane offset bytes payload }
 {}
@@ -36,6 +36,6 @@ pub fn frames_of_a_network()
     ensures { IsSealing hop_sealing }
 {
     spelled_is_read();
-    front_of_a_lane();
+    prefix_of_a_lane();
     sealed_is_opened();
 }

@@ -14,7 +14,7 @@ mod sealing;
 mod tests;
 
 pub use frame_codec;
-pub use laws::{frames_of_a_network, front_of_a_lane, sealed_is_opened};
+pub use laws::{frames_of_a_network, prefix_of_a_lane, sealed_is_opened};
 pub use link_segments;
 pub use open_refusal::OpenRefusal;
 pub use opened::Opened;

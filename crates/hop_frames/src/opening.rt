@@ -9,7 +9,7 @@ ghost use Rattle.hop_frames.specs.Opening.{Opens, checked, tagged, opened_at, op
 use crate::header::{Header, header_of, number_at, on_lane};
 use crate::lane_part::{lane_number, lane_part};
 use crate::mask::put_masked;
-use crate::parts::{behind, front};
+use crate::parts::{after, prefix};
 use crate::{OpenRefusal, Opened};
 use frame_codec::{PayloadRefusal, read};
 use link_segments::Segments;
@@ -33,10 +33,10 @@ fn tagged(frame: &[u8], header: Header, held: &Segments, way: Way) -> Result<Hea
         return Err(OpenRefusal::NoBits(have));
     }
     let size = usize::from(header.size);
-    let given = number_at(behind(frame, 16 + size));
+    let given = number_at(after(frame, 16 + size));
     let key = lane_number(held, way, 0);
     let mask = lane_number(held, way, end);
-    let computed = tag(key, front(frame, 16 + size), mask);
+    let computed = tag(key, prefix(frame, 16 + size), mask);
     if given == computed {
         Ok(header)
     } else {
@@ -67,7 +67,7 @@ fn read_masked(
     ensures { Reads result (payload_of (masked octets.now pads.now)) }
 {
     put_masked(clear, 0, octets, pads);
-    read(alloc, front(clear, octets.len()))
+    read(alloc, prefix(clear, octets.len()))
 }
 
 // Reads the payload that octets mask at an offset of a lane, in the room given.
@@ -152,7 +152,7 @@ pub fn open(alloc: Global, lane: Lane, frame: &[u8], held: &Segments) -> Result<
 {
     let header = checked(&lane, frame, held)?;
     let size = usize::from(header.size);
-    let octets = front(behind(frame, 16), size);
+    let octets = prefix(after(frame, 16), size);
     let payload = if size <= 600 {
         read_short(alloc, octets, held, lane.way, header.offset)
     } else {

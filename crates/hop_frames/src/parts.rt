@@ -1,16 +1,16 @@
 // Parts of octets.
 ghost use Rattle.std.specs.Prelude.{◌≡◌, ◌≤◌, length, take, drop};
 
-// So many octets from the front.
-pub fn front(octets: &[u8], size: usize) -> &[u8]
+// The first so many octets.
+pub fn prefix(octets: &[u8], size: usize) -> &[u8]
     requires { size ≤ length octets.now }
     ensures { result.now ≡ take size octets.now }
 {
     &octets[..size]
 }
 
-// What stands behind so many octets.
-pub fn behind(octets: &[u8], size: usize) -> &[u8]
+// What stands after so many octets.
+pub fn after(octets: &[u8], size: usize) -> &[u8]
     requires { size ≤ length octets.now }
     ensures { result.now ≡ drop size octets.now }
 {

@@ -6,7 +6,7 @@ ghost use Rattle.hop_frames.specs.Frame.{framed, hash_key, spell};
 
 use crate::header::{number_at, put_header};
 use crate::mask::{put, put_masked};
-use crate::parts::{behind, front};
+use crate::parts::{after, prefix};
 use frame_codec::spell;
 use net_model::{Payload, spelled_len};
 use pad_ledger::PadRange;
@@ -24,8 +24,8 @@ fn put_frame(into: &mut [u8], lane: &Lane, offset: u64, key: u64, pads: &[u8], p
     let size = payload.len();
     put_header(into, lane, offset, size as u16);
     put_masked(into, 16, payload, pads);
-    let mask = number_at(behind(pads, size));
-    let tag = tag(key, front(into, 16 + size), mask);
+    let mask = number_at(after(pads, size));
+    let tag = tag(key, prefix(into, 16 + size), mask);
     put(into, 16 + size, &tag.to_be_bytes());
 }
 
@@ -54,7 +54,7 @@ pub fn seal(
     let size = usize::from(spelled_len(payload));
     let mut clear = FrameOctets::new();
     spell(payload, &mut clear, 0);
-    let clear = front(&clear.octets, size);
+    let clear = prefix(&clear.octets, size);
     put_frame(&mut into.octets, &lane, offset, key, pads, clear);
     24 + size
 }

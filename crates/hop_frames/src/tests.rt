@@ -53,14 +53,14 @@ fn one_block(alloc: Global, step: u64) -> Result<Segments, Fail> {
 }
 
 // Key number `count` of node 0, for applications 0 and 1 over one link.
-fn told(alloc: Global, count: u64) -> Result<Payload, Fail> {
+fn a_key(alloc: Global, count: u64) -> Result<Payload, Fail> {
     let first = NodeNo::new(0).ok_or("node")?;
     let second = NodeNo::new(1).ok_or("node")?;
     let mut bytes = [0u8; 32];
     for i in 0..32u8 {
         bytes[usize::from(i)] = i;
     }
-    Ok(Payload::Told(Fact::Key {
+    Ok(Payload::Data(Fact::Key {
         name: KeyName::new(first, NameKind::Key, count).ok_or("name")?,
         master: SaeNo::new(0).ok_or("sae")?,
         slave: SaeNo::new(1).ok_or("sae")?,
@@ -106,19 +106,19 @@ fn sealed_frames_are_opened(rt: HostRuntime) -> Result<(), Fail> {
     ledger.receive(1024);
     ledger.raise(1024);
     let mut first = FrameOctets::new();
-    let size = sealed(&rt, &held, &mut ledger, &told(rt.alloc(), 1)?, &mut first)?;
+    let size = sealed(&rt, &held, &mut ledger, &a_key(rt.alloc(), 1)?, &mut first)?;
     assert_eq!(rt; size, 82);
     let frame = &first.octets[..82];
     assert!(rt; frame == FRAME.as_slice());
     let mut second = FrameOctets::new();
-    let size = sealed(&rt, &held, &mut ledger, &told(rt.alloc(), 2)?, &mut second)?;
+    let size = sealed(&rt, &held, &mut ledger, &a_key(rt.alloc(), 2)?, &mut second)?;
     assert_eq!(rt; size, 82);
     assert_eq!(rt; ledger.counts().spent, 140);
     for (frame, offset, count) in [(&second, 74, 2), (&first, 8, 1)] {
         let opened = open(rt.alloc(), lane_of(Way::Up)?, &frame.octets[..82], &held)?;
         assert_eq!(rt; opened.offset, offset);
         match &opened.payload {
-            Payload::Told(Fact::Key { name, .. }) => assert_eq!(rt; name.count(), count),
+            Payload::Data(Fact::Key { name, .. }) => assert_eq!(rt; name.count(), count),
             _ => assert!(rt; false),
         }
     }
@@ -194,7 +194,7 @@ fn invented_frames(rt: HostRuntime) -> Result<(), Fail> {
     Ok(())
 }
 
-// Payloads of 538 and 462 octets use all of a block; behind the first one of 463 is short.
+// Payloads of 538 and 462 octets use all of a block; after the first one of 463 is short.
 #[test]
 fn claims_use_a_block(rt: HostRuntime) {
     for (size, spent) in [(462, 1024), (463, 554)] {

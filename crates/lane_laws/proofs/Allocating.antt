@@ -5,13 +5,11 @@ use Rattle.std.proofs.lemmas.List.{length-replicate}
 use Rattle.std.proofs.lemmas.Bool.Decides.{nat_tests}
 use Rattle.std.proofs.lemmas.Option.{slice_get_past}
 use Rattle.qkd_base.specs.declared.lane.Lane.{Lane}
-use Rattle.qkd_base.specs.declared.lane.Way.{Way}
-use Rattle.qkd_base.specs.declared.lane.Way.TheVariants.{Up, Down}
 use Rattle.net_model.specs.declared.fact.Fact.{Fact}
 use Rattle.net_model.specs.declared.record.Record.{Record}
 use Rattle.net_model.specs.declared.record.Record.TheVariants.{Block, Lease, Learned, Acked, Handed, Closed, Bare}
 use Rattle.net_model.specs.Item.{Item, need}
-use Rattle.net_model.specs.Site.{Site, sender, receiver, outgoing_way}
+use Rattle.net_model.specs.Site.{Site, sender, receiver, outgoing_lane}
 use Rattle.net_model.specs.World.{Network, World, Durable, Allocation, Transmission, Outgoing, Owner, Frame, received}
 use Rattle.net_model.specs.Records.{block_taken, apply_record}
 use Rattle.net_model.specs.Ownership.{is_frame, is_key, covers, IsOwned, HasRoom, IsWired}
@@ -25,7 +23,7 @@ use Rattle.net_model.specs.Action.{Allocate}
 use Rattle.net_model.specs.Frames.{allocate, is_unclaimed, without}
 use Rattle.net_model.specs.Step.{is_enabled}
 use Rattle.record_laws.proofs.Base.{get_cases, by_lane, and_right}
-use Rattle.lane_laws.proofs.Lists.{get_front, get_last, last_cases, order_at, needs-without, order_before}
+use Rattle.lane_laws.proofs.Lists.{get_prefix, get_last, last_cases, order_at, needs-without, order_before}
 use Rattle.lane_laws.proofs.Growth.{Outgrows, volatile_stays, placed_stays, drawn_stays}
 
 -- the next bytes have this frame, and else nothing changes
@@ -98,18 +96,17 @@ module _ (facts : List Fact) (own : List Owner) (frames : List Allocation) (got 
 
 -- what may be replayed doesn't rest on the owners of bytes
 
-taken_aside : (d : Way) (link : ℕ) (x : Durable) (own : Lane → List Owner) → block_taken d link (record x { own = own }) ≡
-    record (block_taken d link x) { own = (block_taken d link (record x { own = own })).own }
+taken_aside : (l : Lane) (x : Durable) (own : Lane → List Owner) → block_taken l (record x { own = own }) ≡
+    record (block_taken l x) { own = (block_taken l (record x { own = own })).own }
 unfolding block_taken
-taken_aside Up link x own = refl
-taken_aside Down link x own = refl
+taken_aside l x own = refl
 
 pub may_own : (s : Site) (v : ℕ) (rs : List Record) (d : Durable) (own : Lane → List Owner) → MayReplay s d v rs → MayReplay s (record d { own = own }) v rs
 unfolding apply_record
 may_own s v [] d own h = tt
 may_own s v (Block link number bytes ∷ rs) d own h =
-    let d' : Durable = block_taken (outgoing_way s v link) link d in
-    (h.0, subst (λ (x : Durable). MayReplay s x v rs) (sym (taken_aside (outgoing_way s v link) link d own)) (may_own s v rs d' _ h.1))
+    let d' : Durable = block_taken (outgoing_lane s v link) d in
+    (h.0, subst (λ (x : Durable). MayReplay s x v rs) (sym (taken_aside (outgoing_lane s v link) d own)) (may_own s v rs d' _ h.1))
 may_own s v (Lease lane end ∷ rs) d own h = (h.0, may_own s v rs (apply_record s v (Lease lane end) d) own h.1)
 may_own s v (Learned f ∷ rs) d own h = (h.0, may_own s v rs (apply_record s v (Learned f) d) own h.1)
 may_own s v (Acked n ∷ rs) d own h = (h.0, may_own s v rs (apply_record s v (Acked n) d) own h.1)
@@ -179,10 +176,9 @@ module _ (net : Network) (w : World) (t : Transmission) (c : Conserved net w) (t
   allocated_more = record {
     facts = λ n f h. h;
     known = λ u n h. h;
-    low = λ k. omega arith;
-    high = λ k. omega arith;
+    blocks = λ k. omega arith;
     frames = by_lane (λ k b. (j : ℕ) (a : Allocation) → slice_get (w.frames k) j ≡ Some a → slice_get (frames' k b) j ≡ Some a) l
-        (λ j a h. get_front (w.frames l) (new ∷ []) j a h) (λ k j a h. h);
+        (λ j a h. get_prefix (w.frames l) (new ∷ []) j a h) (λ k j a h. h);
     wire = λ k n j h. h;
   }
 
@@ -208,7 +204,7 @@ module _ (net : Network) (w : World) (t : Transmission) (c : Conserved net w) (t
         (record {
           wired = λ n j h. omega (arith, (c.wired l).wired n j h, length-append (w.frames l) (new ∷ []));
           put = λ n o h. elim (last_cases (w.outgoing l) _ n o h) [
-            | inl old ↦ let r = (c.wired l).put n o old in (r.0, get_front (w.frames l) (new ∷ []) o.frame r.0 r.1, r.2)
+            | inl old ↦ let r = (c.wired l).put n o old in (r.0, get_prefix (w.frames l) (new ∷ []) o.frame r.0 r.1, r.2)
             | inr (at, is) ↦ subst (λ (x : Outgoing). (a : Allocation) × (slice_get (w.frames l ++ new ∷ []) x.frame ≡ Some a) × (a.item ≡ x.transmission.item)) is (new, get_last (w.frames l) new, refl)
           ];
         })
@@ -217,8 +213,8 @@ module _ (net : Network) (w : World) (t : Transmission) (c : Conserved net w) (t
     started = c.started;
     doubt_room = c.doubt_room;
     drawn = drawn_stays net w _ (λ n f h. h) refl (λ v. omega arith) c.drawn;
-    low_blocks = c.low_blocks;
-    high_blocks = c.high_blocks;
+    few_blocks = c.few_blocks;
+    recovered = by_lane (λ k b. w.recovered k ≤ length (own' k b)) l (omega (arith, c.recovered l, length-append (w.durable.own l) claimed)) c.recovered;
   }
 
 -- an allocation that may happen

@@ -8,9 +8,9 @@ use Rattle.std.proofs.lemmas.Bool.{lt-ltb}
 use Rattle.qkd_base.specs.declared.lane.Way.{Way}
 use Rattle.qkd_base.specs.declared.lane.Way.TheVariants.{Up, Down}
 use Rattle.qkd_base.specs.LaneBytes.{even_places, odd_places, way_blocks, lane_octets, lane_len}
-use Rattle.net_model.specs.Told.{Told, octets_from, block_at, first_blocks}
+use Rattle.net_model.specs.OctetSequence.{OctetSequence, octets_from, block_at, first_blocks}
 use Rattle.net_model.specs.Ranges.{IsOctets}
-use Rattle.net_model.specs.Premises.{TellsOctets}
+use Rattle.net_model.specs.Premises.{IsOctetSequence}
 use Rattle.record_laws.proofs.Base.{and_both}
 use Rattle.record_laws.proofs.Octets.{length-octets_from}
 
@@ -21,7 +21,7 @@ unfolding octets_from
 from_octets octet h place zero = refl
 from_octets octet h place (suc n) = and_both (nat_lt (octet place) 256) _ (lt-ltb (octet place) 256 (h place)) (from_octets octet h (place + 1) n)
 
-pub count_blocks : (t : Told) (n : ℕ) → length (first_blocks t n) ≡ n
+pub count_blocks : (t : OctetSequence) (n : ℕ) → length (first_blocks t n) ≡ n
 unfolding first_blocks
 count_blocks t zero = refl
 count_blocks t (suc n) = omega (arith, length-append (first_blocks t n) (block_at t n ∷ []), count_blocks t n)
@@ -30,12 +30,12 @@ all_push : (P : List ℕ → Type 0) (bs : List (List ℕ)) (b : List ℕ) → A
 all_push P [] b all p = (p, tt)
 all_push P (x ∷ bs) b all p = (all.0, all_push P bs b all.1 p)
 
-all_blocks : (P : List ℕ → Type 0) (t : Told) → ((n : ℕ) → P (block_at t n)) → (n : ℕ) → AllByRecursion P (first_blocks t n)
+all_blocks : (P : List ℕ → Type 0) (t : OctetSequence) → ((n : ℕ) → P (block_at t n)) → (n : ℕ) → AllByRecursion P (first_blocks t n)
 unfolding first_blocks
 all_blocks P t h zero = tt
 all_blocks P t h (suc n) = all_push P (first_blocks t n) (block_at t n) (all_blocks P t h n) (h n)
 
-first_split : (t : Told) (a k : ℕ) → (rest : List (List ℕ)) × (first_blocks t (k + a) ≡ first_blocks t a ++ rest)
+first_split : (t : OctetSequence) (a k : ℕ) → (rest : List (List ℕ)) × (first_blocks t (k + a) ≡ first_blocks t a ++ rest)
 unfolding first_blocks
 first_split t a zero = let e : 0 + a ≡ a = omega arith in ([], ap (first_blocks t) e ∙ sym (append-nil (first_blocks t a)))
 first_split t a (suc k) =
@@ -68,7 +68,7 @@ lane_split way bs cs =
     let r = way_split way bs cs in
     (flat_map (λ b. b) r.0, ap (flat_map (λ (b : List ℕ). b)) r.1 ∙ flat_map-append (λ b. b) (way_blocks way bs) r.0)
 
-pub lane_grows : (way : Way) (t : Told) (a b : ℕ) → a ≤ b → (more : List ℕ) × (lane_octets way (first_blocks t b) ≡ lane_octets way (first_blocks t a) ++ more)
+pub lane_grows : (way : Way) (t : OctetSequence) (a b : ℕ) → a ≤ b → (more : List ℕ) × (lane_octets way (first_blocks t b) ≡ lane_octets way (first_blocks t a) ++ more)
 lane_grows way t a b le =
     let e : b ≡ (b - a) + a = omega arith in
     let r = first_split t a (b - a) in
@@ -100,7 +100,7 @@ way_length : (way : Way) (bs : List (List ℕ)) → AllByRecursion IsWhole bs �
 way_length Up bs w = length_up bs w
 way_length Down bs w = length_down bs w
 
-pub lane_length : (way : Way) (t : Told) (n : ℕ) → length (lane_octets way (first_blocks t n)) ≡ lane_len way n
+pub lane_length : (way : Way) (t : OctetSequence) (n : ℕ) → length (lane_octets way (first_blocks t n)) ≡ lane_len way n
 lane_length way t n =
     way_length way (first_blocks t n) (all_blocks IsWhole t (λ k. length-octets_from t.octet (1024 * k) 1024) n) ∙ ap (lane_len way) (count_blocks t n)
 
@@ -124,7 +124,7 @@ odd_octets [] h = refl
 odd_octets (b ∷ []) h = refl
 odd_octets (b ∷ c ∷ bs) h = octets_both c _ h.1.0 (odd_octets bs h.1.1)
 
-pub lane_are_octets : (way : Way) (t : Told) → TellsOctets t → (n : ℕ) → IsOctets (lane_octets way (first_blocks t n))
+pub lane_are_octets : (way : Way) (t : OctetSequence) → IsOctetSequence t → (n : ℕ) → IsOctets (lane_octets way (first_blocks t n))
 unfolding lane_octets
 lane_are_octets Up t h n = even_octets (first_blocks t n) (all_blocks IsOctets t (λ k. from_octets t.octet h (1024 * k) 1024) n)
 lane_are_octets Down t h n = odd_octets (first_blocks t n) (all_blocks IsOctets t (λ k. from_octets t.octet h (1024 * k) 1024) n)

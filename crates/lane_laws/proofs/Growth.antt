@@ -4,18 +4,16 @@ use Rattle.std.specs.Prelude.{slice_get}
 use Rattle.std.proofs.lemmas.Bool.{ltb-true}
 use Rattle.qkd_base.specs.Name.{Name, IsName}
 use Rattle.qkd_base.specs.declared.lane.Lane.{Lane}
-use Rattle.qkd_base.specs.declared.lane.Way.{Way}
-use Rattle.qkd_base.specs.declared.lane.Way.TheVariants.{Up, Down}
 use Rattle.qkd_base.specs.LaneBytes.{lane_len}
 use Rattle.net_model.specs.declared.fact.Fact.{Fact}
 use Rattle.net_model.specs.declared.payload.Payload.{Payload}
-use Rattle.net_model.specs.declared.payload.Payload.TheVariants.{Told, Ack}
+use Rattle.net_model.specs.declared.payload.Payload.TheVariants.{Data, Ack}
 use Rattle.net_model.specs.declared.placing.Placing.{Placing}
 use Rattle.net_model.specs.Facts.{payload_len, IsWellFormed}
 use Rattle.net_model.specs.Ranges.{IsRanged}
 use Rattle.net_model.specs.Table.{fact_at, origin}
 use Rattle.net_model.specs.Item.{Item, DataItem, AckItem, payload, need}
-use Rattle.net_model.specs.Site.{sender, receiver, of_way}
+use Rattle.net_model.specs.Site.{sender, receiver}
 use Rattle.net_model.specs.Sealing.{IsSealable}
 use Rattle.net_model.specs.Premises.{IsNetwork}
 use Rattle.net_model.specs.Events.{is_lane}
@@ -28,14 +26,13 @@ use Rattle.net_model.specs.Invariant.{Conserved}
 use Rattle.record_laws.proofs.Tables.{found_name, ranged_name}
 use Rattle.record_laws.proofs.Grow.{Grows, KnownGrows, adjacent_grows}
 use Rattle.lane_laws.proofs.Blocks.{lane_grows, lane_length, lane_small, lane_are_octets}
-use Rattle.lane_laws.proofs.Owners.{within_owned, behind_key}
+use Rattle.lane_laws.proofs.Owners.{within_owned, after_key}
 
 -- a world in which lanes, wires, facts, knowledge and blocks are those of another or more
 pub record Outgrows (w w' : World) : Type 0 where
   pub facts : Grows w.durable.facts w'.durable.facts
   pub known : KnownGrows w.durable.known w'.durable.known
-  pub low : (l : ℕ) → w.durable.low_blocks l ≤ w'.durable.low_blocks l
-  pub high : (l : ℕ) → w.durable.high_blocks l ≤ w'.durable.high_blocks l
+  pub blocks : (l : Lane) → w.durable.blocks l ≤ w'.durable.blocks l
   pub frames : (l : Lane) (j : ℕ) (a : Allocation) → slice_get (w.frames l) j ≡ Some a → slice_get (w'.frames l) j ≡ Some a
   pub wire : (l : Lane) (n j : ℕ) → slice_get (w.wire l) n ≡ Some j → slice_get (w'.wire l) n ≡ Some j
 
@@ -46,35 +43,24 @@ record IsSpelled (facts : List Fact) (i : Item) : Type 0 where
   formed : IsWellFormed p
   ranged : IsRanged p
 
-blocks_of_way : (way : Way) (low high : ℕ) → low ≤ 1024 → high ≤ 1024 → of_way way low high ≤ 1024
-blocks_of_way Up low high h k = h
-blocks_of_way Down low high h k = k
-
-way_grows : (way : Way) (low low' high high' : ℕ) → low ≤ low' → high ≤ high' → of_way way low high ≤ of_way way low' high'
-way_grows Up low low' high high' h k = h
-way_grows Down low low' high high' h k = k
-
 module _ (net : Network) (w : World) (network : IsNetwork net) (c : Conserved net w) where
-  spelled_told : (n : Name) (f : Fact) → fact_at w.durable.facts n ≡ Some f → IsSpelled w.durable.facts (DataItem n)
-  spelled_told n f there =
+  spelled_data : (n : Name) (f : Fact) → fact_at w.durable.facts n ≡ Some f → IsSpelled w.durable.facts (DataItem n)
+  spelled_data n f there =
       let t : IsFactOf net.site w.durable.facts w.durable.known n f = c.now.table n f there in
-      record { p = Told f; is = rw there refl; formed = t.formed; ranged = t.ranged }
+      record { p = Data f; is = rw there refl; formed = t.formed; ranged = t.ranged }
 
   spelled : (from to : ℕ) (i : Item) → MayCarry w.durable.facts w.durable.known from to i → IsSpelled w.durable.facts i
-  spelled from to (DataItem n) m = spelled_told n m.fact m.there
+  spelled from to (DataItem n) m = spelled_data n m.fact m.there
   spelled from to (AckItem n) m =
       let t : IsFactOf net.site w.durable.facts w.durable.known n m.fact = c.now.table n m.fact m.there in
       record { p = Ack n; is = refl; formed = tt; ranged = subst IsName (found_name w.durable.facts n m.fact m.there) (ranged_name m.fact t.ranged) }
 
-  blocks_sent : Lane → ℕ
-  blocks_sent l = of_way l.way (w.durable.low_blocks l.link) (w.durable.high_blocks l.link)
-
   pub sealable : (l : Lane) (j : ℕ) (a : Allocation) (p : Payload) → is_lane net.site l ≡ true → slice_get (w.frames l) j ≡ Some a →
       payload w.durable.facts a.item ≡ Some p → IsWellFormed p → IsRanged p → IsSealable l (octets_sent net w l) a.offset p
   sealable l j a p at there is formed ranged =
-      let blocks : ℕ = of_way l.way (w.durable.low_blocks l.link) (w.durable.high_blocks l.link) in
+      let blocks : ℕ = w.durable.blocks l in
       let len : length (octets_sent net w l) ≡ lane_len l.way blocks = lane_length l.way (net.device l.link) blocks in
-      let small = lane_small l.way blocks (blocks_of_way l.way _ _ (c.low_blocks l.link) (c.high_blocks l.link)) in
+      let small = lane_small l.way blocks (c.few_blocks l) in
       let room = c.now.room l in
       let needed : need w.durable.facts a.item ≡ payload_len p + 8 = rw is refl in
       let within = within_owned w.durable.facts (w.durable.own l) (w.frames l) _ (c.now.owned l) j a there in
@@ -84,7 +70,7 @@ module _ (net : Network) (w : World) (network : IsNetwork net) (c : Conserved ne
         size = omega (arith, len, small);
         formed = formed;
         ranged = ranged;
-        start = behind_key w.durable.facts (w.durable.own l) (w.frames l) _ (c.now.owned l) (w.unclaimed l) (w.durable.lease l) room j a there;
+        start = after_key w.durable.facts (w.durable.own l) (w.frames l) _ (c.now.owned l) (w.unclaimed l) (w.durable.lease l) room j a there;
         reach = omega (arith, len, room.planned, room.leased, needed, within);
       }
 
@@ -99,8 +85,7 @@ module _ (net : Network) (w : World) (network : IsNetwork net) (c : Conserved ne
     octets_stay l j a at there =
         let m = (c.now.carried l).framed j a there in
         let s = spelled (sender net.site l) (receiver net.site l) a.item m in
-        let le = way_grows l.way _ _ _ _ (g.low l.link) (g.high l.link) in
-        let more = lane_grows l.way (net.device l.link) _ _ le in
+        let more = lane_grows l.way (net.device l.link) _ _ (g.blocks l) in
         let good = sealable l j a s.p at there s.is s.formed s.ranged in
         ap (sealed net w' l a.offset) (payload_stays (sender net.site l) (receiver net.site l) a.item m ∙ s.is) ∙
         ap (λ (bytes : List ℕ). net.sealing.seal l bytes a.offset s.p) more.1 ∙

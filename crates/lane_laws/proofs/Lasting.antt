@@ -14,10 +14,10 @@ use Rattle.net_model.specs.Site.{Site, receiver}
 use Rattle.net_model.specs.Sealing.{Opened, Opens, Rejected, Forged}
 use Rattle.net_model.specs.Decision.{Effect, Decision, Refuses, Does}
 use Rattle.net_model.specs.Action.{Action, Start, Crash, Arm, SetLink, TakeBlock, Ask, Allocate, Transmit, Complete, Deliver, Flip, Forge, WantMemory, Environment, Ok, is_no_memory, is_entropy_fault, is_io_fault, is_device_fault, Outcome, Recovery, Recovers, Interrupted, NoMemory, Foreign}
-use Rattle.net_model.specs.Told.{tells}
+use Rattle.net_model.specs.OctetSequence.{has_octets}
 use Rattle.net_model.specs.Journal.{journal_limit, added_len, is_nil}
 use Rattle.net_model.specs.Handle.{is_numbered, blocks_at, commit, stopped, perform, resolve, handle, take_block}
-use Rattle.net_model.specs.Frames.{frame_octets, allocate, put, transmit_one, transmit, receive_item, deliver_frame, deliver_number, deliver, strange, tampered_or_put, tampered, flip_number, flip, outgoing_of}
+use Rattle.net_model.specs.Frames.{frame_octets, allocate, put, transmit_one, transmit, receive_item, deliver_frame, deliver_number, deliver, unmatched, tampered_or_put, tampered, flip_number, flip, outgoing_of}
 use Rattle.net_model.specs.Start.{resolved, restarted, interrupted_start, recovers, start}
 use Rattle.net_model.specs.Events.{is_lane}
 use Rattle.net_model.specs.Premises.{IsNetwork}
@@ -25,19 +25,18 @@ use Rattle.net_model.specs.Invariant.{Conserved}
 use Rattle.net_model.specs.Step.{crash, complete_node, step, run}
 use Rattle.record_laws.proofs.Base.{by_lane, by_test}
 use Rattle.record_laws.proofs.Growing.{replay_grows, replay_more_blocks}
-use Rattle.lane_laws.proofs.Lists.{get_front}
+use Rattle.lane_laws.proofs.Lists.{get_prefix}
 use Rattle.lane_laws.proofs.Growth.{Outgrows, octets_stay}
 
 -- a world that differs in none of these
 same_more : (w : World) → Outgrows w w
-same_more w = record { facts = λ n f h. h; known = λ u n h. h; low = λ l. omega arith; high = λ l. omega arith; frames = λ l j a h. h; wire = λ l n j h. h }
+same_more w = record { facts = λ n f h. h; known = λ u n h. h; blocks = λ l. omega arith; frames = λ l j a h. h; wire = λ l n j h. h }
 
 pub then_more : (a b c : World) → Outgrows a b → Outgrows b c → Outgrows a c
 then_more a b c g h = record {
   facts = λ n f x. h.facts n f (g.facts n f x);
   known = λ u n x. h.known u n (g.known u n x);
-  low = λ l. let x = g.low l in let y = h.low l in omega arith;
-  high = λ l. let x = g.high l in let y = h.high l in omega arith;
+  blocks = λ l. let x = g.blocks l in let y = h.blocks l in omega arith;
   frames = λ l j a x. h.frames l j a (g.frames l j a x);
   wire = λ l n j x. h.wire l n j (g.wire l n j x);
 }
@@ -53,25 +52,25 @@ replayed_more : (s : Site) (w : World) (v : ℕ) (batch : List Record) → Outgr
 replayed_more s w v batch =
     let grown = replay_grows s v batch w.durable in
     let blocks = replay_more_blocks s v batch w.durable in
-    record { facts = grown.facts; known = grown.known; low = blocks.low; high = blocks.high; frames = λ l j a h. h; wire = λ l n j h. h }
+    record { facts = grown.facts; known = grown.known; blocks = blocks; frames = λ l j a h. h; wire = λ l n j h. h }
 
 module _ (net : Network) (w : World) where
   commit_more : (v octets : ℕ) (e : Effect) (o : Outcome) → More w (commit net.site w v octets e, o)
   unfolding commit
   commit_more v octets e o =
       let m = replayed_more net.site w v e.batch in
-      record { is = record { facts = m.facts; known = m.known; low = m.low; high = m.high; frames = m.frames; wire = m.wire } }
+      record { is = record { facts = m.facts; known = m.known; blocks = m.blocks; frames = m.frames; wire = m.wire } }
 
   stopped_more : (v octets : ℕ) (e : Effect) (o : Outcome) → More w (stopped w v octets e, o)
   unfolding stopped
-  stopped_more v octets e o = let m = same_more w in record { is = record { facts = m.facts; known = m.known; low = m.low; high = m.high; frames = m.frames; wire = m.wire } }
+  stopped_more v octets e o = let m = same_more w in record { is = record { facts = m.facts; known = m.known; blocks = m.blocks; frames = m.frames; wire = m.wire } }
 
   perform_more : (v octets : ℕ) (environment : Environment) (e : Effect) → More w (perform net w v octets environment e)
   unfolding perform
   perform_more v octets environment e =
       by_test (More w) (is_no_memory environment || not (list_all is_numbered e.batch)) _ _ (λ x. still w _)
       (λ x. by_test (More w) (nat_lt journal_limit ((w.journal v).length' + added_len (w.journal v).version e.batch)) _ _ (λ x. still w _)
-      (λ x. by_test (More w) (nat_lt 0 octets && (not (tells (net.entropy v) (w.drawn v + octets)) || is_entropy_fault environment)) _ _ (λ x. still w _)
+      (λ x. by_test (More w) (nat_lt 0 octets && (not (has_octets (net.entropy v) (w.drawn v + octets)) || is_entropy_fault environment)) _ _ (λ x. still w _)
       (λ x. by_test (More w) (is_io_fault environment && not (is_nil e.batch)) _ _ (λ x. stopped_more v octets e _) (λ x. commit_more v octets e _))))
 
   resolve_more : (v octets : ℕ) (environment : Environment) (d : Decision) → More w (resolve net w v octets environment d)
@@ -88,7 +87,7 @@ module _ (net : Network) (w : World) where
       let number = blocks_at net w v link in
       by_test (More w) (not (w.up v)) _ _ (λ x. still w _)
       (λ x. by_test (More w) (number == 1024) _ _ (λ x. still w _)
-      (λ x. by_test (More w) (not (tells (net.device link) (1024 + 1024 * number))) _ _ (λ x. still w _)
+      (λ x. by_test (More w) (not (has_octets (net.device link) (1024 + 1024 * number))) _ _ (λ x. still w _)
       (λ x. by_test (More w) (is_device_fault environment) _ _ (λ x. still w _) (λ x. handle_more v _ environment))))
 
   -- frames
@@ -102,10 +101,9 @@ module _ (net : Network) (w : World) where
         is = record {
           facts = m.facts;
           known = m.known;
-          low = m.low;
-          high = m.high;
+          blocks = m.blocks;
           frames = by_lane (λ k b. (j : ℕ) (a : Allocation) → slice_get (w.frames k) j ≡ Some a → slice_get (if b then w.frames t.lane ++ new ∷ [] else w.frames k) j ≡ Some a) t.lane
-              (λ j a h. get_front (w.frames t.lane) (new ∷ []) j a h) (λ k j a h. h);
+              (λ j a h. get_prefix (w.frames t.lane) (new ∷ []) j a h) (λ k j a h. h);
           wire = m.wire;
         };
       }
@@ -118,8 +116,7 @@ module _ (net : Network) (w : World) where
         is = record {
           facts = m.facts;
           known = m.known;
-          low = m.low;
-          high = m.high;
+          blocks = m.blocks;
           frames = m.frames;
           wire = by_lane (λ k b. (i j : ℕ) → slice_get (w.wire k) i ≡ Some j → slice_get (if b then wire else w.wire k) i ≡ Some j) l more (λ k i j h. h);
         };
@@ -129,7 +126,7 @@ module _ (net : Network) (w : World) where
   transmit_one_more l environment None = still w _
   transmit_one_more l environment (Some o) =
       by_test (More w) _ _ _ (λ x. put_more l o (w.wire l) None _ (λ k j h. h))
-      (λ x. put_more l o (w.wire l ++ o.frame ∷ []) (Some (length (w.wire l))) _ (λ k j h. get_front (w.wire l) (o.frame ∷ []) k j h))
+      (λ x. put_more l o (w.wire l ++ o.frame ∷ []) (Some (length (w.wire l))) _ (λ k j h. get_prefix (w.wire l) (o.frame ∷ []) k j h))
 
   transmit_more : (l : Lane) (j : ℕ) (environment : Environment) → More w (transmit net w l j environment)
   unfolding transmit
@@ -154,13 +151,13 @@ module _ (net : Network) (w : World) where
   unfolding deliver
   deliver_more l number environment = number_more l environment _
 
-  strange_more : (o : Opened) → More w (strange w o)
-  strange_more (Opens offset p) = still w _
-  strange_more (Rejected reply) = still w _
-  strange_more (Forged place) = still w _
+  unmatched_more : (o : Opened) → More w (unmatched w o)
+  unmatched_more (Opens offset p) = still w _
+  unmatched_more (Rejected reply) = still w _
+  unmatched_more (Forged place) = still w _
 
   either_more : (l : Lane) (octets : List ℕ) (environment : Environment) (j : Option ℕ) → More w (tampered_or_put net w l octets environment j)
-  either_more l octets environment None = by_test (More w) (not (w.up (receiver net.site l))) _ _ (λ x. still w _) (λ x. strange_more _)
+  either_more l octets environment None = by_test (More w) (not (w.up (receiver net.site l))) _ _ (λ x. still w _) (λ x. unmatched_more _)
   either_more l octets environment (Some j) = frame_more l environment _
 
   tampered_more : (l : Lane) (octets : List ℕ) (environment : Environment) → More w (tampered net w l octets environment)
@@ -176,16 +173,16 @@ module _ (net : Network) (w : World) where
 
   settled_more : (v : ℕ) (committed : Bool) → Outgrows w (resolved net.site w v committed)
   settled_more v true =
-      let m = replayed_more net.site w v (w.in_doubt v).batch in record { facts = m.facts; known = m.known; low = m.low; high = m.high; frames = m.frames; wire = m.wire }
-  settled_more v false = let m = same_more w in record { facts = m.facts; known = m.known; low = m.low; high = m.high; frames = m.frames; wire = m.wire }
+      let m = replayed_more net.site w v (w.in_doubt v).batch in record { facts = m.facts; known = m.known; blocks = m.blocks; frames = m.frames; wire = m.wire }
+  settled_more v false = let m = same_more w in record { facts = m.facts; known = m.known; blocks = m.blocks; frames = m.frames; wire = m.wire }
 
   restarted_more : (x : World) (v : ℕ) → Outgrows w x → Outgrows w (restarted net x v)
   unfolding restarted
-  restarted_more x v m = record { facts = m.facts; known = m.known; low = m.low; high = m.high; frames = m.frames; wire = m.wire }
+  restarted_more x v m = record { facts = m.facts; known = m.known; blocks = m.blocks; frames = m.frames; wire = m.wire }
 
   interrupted_more : (v : ℕ) (made : Option Bool) → Outgrows w (interrupted_start net w v made)
-  interrupted_more v None = let m = same_more w in record { facts = m.facts; known = m.known; low = m.low; high = m.high; frames = m.frames; wire = m.wire }
-  interrupted_more v (Some committed) = let m = same_more w in record { facts = m.facts; known = m.known; low = m.low; high = m.high; frames = m.frames; wire = m.wire }
+  interrupted_more v None = let m = same_more w in record { facts = m.facts; known = m.known; blocks = m.blocks; frames = m.frames; wire = m.wire }
+  interrupted_more v (Some committed) = let m = same_more w in record { facts = m.facts; known = m.known; blocks = m.blocks; frames = m.frames; wire = m.wire }
 
   recovers_more : (v : ℕ) (recovery : Recovery) → More w (recovers net w v recovery)
   recovers_more v (Recovers committed) = record { is = restarted_more _ v (settled_more v committed) }
@@ -199,19 +196,19 @@ module _ (net : Network) (w : World) where
 
   crash_more : (v : ℕ) → More w (crash w v)
   crash_more v = by_test (More w) (w.up v) _ _
-      (λ up. let m = same_more w in record { is = record { facts = m.facts; known = m.known; low = m.low; high = m.high; frames = m.frames; wire = m.wire } }) (λ down. still w _)
+      (λ up. let m = same_more w in record { is = record { facts = m.facts; known = m.known; blocks = m.blocks; frames = m.frames; wire = m.wire } }) (λ down. still w _)
 
   complete_more : (v : ℕ) → More w (complete_node net w v)
   complete_more v =
       let m = (handle_more v (Note (w.placings v)) Ok).is in
-      record { is = record { facts = m.facts; known = m.known; low = m.low; high = m.high; frames = m.frames; wire = m.wire } }
+      record { is = record { facts = m.facts; known = m.known; blocks = m.blocks; frames = m.frames; wire = m.wire } }
 
   action_more : (a : Action) → More w (step net w a)
   unfolding step flip
   action_more (Start v recovery) = start_more v recovery
   action_more (Crash v) = crash_more v
   action_more (Arm v fault) = still w _
-  action_more (SetLink link up) = let m = same_more w in record { is = record { facts = m.facts; known = m.known; low = m.low; high = m.high; frames = m.frames; wire = m.wire } }
+  action_more (SetLink link up) = let m = same_more w in record { is = record { facts = m.facts; known = m.known; blocks = m.blocks; frames = m.frames; wire = m.wire } }
   action_more (TakeBlock v link environment) = block_more v link environment
   action_more (Ask v event environment) = handle_more v event environment
   action_more (Allocate t) = allocate_more t

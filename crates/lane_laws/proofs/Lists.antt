@@ -15,8 +15,8 @@ use Rattle.net_model.specs.Window.{offset_eq, transmission_eq}
 use Rattle.net_model.specs.Frames.{without}
 use Rattle.record_laws.proofs.Base.{slice_get-append_left, slice_get-append_right, get_cases, eq_from, eq_same, name_eq_from, name_eq_same, lane_eq_from, and_left, and_right, and_both, or_cases, or_left, or_right}
 
-pub get_front : {A : Type 0} (xs ys : List A) (i : ℕ) (a : A) → slice_get xs i ≡ Some a → slice_get (xs ++ ys) i ≡ Some a
-get_front xs ys i a h = slice_get-append_left xs ys i (slice_get_within xs i a h) ∙ h
+pub get_prefix : {A : Type 0} (xs ys : List A) (i : ℕ) (a : A) → slice_get xs i ≡ Some a → slice_get (xs ++ ys) i ≡ Some a
+get_prefix xs ys i a h = slice_get-append_left xs ys i (slice_get_within xs i a h) ∙ h
 
 pub get_last : {A : Type 0} (xs : List A) (y : A) → slice_get (xs ++ y ∷ []) (length xs) ≡ Some y
 get_last {A} xs y = let e : length xs ≡ length xs + 0 = omega arith in ap (slice_get {X = A} (xs ++ y ∷ [])) e ∙ slice_get-append_right xs (y ∷ []) 0

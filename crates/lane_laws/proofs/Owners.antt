@@ -50,8 +50,8 @@ module _ (facts : List Fact) (own : List Owner) (frames : List Allocation) (got 
       omega arith
 
   -- and lie behind the hash key
-  pub behind_key : (unclaimed : List Transmission) (lease : ℕ) → HasRoom facts own unclaimed lease got → (j : ℕ) (a : Allocation) → slice_get frames j ≡ Some a → 8 ≤ a.offset
-  behind_key unclaimed lease r j a at = elim (cases_lt a.offset 8) [
+  pub after_key : (unclaimed : List Transmission) (lease : ℕ) → HasRoom facts own unclaimed lease got → (j : ℕ) (a : Allocation) → slice_get frames j ≡ Some a → 8 ≤ a.offset
+  after_key unclaimed lease r j a at = elim (cases_lt a.offset 8) [
     | inl lt ↦
         let mine : slice_get own a.offset ≡ Some (Frame j) = its_own j a.offset a at (omega arith) (omega arith) in
         let some : 0 < got = omega (arith, r.planned, r.leased, slice_get_within own a.offset (Frame j) mine) in

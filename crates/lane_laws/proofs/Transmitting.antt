@@ -17,7 +17,7 @@ use Rattle.net_model.specs.Action.{Environment, Transmit, Outcome, is_no_memory,
 use Rattle.net_model.specs.Frames.{frame_octets, offset_or_zero, outgoing_of, without_frame, placing_of, put, transmit_one, transmit}
 use Rattle.net_model.specs.Step.{is_enabled}
 use Rattle.record_laws.proofs.Base.{by_lane, by_number, and_left, by_test}
-use Rattle.lane_laws.proofs.Lists.{lane_set_same, get_front, get_last, last_cases, found_at}
+use Rattle.lane_laws.proofs.Lists.{lane_set_same, get_prefix, get_last, last_cases, found_at}
 use Rattle.lane_laws.proofs.Growth.{Outgrows, volatile_stays, placed_stays, drawn_stays}
 
 later_outgoing : (y : Outgoing) (ys zs : List Outgoing) (x : Outgoing) → ((n : ℕ) → slice_get zs n ≡ Some x → (k : ℕ) × (slice_get ys k ≡ Some x)) →
@@ -40,11 +40,11 @@ module _ (net : Network) (w : World) (network : IsNetwork net) (c : Conserved ne
   allocation = (c.wired l).put n o there
 
   -- what its placing will say of it
-  abbrev told : Allocation
-  told = record { offset = offset_or_zero (slice_get (w.frames l) o.frame); item = item_of o.transmission.received_offset (item_name o.transmission.item) }
+  abbrev placed_at : Allocation
+  placed_at = record { offset = offset_or_zero (slice_get (w.frames l) o.frame); item = item_of o.transmission.received_offset (item_name o.transmission.item) }
 
-  told_is : told ≡ allocation.0
-  told_is =
+  placed_is : placed_at ≡ allocation.0
+  placed_is =
       let item : item_of o.transmission.received_offset (item_name o.transmission.item) ≡ allocation.0.item = sym ((c.posted l).put n o there).1 ∙ sym allocation.2 in
       let offset : offset_or_zero (slice_get (w.frames l) o.frame) ≡ allocation.0.offset = ap offset_or_zero allocation.1 in
       λ i. record { offset = offset i; item = item i }
@@ -58,8 +58,7 @@ module _ (net : Network) (w : World) (network : IsNetwork net) (c : Conserved ne
     put_more = record {
       facts = λ k f h. h;
       known = λ u k h. h;
-      low = λ k. omega arith;
-      high = λ k. omega arith;
+      blocks = λ k. omega arith;
       frames = λ k j a h. h;
       wire = by_lane (λ k b. (m j : ℕ) → slice_get (w.wire k) m ≡ Some j → slice_get (if b then wire else w.wire k) m ≡ Some j) l more (λ k m j h. h);
     }
@@ -75,8 +74,8 @@ module _ (net : Network) (w : World) (network : IsNetwork net) (c : Conserved ne
       site = at;
       lane = refl;
       number = o.frame;
-      frame = allocation.1 ∙ ap Some (sym told_is);
-      octets = new_octets ∙ ap (λ (a : Allocation). frame_octets net w l (Some a)) (sym told_is);
+      frame = allocation.1 ∙ ap Some (sym placed_is);
+      octets = new_octets ∙ ap (λ (a : Allocation). frame_octets net w l (Some a)) (sym placed_is);
       wire = subst (λ (x : List ℕ). IsOnWire x o.frame number) (sym (lane_set_same w.wire l wire)) on;
     }
 
@@ -103,15 +102,15 @@ module _ (net : Network) (w : World) (network : IsNetwork net) (c : Conserved ne
       started = c.started;
       doubt_room = c.doubt_room;
       drawn = drawn_stays net w after (λ k f h. h) refl (λ v. omega arith) c.drawn;
-      low_blocks = c.low_blocks;
-      high_blocks = c.high_blocks;
+      few_blocks = c.few_blocks;
+      recovered = c.recovered;
     }
 
   one_keeps : (environment : Environment) → Conserved net (transmit_one net w l environment (Some o)).0
   one_keeps environment =
       by_test (λ (x : World × Outcome). Conserved net x.0) (is_no_memory environment || is_io_fault environment) _ _
       (λ e. put_keeps (w.wire l) None (λ k j h. h) (c.wired l).wired tt)
-      (λ e. put_keeps (w.wire l ++ o.frame ∷ []) (Some (length (w.wire l))) (λ k j h. get_front (w.wire l) (o.frame ∷ []) k j h)
+      (λ e. put_keeps (w.wire l ++ o.frame ∷ []) (Some (length (w.wire l))) (λ k j h. get_prefix (w.wire l) (o.frame ∷ []) k j h)
       (λ k j h. elim (last_cases (w.wire l) o.frame k j h) [
         | inl old ↦ (c.wired l).wired k j old
         | inr (e, is) ↦ subst (λ (x : ℕ). x < length (w.frames l)) is (slice_get_within (w.frames l) o.frame allocation.0 allocation.1)

@@ -15,31 +15,31 @@ use Rattle.scenario_text.specs.declared.phase.Phase.{Phase}
 use Rattle.scenario_text.specs.KeySize.{is_size}
 use Rattle.scenario_text.specs.Words.{word_at, is_end, number_of}
 use Rattle.scenario_text.specs.Phase.{after_bits, after_fill, after_tick, after_other}
-use Rattle.scenario_text.specs.Stage.{Stage, place_of}
+use Rattle.scenario_text.specs.DeclaredSite.{DeclaredSite, place_of}
 use Rattle.scenario_text.specs.Commanding.{way_of, name_of, sae_at_home, bits_at, fill_at, tick_at, pass_at, show_at, ledger_at, end_at}
 use Rattle.record_laws.proofs.Base.{eq_from}
 use Rattle.line_laws.specs.LineOrder.{after_command, IsCommand}
 use Rattle.line_laws.proofs.Inverting.{bound, guarded, within_places, at_home, name_read, and_two, and_three, and_four, and_five}
 
 -- what it asks is as it must be, with the nodes declared so far
-abbrev pub IsAsked : Stage → Command → Type 0
+abbrev pub IsAsked : DeclaredSite → Command → Type 0
 IsAsked s (Show v n) = (v < length s.nodes) × IsName n
 IsAsked s c = IsCommand s c
 
-pub record DoesCommand (s t : Stage) (c : Command) : Type 0 where
+pub record DoesCommand (s t : DeclaredSite) (c : Command) : Type 0 where
   pub phase : after_command c s.phase ≡ Some t.phase
   pub nodes : t.nodes ≡ s.nodes
   pub saes : t.saes ≡ s.saes
   pub asked : IsAsked s c
 
 -- a line that does something, or the last one
-abbrev pub Commands : Stage → Stage × Taken → Type 0
+abbrev pub Commands : DeclaredSite → DeclaredSite × Taken → Type 0
 Commands s (t, Does c) = DoesCommand s t c
 Commands s (t, Ends) = (t ≡ s) × (p : Phase) × (after_other s.phase ≡ Some p)
 Commands s (t, Declared) = ⊥
 Commands s (t, Skipped) = ⊥
 
-pub bits_means : (s : Stage) (rest : List ℕ) (y : Stage × Taken) → bits_at s rest ≡ Some y → Commands s y
+pub bits_means : (s : DeclaredSite) (rest : List ℕ) (y : DeclaredSite × Taken) → bits_at s rest ≡ Some y → Commands s y
 unfolding bits_at
 bits_means s rest y e =
     let link = bound (word_at rest) _ y e in
@@ -52,7 +52,7 @@ bits_means s rest y e =
     let tests = and_five (is_end count.0.1) (l.0 == 0) (bytes_eq ends.0.0 (codes "both")) (nat_le 2 n.0) (nat_le n.0 1024) g.0 in
     subst (Commands s) g.1 (record { phase = phase.1; nodes = refl; saes = refl; asked = (eq_from l.0 0 tests.1, leb-true 2 n.0 tests.3, leb-true n.0 1024 tests.4) })
 
-pub fill_means : (s : Stage) (rest : List ℕ) (y : Stage × Taken) → fill_at s rest ≡ Some y → Commands s y
+pub fill_means : (s : DeclaredSite) (rest : List ℕ) (y : DeclaredSite × Taken) → fill_at s rest ≡ Some y → Commands s y
 unfolding fill_at
 fill_means s rest y e =
     let master = bound (word_at rest) _ y e in
@@ -68,7 +68,7 @@ fill_means s rest y e =
     let tests = and_three (is_end count.0.1) (is_size bits.0) (k.0 == 1) g.0 in
     subst (Commands s) g.1 (record { phase = phase.1; nodes = refl; saes = refl; asked = (at_home master.0.0 s.saes 0 m.0 m.1, at_home slave.0.0 s.saes 1 n.0 n.1, tests.1) })
 
-pub tick_means : (s : Stage) (rest : List ℕ) (y : Stage × Taken) → tick_at s rest ≡ Some y → Commands s y
+pub tick_means : (s : DeclaredSite) (rest : List ℕ) (y : DeclaredSite × Taken) → tick_at s rest ≡ Some y → Commands s y
 unfolding tick_at
 tick_means s rest y e =
     let node = bound (word_at rest) _ y e in
@@ -78,7 +78,7 @@ tick_means s rest y e =
     let tests = and_two (is_end node.0.1) (v.0 == 0) g.0 in
     subst (Commands s) g.1 (record { phase = phase.1; nodes = refl; saes = refl; asked = eq_from v.0 0 tests.1 })
 
-pub pass_means : (s : Stage) (rest : List ℕ) (y : Stage × Taken) → pass_at s rest ≡ Some y → Commands s y
+pub pass_means : (s : DeclaredSite) (rest : List ℕ) (y : DeclaredSite × Taken) → pass_at s rest ≡ Some y → Commands s y
 unfolding pass_at
 pass_means s rest y e =
     let link = bound (word_at rest) _ y e in
@@ -91,7 +91,7 @@ pass_means s rest y e =
     let tests = and_four (is_end number.0.1) (l.0 == 0) (bytes_eq way.0.0 (codes "up")) (n.0 == 0) g.0 in
     subst (Commands s) g.1 (record { phase = phase.1; nodes = refl; saes = refl; asked = (eq_from l.0 0 tests.1, refl, eq_from n.0 0 tests.3) })
 
-pub show_means : (s : Stage) (rest : List ℕ) (y : Stage × Taken) → show_at s rest ≡ Some y → Commands s y
+pub show_means : (s : DeclaredSite) (rest : List ℕ) (y : DeclaredSite × Taken) → show_at s rest ≡ Some y → Commands s y
 unfolding show_at
 show_means s rest y e =
     let node = bound (word_at rest) _ y e in
@@ -103,7 +103,7 @@ show_means s rest y e =
     let within : v.0 < 0 + length s.nodes = within_places 0 node.0.0 s.nodes v.0 v.1 in
     subst (Commands s) g.1 (record { phase = phase.1; nodes = refl; saes = refl; asked = (omega (arith, within), name_read key.0.0 n.0 n.1) })
 
-pub ledger_means : (s : Stage) (rest : List ℕ) (y : Stage × Taken) → ledger_at s rest ≡ Some y → Commands s y
+pub ledger_means : (s : DeclaredSite) (rest : List ℕ) (y : DeclaredSite × Taken) → ledger_at s rest ≡ Some y → Commands s y
 unfolding ledger_at
 ledger_means s rest y e =
     let link = bound (word_at rest) _ y e in
@@ -115,7 +115,7 @@ ledger_means s rest y e =
     let tests = and_two (is_end way.0.1) (l.0 == 0) g.0 in
     subst (Commands s) g.1 (record { phase = phase.1; nodes = refl; saes = refl; asked = eq_from l.0 0 tests.1 })
 
-pub end_means : (s : Stage) (rest : List ℕ) (y : Stage × Taken) → end_at s rest ≡ Some y → Commands s y
+pub end_means : (s : DeclaredSite) (rest : List ℕ) (y : DeclaredSite × Taken) → end_at s rest ≡ Some y → Commands s y
 unfolding end_at
 end_means s rest y e =
     let phase = bound (after_other s.phase) _ y e in

@@ -6,7 +6,7 @@ use Rattle.std.specs.Str.{bytes_eq}
 use Rattle.uuid.specs.Text.{parsed, hyphenated_text, lower}
 use Rattle.qkd_base.specs.Name.{Name, IsName, is_name, candidate, octets_of, name_at}
 use Rattle.scenario_text.specs.Words.{◌>>=◌}
-use Rattle.scenario_text.specs.Stage.{place_from, sae_from, sae_of}
+use Rattle.scenario_text.specs.DeclaredSite.{place_from, sae_from, sae_of}
 use Rattle.scenario_text.specs.Commanding.{sae_at_home, name_of}
 use Rattle.scenario_text.specs.declared.declarations.Sae.{Sae}
 use Rattle.record_laws.proofs.Base.{by_test, and_left, and_right, eq_from}

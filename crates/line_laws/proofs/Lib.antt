@@ -2,5 +2,5 @@ pub mod CommandMeans
 pub mod Inverting
 pub mod LineMeans
 pub mod Networks
-pub mod Stages
+pub mod DeclaredSites
 pub mod TextOrder

@@ -5,10 +5,10 @@ use Rattle.std.specs.Prelude.{◌==◌, nat_lt}
 use Rattle.std.specs.List.{list_all}
 use Rattle.net_model.specs.Ranges.{IsOctets}
 use Rattle.net_model.specs.Sealing.{IsSealing}
-use Rattle.net_model.specs.Told.{told_list}
-use Rattle.net_model.specs.Premises.{IsSite, IsAllowed, TellsOctets, IsNetwork}
+use Rattle.net_model.specs.OctetSequence.{sequence_of}
+use Rattle.net_model.specs.Premises.{IsSite, IsAllowed, IsOctetSequence, IsNetwork}
 use Rattle.hop_frames.specs.Sealing.{hop_sealing}
-use Rattle.scenario_text.specs.Stage.{Stage}
+use Rattle.scenario_text.specs.DeclaredSite.{DeclaredSite}
 use Rattle.scenario_text.specs.declared.declarations.Sae.{Sae}
 use Rattle.record_laws.proofs.Base.{and_left, and_right, eq_from, by_test}
 use Rattle.line_laws.specs.Scenario.{home_of, site_of, network_of}
@@ -20,7 +20,7 @@ has_number [] n h = absurd (omega arith)
 has_number (sae ∷ saes) zero h = omega arith
 has_number (sae ∷ saes) (suc n) h = let less = has_number saes n h in omega arith
 
-allowed : (site : Stage) (m n : ℕ) → IsDeclared site → ((home_of site.saes m == 0) && (home_of site.saes n == 1)) ≡ true → IsAllowed (site_of site) m n
+allowed : (site : DeclaredSite) (m n : ℕ) → IsDeclared site → ((home_of site.saes m == 0) && (home_of site.saes n == 1)) ≡ true → IsAllowed (site_of site) m n
 allowed site m n d h =
     let low : home_of site.saes m ≡ 0 = eq_from _ 0 (and_left (home_of site.saes m == 0) (home_of site.saes n == 1) h) in
     let high : home_of site.saes n ≡ 1 = eq_from _ 1 (and_right (home_of site.saes m == 0) (home_of site.saes n == 1) h) in
@@ -34,7 +34,7 @@ allowed site m n d h =
       apart = λ e. omega arith;
     }
 
-is_site : (site : Stage) → IsDeclared site → IsSite (site_of site)
+is_site : (site : DeclaredSite) → IsDeclared site → IsSite (site_of site)
 is_site site d = record {
   nodes = omega arith;
   links = omega arith;
@@ -43,15 +43,15 @@ is_site site d = record {
   pairs = λ m n h. allowed site m n d h;
 }
 
-tells : (xs : List ℕ) → IsOctets xs → TellsOctets (told_list xs)
-tells [] h i = omega arith
-tells (x ∷ xs) h zero = ltb-true x 256 (and_left (nat_lt x 256) (list_all (λ b. nat_lt b 256) xs) h)
-tells (x ∷ xs) h (suc i) = tells xs (and_right (nat_lt x 256) (list_all (λ b. nat_lt b 256) xs) h) i
+octets_stay : (xs : List ℕ) → IsOctets xs → IsOctetSequence (sequence_of xs)
+octets_stay [] h i = omega arith
+octets_stay (x ∷ xs) h zero = ltb-true x 256 (and_left (nat_lt x 256) (list_all (λ b. nat_lt b 256) xs) h)
+octets_stay (x ∷ xs) h (suc i) = octets_stay xs (and_right (nat_lt x 256) (list_all (λ b. nat_lt b 256) xs) h) i
 
-pub is_network : (site : Stage) (device entropy : List ℕ) → IsSealing hop_sealing → IsDeclared site → IsOctets device → IsOctets entropy → IsNetwork (network_of site device entropy)
+pub is_network : (site : DeclaredSite) (device entropy : List ℕ) → IsSealing hop_sealing → IsDeclared site → IsOctets device → IsOctets entropy → IsNetwork (network_of site device entropy)
 is_network site device entropy sealing d there drawn = record {
   site = is_site site d;
   sealing = sealing;
-  devices = λ l. tells device there;
-  entropies = λ v. by_test (λ (xs : List ℕ). TellsOctets (told_list xs)) (v == 0) entropy [] (λ e. tells entropy drawn) (λ e. tells [] refl);
+  devices = λ l. octets_stay device there;
+  entropies = λ v. by_test (λ (xs : List ℕ). IsOctetSequence (sequence_of xs)) (v == 0) entropy [] (λ e. octets_stay entropy drawn) (λ e. octets_stay [] refl);
 }

@@ -10,7 +10,7 @@ use Rattle.net_model.specs.declared.record.Record.{Record}
 use Rattle.net_model.specs.declared.record.Record.TheVariants.{Learned}
 use Rattle.net_model.specs.Table.{bytes_of, name_of, origin, is_secret, fact_at}
 use Rattle.net_model.specs.Premises.{IsNetwork}
-use Rattle.net_model.specs.Told.{octets_from}
+use Rattle.net_model.specs.OctetSequence.{octets_from}
 use Rattle.net_model.specs.Site.{Site}
 use Rattle.net_model.specs.World.{Network, World, Durable}
 use Rattle.net_model.specs.Needed.{view_of}
@@ -32,14 +32,14 @@ use Rattle.event_laws.proofs.Decisions.{event_may}
 use Rattle.lane_laws.proofs.Growth.{volatile_stays}
 use Rattle.window_laws.proofs.Orders.{plan_may, plan_fits}
 use Rattle.window_laws.proofs.Planning.{plan_volatile, plan_wired, plan_posted}
-use Rattle.net_laws.proofs.Effects.{MayTake, IsDrawnOrTold, commit_more}
+use Rattle.net_laws.proofs.Effects.{MayTake, IsDrawnOrReceived, commit_more}
 use Rattle.net_laws.proofs.Deciding.{MayResolve, handle_keeps, plain, plain_takes}
 use Rattle.net_laws.proofs.Draws.{IsCut, Draws, DecidesDrawn, event_draws}
 
 -- what a node may learn is a fact of the table, or its own
 
 first_origin : (s : Site) (d : Durable) (v : ℕ) (f : Fact) → MayApply s d v (Learned f) → (fact_at d.facts (name_of f) ≡ Some f) ⊎ (origin f ≡ v)
-first_origin s d v f m = elim m.1 [ inl told ↦ inl told.there | inr made ↦ inr made.starts ]
+first_origin s d v f m = elim m.1 [ inl came ↦ inl came.there | inr made ↦ inr made.starts ]
 
 learned_origin : (s : Site) (d : Durable) (v : ℕ) (rs : List Record) → MayReplay s d v rs → (n : ℕ) (f : Fact) → slice_get rs n ≡ Some (Learned f) →
     (fact_at d.facts (name_of f) ≡ Some f) ⊎ (origin f ≡ v)
@@ -65,10 +65,10 @@ module _ (net : Network) (w : World) (network : IsNetwork net) (c : Conserved ne
         within = let e = ap (number_set w.drawn v (w.drawn v + octets)) at ∙ number_set_same w.drawn v (w.drawn v + octets) in omega (arith, e, x.within);
       }
 
-  drawn_or_told : (octets : ℕ) (batch : List Record) → MayReplay net.site w.durable v batch → Draws (net.entropy v).octet (w.drawn v + octets) batch →
-      (n : ℕ) (f : Fact) → slice_get batch n ≡ Some (Learned f) → is_secret f ≡ true → IsDrawnOrTold net w v octets f
-  drawn_or_told octets batch may draws n f at secret = elim (learned_origin net.site w.durable v batch may n f at) [
-    | inl told ↦ inl told
+  drawn_or_received : (octets : ℕ) (batch : List Record) → MayReplay net.site w.durable v batch → Draws (net.entropy v).octet (w.drawn v + octets) batch →
+      (n : ℕ) (f : Fact) → slice_get batch n ≡ Some (Learned f) → is_secret f ≡ true → IsDrawnOrReceived net w v octets f
+  drawn_or_received octets batch may draws n f at secret = elim (learned_origin net.site w.durable v batch may n f at) [
+    | inl came ↦ inl came
     | inr mine ↦ inr (cut_drawn octets f mine (draws n f at secret))
   ]
 
@@ -79,7 +79,7 @@ module _ (net : Network) (w : World) (network : IsNetwork net) (c : Conserved ne
       let same : plain net w v e.batch e.reply ≡ e =
       λ i. record { batch = e.batch; volatile = sym may.volatile i; orders = sym may.orders i; repeats = sym may.repeats i; reply = e.reply } in
       subst (λ (x : Effect). MayTake net w v octets x) same
-      (plain_takes net w network c v octets e.batch e.reply (may.batch numbered) (drawn_or_told octets e.batch (may.batch numbered) draws))
+      (plain_takes net w network c v octets e.batch e.reply (may.batch numbered) (drawn_or_received octets e.batch (may.batch numbered) draws))
 
   draws : (event : Event) → is_asked event ≡ true → DecidesDrawn (net.entropy v).octet (w.drawn v + random_need (view_of net w v) event) (decided net w v event)
   draws event asked = event_draws net.site net.sealing w.link_up (view_of net w v) (net.entropy v).octet (w.drawn v) event asked
@@ -93,7 +93,7 @@ module _ (net : Network) (w : World) (network : IsNetwork net) (c : Conserved ne
         posted = plan_posted net w v c;
         wired = plan_wired net w v c;
         volatile = volatile_stays net w network c (commit net.site w v 0 e) (commit_more net w v 0 e) v e.volatile (plan_volatile net w v c);
-        drawn = drawn_or_told 0 e.batch (plan_may net w v c) drawn;
+        drawn = drawn_or_received 0 e.batch (plan_may net w v c) drawn;
       }
 
   plan_resolves : MayResolve net w v (random_need (view_of net w v) Plan) (decided net w v Plan)

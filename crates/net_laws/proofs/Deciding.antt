@@ -21,7 +21,7 @@ use Rattle.net_model.specs.Handle.{is_numbered, commit, resolve, handle}
 use Rattle.record_laws.proofs.Base.{by_test}
 use Rattle.event_laws.specs.May.{decided}
 use Rattle.lane_laws.proofs.Growth.{volatile_stays}
-use Rattle.net_laws.proofs.Effects.{MayTake, IsDrawnOrTold, commit_more, perform_keeps}
+use Rattle.net_laws.proofs.Effects.{MayTake, IsDrawnOrReceived, commit_more, perform_keeps}
 
 -- a decision that refuses, or does what may take place
 abbrev pub MayResolve : Network → World → ℕ → ℕ → Decision → Type 0
@@ -45,7 +45,7 @@ abbrev pub plain : Network → World → ℕ → List Record → Reply → Effec
 plain net w v batch reply = record { batch = batch; volatile = w.volatile v; orders = []; repeats = []; reply = reply }
 
 pub plain_takes : (net : Network) (w : World) → IsNetwork net → Conserved net w → (v octets : ℕ) (batch : List Record) (reply : Reply) →
-    MayReplay net.site w.durable v batch → ((n : ℕ) (f : Fact) → slice_get batch n ≡ Some (Learned f) → is_secret f ≡ true → IsDrawnOrTold net w v octets f) →
+    MayReplay net.site w.durable v batch → ((n : ℕ) (f : Fact) → slice_get batch n ≡ Some (Learned f) → is_secret f ≡ true → IsDrawnOrReceived net w v octets f) →
     MayTake net w v octets (plain net w v batch reply)
 plain_takes net w network c v octets batch reply may drawn =
     record {

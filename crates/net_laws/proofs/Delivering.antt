@@ -9,7 +9,7 @@ use Rattle.net_model.specs.Site.{receiver}
 use Rattle.net_model.specs.World.{Network, World, Allocation, received_there}
 use Rattle.net_model.specs.Invariant.{Conserved}
 use Rattle.net_model.specs.Action.{Environment, Outcome}
-use Rattle.net_model.specs.Frames.{frame_octets, octets_received, octets_eq, with_flipped, strange, deliver_frame, deliver_number, deliver, tampered_or_put, tampered, flip_octets, flip_number, flip}
+use Rattle.net_model.specs.Frames.{frame_octets, octets_received, octets_eq, with_flipped, unmatched, deliver_frame, deliver_number, deliver, tampered_or_put, tampered, flip_octets, flip_number, flip}
 use Rattle.record_laws.proofs.Base.{by_test, not_true}
 use Rattle.net_laws.proofs.Receiving.{item_keeps}
 
@@ -34,15 +34,15 @@ module _ (net : Network) (w : World) (network : IsNetwork net) (c : Conserved ne
   unfolding deliver
   deliver_keeps number = number_keeps (slice_get (w.wire l) number)
 
-  strange_keeps : (o : Opened) → Kept (strange w o)
-  strange_keeps (Opens offset p) = c
-  strange_keeps (Rejected reply) = c
-  strange_keeps (Forged place) = c
+  unmatched_keeps : (o : Opened) → Kept (unmatched w o)
+  unmatched_keeps (Opens offset p) = c
+  unmatched_keeps (Rejected reply) = c
+  unmatched_keeps (Forged place) = c
 
   or_put_keeps : (octets : List ℕ) (o : Option ℕ) → Kept (tampered_or_put net w l octets environment o)
   or_put_keeps octets (Some j) = frame_keeps j (slice_get (w.frames l) j) refl
   or_put_keeps octets None =
-      by_test Kept (not (w.up (receiver net.site l))) _ _ (λ e. c) (λ e. strange_keeps (net.sealing.unseal l (octets_received net w l) octets))
+      by_test Kept (not (w.up (receiver net.site l))) _ _ (λ e. c) (λ e. unmatched_keeps (net.sealing.unseal l (octets_received net w l) octets))
 
   pub tampered_keeps : (octets : List ℕ) → Kept (tampered net w l octets environment)
   unfolding tampered

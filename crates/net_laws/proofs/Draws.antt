@@ -12,7 +12,7 @@ use Rattle.net_model.specs.declared.record.Record.{Record}
 use Rattle.net_model.specs.declared.record.Record.TheVariants.{Lease, Learned, Handed, Closed}
 use Rattle.net_model.specs.declared.reply.Reply.{Reply}
 use Rattle.net_model.specs.Table.{bytes_of, is_secret, fact_at, was_handed, name_of}
-use Rattle.net_model.specs.Told.{octets_from}
+use Rattle.net_model.specs.OctetSequence.{octets_from}
 use Rattle.net_model.specs.Site.{Site}
 use Rattle.net_model.specs.Sealing.{Sealing}
 use Rattle.net_model.specs.View.{View, Port, received_of}

@@ -10,7 +10,7 @@ use Rattle.net_model.specs.declared.fact.Fact.{Fact}
 use Rattle.net_model.specs.declared.record.Record.TheVariants.{Learned}
 use Rattle.net_model.specs.Table.{name_of, origin, fact_at, is_secret}
 use Rattle.net_model.specs.Premises.{IsNetwork}
-use Rattle.net_model.specs.Told.{tells}
+use Rattle.net_model.specs.OctetSequence.{has_octets}
 use Rattle.net_model.specs.World.{Network, World, Durable, InDoubt, no_volatile, no_doubt}
 use Rattle.net_model.specs.Ownership.{IsWired}
 use Rattle.net_model.specs.Records.{replay}
@@ -25,6 +25,7 @@ use Rattle.net_model.specs.Handle.{is_numbered, with_orders, with_repeats, commi
 use Rattle.record_laws.proofs.Base.{by_number, eq_from, by_test, or_second, not_true}
 use Rattle.record_laws.proofs.Keeping.{replay_keeps}
 use Rattle.record_laws.proofs.Growing.{AreFew, replay_grows, replay_few, replay_more_blocks, replay_cases}
+use Rattle.record_laws.proofs.Later.{replay_owned}
 use Rattle.record_laws.proofs.Doubts.{doubt_stays}
 use Rattle.lane_laws.proofs.Growth.{Outgrows, volatile_stays, placed_stays}
 use Rattle.net_laws.proofs.Journals.{IsKept, is_journal, kept_journal, kept_not_blank, extended_kept}
@@ -35,8 +36,8 @@ abbrev pub with_drawn : World → ℕ → ℕ → World
 with_drawn w v octets = record w { drawn = number_set w.drawn v (w.drawn v + octets) }
 
 -- what its batch learns is a fact of the table, or has bytes that were drawn
-abbrev pub IsDrawnOrTold : Network → World → ℕ → ℕ → Fact → Type 0
-IsDrawnOrTold net w v octets f = (fact_at w.durable.facts (name_of f) ≡ Some f) ⊎ IsDrawn net (with_drawn w v octets) f
+abbrev pub IsDrawnOrReceived : Network → World → ℕ → ℕ → Fact → Type 0
+IsDrawnOrReceived net w v octets f = (fact_at w.durable.facts (name_of f) ≡ Some f) ⊎ IsDrawn net (with_drawn w v octets) f
 
 -- an effect whose batch may be made, whose orders have room and may be carried, and whose volatile part stands in the world behind it
 pub record MayTake (net : Network) (w : World) (v octets : ℕ) (e : Effect) : Type 0 where
@@ -46,7 +47,7 @@ pub record MayTake (net : Network) (w : World) (v octets : ℕ) (e : Effect) : T
   pub posted : (l : Lane) → IsPosted l (with_orders e.orders w.unclaimed l) (with_repeats e.repeats w.frames w.outgoing l)
   pub wired : (l : Lane) → IsWired (w.frames l) (w.wire l) (with_repeats e.repeats w.frames w.outgoing l)
   pub volatile : IsVolatile net (commit net.site w v octets e) v e.volatile
-  pub drawn : (n : ℕ) (f : Fact) → slice_get e.batch n ≡ Some (Learned f) → is_secret f ≡ true → IsDrawnOrTold net w v octets f
+  pub drawn : (n : ℕ) (f : Fact) → slice_get e.batch n ≡ Some (Learned f) → is_secret f ≡ true → IsDrawnOrReceived net w v octets f
 
 pub drawn_more : (w : World) (v octets u : ℕ) → w.drawn u ≤ (with_drawn w v octets).drawn u
 drawn_more w v octets u = by_number (λ k t. w.drawn k ≤ (if t then w.drawn v + octets else w.drawn k)) v (omega arith) (λ k ne. omega arith) u
@@ -67,7 +68,7 @@ unfolding commit
 commit_more net w v octets e =
     let grown = replay_grows net.site v e.batch w.durable in
     let more = replay_more_blocks net.site v e.batch w.durable in
-    record { facts = grown.facts; known = grown.known; low = more.low; high = more.high; frames = λ l j a h. h; wire = λ l n j h. h }
+    record { facts = grown.facts; known = grown.known; blocks = more; frames = λ l j a h. h; wire = λ l n j h. h }
 
 module _ (net : Network) (w : World) (network : IsNetwork net) (c : Conserved net w) (v : ℕ) (up : w.up v ≡ true) (octets : ℕ) (e : Effect)
     (may : MayTake net w v octets e) where
@@ -81,9 +82,9 @@ module _ (net : Network) (w : World) (network : IsNetwork net) (c : Conserved ne
   journal_kept : IsKept (w.journal v)
   journal_kept = kept_journal (w.journal v) (c.journals v) (c.started v up)
 
-  drawn_one : (w' : World) → ((u : ℕ) → w'.drawn u ≡ (with_drawn w v octets).drawn u) → (f : Fact) → is_secret f ≡ true → IsDrawnOrTold net w v octets f → IsDrawn net w' f
+  drawn_one : (w' : World) → ((u : ℕ) → w'.drawn u ≡ (with_drawn w v octets).drawn u) → (f : Fact) → is_secret f ≡ true → IsDrawnOrReceived net w v octets f → IsDrawn net w' f
   drawn_one w' same f secret h = elim h [
-    | inl told ↦ drawn_later net w w' f (let a = drawn_more w v octets (origin f) in let b = same (origin f) in omega (arith, a, b)) (c.drawn.table (name_of f) f told secret)
+    | inl came ↦ drawn_later net w w' f (let a = drawn_more w v octets (origin f) in let b = same (origin f) in omega (arith, a, b)) (c.drawn.table (name_of f) f came secret)
     | inr new ↦ drawn_later net (with_drawn w v octets) w' f (let b = same (origin f) in omega (arith, b)) new
   ]
 
@@ -104,7 +105,7 @@ module _ (net : Network) (w : World) (network : IsNetwork net) (c : Conserved ne
   commit_keeps : (w.journal v).length' + added ≤ journal_limit → Conserved net (commit net.site w v octets e)
   unfolding commit
   commit_keeps fits =
-      let few : AreFew durable' = replay_few net.site v e.batch w.durable may.batch (record { low = c.low_blocks; high = c.high_blocks }) in
+      let few : AreFew durable' = replay_few net.site v e.batch w.durable may.batch c.few_blocks in
       let kept : IsKept (extended (w.journal v) added) = extended_kept (w.journal v) added journal_kept fits in
       record {
         now = may.orders (replay_keeps net.site w.durable w.frames w.unclaimed c.now v e.batch may.batch);
@@ -125,14 +126,14 @@ module _ (net : Network) (w : World) (network : IsNetwork net) (c : Conserved ne
         doubt_room = by_number (λ u t. HasRoomFor (if t then extended (w.journal v) added else w.journal u) (w.in_doubt u)) v
             (subst (λ (x : InDoubt). HasRoomFor (extended (w.journal v) added) x) (sym (c.doubtful v up)) (λ h. omega (arith, fits))) (λ u ne. c.doubt_room u);
         drawn = committed_drawn;
-        low_blocks = few.low;
-        high_blocks = few.high;
+        few_blocks = few;
+        recovered = λ l. omega (arith, c.recovered l, replay_owned net.site v e.batch w.durable w.frames w.unclaimed c.now may.batch l);
       }
 
   stopped_more : Outgrows w (stopped w v octets e)
   unfolding stopped
   stopped_more =
-      record { facts = λ n f h. h; known = λ u n h. h; low = λ l. omega arith; high = λ l. omega arith; frames = λ l j a h. h; wire = λ l n j h. h }
+      record { facts = λ n f h. h; known = λ u n h. h; blocks = λ l. omega arith; frames = λ l j a h. h; wire = λ l n j h. h }
 
   abbrev doubt : InDoubt
   doubt = record { batch = e.batch; checkpointed = None }
@@ -164,8 +165,8 @@ module _ (net : Network) (w : World) (network : IsNetwork net) (c : Conserved ne
         started = by_number (λ u t. (if t then false else w.up u) ≡ true → is_blank (w.journal u) ≡ false) v (λ h. absurd (cc)) (λ u ne. c.started u);
         doubt_room = by_number (λ u t. HasRoomFor (w.journal u) (if t then doubt else w.in_doubt u)) v (λ h. fits) (λ u ne. c.doubt_room u);
         drawn = stopped_drawn;
-        low_blocks = c.low_blocks;
-        high_blocks = c.high_blocks;
+        few_blocks = c.few_blocks;
+        recovered = c.recovered;
       }
 
 -- whatever the outside answers
@@ -178,6 +179,6 @@ perform_keeps net w network c v up octets environment e may =
     (λ numbered. let m = may (not_true (list_all is_numbered e.batch) (or_second (is_no_memory environment) _ numbered)) in
     by_test P (nat_lt journal_limit ((w.journal v).length' + added_len (w.journal v).version e.batch)) _ _ (λ x. c)
     (λ small. let fits = ltb-false journal_limit _ small in
-    by_test P (nat_lt 0 octets && (not (tells (net.entropy v) (w.drawn v + octets)) || is_entropy_fault environment)) _ _ (λ x. c)
+    by_test P (nat_lt 0 octets && (not (has_octets (net.entropy v) (w.drawn v + octets)) || is_entropy_fault environment)) _ _ (λ x. c)
     (λ x. by_test P (is_io_fault environment && not (is_nil e.batch)) _ _ (λ y. stopped_keeps net w network c v up octets e m fits)
     (λ y. commit_keeps net w network c v up octets e m fits))))

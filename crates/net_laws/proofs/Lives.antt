@@ -20,7 +20,7 @@ module _ (net : Network) (w : World) (network : IsNetwork net) (c : Conserved ne
 
   aside_more : (link_up interrupted : ℕ → Bool) → Outgrows w (aside link_up interrupted)
   aside_more link_up interrupted =
-      record { facts = λ n f h. h; known = λ u n h. h; low = λ l. omega arith; high = λ l. omega arith; frames = λ l j a h. h; wire = λ l n j h. h }
+      record { facts = λ n f h. h; known = λ u n h. h; blocks = λ l. omega arith; frames = λ l j a h. h; wire = λ l n j h. h }
 
   pub aside_keeps : (link_up interrupted : ℕ → Bool) → Conserved net (aside link_up interrupted)
   aside_keeps link_up interrupted =
@@ -37,8 +37,8 @@ module _ (net : Network) (w : World) (network : IsNetwork net) (c : Conserved ne
         started = c.started;
         doubt_room = c.doubt_room;
         drawn = drawn_stays net w _ (λ n f h. h) refl (λ u. omega arith) c.drawn;
-        low_blocks = c.low_blocks;
-        high_blocks = c.high_blocks;
+        few_blocks = c.few_blocks;
+        recovered = c.recovered;
       }
 
   abbrev downed : ℕ → World
@@ -46,7 +46,7 @@ module _ (net : Network) (w : World) (network : IsNetwork net) (c : Conserved ne
 
   downed_more : (v : ℕ) → Outgrows w (downed v)
   downed_more v =
-      record { facts = λ n f h. h; known = λ u n h. h; low = λ l. omega arith; high = λ l. omega arith; frames = λ l j a h. h; wire = λ l n j h. h }
+      record { facts = λ n f h. h; known = λ u n h. h; blocks = λ l. omega arith; frames = λ l j a h. h; wire = λ l n j h. h }
 
   downed_keeps : (v : ℕ) → Conserved net (downed v)
   downed_keeps v =
@@ -64,8 +64,8 @@ module _ (net : Network) (w : World) (network : IsNetwork net) (c : Conserved ne
         started = by_number (λ u t. (if t then false else w.up u) ≡ true → is_blank (w.journal u) ≡ false) v (λ h. absurd (cc)) (λ u ne. c.started u);
         doubt_room = c.doubt_room;
         drawn = drawn_stays net w _ (λ n f h. h) refl (λ u. omega arith) c.drawn;
-        low_blocks = c.low_blocks;
-        high_blocks = c.high_blocks;
+        few_blocks = c.few_blocks;
+        recovered = c.recovered;
       }
 
   pub crash_keeps : (v : ℕ) → Conserved net (crash w v).0

@@ -8,10 +8,10 @@ use Rattle.qkd_base.specs.declared.key_name.NameKind.TheVariants.{Note as NoteKi
 use Rattle.net_model.specs.declared.fact.Fact.{Fact}
 use Rattle.net_model.specs.declared.fact.Fact.TheVariants.{Stored}
 use Rattle.net_model.specs.declared.payload.Payload.{Payload}
-use Rattle.net_model.specs.declared.payload.Payload.TheVariants.{Told, Ack}
+use Rattle.net_model.specs.declared.payload.Payload.TheVariants.{Data, Ack}
 use Rattle.net_model.specs.declared.record.Record.TheVariants.{Learned, Acked}
 use Rattle.net_model.specs.Table.{name_of, route_of, fact_at, is_secret, target}
-use Rattle.net_model.specs.Item.{Item, DataItem, AckItem, payload, told_of}
+use Rattle.net_model.specs.Item.{Item, DataItem, AckItem, payload, data_payload}
 use Rattle.net_model.specs.Premises.{IsNetwork}
 use Rattle.net_model.specs.Site.{sender, receiver}
 use Rattle.net_model.specs.World.{Network, World, Volatile}
@@ -37,7 +37,7 @@ use Rattle.event_laws.proofs.Receives.{received_may}
 use Rattle.lane_laws.proofs.Growth.{volatile_stays}
 use Rattle.window_laws.proofs.Acknowledging.{acknowledge_keeps}
 use Rattle.window_laws.proofs.Entries.{cleared_keeps}
-use Rattle.net_laws.proofs.Effects.{MayTake, IsDrawnOrTold, commit_more, perform_keeps}
+use Rattle.net_laws.proofs.Effects.{MayTake, IsDrawnOrReceived, commit_more, perform_keeps}
 
 -- a Stored note is no secret
 pub note_not_secret : (see : View) (f g : Fact) (n : ℕ) → slice_get (stored_note see f) n ≡ Some (Learned g) → is_secret g ≡ true → ⊥
@@ -95,12 +95,12 @@ module _ (net : Network) (w : World) (network : IsNetwork net) (c : Conserved ne
   batch_may item p carried e = received_may net.site w.durable w.frames w.unclaimed c.now see (bare_view net w v) (view_sees net w v) l offset item p carried e
 
   -- what it learns is the fact that came, which the table has, and a note
-  fact_told : (f : Fact) → fact_at w.durable.facts (name_of f) ≡ Some f → (n : ℕ) (g : Fact) → slice_get (receive_fact see l offset f).batch n ≡ Some (Learned g) →
-      is_secret g ≡ true → IsDrawnOrTold net w v 0 g
+  fact_received : (f : Fact) → fact_at w.durable.facts (name_of f) ≡ Some f → (n : ℕ) (g : Fact) → slice_get (receive_fact see l offset f).batch n ≡ Some (Learned g) →
+      is_secret g ≡ true → IsDrawnOrReceived net w v 0 g
   unfolding receive_fact
-  fact_told f there n g at secret = by_cases (not (knows see (name_of f))) n at
+  fact_received f there n g at secret = by_cases (not (knows see (name_of f))) n at
     where
-      by_cases : (t : Bool) (n : ℕ) → slice_get (if t then Learned f ∷ stored_note see f else []) n ≡ Some (Learned g) → IsDrawnOrTold net w v 0 g
+      by_cases : (t : Bool) (n : ℕ) → slice_get (if t then Learned f ∷ stored_note see f else []) n ≡ Some (Learned g) → IsDrawnOrReceived net w v 0 g
       by_cases true zero h = let same : f ≡ g = cc in inl (subst (λ (x : Fact). fact_at w.durable.facts (name_of x) ≡ Some x) same there)
       by_cases true (suc n) h = absurd (note_not_secret see f g n h secret)
       by_cases false n h = cc
@@ -131,7 +131,7 @@ module _ (net : Network) (w : World) (network : IsNetwork net) (c : Conserved ne
       MayTake net w v 0 (receive_fact see l offset x.fact)
   unfolding receive_fact
   fact_taken n x may there vol =
-      record { batch = may; orders = λ k. k; posted = c.posted; wired = c.wired; volatile = vol; drawn = fact_told x.fact there }
+      record { batch = may; orders = λ k. k; posted = c.posted; wired = c.wired; volatile = vol; drawn = fact_received x.fact there }
 
   fact_takes : (n : Name) (x : IsAdjacent w.durable.facts w.durable.known (sender net.site l) (sender net.site l) v n) →
       MayReplay net.site w.durable v (receive_fact see l offset x.fact).batch → MayTake net w v 0 (receive_fact see l offset x.fact)
@@ -141,21 +141,21 @@ module _ (net : Network) (w : World) (network : IsNetwork net) (c : Conserved ne
 
   -- an acknowledgement
 
-  ack_told : (n : Name) (k : ℕ) (g : Fact) → slice_get (receive_ack see l (sender net.site l) n).batch k ≡ Some (Learned g) → is_secret g ≡ true → IsDrawnOrTold net w v 0 g
+  ack_received : (n : Name) (k : ℕ) (g : Fact) → slice_get (receive_ack see l (sender net.site l) n).batch k ≡ Some (Learned g) → is_secret g ≡ true → IsDrawnOrReceived net w v 0 g
   unfolding receive_ack
-  ack_told n k g at secret = by_cases (has (owed see (sender net.site l)) n) k at
+  ack_received n k g at secret = by_cases (has (owed see (sender net.site l)) n) k at
     where
-      by_cases : (t : Bool) (k : ℕ) → slice_get (if t then Acked n ∷ [] else []) k ≡ Some (Learned g) → IsDrawnOrTold net w v 0 g
+      by_cases : (t : Bool) (k : ℕ) → slice_get (if t then Acked n ∷ [] else []) k ≡ Some (Learned g) → IsDrawnOrReceived net w v 0 g
       by_cases true zero h = cc
       by_cases true (suc k) h = cc
       by_cases false k h = cc
 
   ack_taken : (n : Name) → MayReplay net.site w.durable v (receive_ack see l (sender net.site l) n).batch →
       IsVolatile net (commit net.site w v 0 (receive_ack see l (sender net.site l) n)) v see.volatile →
-      ((k : ℕ) (g : Fact) → slice_get (receive_ack see l (sender net.site l) n).batch k ≡ Some (Learned g) → is_secret g ≡ true → IsDrawnOrTold net w v 0 g) →
+      ((k : ℕ) (g : Fact) → slice_get (receive_ack see l (sender net.site l) n).batch k ≡ Some (Learned g) → is_secret g ≡ true → IsDrawnOrReceived net w v 0 g) →
       MayTake net w v 0 (receive_ack see l (sender net.site l) n)
   unfolding receive_ack
-  ack_taken n may vol told =
+  ack_taken n may vol came =
       record {
         batch = may;
         orders = λ k. k;
@@ -164,21 +164,21 @@ module _ (net : Network) (w : World) (network : IsNetwork net) (c : Conserved ne
         volatile = by_test (IsVolatile net (commit net.site w v 0 (receive_ack see l (sender net.site l) n)) v) (has (owed see (sender net.site l)) n)
             (record (see.volatile) { window = cleared l n see.volatile.window }) see.volatile
             (λ e. cleared_keeps net (commit net.site w v 0 (receive_ack see l (sender net.site l) n)) v see.volatile l n vol) (λ e. vol);
-        drawn = told;
+        drawn = came;
       }
 
   ack_takes : (n : Name) → MayReplay net.site w.durable v (receive_ack see l (sender net.site l) n).batch → MayTake net w v 0 (receive_ack see l (sender net.site l) n)
-  ack_takes n may = ack_taken n may (kept_later (receive_ack see l (sender net.site l) n)) (ack_told n)
+  ack_takes n may = ack_taken n may (kept_later (receive_ack see l (sender net.site l) n)) (ack_received n)
 
   -- either
 
-  some_told : (f : Fact) (p : Payload) → Some (Told f) ≡ Some p → Told f ≡ p
-  some_told f p e = cc
+  some_data : (f : Fact) (p : Payload) → Some (Data f) ≡ Some p → Data f ≡ p
+  some_data f p e = cc
 
   received_takes : (item : Item) (p : Payload) → MayCarry w.durable.facts w.durable.known (sender net.site l) v item → payload w.durable.facts item ≡ Some p →
       list_all is_numbered (receive net.site see l offset p).batch ≡ true → MayTake net w v 0 (receive net.site see l offset p)
   received_takes (DataItem n) p x e numbered =
-      let is : Told x.fact ≡ p = some_told x.fact p (sym (ap told_of x.there) ∙ e) in
+      let is : Data x.fact ≡ p = some_data x.fact p (sym (ap data_payload x.there) ∙ e) in
       subst (λ (q : Payload). MayTake net w v 0 (receive net.site see l offset q)) is
       (fact_takes n x (subst (λ (q : Payload). MayReplay net.site w.durable v (receive net.site see l offset q).batch) (sym is) (batch_may (DataItem n) p x e numbered)))
   received_takes (AckItem n) p x e numbered =

@@ -25,6 +25,7 @@ use Rattle.net_model.specs.Start.{resolved, resolved_durable, resolved_journal, 
 use Rattle.record_laws.proofs.Base.{by_number, by_test, get_cases, number_set_same, and_left, and_right, when_false}
 use Rattle.record_laws.proofs.Keeping.{replay_keeps}
 use Rattle.record_laws.proofs.Growing.{AreFew, replay_grows, replay_few, replay_more_blocks, replay_cases}
+use Rattle.record_laws.proofs.Later.{replay_owned}
 use Rattle.record_laws.proofs.Doubts.{doubt_stays}
 use Rattle.lane_laws.proofs.Growth.{Outgrows, volatile_stays, placed_stays}
 use Rattle.lane_laws.proofs.Allocating.{may_own}
@@ -79,6 +80,11 @@ burnt_room facts own unclaimed lease got none r =
       leased = r.leased;
     }
 
+burnt_recovered : (here : Bool) (lease recovered : ℕ) (own : List Owner) → recovered ≤ length own →
+    (if here then lease else recovered) ≤ length (if here then burnt_to lease own else own)
+burnt_recovered true lease recovered own h = omega (arith, length-append own (replicate (lease - length own) Burnt), length-replicate (lease - length own) Burnt)
+burnt_recovered false lease recovered own h = h
+
 module _ (net : Network) (w : World) (network : IsNetwork net) (c : Conserved net w) (v : ℕ) where
   -- what was in doubt is settled
 
@@ -89,6 +95,7 @@ module _ (net : Network) (w : World) (network : IsNetwork net) (c : Conserved ne
     doubts : (u : ℕ) → u ≢ v → MayReplay net.site d u (w.in_doubt u).batch
     table : (n : Name) (f : Fact) → fact_at d.facts n ≡ Some f → is_secret f ≡ true → IsDrawn net w f
     few : AreFew d
+    recovered : (l : Lane) → w.recovered l ≤ length (d.own l)
 
   settled : (committed : Bool) → IsSettled (resolved_durable net.site w v committed)
   settled true =
@@ -98,21 +105,23 @@ module _ (net : Network) (w : World) (network : IsNetwork net) (c : Conserved ne
       let more = replay_more_blocks net.site v batch w.durable in
       record {
         now = replay_keeps net.site w.durable w.frames w.unclaimed c.now v batch (c.doubts v);
-        more = record { facts = grown.facts; known = grown.known; low = more.low; high = more.high; frames = λ l j a h. h; wire = λ l n j h. h };
+        more = record { facts = grown.facts; known = grown.known; blocks = more; frames = λ l j a h. h; wire = λ l n j h. h };
         doubts = λ u apart. doubt_stays net.site w.durable w.frames w.unclaimed c.now u v apart batch (w.in_doubt u).batch (c.doubts v) (c.doubts u);
         table = λ n f there secret. elim (replay_cases net.site v batch w.durable (c.doubts v) n f there) [
           | inl old ↦ c.drawn.table n f old secret
           | inr (k, at) ↦ c.drawn.doubts v k f at secret
         ];
-        few = replay_few net.site v batch w.durable (c.doubts v) (record { low = c.low_blocks; high = c.high_blocks });
+        few = replay_few net.site v batch w.durable (c.doubts v) c.few_blocks;
+        recovered = λ l. omega (arith, c.recovered l, replay_owned net.site v batch w.durable w.frames w.unclaimed c.now (c.doubts v) l);
       }
   settled false =
       record {
         now = c.now;
-        more = record { facts = λ n f h. h; known = λ u n h. h; low = λ l. omega arith; high = λ l. omega arith; frames = λ l j a h. h; wire = λ l n j h. h };
+        more = record { facts = λ n f h. h; known = λ u n h. h; blocks = λ l. omega arith; frames = λ l j a h. h; wire = λ l n j h. h };
         doubts = λ u apart. c.doubts u;
         table = c.drawn.table;
-        few = record { low = c.low_blocks; high = c.high_blocks };
+        few = c.few_blocks;
+        recovered = c.recovered;
       }
 
   journal_settled : (committed : Bool) → IsKept (resolved_journal w v committed)
@@ -144,7 +153,7 @@ module _ (net : Network) (w : World) (network : IsNetwork net) (c : Conserved ne
     restarted_more : Outgrows w after
     unfolding restarted
     restarted_more =
-        let m = (settled committed).more in record { facts = m.facts; known = m.known; low = m.low; high = m.high; frames = λ l j a h. h; wire = λ l n j h. h }
+        let m = (settled committed).more in record { facts = m.facts; known = m.known; blocks = m.blocks; frames = λ l j a h. h; wire = λ l n j h. h }
 
     restarted_now : Invariant net.site (record d { own = after_own }) w.frames w.unclaimed
     restarted_now =
@@ -200,8 +209,8 @@ module _ (net : Network) (w : World) (network : IsNetwork net) (c : Conserved ne
           doubt_room = by_number (λ u t. HasRoomFor (if t then after_journal else if t then resolved_journal w v committed else w.journal u) (if t then no_doubt else w.in_doubt u)) v
               (λ h. let k = restarted_journal.limit in omega (arith, k)) (λ u ne. c.doubt_room u);
           drawn = restarted_drawn;
-          low_blocks = few.low;
-          high_blocks = few.high;
+          few_blocks = few;
+          recovered = λ l. burnt_recovered (leaves net.site v l) (d.lease l) (w.recovered l) (d.own l) ((settled committed).recovered l);
         }
 
   -- a start that is stopped behind a checkpoint
@@ -216,9 +225,9 @@ module _ (net : Network) (w : World) (network : IsNetwork net) (c : Conserved ne
     abbrev behind : World
     behind = interrupted_start net w v (Some committed)
 
-    behind_more : Outgrows w behind
-    behind_more =
-        record { facts = λ n f h. h; known = λ u n h. h; low = λ l. omega arith; high = λ l. omega arith; frames = λ l j a h. h; wire = λ l n j h. h }
+    halted_more : Outgrows w behind
+    halted_more =
+        record { facts = λ n f h. h; known = λ u n h. h; blocks = λ l. omega arith; frames = λ l j a h. h; wire = λ l n j h. h }
 
     moved_kept : IsKept moved
     moved_kept = checkpointed_kept ((next committed).journal v) (view_of net (next committed) v) due
@@ -226,15 +235,15 @@ module _ (net : Network) (w : World) (network : IsNetwork net) (c : Conserved ne
     same_batch : (u : ℕ) → (behind.in_doubt u).batch ≡ (w.in_doubt u).batch
     same_batch = by_number (λ u t. (if t then doubt else w.in_doubt u).batch ≡ (w.in_doubt u).batch) v refl (λ u ne. refl)
 
-    behind_keeps : Conserved net behind
-    behind_keeps =
+    halted_keeps : Conserved net behind
+    halted_keeps =
         record {
           now = c.now;
           doubts = λ u. subst (λ (rs : List Record). MayReplay net.site w.durable u rs) (sym (same_batch u)) (c.doubts u);
           doubtful = by_number (λ u t. w.up u ≡ true → (if t then doubt else w.in_doubt u) ≡ no_doubt) v (λ h. absurd (cc)) (λ u ne. c.doubtful u);
           resting = c.resting;
-          volatile = λ u. volatile_stays net w network c behind behind_more u (w.volatile u) (c.volatile u);
-          placed = λ u n p at. placed_stays net w network c behind behind_more u p (c.placed u n p at);
+          volatile = λ u. volatile_stays net w network c behind halted_more u (w.volatile u) (c.volatile u);
+          placed = λ u n p at. placed_stays net w network c behind halted_more u p (c.placed u n p at);
           posted = c.posted;
           wired = c.wired;
           journals = by_number (λ u t. IsJournal (if t then moved else w.journal u)) v (is_journal moved moved_kept) (λ u ne. c.journals u);
@@ -245,8 +254,8 @@ module _ (net : Network) (w : World) (network : IsNetwork net) (c : Conserved ne
             doubts = λ u n f at secret. drawn_later net w behind f (omega arith)
                 (c.drawn.doubts u n f (ap (λ (rs : List Record). slice_get rs n) (sym (same_batch u)) ∙ at) secret);
           };
-          low_blocks = c.low_blocks;
-          high_blocks = c.high_blocks;
+          few_blocks = c.few_blocks;
+          recovered = c.recovered;
         }
 
   recovers_keeps : w.up v ≡ false → is_quiet net w v ≡ true → (recovery : Recovery) → may_recover net w v recovery ≡ true → Conserved net (recovers net w v recovery).0
@@ -255,7 +264,7 @@ module _ (net : Network) (w : World) (network : IsNetwork net) (c : Conserved ne
   recovers_keeps down quiet (Interrupted None) may = aside_keeps net w network c w.link_up (number_set w.interrupted v (w.interrupted v || is_blank (w.journal v)))
   recovers_keeps down quiet (Interrupted (Some committed)) may =
       let checkpoint = and_right (may_resolve (w.in_doubt v) committed) _ may in
-      behind_keeps down committed (and_right (not (is_blank (w.journal v))) _ checkpoint)
+      halted_keeps down committed (and_right (not (is_blank (w.journal v))) _ checkpoint)
   recovers_keeps down quiet NoMemory may = c
   recovers_keeps down quiet Foreign may = c
 

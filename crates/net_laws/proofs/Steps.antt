@@ -49,7 +49,7 @@ step_keeps net w a network may c =
 
 -- the world before any start
 
-nothing_yet : (way : Way) → lane_len way (of_way way 0 0) ≡ 0
+nothing_yet : (way : Way) → lane_len way 0 ≡ 0
 nothing_yet Up = refl
 nothing_yet Down = refl
 
@@ -62,7 +62,7 @@ first_now net =
     record {
       owned = λ l. record {
         frame = λ x j. refl;
-        key = λ x. no_key x (lane_len l.way (of_way l.way 0 0)) (nothing_yet l.way);
+        key = λ x. no_key x (lane_len l.way 0) (nothing_yet l.way);
         reach = λ h. let e = nothing_yet l.way in absurd (omega (arith, e, h));
       };
       room = λ l. record { planned = omega arith; leased = omega arith };
@@ -92,8 +92,8 @@ first_keeps net =
       started = λ v h. cc;
       doubt_room = λ v h. omega arith;
       drawn = record { table = λ n f h. cc; doubts = λ v n f h. cc };
-      low_blocks = λ l. omega arith;
-      high_blocks = λ l. omega arith;
+      few_blocks = λ l. omega arith;
+      recovered = λ l. omega arith;
     }
 
 -- runs

@@ -2,15 +2,13 @@
 use Rattle.std.proofs.Common.{◌≡◌, ℕ, zero, suc, ◌+◌, ◌*◌, ◌<◌, ◌≤◌, true, false, not, List, [], ◌∷◌, refl, arith, Some}
 use Rattle.std.specs.Prelude.{◌==◌, slice_get}
 use Rattle.std.proofs.lemmas.Bool.Decides.{nat_tests}
-use Rattle.qkd_base.specs.declared.lane.Way.{Way}
-use Rattle.qkd_base.specs.declared.lane.Way.TheVariants.{Up, Down}
 use Rattle.net_model.specs.declared.event.Event.TheVariants.{Block}
 use Rattle.net_model.specs.declared.record.Record.TheVariants.{Block as Block', Learned}
 use Rattle.net_model.specs.declared.reply.Reply.TheVariants.{LinkFull, Took}
 use Rattle.net_model.specs.declared.fact.Fact.{Fact}
 use Rattle.net_model.specs.Premises.{IsNetwork}
-use Rattle.net_model.specs.Site.{of_way, outgoing_way, is_incident}
-use Rattle.net_model.specs.Told.{tells, block_at}
+use Rattle.net_model.specs.Site.{outgoing_lane, is_incident}
+use Rattle.net_model.specs.OctetSequence.{has_octets, block_at}
 use Rattle.net_model.specs.World.{Network, World}
 use Rattle.net_model.specs.View.{port_of, blocks_of}
 use Rattle.net_model.specs.Needed.{masked, view_of}
@@ -19,13 +17,9 @@ use Rattle.net_model.specs.Decide.{decide, random_need}
 use Rattle.net_model.specs.Invariant.{Conserved}
 use Rattle.net_model.specs.Action.{Environment, Outcome, is_device_fault}
 use Rattle.net_model.specs.Handle.{blocks_at, take_block}
-use Rattle.record_laws.proofs.Base.{by_test}
+use Rattle.record_laws.proofs.Base.{below_from, by_test}
 use Rattle.event_laws.specs.May.{decided}
 use Rattle.net_laws.proofs.Deciding.{MayResolve, handle_keeps, plain_takes}
-
-few_blocks : (way : Way) (low high : ℕ) → low ≤ 1024 → high ≤ 1024 → (of_way way low high == 1024) ≡ false → of_way way low high < 1024
-few_blocks Up low high h k not_full = grind (arith, nat_tests)
-few_blocks Down low high h k not_full = grind (arith, nat_tests)
 
 module _ (net : Network) (w : World) (network : IsNetwork net) (c : Conserved net w) (v link : ℕ) (incident : is_incident net.site v link ≡ true) where
   no_fact : (number : ℕ) (bytes : List ℕ) (n : ℕ) (f : Fact) → slice_get (Block' link number bytes ∷ []) n ≡ Some (Learned f) → ⊥
@@ -40,7 +34,7 @@ module _ (net : Network) (w : World) (network : IsNetwork net) (c : Conserved ne
       by_test (MayResolve net w v 0) (blocks_of (port_of (view_of net w v) link) == 1024) (Refuses LinkFull) (makes (view_of net w v) (Block' link number bytes ∷ []) (Took number))
       (λ full. tt)
       (λ x numbered. plain_takes net w network c v 0 (Block' link number bytes ∷ []) (Took number)
-      ((incident, refl, few_blocks (outgoing_way net.site v link) (w.durable.low_blocks link) (w.durable.high_blocks link) (c.low_blocks link) (c.high_blocks link) not_full), tt)
+      ((incident, refl, below_from (w.durable.blocks (outgoing_lane net.site v link)) 1024 (c.few_blocks (outgoing_lane net.site v link)) not_full), tt)
       (λ n f at secret. absurd (no_fact number bytes n f at)))
 
   pub take_block_keeps : (environment : Environment) → Conserved net (take_block net w v link environment).0
@@ -50,6 +44,6 @@ module _ (net : Network) (w : World) (network : IsNetwork net) (c : Conserved ne
       let number : ℕ = blocks_at net w v link in
       by_test P (not (w.up v)) _ _ (λ e. c)
       (λ e. by_test P (number == 1024) _ _ (λ e2. c)
-      (λ not_full. by_test P (not (tells (net.device link) (1024 + 1024 * number))) _ _ (λ e2. c)
+      (λ not_full. by_test P (not (has_octets (net.device link) (1024 + 1024 * number))) _ _ (λ e2. c)
       (λ e2. by_test P (is_device_fault environment) _ _ (λ e3. c)
       (λ e3. handle_keeps net w network c v (Block link number (block_at (net.device link) number)) environment (λ up. block_decided (block_at (net.device link) number) not_full)))))

@@ -25,6 +25,6 @@ pub fn law_run_keeps()
 
 /// For a world, an action and what the outside answers in it there is one new world and one outcome.
 pub fn law_one_outcome()
-    ensures { (net : Network) (w new other : World) (a : Action) (said told : Outcome) → step net w a ≡ (new, said) → step net w a ≡ (other, told) →
-        (new ≡ other) × (said ≡ told) }
+    ensures { (net : Network) (w new other : World) (a : Action) (said other_said : Outcome) → step net w a ≡ (new, said) → step net w a ≡ (other, other_said) →
+        (new ≡ other) × (said ≡ other_said) }
 {}

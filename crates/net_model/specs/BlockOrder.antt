@@ -116,7 +116,7 @@ abbrev pub is_put : Site → Action → Bool
 is_put s (Transmit l j environment) = is_lane s l && is_wire_answer environment
 is_put s _ = false
 
--- Behind the histories each order is claimed once, lane by lane, and behind these each frame that may be put is put once, lane by lane.
+-- After the histories each order is claimed once, lane by lane, and after these each frame that may be put is put once, lane by lane.
 pub record IsBlock (net : Network) (w : World) (p : Parts) : Type 0 where
   pub nodes : length p.histories ≡ net.site.nodes
   pub chains : AreChains net w 0 p.histories

@@ -9,7 +9,7 @@ use Rattle.net_model.specs.declared.record.Record.TheVariants.{Block, Lease, Lea
 use Rattle.net_model.specs.Facts.{IsWellFormedFact}
 use Rattle.net_model.specs.Ranges.{IsRangedFact}
 use Rattle.net_model.specs.Table.{PartOf, part_of, name_of, route_of, origin, fact_at, has_fact, facts_of, is_stored_about, was_handed}
-use Rattle.net_model.specs.Site.{Site, sender, is_incident, of_way, outgoing_way}
+use Rattle.net_model.specs.Site.{Site, sender, is_incident, outgoing_lane}
 use Rattle.net_model.specs.Streams.{is_chunk_at}
 use Rattle.net_model.specs.World.{Durable, received}
 use Rattle.net_model.specs.Records.{apply_record}
@@ -17,7 +17,7 @@ use Rattle.net_model.specs.Knowledge.{IsEntitled, IsOn, PredecessorKnows, IsAdja
 use Rattle.net_model.specs.Handings.{MayHave}
 
 -- a fact of the table that the node before it knows
-pub record MayBeTold (facts : List Fact) (known : ℕ → List Name) (v : ℕ) (f : Fact) : Type 0 where
+pub record MayBeReceived (facts : List Fact) (known : ℕ → List Name) (v : ℕ) (f : Fact) : Type 0 where
   pub there : fact_at facts (name_of f) ≡ Some f
   pub on : IsOn (route_of f) v
   pub source : PredecessorKnows known v (name_of f) (route_of f)
@@ -60,12 +60,12 @@ pub record MayBeMade (s : Site) (facts : List Fact) (known : ℕ → List Name) 
 
 -- the blocks taken at a node's end of a link
 abbrev pub blocks_of_end : Site → Durable → ℕ → ℕ → ℕ
-blocks_of_end s d v link = of_way (outgoing_way s v link) (d.low_blocks link) (d.high_blocks link)
+blocks_of_end s d v link = d.blocks (outgoing_lane s v link)
 
 abbrev pub MayApply : Site → Durable → ℕ → Record → Type 0
 MayApply s d v (Block link number bytes) = (is_incident s v link ≡ true) × (number ≡ blocks_of_end s d v link) × (number < 1024)
 MayApply s d v (Lease lane end) = (sender s lane ≡ v) × (d.lease lane ≤ end) × (end ≤ received d lane)
-MayApply s d v (Learned f) = (has (d.known v) (name_of f) ≡ false) × (MayBeTold d.facts d.known v f ⊎ MayBeMade s d.facts d.known d.handed v f)
+MayApply s d v (Learned f) = (has (d.known v) (name_of f) ≡ false) × (MayBeReceived d.facts d.known v f ⊎ MayBeMade s d.facts d.known d.handed v f)
 MayApply s d v (Acked n) = (u : ℕ) × IsAdjacent d.facts d.known u v u n
 MayApply s d v (Handed n sae) = (s.home sae ≡ v) × (was_handed d.handed n sae ≡ false) × MayHave s d.facts d.known n sae
 MayApply s d v (Closed n sae) = Unit {0}
@@ -77,7 +77,7 @@ MayReplay s d v (r ∷ rs) = MayApply s d v r × MayReplay s (apply_record s v r
 
 -- facts and knowledge only grow, and what is the node's own stays
 pub record ExtendsOf (s : Site) (v : ℕ) (facts facts' : List Fact) (known known' : ℕ → List Name) (handed handed' : List (Name × ℕ))
-    (lease lease' : Lane → ℕ) (low low' high high' : ℕ → ℕ) : Type 0 where
+    (lease lease' blocks blocks' : Lane → ℕ) : Type 0 where
   pub grows : (n : Name) (f : Fact) → fact_at facts n ≡ Some f → fact_at facts' n ≡ Some f
   pub mine : (n : Name) → n.node ≡ v → fact_at facts' n ≡ fact_at facts n
   pub more : (u : ℕ) (n : Name) → has (known u) n ≡ true → has (known' u) n ≡ true
@@ -85,8 +85,7 @@ pub record ExtendsOf (s : Site) (v : ℕ) (facts facts' : List Fact) (known know
   pub seen : facts_of facts' (known' v) ≡ facts_of facts (known v)
   pub hands : (n : Name) (sae : ℕ) → s.home sae ≡ v → was_handed handed' n sae ≡ was_handed handed n sae
   pub leases : (l : Lane) → sender s l ≡ v → lease' l ≡ lease l
-  pub lows : (l : ℕ) → s.low l ≡ v → low' l ≡ low l
-  pub highs : (l : ℕ) → s.high l ≡ v → high' l ≡ high l
+  pub taken : (l : Lane) → sender s l ≡ v → blocks' l ≡ blocks l
 
 abbrev pub Extends : Site → ℕ → Durable → Durable → Type 0
-Extends s v a b = ExtendsOf s v a.facts b.facts a.known b.known a.handed b.handed a.lease b.lease a.low_blocks b.low_blocks a.high_blocks b.high_blocks
+Extends s v a b = ExtendsOf s v a.facts b.facts a.known b.known a.handed b.handed a.lease b.lease a.blocks b.blocks

@@ -1,5 +1,5 @@
 -- Which events a manager may be asked: the ranges of their numbers, and links and lanes that join the node.
-use Rattle.std.specs.Prelude.{◌≡◌, ℕ, ◌^◌, ◌==◌, ◌&&◌, nat_lt, nat_le, Bool, true, List, [], ◌∷◌, length}
+use Rattle.std.specs.Prelude.{ℕ, ◌^◌, ◌==◌, ◌&&◌, nat_lt, nat_le, Bool, true, List, [], ◌∷◌, length}
 use Rattle.std.specs.List.{list_all}
 use Rattle.qkd_base.specs.Name.{Name, kind_eq}
 use Rattle.qkd_base.specs.declared.lane.Lane.{Lane}
@@ -8,7 +8,6 @@ use Rattle.net_model.specs.declared.event.Event.{Event}
 use Rattle.net_model.specs.declared.event.Event.TheVariants.{Block, Fill, Feed, Plan, Heard, Enc, Dec, Status, Open, Join, Get, Close, Show, Ledger, FillGroup, EncGroup, Note}
 use Rattle.net_model.specs.declared.placing.Placing.{Placing}
 use Rattle.net_model.specs.Site.{Site, sender, receiver, is_incident}
-use Rattle.net_model.specs.View.{View, port_of, blocks_of}
 use Rattle.net_model.specs.Streams.{is_size}
 
 -- 1 to 128
@@ -41,7 +40,7 @@ is_frame_size n = nat_le 25 n && nat_le n 585
 unfoldable pub is_valid_event : Site → ℕ → Event → Bool
 is_valid_event site v (Block link number bytes) = nat_lt link site.links && is_incident site v link && (length bytes == 1024)
 is_valid_event site v (Fill m s bits count) = is_size bits && is_count count
-is_valid_event site v (Feed stream count) = is_stream stream && nat_lt stream.node site.nodes && is_count count
+is_valid_event site v (Feed stream count) = is_name stream && is_count count
 is_valid_event site v Plan = true
 is_valid_event site v (Heard lane bytes) = is_lane site lane && (receiver site lane == v)
 is_valid_event site v (Enc m s n bits) = is_count n && is_size bits
@@ -56,11 +55,3 @@ is_valid_event site v (Ledger lane) = is_lane site lane && (sender site lane == 
 is_valid_event site v (FillGroup m slaves bits count) = are_slaves slaves && is_size bits && is_count count
 is_valid_event site v (EncGroup m slaves n bits) = are_slaves slaves && is_count n && is_size bits
 is_valid_event site v (Note placings) = list_all (λ (p : Placing). is_frame_size p.length) placings
-
--- a block is the next one of its link at this node
-abbrev pub is_next_block : View → Event → Bool
-is_next_block v (Block link number bytes) = number == blocks_of (port_of v link)
-is_next_block v _ = true
-
-abbrev pub IsValidEvent : Site → View → Event → Type 0
-IsValidEvent site v event = (is_valid_event site v.me event ≡ true) × (is_next_block v event ≡ true)

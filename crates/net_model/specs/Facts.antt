@@ -4,7 +4,7 @@ use Rattle.qkd_base.specs.declared.key_name.NameKind.TheVariants.{Key as KeyKind
 use Rattle.net_model.specs.declared.fact.Fact.{Fact}
 use Rattle.net_model.specs.declared.fact.Fact.TheVariants.{Key, Chunk, Stored, Open, Joined, Part}
 use Rattle.net_model.specs.declared.payload.Payload.{Payload}
-use Rattle.net_model.specs.declared.payload.Payload.TheVariants.{Told, Ack}
+use Rattle.net_model.specs.declared.payload.Payload.TheVariants.{Data, Ack}
 
 -- The octets in which a fact is spelled: its kind, its names of 16 octets, numbers of 2 (an index of 4), the octet that
 -- counts the route's nodes and an octet for each, and its bytes.
@@ -18,7 +18,7 @@ fact_len (Part name key master slave route bytes) = 40 + length route + length b
 
 -- an acknowledgement is its kind and a name
 abbrev pub payload_len : Payload → ℕ
-payload_len (Told f) = fact_len f
+payload_len (Data f) = fact_len f
 payload_len (Ack n) = 17
 
 -- the octets of a key, a chunk or a part
@@ -35,5 +35,5 @@ IsWellFormedFact (Joined note about route) = (note.kind ≡ NoteKind) × (about.
 IsWellFormedFact (Part name key master slave route bytes) = (name.kind ≡ KeyKind) × (key.kind ≡ KeyKind) × IsSize (length bytes)
 
 abbrev pub IsWellFormed : Payload → Type 0
-IsWellFormed (Told f) = IsWellFormedFact f
+IsWellFormed (Data f) = IsWellFormedFact f
 IsWellFormed (Ack n) = Unit {0}

@@ -39,14 +39,14 @@ abbrev pub is_end_of : View → Fact → Bool
 is_end_of v f = (origin f == v.me) || (target f == v.me)
 
 -- the application may have got the key, chunk or group key of this name by this fact
-abbrev pub is_got_by : Name → ℕ → Fact → Bool
-is_got_by n sae (Key name master slave way bytes) = name_eq name n && ((master == sae) || (slave == sae))
-is_got_by n sae (Chunk name stream index way bytes) = name_eq name n
-is_got_by n sae (Part name key master slave way bytes) = name_eq key n && ((master == sae) || (slave == sae))
-is_got_by n sae _ = false
+abbrev pub is_handed_by : Name → ℕ → Fact → Bool
+is_handed_by n sae (Key name master slave route bytes) = name_eq name n && ((master == sae) || (slave == sae))
+is_handed_by n sae (Chunk name stream index route bytes) = name_eq name n
+is_handed_by n sae (Part name key master slave route bytes) = name_eq key n && ((master == sae) || (slave == sae))
+is_handed_by n sae _ = false
 
 abbrev pub is_stream_of : Name → Fact → Bool
-is_stream_of n (Open stream source peer size way) = name_eq stream n
+is_stream_of n (Open stream source peer size route) = name_eq stream n
 is_stream_of n _ = false
 
 -- a pair is marked once
@@ -59,7 +59,7 @@ view_record (Block link number bytes) v = record v { ports = map (with_block lin
 view_record (Lease lane end) v = record v { ports = map (with_lease lane end) v.ports }
 view_record (Learned f) v = record v { facts = learned v.facts f }
 view_record (Acked n) v = if owes v n then record v { acked = v.acked ++ n ∷ [] } else v
-view_record (Handed n sae) v = if list_any (λ f. is_end_of v f && is_got_by n sae f) v.facts then record v { handed = marked v.handed n sae } else v
+view_record (Handed n sae) v = if list_any (λ f. is_end_of v f && is_handed_by n sae f) v.facts then record v { handed = marked v.handed n sae } else v
 view_record (Closed n sae) v = if list_any (λ f. is_end_of v f && is_stream_of n f) v.facts then record v { closed = marked v.closed n sae } else v
 view_record (Bare f) v = record v { facts = learned v.facts f }
 

@@ -1,13 +1,10 @@
--- When records, orders, repeats and placings are well formed.
-use Rattle.std.specs.Prelude.{◌≡◌, ℕ, ◌≤◌, true, length}
+-- When records are well formed.
+use Rattle.std.specs.Prelude.{◌≡◌, true, length}
 use Rattle.qkd_base.specs.declared.key_name.NameKind.TheVariants.{Stream as StreamKind}
 use Rattle.net_model.specs.declared.fact.Fact.{Fact}
-use Rattle.net_model.specs.declared.order.Order.{Order}
-use Rattle.net_model.specs.declared.placing.Placing.{Placing}
 use Rattle.net_model.specs.declared.record.Record.{Record}
 use Rattle.net_model.specs.declared.record.Record.TheVariants.{Block, Lease, Learned, Acked, Handed, Closed, Bare}
-use Rattle.net_model.specs.declared.repeat.Repeat.{Repeat}
-use Rattle.net_model.specs.Facts.{IsWellFormed, IsWellFormedFact}
+use Rattle.net_model.specs.Facts.{IsWellFormedFact}
 use Rattle.net_model.specs.Table.{is_secret, bytes_of, zeros_for}
 
 -- a fact that is kept without its bytes
@@ -24,16 +21,3 @@ IsWellFormedRecord (Acked n) = Unit {0}
 IsWellFormedRecord (Handed n sae) = Unit {0}
 IsWellFormedRecord (Closed stream sae) = stream.kind ≡ StreamKind
 IsWellFormedRecord (Bare f) = IsBareFact f
-
-abbrev pub IsWellFormedOrder : Order → Type 0
-IsWellFormedOrder o = IsWellFormed o.payload
-
--- the octets of a frame
-abbrev pub IsFrameSize : ℕ → Type 0
-IsFrameSize size = (25 ≤ size) × (size ≤ 585)
-
-abbrev pub IsWellFormedRepeat : Repeat → Type 0
-IsWellFormedRepeat r = IsFrameSize r.length
-
-abbrev pub IsWellFormedPlacing : Placing → Type 0
-IsWellFormedPlacing p = IsFrameSize p.length

@@ -7,9 +7,10 @@ use Rattle.net_model.specs.declared.payload.Payload.{Payload}
 use Rattle.net_model.specs.declared.placing.Placing.{Placing}
 use Rattle.net_model.specs.declared.reply.Reply.TheVariants.{Down, NoBits}
 use Rattle.net_model.specs.Item.{item_name, need, payload}
-use Rattle.net_model.specs.Site.{of_way, sender, receiver}
+use Rattle.net_model.specs.Site.{sender, receiver}
+use Rattle.qkd_base.specs.Lane.{reverse_lane}
 use Rattle.qkd_base.specs.LaneBytes.{lane_octets}
-use Rattle.net_model.specs.Told.{first_blocks}
+use Rattle.net_model.specs.OctetSequence.{first_blocks}
 use Rattle.net_model.specs.Sealing.{Opened, Opens, Rejected, Forged}
 use Rattle.net_model.specs.World.{Network, World, Allocation, Transmission, Outgoing, Frame, received_there}
 use Rattle.net_model.specs.Needed.{view_of}
@@ -20,10 +21,10 @@ use Rattle.net_model.specs.Handle.{perform}
 
 -- the lane bytes that the sender and the receiver have received
 abbrev pub octets_sent : Network → World → Lane → List ℕ
-octets_sent net w l = lane_octets l.way (first_blocks (net.device l.link) (of_way l.way (w.durable.low_blocks l.link) (w.durable.high_blocks l.link)))
+octets_sent net w l = lane_octets l.way (first_blocks (net.device l.link) (w.durable.blocks l))
 
 abbrev pub octets_received : Network → World → Lane → List ℕ
-octets_received net w l = lane_octets l.way (first_blocks (net.device l.link) (of_way l.way (w.durable.high_blocks l.link) (w.durable.low_blocks l.link)))
+octets_received net w l = lane_octets l.way (first_blocks (net.device l.link) (w.durable.blocks (reverse_lane l)))
 
 abbrev pub sealed : Network → World → Lane → ℕ → Option Payload → List ℕ
 sealed net w l offset None = []
@@ -86,7 +87,7 @@ placing_of net w l o number =
       frame = room_octets frame;
     }
 
--- what may be put is put or refused, and is told to its sender at the next note
+-- what may be put is put or refused, and its sender notes it next
 abbrev pub put : Network → World → Lane → Outgoing → List ℕ → Option ℕ → World
 put net w l o wire number =
     let v = sender net.site l in
@@ -134,16 +135,16 @@ octets_eq (x ∷ xs) [] = false
 octets_eq (x ∷ xs) (y ∷ ys) = (x == y) && octets_eq xs ys
 
 -- what opening octets that nobody put gives: their refusal, or the run's end
-abbrev pub strange : World → Opened → World × Outcome
-strange w (Opens offset p) = (w, ForgedMatch)
-strange w (Rejected reply) = (w, Replies reply)
-strange w (Forged place) = (w, ForgedMatch)
+abbrev pub unmatched : World → Opened → World × Outcome
+unmatched w (Opens offset p) = (w, ForgedMatch)
+unmatched w (Rejected reply) = (w, Replies reply)
+unmatched w (Forged place) = (w, ForgedMatch)
 
 abbrev pub tampered_or_put : Network → World → Lane → List ℕ → Environment → Option ℕ → World × Outcome
 tampered_or_put net w l octets environment (Some j) = deliver_frame net w l environment (slice_get (w.frames l) j)
 tampered_or_put net w l octets environment None =
     if not (w.up (receiver net.site l)) then (w, Replies Down)
-    else strange w (net.sealing.unseal l (octets_received net w l) octets)
+    else unmatched w (net.sealing.unseal l (octets_received net w l) octets)
 
 -- octets come to a receiver. Where they stand on the lane's wire they count as that frame
 unfoldable pub tampered : Network → World → Lane → List ℕ → Environment → World × Outcome

@@ -56,7 +56,7 @@ new_parts v key m [] bytes more = []
 new_parts v key m (slave ∷ slaves) bytes more =
     Learned (Part (fresh_name v KeyKind more) key m slave.0 slave.1 bytes) ∷ new_parts v key m slaves bytes (more + 1)
 
--- so many group keys: each takes the next count, and its parts take the counts behind it
+-- so many group keys: each takes the next count, and its parts take the counts after it
 abbrev pub new_groups : View → ℕ → List (ℕ × List ℕ) → ℕ → List ℕ → ℕ → ℕ → List Record
 new_groups v m slaves size random more zero = []
 new_groups v m slaves size random more (suc k) =
@@ -65,8 +65,8 @@ new_groups v m slaves size random more (suc k) =
 
 abbrev pub with_route : ℕ → Option (List ℕ) → Option (List (ℕ × List ℕ)) → Option (List (ℕ × List ℕ))
 with_route s None rest = None
-with_route s (Some way) None = None
-with_route s (Some way) (Some rest) = Some ((s, way) ∷ rest)
+with_route s (Some route) None = None
+with_route s (Some route) (Some rest) = Some ((s, route) ∷ rest)
 
 -- a route to each slave's home, if all have one
 abbrev pub routes_to : Site → (ℕ → Bool) → ℕ → List ℕ → Option (List (ℕ × List ℕ))
@@ -75,9 +75,9 @@ routes_to site up me (s ∷ ss) = with_route s (route site up me (site.home s)) 
 
 abbrev pub filled_group : View → ℕ → List ℕ → ℕ → ℕ → List ℕ → Option (List (ℕ × List ℕ)) → Decision
 filled_group v m slaves bits count random None = Refuses NoRoute
-filled_group v m slaves bits count random (Some ways) =
+filled_group v m slaves bits count random (Some routes) =
     if nat_lt 4096 (unhanded_group v m slaves bits + count) then Refuses PoolFull
-    else makes v (new_groups v m ways (bits / 8) random 0 count) (MadeKeys count (fresh_name v KeyKind 0))
+    else makes v (new_groups v m routes (bits / 8) random 0 count) (MadeKeys count (fresh_name v KeyKind 0))
 
 abbrev pub is_entitled_group : Site → View → ℕ → List ℕ → Bool
 is_entitled_group site v m slaves = (site.home m == v.me) && list_all (λ s. site.allowed m s) slaves

@@ -11,8 +11,8 @@ use Rattle.net_model.specs.declared.event.Event.{Event}
 use Rattle.net_model.specs.declared.event.Event.TheVariants.{Block}
 use Rattle.net_model.specs.declared.reply.Reply.TheVariants.{Down, Stopped, Memory, JournalFull, NoRandom, LinkFull}
 use Rattle.net_model.specs.Table.{name_of}
-use Rattle.net_model.specs.Site.{Site, of_way, outgoing_way}
-use Rattle.net_model.specs.Told.{tells, octets_from, block_at}
+use Rattle.net_model.specs.Site.{Site, outgoing_lane}
+use Rattle.net_model.specs.OctetSequence.{has_octets, octets_from, block_at}
 use Rattle.net_model.specs.World.{Network, World, Allocation, Transmission, Entry, Outgoing, no_volatile}
 use Rattle.net_model.specs.Needed.{view_of}
 use Rattle.net_model.specs.Records.{replay}
@@ -27,7 +27,7 @@ is_numbered (Learned (Chunk name stream index route bytes)) = nat_lt name.count 
 is_numbered (Learned f) = nat_lt (name_of f).count (2 ^ 48)
 is_numbered _ = true
 
--- new orders stand behind older ones. With none it computes to what was there
+-- new orders stand after older ones. With none it computes to what was there
 abbrev pub with_orders : List Transmission → (Lane → List Transmission) → Lane → List Transmission
 with_orders [] unclaimed l = unclaimed l
 with_orders (t ∷ ts) unclaimed l = unclaimed l ++ filter (λ (x : Transmission). lane_eq x.lane l) (t ∷ ts)
@@ -72,7 +72,7 @@ perform net w v octets environment effect =
     let added = added_len (w.journal v).version effect.batch in
     if is_no_memory environment || not (list_all is_numbered effect.batch) then (w, Replies Memory)
     else if nat_lt journal_limit ((w.journal v).length' + added) then (w, Replies (JournalFull (w.journal v).length' added))
-    else if nat_lt 0 octets && (not (tells (net.entropy v) (w.drawn v + octets)) || is_entropy_fault environment) then (w, Replies NoRandom)
+    else if nat_lt 0 octets && (not (has_octets (net.entropy v) (w.drawn v + octets)) || is_entropy_fault environment) then (w, Replies NoRandom)
     else if is_io_fault environment && not (is_nil effect.batch) then (stopped w v octets effect, Replies Stopped)
     else (commit net.site w v octets effect, Replies effect.reply)
 
@@ -92,15 +92,15 @@ handle net w v event environment =
 
 -- the blocks taken at a node's end of a link
 abbrev pub blocks_at : Network → World → ℕ → ℕ → ℕ
-blocks_at net w v link = of_way (outgoing_way net.site v link) (w.durable.low_blocks link) (w.durable.high_blocks link)
+blocks_at net w v link = w.durable.blocks (outgoing_lane net.site v link)
 
 -- the next block of a device: whether it is there and comes is found before the manager is asked, but a down manager and a full link
--- are told first
+-- come first
 unfoldable pub take_block : Network → World → ℕ → ℕ → Environment → World × Outcome
 take_block net w v link environment =
     let number = blocks_at net w v link in
     if not (w.up v) then (w, Replies Down)
     else if number == 1024 then (w, Replies LinkFull)
-    else if not (tells (net.device link) (1024 + 1024 * number)) then (w, NoBlock)
+    else if not (has_octets (net.device link) (1024 + 1024 * number)) then (w, NoBlock)
     else if is_device_fault environment then (w, DeviceFailed)
     else handle net w v (Block link number (block_at (net.device link) number)) environment

@@ -1,5 +1,5 @@
 -- What every action keeps: the conserved properties of the network.
-use Rattle.std.specs.Prelude.{◌≡◌, ℕ, ◌+◌, ◌<◌, ◌≤◌, Bool, true, false, List, [], ◌∷◌, ◌⊎◌, slice_get, Some, None, if◌then◌else◌}
+use Rattle.std.specs.Prelude.{◌≡◌, ℕ, ◌+◌, ◌<◌, ◌≤◌, Bool, true, false, List, [], ◌∷◌, ◌⊎◌, length, slice_get, Some, None, if◌then◌else◌}
 use Rattle.qkd_base.specs.Name.{Name}
 use Rattle.qkd_base.specs.declared.lane.Lane.{Lane}
 use Rattle.net_model.specs.declared.fact.Fact.{Fact}
@@ -17,9 +17,9 @@ use Rattle.net_model.specs.Windows.{IsVolatile, IsPlaced, IsPosted}
 
 -- said of just the families that it looks at, so that a world which differs elsewhere keeps it by the same proof
 pub record InvariantOf (s : Site) (facts : List Fact) (handed : List (Name × ℕ)) (known acked : ℕ → List Name)
-    (own : Lane → List Owner) (lease : Lane → ℕ) (frames : Lane → List Allocation) (unclaimed : Lane → List Transmission) (got : Lane → ℕ) : Type 0 where
-  pub owned : (l : Lane) → IsOwned facts (own l) (frames l) (got l)
-  pub room : (l : Lane) → HasRoom facts (own l) (unclaimed l) (lease l) (got l)
+    (own : Lane → List Owner) (lease : Lane → ℕ) (frames : Lane → List Allocation) (unclaimed : Lane → List Transmission) (received : Lane → ℕ) : Type 0 where
+  pub owned : (l : Lane) → IsOwned facts (own l) (frames l) (received l)
+  pub room : (l : Lane) → HasRoom facts (own l) (unclaimed l) (lease l) (received l)
   pub table : IsTable s facts known
   pub streams : IsStreams facts known
   pub groups : IsGroups facts
@@ -60,5 +60,6 @@ pub record Conserved (net : Network) (w : World) : Type 0 where
   pub started : (v : ℕ) → w.up v ≡ true → is_blank (w.journal v) ≡ false
   pub doubt_room : (v : ℕ) → HasRoomFor (w.journal v) (w.in_doubt v)
   pub drawn : AreDrawn net w
-  pub low_blocks : (l : ℕ) → w.durable.low_blocks l ≤ 1024
-  pub high_blocks : (l : ℕ) → w.durable.high_blocks l ≤ 1024
+  pub few_blocks : (l : Lane) → w.durable.blocks l ≤ 1024
+  -- what a start gave up is at most what is owned, so at most what is planned: a manager's own count adds up
+  pub recovered : (l : Lane) → w.recovered l ≤ length (w.durable.own l)

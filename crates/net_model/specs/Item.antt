@@ -3,7 +3,7 @@ use Rattle.std.specs.Prelude.{ℕ, ◌+◌, Bool, false, List, Option, Some, Non
 use Rattle.qkd_base.specs.Name.{Name, name_eq}
 use Rattle.net_model.specs.declared.fact.Fact.{Fact}
 use Rattle.net_model.specs.declared.payload.Payload.{Payload}
-use Rattle.net_model.specs.declared.payload.Payload.TheVariants.{Told, Ack}
+use Rattle.net_model.specs.declared.payload.Payload.TheVariants.{Data, Ack}
 use Rattle.net_model.specs.Facts.{payload_len}
 use Rattle.net_model.specs.Table.{fact_at}
 
@@ -22,7 +22,7 @@ abbrev pub item_name : Item → Name
 item_name (DataItem n) = n
 item_name (AckItem n) = n
 
--- an acknowledgement is told by the received offset that it answers
+-- an acknowledgement is known by the received offset that it answers
 abbrev pub item_of : Option ℕ → Name → Item
 item_of None n = DataItem n
 item_of (Some x) n = AckItem n
@@ -31,13 +31,13 @@ abbrev pub is_data_of : Name → Item → Bool
 is_data_of n (DataItem m) = name_eq m n
 is_data_of n (AckItem m) = false
 
-abbrev pub told_of : Option Fact → Option Payload
-told_of None = None
-told_of (Some f) = Some (Told f)
+abbrev pub data_payload : Option Fact → Option Payload
+data_payload None = None
+data_payload (Some f) = Some (Data f)
 
 -- what is spelled: a fact by the table
 abbrev pub payload : List Fact → Item → Option Payload
-payload facts (DataItem n) = told_of (fact_at facts n)
+payload facts (DataItem n) = data_payload (fact_at facts n)
 payload facts (AckItem n) = Some (Ack n)
 
 abbrev pub len_or_zero : Option Payload → ℕ

@@ -52,10 +52,11 @@ journal_limit = 33554432
 abbrev pub new_journal : Journal
 new_journal = record { length' = 17; start = 16; generation = 0; moved = false; version = 2 }
 
+-- a disk with nothing, or with the header and the closed gate of version 1 alone: a start makes a new journal of it
 abbrev pub is_blank : Journal → Bool
-is_blank j = j.length' == 0
+is_blank j = (j.length' == 0) || ((j.version == 1) && (j.length' == 17))
 
--- with so many octets behind its end
+-- with so many octets after its end
 abbrev pub extended : Journal → ℕ → Journal
 extended j octets = record j { length' = j.length' + octets }
 
@@ -90,13 +91,13 @@ checkpoint_batches v = let rs = checkpoint_records v in batches_of ((length rs +
 unfoldable pub checkpoint_need : View → ℕ
 checkpoint_need v = 1 + sum_by (batch_len 2) (checkpoint_batches v)
 
--- behind the moved header where it fits before the live area, else behind the live area
+-- after the moved header where it fits before the live area, else after the live area
 unfoldable pub checkpoint_place : Journal → ℕ → ℕ
 checkpoint_place j octets = if j.moved && nat_le (50 + octets) j.start then 50 else max j.length' 50
 
 unfoldable pub is_checkpoint_due : Journal → ℕ → Bool
 is_checkpoint_due j octets =
-    (nat_le 65536 j.length' || (j.version == 1)) && nat_le (checkpoint_place j octets + octets) journal_limit && nat_lt j.generation (2 ^ 64 - 1)
+    not (is_blank j) && (nat_le 65536 j.length' || (j.version == 1)) && nat_le (checkpoint_place j octets + octets) journal_limit && nat_lt j.generation (2 ^ 64 - 1)
 
 -- the journal that a checkpoint of so many octets leaves; the first move has the generation of the journal that it moves
 unfoldable pub checkpointed : Journal → ℕ → Journal

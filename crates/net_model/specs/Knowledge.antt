@@ -17,8 +17,8 @@ use Rattle.net_model.specs.World.{Allocation, Transmission}
 
 -- a chunk's stream is an Open between the same nodes
 abbrev pub IsOpenBetween : List ℕ → Option Fact → Type 0
-IsOpenBetween way (Some (Open stream source peer size route)) = (first_of way ≡ first_of route) × (last_of way ≡ last_of route)
-IsOpenBetween way _ = ⊥
+IsOpenBetween nodes (Some (Open stream source peer size route)) = (first_of nodes ≡ first_of route) × (last_of nodes ≡ last_of route)
+IsOpenBetween nodes _ = ⊥
 
 -- a pair that may share a key, and a route from the first one's home to the second one's
 pub record IsPair (s : Site) (first last : ℕ) (route : List ℕ) : Type 0 where

@@ -3,7 +3,7 @@ pub mod Table
 pub mod Item
 pub mod Site
 pub mod Routes
-pub mod Told
+pub mod OctetSequence
 pub mod Sealing
 pub mod World
 pub mod View

@@ -5,9 +5,9 @@ use Rattle.qkd_base.specs.Name.{Name, has}
 use Rattle.qkd_base.specs.Route.{next_after}
 use Rattle.net_model.specs.declared.fact.Fact.{Fact}
 use Rattle.net_model.specs.Table.{PartOf, part_of, parts_of, name_of, route_of, origin, target, without_bytes, was_handed, sae_at}
-use Rattle.net_model.specs.Site.{outgoing_lanes, of_way}
+use Rattle.net_model.specs.Site.{outgoing_lanes}
 use Rattle.qkd_base.specs.declared.lane.Lane.{Lane}
-use Rattle.net_model.specs.Told.{first_blocks}
+use Rattle.net_model.specs.OctetSequence.{first_blocks}
 use Rattle.net_model.specs.World.{World, Network, planned}
 use Rattle.net_model.specs.Table.{facts_of}
 use Rattle.net_model.specs.View.{View, Port, handed_at}
@@ -43,7 +43,7 @@ abbrev pub port_at : Network → World → Lane → Port
 port_at net w l =
     record {
       lane = l;
-      blocks = first_blocks (net.device l.link) (of_way l.way (w.durable.low_blocks l.link) (w.durable.high_blocks l.link));
+      blocks = first_blocks (net.device l.link) (w.durable.blocks l);
       lease = w.durable.lease l;
       planned = planned w l;
       recovered = w.recovered l;

@@ -21,15 +21,15 @@ covers facts (Some a) x = nat_le a.offset x && nat_lt x (a.offset + need facts a
 
 -- A byte is owned by a frame exactly where that frame covers it, so frames share no byte; and the hash key owns exactly the first 8
 -- bytes of a lane that received some.
-pub record IsOwned (facts : List Fact) (own : List Owner) (frames : List Allocation) (got : ℕ) : Type 0 where
+pub record IsOwned (facts : List Fact) (own : List Owner) (frames : List Allocation) (received : ℕ) : Type 0 where
   pub frame : (x j : ℕ) → is_frame j (slice_get own x) ≡ covers facts (slice_get frames j) x
-  pub key : (x : ℕ) → is_key (slice_get own x) ≡ (nat_lt x 8 && nat_lt 0 got)
-  pub reach : 0 < got → 8 ≤ length own
+  pub key : (x : ℕ) → is_key (slice_get own x) ≡ (nat_lt x 8 && nat_lt 0 received)
+  pub reach : 0 < received → 8 ≤ length own
 
 -- what is owned is planned, what is planned leased, what is leased received
-pub record HasRoom (facts : List Fact) (own : List Owner) (unclaimed : List Transmission) (lease got : ℕ) : Type 0 where
+pub record HasRoom (facts : List Fact) (own : List Owner) (unclaimed : List Transmission) (lease received : ℕ) : Type 0 where
   pub planned : length own + needs facts unclaimed ≤ lease
-  pub leased : lease ≤ got
+  pub leased : lease ≤ received
 
 -- wire numbers are frames, and what may be put is a frame with this item
 pub record IsWired (frames : List Allocation) (wire : List ℕ) (outgoing : List Outgoing) : Type 0 where

@@ -36,20 +36,20 @@ wanted_on site v l = filter (λ t. not (list_any (transmission_eq t) v.volatile.
 
 -- those that the bytes received have room for, up to the first that they haven't
 abbrev pub that_fit : List Fact → ℕ → ℕ → List Transmission → List Transmission
-that_fit facts got used [] = []
-that_fit facts got used (t ∷ ts) = if nat_lt got (used + need facts t.item) then [] else t ∷ that_fit facts got (used + need facts t.item) ts
+that_fit facts received used [] = []
+that_fit facts received used (t ∷ ts) = if nat_lt received (used + need facts t.item) then [] else t ∷ that_fit facts received (used + need facts t.item) ts
 
 -- the first that has no room
 abbrev pub short_on : List Fact → Lane → ℕ → ℕ → List Transmission → List ShortOf
-short_on facts l got used [] = []
-short_on facts l got used (t ∷ ts) =
-    if nat_lt got (used + need facts t.item) then record { lane = l; used = used; need = need facts t.item; received = got } ∷ []
-    else short_on facts l got (used + need facts t.item) ts
+short_on facts l received used [] = []
+short_on facts l received used (t ∷ ts) =
+    if nat_lt received (used + need facts t.item) then record { lane = l; used = used; need = need facts t.item; received = received } ∷ []
+    else short_on facts l received (used + need facts t.item) ts
 
 unfoldable pub orders_on : Site → View → Port → List Transmission
 orders_on site v p = that_fit v.facts (received_of p) p.planned (wanted_on site v p.lane)
 
--- the planned end behind the orders
+-- the planned end after the orders
 abbrev pub end_on : Site → View → Port → ℕ
 end_on site v p = p.planned + needs v.facts (orders_on site v p)
 
@@ -58,13 +58,13 @@ lease_size = 4096
 
 -- the least multiple of the lease size at or above an end, capped by the bytes received
 abbrev pub raise : ℕ → ℕ → ℕ
-raise end got = min got (lease_size * ((end + (lease_size - 1)) / lease_size))
+raise end received = min received (lease_size * ((end + (lease_size - 1)) / lease_size))
 
 -- a lease for an end past the leased one
 abbrev pub leases_on : Site → View → Port → List Record
 leases_on site v p = let end = end_on site v p in if nat_lt p.lease end then Lease p.lane (raise end (received_of p)) ∷ [] else []
 
--- orders as they are told, each at the offset that the plan foresees
+-- orders as they are replied, each at the offset that the plan foresees
 
 abbrev pub spelled_order : Transmission → ℕ → Option Payload → List Order
 spelled_order t used None = []

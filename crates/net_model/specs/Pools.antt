@@ -56,15 +56,15 @@ hand_to sae ns = map (λ n. Handed' n sae) ns
 
 -- so many keys, each with the next octets of those drawn
 abbrev pub new_keys : View → ℕ → ℕ → List ℕ → ℕ → List ℕ → ℕ → ℕ → List Record
-new_keys v m s way size random more zero = []
-new_keys v m s way size random more (suc k) =
-    Learned (Key (fresh_name v KeyKind more) m s way (take size random)) ∷ new_keys v m s way size (drop size random) (more + 1) k
+new_keys v m s route size random more zero = []
+new_keys v m s route size random more (suc k) =
+    Learned (Key (fresh_name v KeyKind more) m s route (take size random)) ∷ new_keys v m s route size (drop size random) (more + 1) k
 
 abbrev pub filled : View → ℕ → ℕ → ℕ → ℕ → List ℕ → Option (List ℕ) → Decision
 filled v m s bits count random None = Refuses NoRoute
-filled v m s bits count random (Some way) =
+filled v m s bits count random (Some route) =
     if nat_lt 4096 (unhanded v m s bits + count) then Refuses PoolFull
-    else makes v (new_keys v m s way (bits / 8) random 0 count) (MadeKeys count (fresh_name v KeyKind 0))
+    else makes v (new_keys v m s route (bits / 8) random 0 count) (MadeKeys count (fresh_name v KeyKind 0))
 
 unfoldable pub fill : Site → (ℕ → Bool) → View → ℕ → ℕ → ℕ → ℕ → List ℕ → Decision
 fill site up v m s bits count random =
@@ -80,8 +80,8 @@ enc site v m s n bits =
 
 -- the fact by which a slave has a key of this name: the Key, or the part of a group key for this slave
 abbrev pub is_for : ℕ → ℕ → Name → Fact → Bool
-is_for m s n (Key name master slave way bytes) = name_eq name n && (master == m) && (slave == s)
-is_for m s n (Part name key master slave way bytes) = name_eq key n && (master == m) && (slave == s)
+is_for m s n (Key name master slave route bytes) = name_eq name n && (master == m) && (slave == s)
+is_for m s n (Part name key master slave route bytes) = name_eq key n && (master == m) && (slave == s)
 is_for m s n _ = false
 
 abbrev pub for_slave : View → ℕ → ℕ → Name → Option Fact

@@ -1,7 +1,7 @@
 -- What a network must be for the definitions to hold their promises: a site in its limits, frames that open as they were sealed, and
--- devices and entropies that tell octets.
+-- devices and entropies that give octets.
 use Rattle.std.specs.Prelude.{◌≡◌, ◌≢◌, ℕ, ◌<◌, ◌≤◌, true}
-use Rattle.net_model.specs.Told.{Told}
+use Rattle.net_model.specs.OctetSequence.{OctetSequence}
 use Rattle.net_model.specs.Sealing.{IsSealing}
 use Rattle.net_model.specs.Site.{Site}
 use Rattle.net_model.specs.World.{Network}
@@ -27,11 +27,11 @@ pub record IsSite (s : Site) : Type 0 where
   pub single : (l k : ℕ) → l < s.links → k < s.links → s.low l ≡ s.low k → s.high l ≡ s.high k → l ≡ k
   pub pairs : (first last : ℕ) → s.allowed first last ≡ true → IsAllowed s first last
 
-abbrev pub TellsOctets : Told → Type 0
-TellsOctets t = (i : ℕ) → t.octet i < 256
+abbrev pub IsOctetSequence : OctetSequence → Type 0
+IsOctetSequence t = (i : ℕ) → t.octet i < 256
 
 pub record IsNetwork (net : Network) : Type 0 where
   pub site : IsSite net.site
   pub sealing : IsSealing net.sealing
-  pub devices : (l : ℕ) → TellsOctets (net.device l)
-  pub entropies : (v : ℕ) → TellsOctets (net.entropy v)
+  pub devices : (l : ℕ) → IsOctetSequence (net.device l)
+  pub entropies : (v : ℕ) → IsOctetSequence (net.entropy v)

@@ -6,7 +6,7 @@ use Rattle.qkd_base.specs.Route.{is_route, are_nodes}
 use Rattle.net_model.specs.declared.fact.Fact.{Fact}
 use Rattle.net_model.specs.declared.fact.Fact.TheVariants.{Key, Chunk, Stored, Open, Joined, Part}
 use Rattle.net_model.specs.declared.payload.Payload.{Payload}
-use Rattle.net_model.specs.declared.payload.Payload.TheVariants.{Told, Ack}
+use Rattle.net_model.specs.declared.payload.Payload.TheVariants.{Data, Ack}
 
 abbrev pub IsOctets : List ℕ → Type 0
 IsOctets bytes = list_all (λ b. nat_lt b 256) bytes ≡ true
@@ -27,5 +27,5 @@ IsRangedFact (Joined note about route) = IsName note × IsName about × IsRoute 
 IsRangedFact (Part name key master slave route bytes) = IsName name × IsName key × IsSae master × IsSae slave × IsRoute route × IsOctets bytes
 
 abbrev pub IsRanged : Payload → Type 0
-IsRanged (Told f) = IsRangedFact f
+IsRanged (Data f) = IsRangedFact f
 IsRanged (Ack n) = IsName n

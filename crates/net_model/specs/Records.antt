@@ -1,12 +1,11 @@
 -- Durable changes: what each record of a batch makes of the world.
 use Rattle.std.specs.Prelude.{ℕ, ◌+◌, ◌==◌, ◌&&◌, nat_lt, Bool, List, [], ◌∷◌, ◌++◌, if◌then◌else◌, replicate}
 use Rattle.qkd_base.specs.Family.{number_set, lane_set}
-use Rattle.qkd_base.specs.declared.lane.Way.{Way}
-use Rattle.qkd_base.specs.declared.lane.Way.TheVariants.{Up, Down}
+use Rattle.qkd_base.specs.declared.lane.Lane.{Lane}
 use Rattle.net_model.specs.declared.record.Record.{Record}
 use Rattle.net_model.specs.declared.record.Record.TheVariants.{Block, Lease, Learned, Acked, Handed, Closed, Bare}
 use Rattle.net_model.specs.Table.{learned, name_of}
-use Rattle.net_model.specs.Site.{Site, lane_of, outgoing_way}
+use Rattle.net_model.specs.Site.{Site, outgoing_lane}
 use Rattle.qkd_base.specs.LaneBytes.{lane_len}
 use Rattle.net_model.specs.World.{Durable, Owner, HashKey}
 
@@ -20,24 +19,18 @@ keyed_own before after own = if is_first before after then replicate 8 HashKey e
 abbrev pub keyed_lease : ℕ → ℕ → ℕ → ℕ
 keyed_lease before after lease = if is_first before after then 8 else lease
 
--- one more block at the end that a lane of this way leaves
-unfoldable pub block_taken : Way → ℕ → Durable → Durable
-block_taken Up link d =
+-- one more block at the end that a lane leaves
+unfoldable pub block_taken : Lane → Durable → Durable
+block_taken l d =
     record d {
-      low_blocks = number_set d.low_blocks link (d.low_blocks link + 1);
-      own = lane_set d.own (lane_of link Up) (keyed_own (lane_len Up (d.low_blocks link)) (lane_len Up (d.low_blocks link + 1)) (d.own (lane_of link Up)));
-      lease = lane_set d.lease (lane_of link Up) (keyed_lease (lane_len Up (d.low_blocks link)) (lane_len Up (d.low_blocks link + 1)) (d.lease (lane_of link Up)));
-    }
-block_taken Down link d =
-    record d {
-      high_blocks = number_set d.high_blocks link (d.high_blocks link + 1);
-      own = lane_set d.own (lane_of link Down) (keyed_own (lane_len Down (d.high_blocks link)) (lane_len Down (d.high_blocks link + 1)) (d.own (lane_of link Down)));
-      lease = lane_set d.lease (lane_of link Down) (keyed_lease (lane_len Down (d.high_blocks link)) (lane_len Down (d.high_blocks link + 1)) (d.lease (lane_of link Down)));
+      blocks = lane_set d.blocks l (d.blocks l + 1);
+      own = lane_set d.own l (keyed_own (lane_len l.way (d.blocks l)) (lane_len l.way (d.blocks l + 1)) (d.own l));
+      lease = lane_set d.lease l (keyed_lease (lane_len l.way (d.blocks l)) (lane_len l.way (d.blocks l + 1)) (d.lease l));
     }
 
 -- one durable change, made by a node
 unfoldable pub apply_record : Site → ℕ → Record → Durable → Durable
-apply_record s v (Block link number bytes) d = block_taken (outgoing_way s v link) link d
+apply_record s v (Block link number bytes) d = block_taken (outgoing_lane s v link) d
 apply_record s v (Lease lane end) d = record d { lease = lane_set d.lease lane end }
 apply_record s v (Learned f) d = record d { facts = learned d.facts f; known = number_set d.known v (d.known v ++ name_of f ∷ []) }
 apply_record s v (Acked n) d = record d { acked = number_set d.acked v (d.acked v ++ n ∷ []) }

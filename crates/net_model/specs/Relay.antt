@@ -7,7 +7,7 @@ use Rattle.qkd_base.specs.declared.key_name.NameKind.TheVariants.{Note as NoteKi
 use Rattle.net_model.specs.declared.fact.Fact.{Fact}
 use Rattle.net_model.specs.declared.fact.Fact.TheVariants.{Stored}
 use Rattle.net_model.specs.declared.payload.Payload.{Payload}
-use Rattle.net_model.specs.declared.payload.Payload.TheVariants.{Told, Ack}
+use Rattle.net_model.specs.declared.payload.Payload.TheVariants.{Data, Ack}
 use Rattle.net_model.specs.declared.record.Record.{Record}
 use Rattle.net_model.specs.declared.record.Record.TheVariants.{Learned, Acked}
 use Rattle.net_model.specs.declared.reply.Reply.TheVariants.{HeardFact}
@@ -56,5 +56,5 @@ receive_ack v l from n =
 
 -- a payload came on a lane at an offset
 abbrev pub receive : Site → View → Lane → ℕ → Payload → Effect
-receive site v l offset (Told f) = receive_fact v l offset f
+receive site v l offset (Data f) = receive_fact v l offset f
 receive site v l offset (Ack n) = receive_ack v l (sender site l) n

@@ -1,9 +1,9 @@
 -- How a payload becomes a frame on a lane and back. The network looks at a frame only through these two.
-use Rattle.std.specs.Prelude.{◌≡◌, ℕ, ◌+◌, ◌^◌, ◌≤◌, ◌<◌, List, ◌++◌, length}
+use Rattle.std.specs.Prelude.{◌≡◌, ℕ, ◌+◌, ◌^◌, ◌≤◌, ◌<◌, Bool, true, false, List, ◌++◌, length}
 use Rattle.qkd_base.specs.declared.lane.Lane.{Lane}
 use Rattle.net_model.specs.declared.payload.Payload.{Payload}
 use Rattle.net_model.specs.declared.reply.Reply.{Reply}
-use Rattle.net_model.specs.declared.reply.Reply.TheVariants.{NoBits}
+use Rattle.net_model.specs.declared.reply.Reply.TheVariants.{BadFrame, WrongLane, NoBits, BadTag}
 use Rattle.net_model.specs.Facts.{payload_len, IsWellFormed}
 use Rattle.net_model.specs.Ranges.{IsOctets, IsRanged}
 
@@ -14,12 +14,20 @@ pub data Opened : Type 0 where
   Rejected : (reply : Reply) → Opened
   Forged : (place : ℕ) → Opened
 
+-- why octets are no frame: BadFrame, WrongLane, NoBits or BadTag
+abbrev pub is_frame_refusal : Reply → Bool
+is_frame_refusal (BadFrame place) = true
+is_frame_refusal (WrongLane link way) = true
+is_frame_refusal (NoBits have) = true
+is_frame_refusal (BadTag given computed) = true
+is_frame_refusal _ = false
+
 -- a lane, its bytes, and the offset and payload or the frame's octets
 pub record Sealing : Type 0 where
   pub seal : Lane → List ℕ → ℕ → Payload → List ℕ
   pub unseal : Lane → List ℕ → List ℕ → Opened
 
--- a payload that these lane bytes reach for, behind the hash key
+-- a payload that these lane bytes reach for, after the hash key
 pub record IsSealable (l : Lane) (bytes : List ℕ) (offset : ℕ) (p : Payload) : Type 0 where
   pub link : l.link < 32
   pub octets : IsOctets bytes
@@ -30,7 +38,7 @@ pub record IsSealable (l : Lane) (bytes : List ℕ) (offset : ℕ) (p : Payload)
   pub reach : offset + payload_len p + 8 ≤ length bytes
 
 -- What the frames of a network are: octets, 24 more than the payload; the same with more lane bytes; opened where they were sealed as soon
--- as the bytes received suffice, and refused for want of bytes before.
+-- as the bytes received suffice, and refused for want of bytes before; and whatever is refused is refused as a frame.
 pub record IsSealing (f : Sealing) : Type 0 where
   pub size : (l : Lane) (bytes : List ℕ) (offset : ℕ) (p : Payload) → IsSealable l bytes offset p → length (f.seal l bytes offset p) ≡ payload_len p + 24
   pub octets : (l : Lane) (bytes : List ℕ) (offset : ℕ) (p : Payload) → IsSealable l bytes offset p → IsOctets (f.seal l bytes offset p)
@@ -40,3 +48,4 @@ pub record IsSealing (f : Sealing) : Type 0 where
       f.unseal l bytes (f.seal l bytes offset p) ≡ Opens offset p
   pub too_few : (l : Lane) (bytes more : List ℕ) (offset : ℕ) (p : Payload) → IsSealable l (bytes ++ more) offset p →
       length bytes < offset + payload_len p + 8 → f.unseal l bytes (f.seal l (bytes ++ more) offset p) ≡ Rejected (NoBits (length bytes))
+  pub rejects : (l : Lane) (bytes octets : List ℕ) (reply : Reply) → f.unseal l bytes octets ≡ Rejected reply → is_frame_refusal reply ≡ true

@@ -60,9 +60,9 @@ abbrev pub shown_part : View → Fact → Reply
 shown_part v f = if (origin f == v.me) || (target f == v.me) then Shown Absent [] else Shown Relayed (needed_bytes v f)
 
 abbrev pub shown : View → Name → Option Fact → Reply
-shown v n (Some (Key name master slave way bytes)) = shown_one v (Key name master slave way bytes)
-shown v n (Some (Chunk name stream index way bytes)) = shown_one v (Chunk name stream index way bytes)
-shown v n (Some (Part name key master slave way bytes)) = shown_part v (Part name key master slave way bytes)
+shown v n (Some (Key name master slave route bytes)) = shown_one v (Key name master slave route bytes)
+shown v n (Some (Chunk name stream index route bytes)) = shown_one v (Chunk name stream index route bytes)
+shown v n (Some (Part name key master slave route bytes)) = shown_part v (Part name key master slave route bytes)
 shown v n _ = shown_group v n (parts_of v.facts n)
 
 unfoldable pub show : View → Name → Reply

@@ -17,7 +17,7 @@ use Rattle.net_model.specs.Start.{start, may_recover, is_plain}
 abbrev pub crash : World → ℕ → World × Outcome
 crash w v = if w.up v then (record w { up = number_set w.up v false; volatile = number_set w.volatile v no_volatile }, Crashed) else (w, WasDown)
 
--- what became of a manager's frames is told to it, and to a down one in vain
+-- a manager notes what became of its frames, and a down one in vain
 abbrev pub complete_node : Network → World → ℕ → World × Outcome
 complete_node net w v =
     let out = handle net w v (Note (w.placings v)) Ok in

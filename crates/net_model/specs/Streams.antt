@@ -30,8 +30,8 @@ has_end site v stream sae = (site.home sae == v.me) && not (was_handed v.closed 
 
 -- the stream, where this node has an end of it that isn't closed
 abbrev pub open_end : Site → View → Option Fact → Option Fact
-open_end site v (Some (Open stream source peer size way)) =
-    if has_end site v stream source || has_end site v stream peer then Some (Open stream source peer size way) else None
+open_end site v (Some (Open stream source peer size route)) =
+    if has_end site v stream source || has_end site v stream peer then Some (Open stream source peer size route) else None
 open_end site v _ = None
 
 abbrev pub stream_here : Site → View → Name → Option Fact
@@ -45,8 +45,8 @@ has_joined v n = list_any (is_joined_about n) v.facts
 
 abbrev pub opened : View → ℕ → ℕ → ℕ → Option (List ℕ) → Decision
 opened v source peer bits None = answers v (only_status 4)
-opened v source peer bits (Some way) =
-    makes v (Learned (Open (fresh_name v StreamKind 0) source peer (bits / 8) way) ∷ []) (Stream 1 (Some (fresh_name v StreamKind 0)) 0 [])
+opened v source peer bits (Some route) =
+    makes v (Learned (Open (fresh_name v StreamKind 0) source peer (bits / 8) route) ∷ []) (Stream 1 (Some (fresh_name v StreamKind 0)) 0 [])
 
 unfoldable pub open_stream : Site → (ℕ → Bool) → View → ℕ → ℕ → ℕ → Decision
 open_stream site up v source peer bits =
@@ -57,11 +57,11 @@ open_stream site up v source peer bits =
 -- join: 9 no such stream open here, 5 by the source or by a peer that has joined, 8 by others or not at the peer's home, 7 another
 -- size, 0 joined
 abbrev pub joins : Site → View → ℕ → ℕ → ℕ → Option Fact → Decision
-joins site v caller other bits (Some (Open stream source peer size way)) =
+joins site v caller other bits (Some (Open stream source peer size route)) =
     if (caller == source) || ((caller == peer) && has_joined v stream) then answers v (only_status 5)
     else if not ((caller == peer) && (other == source) && (site.home peer == v.me)) then answers v (only_status 8)
     else if not (8 * size == bits) then answers v (only_status 7)
-    else makes v (Learned (Joined (fresh_name v NoteKind 0) stream (reverse way)) ∷ []) (Stream 0 (Some stream) 0 [])
+    else makes v (Learned (Joined (fresh_name v NoteKind 0) stream (reverse route)) ∷ []) (Stream 0 (Some stream) 0 [])
 joins site v caller other bits _ = answers v (only_status 9)
 
 unfoldable pub join_stream : Site → View → ℕ → ℕ → Name → ℕ → Decision
@@ -70,18 +70,18 @@ join_stream site v caller other stream bits = joins site v caller other bits (st
 -- the common part of get and close: 9 where no such stream is open here, or its peer here hasn't joined; 8 where the caller is
 -- neither end here
 abbrev pub at_end : Site → View → ℕ → Option Fact → (Name → ℕ → Decision) → Decision
-at_end site v caller (Some (Open stream source peer size way)) then' =
+at_end site v caller (Some (Open stream source peer size route)) then' =
     if (site.home peer == v.me) && not (has_joined v stream) then answers v (only_status 9)
     else if not (((caller == source) && (site.home source == v.me)) || ((caller == peer) && (site.home peer == v.me))) then answers v (only_status 8)
     else then' stream source
 at_end site v caller _ then' = answers v (only_status 9)
 
 abbrev pub is_chunk_of : Name → Fact → Bool
-is_chunk_of s (Chunk name stream index way bytes) = name_eq stream s
+is_chunk_of s (Chunk name stream index route bytes) = name_eq stream s
 is_chunk_of s _ = false
 
 abbrev pub is_chunk_at : Name → ℕ → Fact → Bool
-is_chunk_at s i (Chunk name stream index way bytes) = name_eq stream s && (index == i)
+is_chunk_at s i (Chunk name stream index route bytes) = name_eq stream s && (index == i)
 is_chunk_at s i _ = false
 
 abbrev pub chunk_at : View → Name → ℕ → Option Fact
@@ -109,9 +109,9 @@ close_stream site v caller stream =
 -- feed: chunks with the next indexes from 0
 
 abbrev pub new_chunks : View → Name → List ℕ → ℕ → ℕ → List ℕ → ℕ → ℕ → List Record
-new_chunks v stream way size next random more zero = []
-new_chunks v stream way size next random more (suc k) =
-    Learned (Chunk (fresh_name v KeyKind more) stream (next + more) way (take size random)) ∷ new_chunks v stream way size next (drop size random) (more + 1) k
+new_chunks v stream route size next random more zero = []
+new_chunks v stream route size next random more (suc k) =
+    Learned (Chunk (fresh_name v KeyKind more) stream (next + more) route (take size random)) ∷ new_chunks v stream route size next (drop size random) (more + 1) k
 
 -- the chunks that the source hasn't got
 abbrev pub waiting : View → Name → ℕ → ℕ
@@ -119,12 +119,12 @@ waiting v stream source = count_by (λ f. is_chunk_of stream f && not (was_hande
 
 abbrev pub fed : View → Name → ℕ → ℕ → ℕ → List ℕ → Option (List ℕ) → Decision
 fed v stream source size count random None = Refuses NoRoute
-fed v stream source size count random (Some way) =
+fed v stream source size count random (Some route) =
     if nat_lt 4096 (waiting v stream source + count) then Refuses PoolFull
-    else makes v (new_chunks v stream way size (count_by (is_chunk_of stream) v.facts) random 0 count) (MadeKeys count (fresh_name v KeyKind 0))
+    else makes v (new_chunks v stream route size (count_by (is_chunk_of stream) v.facts) random 0 count) (MadeKeys count (fresh_name v KeyKind 0))
 
 abbrev pub fed_stream : Site → (ℕ → Bool) → View → ℕ → List ℕ → Option Fact → Decision
-fed_stream site up v count random (Some (Open stream source peer size way)) =
+fed_stream site up v count random (Some (Open stream source peer size nodes)) =
     if has_end site v stream source then fed v stream source size count random (route site up v.me (site.home peer)) else Refuses UnknownStream
 fed_stream site up v count random _ = Refuses UnknownStream
 
@@ -133,5 +133,5 @@ feed site up v stream count random = fed_stream site up v count random (fact_at 
 
 -- the octets of one chunk of a stream
 abbrev pub chunk_size : Option Fact → ℕ
-chunk_size (Some (Open stream source peer size way)) = size
+chunk_size (Some (Open stream source peer size route)) = size
 chunk_size _ = 0

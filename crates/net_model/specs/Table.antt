@@ -51,7 +51,7 @@ without_bytes (Chunk name stream index route bytes) = Chunk name stream index ro
 without_bytes (Part name key master slave route bytes) = Part name key master slave route (zeros_for bytes)
 without_bytes f = f
 
--- the fact of a name: the first one, so what stands behind it in the list never changes the answer
+-- the fact of a name: the first one, so what stands after it in the list never changes the answer
 abbrev pub fact_at : List Fact → Name → Option Fact
 fact_at facts n = find (λ f. name_eq (name_of f) n) facts
 

@@ -6,7 +6,7 @@ use Rattle.qkd_base.specs.declared.lane.Lane.{Lane}
 use Rattle.net_model.specs.declared.order.Order.{Order}
 use Rattle.net_model.specs.declared.repeat.Repeat.{Repeat}
 use Rattle.net_model.specs.declared.payload.Payload.{Payload}
-use Rattle.net_model.specs.declared.payload.Payload.TheVariants.{Told, Ack}
+use Rattle.net_model.specs.declared.payload.Payload.TheVariants.{Data, Ack}
 use Rattle.net_model.specs.Table.{name_of}
 use Rattle.net_model.specs.Item.{Item, DataItem, AckItem}
 use Rattle.net_model.specs.World.{Transmission}
@@ -22,7 +22,7 @@ tick_order lanes repeats orders =
     flat_map (λ l. map Again (filter (λ (r : Repeat). lane_eq r.lane l) repeats) ++ map New (filter (λ (o : Order). lane_eq o.lane l) orders)) lanes
 
 abbrev pub item_in : Payload → Item
-item_in (Told f) = DataItem (name_of f)
+item_in (Data f) = DataItem (name_of f)
 item_in (Ack n) = AckItem n
 
 -- the transmission that an order asks for

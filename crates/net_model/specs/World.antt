@@ -6,17 +6,18 @@ use Rattle.net_model.specs.declared.fact.Fact.{Fact}
 use Rattle.net_model.specs.declared.record.Record.{Record}
 use Rattle.net_model.specs.declared.placing.Placing.{Placing}
 use Rattle.net_model.specs.Item.{Item, need}
-use Rattle.net_model.specs.Site.{Site, of_way}
+use Rattle.net_model.specs.Site.{Site}
+use Rattle.qkd_base.specs.Lane.{reverse_lane}
 use Rattle.qkd_base.specs.LaneBytes.{lane_len}
-use Rattle.net_model.specs.Told.{Told}
+use Rattle.net_model.specs.OctetSequence.{OctetSequence}
 use Rattle.net_model.specs.Sealing.{Sealing}
 
--- what a network is given once: its site, its frames, and what the device of each link and the entropy of each node tell
+-- what a network is given once: its site, its frames, and what the device of each link and the entropy of each node give
 pub record Network : Type 0 where
   pub site : Site
   pub sealing : Sealing
-  pub device : ℕ → Told
-  pub entropy : ℕ → Told
+  pub device : ℕ → OctetSequence
+  pub entropy : ℕ → OctetSequence
 
 -- who owns a lane byte: the hash key, a frame by its number, or nobody any more
 pub data Owner : Type 0 where
@@ -63,10 +64,8 @@ no_volatile = record { window = []; pending_acks = []; awaiting = [] }
 -- What the records of batches change, and claims. Each family is a field of its own, so that an update of one leaves the
 -- others as they are.
 pub record Durable : Type 0 where
-  -- per link: the blocks taken at each end
-  pub low_blocks : ℕ → ℕ
-  pub high_blocks : ℕ → ℕ
-  -- per lane: the owners of its first bytes, and the end below which bytes may be claimed
+  -- per lane: the blocks taken at its sender's end, the owners of its first bytes, and the end below which bytes may be claimed
+  pub blocks : Lane → ℕ
   pub own : Lane → List Owner
   pub lease : Lane → ℕ
   -- of the network: all facts, and which application got which key
@@ -125,10 +124,10 @@ pub record World : Type 0 where
 
 -- the lane bytes that the sender and the receiver have received
 abbrev pub received : Durable → Lane → ℕ
-received d l = lane_len l.way (of_way l.way (d.low_blocks l.link) (d.high_blocks l.link))
+received d l = lane_len l.way (d.blocks l)
 
 abbrev pub received_there : Durable → Lane → ℕ
-received_there d l = lane_len l.way (of_way l.way (d.high_blocks l.link) (d.low_blocks l.link))
+received_there d l = lane_len l.way (d.blocks (reverse_lane l))
 
 -- what transmissions need
 abbrev pub needs : List Fact → List Transmission → ℕ
@@ -144,8 +143,7 @@ unfoldable pub first : World
 first =
     record {
       durable = record {
-        low_blocks = λ l. 0;
-        high_blocks = λ l. 0;
+        blocks = λ l. 0;
         own = λ l. [];
         lease = λ l. 0;
         facts = [];

@@ -1,7 +1,7 @@
 // What the nodes of the network know.
 use qkd_base::{KeyName, Memory, Octets, Replica, Route, SaeNo};
 
-/// Something that a node makes once and that is told along a route, hop by hop (SECOQC trusted repeaters). Its name
+/// Something that a node makes once and that is relayed along a route, hop by hop (SECOQC trusted repeaters). Its name
 /// is unique in the network. Bytes are 8 to 512 octets.
 #[derive(Debug, Drop)]
 pub enum Fact {
@@ -21,7 +21,7 @@ pub enum Fact {
         route: Route,
         bytes: Octets,
     },
-    /// The target's word that a key, chunk or part has come there, told back.
+    /// The target's word that a key, chunk or part has come there, relayed back.
     Stored {
         note: KeyName,
         about: KeyName,
@@ -35,7 +35,7 @@ pub enum Fact {
         length: u16,
         route: Route,
     },
-    /// The peer's word that it takes part in a stream, told back (ETSI GS QKD 004, OPEN_CONNECT by the peer).
+    /// The peer's word that it takes part in a stream, relayed back (ETSI GS QKD 004, OPEN_CONNECT by the peer).
     Joined {
         note: KeyName,
         about: KeyName,

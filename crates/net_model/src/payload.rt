@@ -8,16 +8,16 @@ use qkd_base::{KeyName, Memory, NameKind, Octets, Replica};
 /// What one frame says to the other end of its link.
 #[derive(Debug, Drop)]
 pub enum Payload {
-    /// A fact, told to the next node of its route.
-    Told(Fact),
-    /// The acknowledgement of the fact of this name, to the node that told it.
+    /// A fact, for the next node of its route.
+    Data(Fact),
+    /// The acknowledgement of the fact of this name, to the node that sent it.
     Ack(KeyName),
 }
 
 impl Replica for Payload {
     fn copy(&self) -> Result<Self, Memory> {
         match self {
-            Payload::Told(fact) => Ok(Payload::Told(fact.copy()?)),
+            Payload::Data(fact) => Ok(Payload::Data(fact.copy()?)),
             Payload::Ack(name) => Ok(Payload::Ack(*name)),
         }
     }
@@ -69,7 +69,7 @@ pub fn well_formed(payload: &Payload) -> bool
     ensures { IsTrue result ↔ IsWellFormed payload.now }
 {
     match payload {
-        Payload::Told(fact) => is_formed(fact),
+        Payload::Data(fact) => is_formed(fact),
         Payload::Ack(_) => true,
     }
 }
@@ -97,7 +97,7 @@ pub fn spelled_len(payload: &Payload) -> u16
     ensures range { (17 ≤ result) × (result ≤ 561) }
 {
     match payload {
-        Payload::Told(fact) => fact_size(fact),
+        Payload::Data(fact) => fact_size(fact),
         Payload::Ack(_) => 17,
     }
 }

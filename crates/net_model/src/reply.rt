@@ -20,7 +20,7 @@ pub enum Reply {
         repeats: Repeats,
         shorts: Shorts,
     },
-    /// A frame was taken (`fresh`) or told nothing new. The kind is the payload's kind octet.
+    /// A frame was taken (`fresh`) or carried nothing new. The kind is the payload's kind octet.
     HeardFact {
         fresh: bool,
         kind: u8,
@@ -63,7 +63,7 @@ pub enum Reply {
     LinkFull,
     /// The pair is not allowed, or the caller is not at home here.
     NotAllowed,
-    /// No way of at most 8 links that are up.
+    /// No route of at most 8 links that are up.
     NoRoute,
     /// More than 4,096 keys would wait for their master.
     PoolFull,

@@ -38,7 +38,7 @@ fn payloads_have_their_lengths(rt: HostRuntime) -> Result<(), Fail> {
     let sae = SaeNo::new(0).ok_or("sae")?;
     let way = route()?;
     let a_key = |name, bytes| {
-        Payload::Told(Fact::Key {
+        Payload::Data(Fact::Key {
             name,
             master: sae,
             slave: sae,
@@ -47,7 +47,7 @@ fn payloads_have_their_lengths(rt: HostRuntime) -> Result<(), Fail> {
         })
     };
     let stored = |note, about| {
-        Payload::Told(Fact::Stored {
+        Payload::Data(Fact::Stored {
             note,
             about,
             route: way,

@@ -1,5 +1,5 @@
 use Rattle.std.proofs.Common.{refl}
-use Rattle.net_rows.specs.FrameRows.{Tampered, ForgedFrames, Blocks}
+use Rattle.net_rows.specs.FrameRows.{Tampered, ForgedFrames, Blocks, FrameRefusals}
 use Rattle.net_rows.proofs.Opened.{opened}
 
 pub tampered : Tampered
@@ -13,3 +13,7 @@ forged_frames = refl
 pub blocks : Blocks
 unfolding opened
 blocks = refl
+
+pub frame_refusals : FrameRefusals
+unfolding opened
+frame_refusals = refl

@@ -1,5 +1,5 @@
 use Rattle.std.proofs.Common.{refl}
-use Rattle.net_rows.specs.JournalRows.{Checkpoints, CheckpointInDoubt, Migration, CheckpointOnce, FullJournal, HandingRuns, UsedKeys}
+use Rattle.net_rows.specs.JournalRows.{Checkpoints, CheckpointInDoubt, Migration, CheckpointOnce, FullJournal, HandingRuns, UsedKeys, BlankOfVersion1}
 use Rattle.net_rows.proofs.Opened.{opened}
 
 pub checkpoints : Checkpoints
@@ -29,3 +29,7 @@ handing_runs = refl
 pub used_keys : UsedKeys
 unfolding opened
 used_keys = refl
+
+pub blank_of_version_1 : BlankOfVersion1
+unfolding opened
+blank_of_version_1 = refl

@@ -2,7 +2,7 @@
 use Rattle.net_model.specs.Site.{outgoing_lanes}
 use Rattle.net_model.specs.Routes.{walks, route_from, route}
 use Rattle.qkd_base.specs.LaneBytes.{lane_octets}
-use Rattle.net_model.specs.Told.{octets_from, first_blocks}
+use Rattle.net_model.specs.OctetSequence.{octets_from, first_blocks}
 use Rattle.net_model.specs.World.{first}
 use Rattle.net_model.specs.Needed.{is_needed, masked, view_of}
 use Rattle.net_model.specs.Records.{block_taken, apply_record, replay}

@@ -1,5 +1,5 @@
 use Rattle.std.proofs.Common.{refl}
-use Rattle.net_rows.specs.StartRows.{Leases, PlanCommitted, PlanLost, HandingCommitted, HandingLost, DrawnStays, NewLife}
+use Rattle.net_rows.specs.StartRows.{Leases, PlanCommitted, PlanLost, HandingCommitted, HandingLost, DrawnStays, NewLife, OwnCounts}
 use Rattle.net_rows.proofs.Opened.{opened}
 
 pub leases : Leases
@@ -29,3 +29,7 @@ drawn_stays = refl
 pub new_life : NewLife
 unfolding opened
 new_life = refl
+
+pub own_counts : OwnCounts
+unfolding opened
+own_counts = refl

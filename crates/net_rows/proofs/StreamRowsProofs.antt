@@ -1,5 +1,5 @@
 use Rattle.std.proofs.Common.{refl}
-use Rattle.net_rows.specs.StreamRows.{Streams, Joining}
+use Rattle.net_rows.specs.StreamRows.{Streams, Joining, FedByAnyName}
 use Rattle.net_rows.proofs.Opened.{opened}
 
 pub streams : Streams
@@ -9,3 +9,7 @@ streams = refl
 pub joining : Joining
 unfolding opened
 joining = refl
+
+pub fed_by_any_name : FedByAnyName
+unfolding opened
+fed_by_any_name = refl

@@ -62,7 +62,7 @@ bits net link low high (suc n) r =
     let b = one_block net link (net.site.high link) high a.0 in
     bits net link a.1 b.1 n b.0
 
--- a tick behind its plan: each frame is claimed if it is new, and put
+-- a tick after its plan: each frame is claimed if it is new, and put
 
 abbrev pub sent_line : Lane → ℕ → ℕ → Outcome → Line
 sent_line l offset size (Put n) = Sends l n offset size

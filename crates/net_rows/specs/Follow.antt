@@ -6,7 +6,7 @@ use Rattle.net_model.specs.declared.event.Event.TheVariants.{Block, Note}
 use Rattle.net_model.specs.declared.reply.Reply.TheVariants.{Stopped, Memory, NoRandom, JournalFull, Down, NoBits, LinkFull}
 use Rattle.net_model.specs.Item.{payload}
 use Rattle.net_model.specs.Site.{receiver}
-use Rattle.net_model.specs.Told.{octets_from, block_at}
+use Rattle.net_model.specs.OctetSequence.{octets_from, block_at}
 use Rattle.net_model.specs.World.{Network, World, Allocation, first, no_volatile}
 use Rattle.net_model.specs.View.{View}
 use Rattle.net_model.specs.Needed.{view_of}
@@ -50,9 +50,9 @@ abbrev pub frame_of : World → Lane → Option ℕ → Option Allocation
 frame_of w l None = None
 frame_of w l (Some j) = slice_get (w.frames l) j
 
-abbrev pub got : Network → World → View → Lane → Outcome → Option Allocation → View
-got net w view l outcome None = view
-got net w view l outcome (Some a) = elim (payload w.durable.facts a.item) as (λ p. View) [ None ↦ view | Some p ↦ after_effect view (receive net.site view l a.offset p) outcome ]
+abbrev pub passed_frame : Network → World → View → Lane → Outcome → Option Allocation → View
+passed_frame net w view l outcome None = view
+passed_frame net w view l outcome (Some a) = elim (payload w.durable.facts a.item) as (λ p. View) [ None ↦ view | Some p ↦ after_effect view (receive net.site view l a.offset p) outcome ]
 
 unfoldable pub follow : Network → World → View → Action → Outcome → View
 follow net w view (Start v (Recovers committed)) Started =
@@ -63,7 +63,7 @@ follow net w view (TakeBlock v link environment) outcome =
 follow net w view (Ask v event environment) outcome = if v == view.me then asked net w view event outcome else view
 follow net w view (Complete v) outcome = if v == view.me then asked net w view (Note (w.placings v)) outcome else view
 follow net w view (Deliver l number environment) outcome =
-    if receiver net.site l == view.me then got net w view l outcome (frame_of w l (slice_get (w.wire l) number)) else view
+    if receiver net.site l == view.me then passed_frame net w view l outcome (frame_of w l (slice_get (w.wire l) number)) else view
 follow net w view _ outcome = view
 
 abbrev pub follows : Network → World → View → List Action → View

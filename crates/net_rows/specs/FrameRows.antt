@@ -1,8 +1,9 @@
 -- Changed and invented frames, and blocks of devices.
-use Rattle.std.specs.Prelude.{◌≡◌, true, [], ◌∷◌, ◌++◌, replicate}
+use Rattle.std.specs.Prelude.{◌≡◌, true, false, [], ◌∷◌, ◌++◌, map, replicate}
 use Rattle.qkd_base.specs.declared.lane.Way.TheVariants.{Up, Down}
 use Rattle.net_model.specs.declared.event.Event.TheVariants.{Fill}
-use Rattle.net_model.specs.declared.reply.Reply.TheVariants.{MadeKeys, HeardFact, Counted, Down as IsDown, BadTag}
+use Rattle.net_model.specs.declared.reply.Reply.TheVariants.{MadeKeys, HeardFact, Counted, Down as IsDown, BadFrame, WrongLane, NoBits, BadTag, Memory, Stopped, JournalFull, NoRandom, Noted}
+use Rattle.net_model.specs.Sealing.{is_frame_refusal}
 use Rattle.net_model.specs.Action.{Ok, DeviceFault, Crash, TakeBlock, Flip, Forge, Replies, Crashed, NoBlock, DeviceFailed, NoFrame, NoBit, ForgedMatch}
 use Rattle.net_rows.specs.Lines.{Ticks, Sends, Passes, Counts, Says, Bits, Asks, Tick, Pass, Do, Ledger, lane, key, counts, octets_on, took_both, two_nodes, trusting, short_device}
 use Rattle.net_rows.specs.Driver.{report}
@@ -82,3 +83,10 @@ Blocks =
           Counts (lane 0 Down) (counts 1024 1016 8 0) ∷ []),
       true,
     )
+
+-- what octets that are no frame are refused with, and answers that they never get
+abbrev pub FrameRefusals : Type 0
+FrameRefusals =
+    map is_frame_refusal
+    (BadFrame 0 ∷ WrongLane 0 1 ∷ NoBits 1024 ∷ BadTag 1 2 ∷ IsDown ∷ Memory ∷ Stopped ∷ JournalFull 17 68 ∷ NoRandom ∷ Noted ∷ []) ≡
+    (true ∷ true ∷ true ∷ true ∷ false ∷ false ∷ false ∷ false ∷ false ∷ false ∷ [])

@@ -111,7 +111,7 @@ GroupWaits =
       true,
     )
 
--- a group key takes a count, and its parts the next ones; another key goes behind them
+-- a group key takes a count, and its parts the next ones; another key goes after them
 abbrev pub GroupNames : Type 0
 GroupNames =
     report (two_spokes (octets_on 0 96))

@@ -7,7 +7,7 @@ use Rattle.net_model.specs.Site.{count_up}
 use Rattle.net_model.specs.World.{Journal, Network}
 use Rattle.net_model.specs.Needed.{view_of}
 use Rattle.net_model.specs.Journal.{checkpoint_need, recovered_journal, new_journal, body_len}
-use Rattle.net_model.specs.Action.{Ok, IoFault, Recovers, Interrupted, Start, Replies}
+use Rattle.net_model.specs.Action.{Ok, IoFault, Recovers, Interrupted, Start, Crash, Replies}
 use Rattle.net_rows.specs.Lines.{Line, Says, Command, Bits, Asks, Settle, Do, key, stream, octets_on, two_nodes}
 use Rattle.net_rows.specs.Driver.{Report, report_of, printed_of, started}
 use Rattle.net_rows.specs.Runs.{done, restart, one_key}
@@ -18,7 +18,7 @@ journal_after net cs = (done net cs).world.journal 0
 abbrev pub many_blocks : List Command
 many_blocks = Bits 0 true true 64 ∷ []
 
--- 64 blocks, then a start that writes a checkpoint behind them, then one that writes it before
+-- 64 blocks, then a start that writes a checkpoint after them, then one that writes it before
 abbrev pub Checkpoints : Type 0
 Checkpoints =
     (journal_after (two_nodes []) many_blocks ∷ journal_after (two_nodes []) (many_blocks ++ restart) ∷ journal_after (two_nodes []) (many_blocks ++ restart ++ restart) ∷ []) ≡
@@ -63,15 +63,31 @@ abbrev pub settled_journal : Bool → Journal
 settled_journal committed =
     (report_of (two_nodes (octets_on 0 32))
     (Asks 0 (Fill 0 1 256 1) IoFault ∷ Do (Start 0 (Interrupted (Some committed))) ∷ Do (Start 0 (Recovers committed)) ∷ [])
-    (with_journal (two_nodes (octets_on 0 32)) (record new_journal { version = 1 }))).world.journal 0
+    (with_journal (two_nodes (octets_on 0 32)) (record new_journal { length' = 85; version = 1 }))).world.journal 0
 
 abbrev pub CheckpointOnce : Type 0
 CheckpointOnce =
     (settled_journal true ∷ settled_journal false ∷ []) ≡
-    (record { length' = 154; start = 85; generation = 0; moved = true; version = 2 } ∷
-    record { length' = 51; start = 50; generation = 0; moved = true; version = 2 } ∷ [])
+    (record { length' = 222; start = 153; generation = 0; moved = true; version = 2 } ∷
+    record { length' = 86; start = 85; generation = 0; moved = true; version = 2 } ∷ [])
 
--- a full journal is told before a short entropy, and a batch that just fits is not refused for it
+-- a header and a closed gate of version 1 alone are a blank disk: a start makes a new journal of it, and no checkpoint
+abbrev pub blank_of_version_1 : Journal
+blank_of_version_1 = record new_journal { version = 1 }
+
+abbrev pub over_blank : List Command → Report
+over_blank cs = report_of (two_nodes (octets_on 0 32)) cs (with_journal (two_nodes (octets_on 0 32)) blank_of_version_1)
+
+abbrev pub started_over_blank : List Journal × Bool
+started_over_blank = (
+  (over_blank (Do (Crash 0) ∷ Do (Start 0 (Recovers false)) ∷ [])).world.journal 0 ∷ recovered_journal blank_of_version_1 1 ∷ [],
+  (over_blank (Do (Crash 0) ∷ Do (Start 0 (Interrupted (Some false))) ∷ [])).legal,
+)
+
+abbrev pub BlankOfVersion1 : Type 0
+BlankOfVersion1 = started_over_blank ≡ (new_journal ∷ blank_of_version_1 ∷ [], false)
+
+-- a full journal is answered before a short entropy, and a batch that just fits is not refused for it
 abbrev pub full_by : ℕ → List Line × Bool
 full_by length' =
     printed_of (report_of (two_nodes (octets_on 0 31)) (Asks 0 (Fill 0 1 256 1) Ok ∷ Asks 0 (Fill 0 1 64 1) IoFault ∷ [])

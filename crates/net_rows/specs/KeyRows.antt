@@ -57,7 +57,7 @@ Pools =
       true,
     )
 
--- the first place that has a fault is told, and a slave may come before its master
+-- the first place that has a fault is answered, and a slave may come before its master
 abbrev pub Faults : Type 0
 Faults =
     report (two_nodes (octets_on 0 64))

@@ -11,7 +11,7 @@ use Rattle.net_model.specs.declared.counts.Counts4.{Counts4}
 use Rattle.net_model.specs.declared.reply.Reply.TheVariants.{BadTag, Took}
 use Rattle.net_model.specs.Facts.{payload_len}
 use Rattle.net_model.specs.Site.{Site}
-use Rattle.net_model.specs.Told.{told_list}
+use Rattle.net_model.specs.OctetSequence.{sequence_of}
 use Rattle.net_model.specs.Sealing.{Sealing, Rejected, Forged}
 use Rattle.net_model.specs.World.{Network}
 use Rattle.net_model.specs.Action.{Environment, Action, Outcome, Replies}
@@ -19,7 +19,7 @@ use Rattle.net_model.specs.Action.{Environment, Action, Outcome, Replies}
 -- what a line prints
 pub data Line : Type 0 where
   Ticks : (node new again : ℕ) → Line
-  Short : (lane : Lane) (used wanted got : ℕ) → Line
+  Short : (lane : Lane) (used wanted received : ℕ) → Line
   Sends : (lane : Lane) (number offset size : ℕ) → Line
   NotSent : (lane : Lane) (offset : ℕ) (for_memory : Bool) → Line
   Passes : (lane : Lane) (number : ℕ) (outcome : Outcome) → Line
@@ -61,14 +61,14 @@ plain_frames =
       unseal = λ l bytes octets. Rejected (BadTag (length octets) (length bytes));
     }
 
--- devices that tell zeros, as many as a link may have, and entropies that tell these lists
+-- devices that give zeros, as many as a link may have, and entropies that give these lists
 abbrev pub network : Site → List (List ℕ) → Network
 network s entropies =
     record {
       site = s;
       sealing = plain_frames;
       device = λ l. record { octet = λ i. 0; end = Some 1048576 };
-      entropy = λ v. told_list (at [] entropies v);
+      entropy = λ v. sequence_of (at [] entropies v);
     }
 
 abbrev pub lane : ℕ → Way → Lane
@@ -78,7 +78,7 @@ abbrev pub a_name : ℕ → NameKind → ℕ → Name
 a_name node kind count = record { node = node; kind = kind; count = count }
 
 abbrev pub counts : ℕ → ℕ → ℕ → ℕ → Counts4
-counts got unused spent burnt = record { received = got; unused = unused; spent = spent; burnt = burnt }
+counts received unused spent burnt = record { received = received; unused = unused; spent = spent; burnt = burnt }
 
 -- the octets n, n + 1, ..
 abbrev pub octets_on : ℕ → ℕ → List ℕ
@@ -123,6 +123,6 @@ one_spoke octets = network (site 2 (0 ∷ []) (1 ∷ []) (0 ∷ 1 ∷ 1 ∷ []) 
 abbrev pub trusting : List ℕ → Network
 trusting octets = record (two_nodes octets) { sealing = record plain_frames { unseal = λ l bytes frame. Forged 0 } }
 
--- two nodes whose device tells two blocks and a bit more
+-- two nodes whose device gives two blocks and a bit more
 abbrev pub short_device : List ℕ → Network
 short_device octets = record (two_nodes octets) { device = λ l. record { octet = λ i. 0; end = Some 3071 } }

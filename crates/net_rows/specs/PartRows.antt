@@ -8,14 +8,14 @@ use Rattle.net_model.specs.declared.event.Event.TheVariants.{Fill, Feed, Plan, F
 use Rattle.net_model.specs.declared.fact.Fact.{Fact}
 use Rattle.net_model.specs.declared.fact.Fact.TheVariants.{Key, Open, Part}
 use Rattle.net_model.specs.declared.order.Order.{Order}
-use Rattle.net_model.specs.declared.payload.Payload.TheVariants.{Told}
+use Rattle.net_model.specs.declared.payload.Payload.TheVariants.{Data}
 use Rattle.net_model.specs.declared.reply.Reply.{Reply}
 use Rattle.net_model.specs.declared.reply.Reply.TheVariants.{MadeKeys, Planned, Noted, PoolFull, HeardFact}
 use Rattle.net_model.specs.Item.{DataItem}
 use Rattle.net_model.specs.Site.{count_up}
 use Rattle.net_model.specs.Routes.{route}
 use Rattle.qkd_base.specs.LaneBytes.{lane_octets}
-use Rattle.net_model.specs.Told.{first_blocks}
+use Rattle.net_model.specs.OctetSequence.{first_blocks}
 use Rattle.net_model.specs.Needed.{view_of}
 use Rattle.net_model.specs.View.{View}
 use Rattle.net_model.specs.World.{Network, Transmission, first}
@@ -28,14 +28,14 @@ use Rattle.net_rows.specs.Driver.{report}
 abbrev pub order_of : ℕ → Transmission
 order_of n = record { lane = lane 0 Up; item = DataItem (key n); received_offset = None }
 
-abbrev pub told_key : ℕ → ℕ → Order
-told_key n offset =
-    record { lane = lane 0 Up; offset = offset; ack_of = None; payload = Told (Key (key n) 0 1 (0 ∷ 1 ∷ []) (octets_on (8 * (n - 1)) 8)) }
+abbrev pub ordered_key : ℕ → ℕ → Order
+ordered_key n offset =
+    record { lane = lane 0 Up; offset = offset; ack_of = None; payload = Data (Key (key n) 0 1 (0 ∷ 1 ∷ []) (octets_on (8 * (n - 1)) 8)) }
 
 abbrev pub planned_line : List Order → Line
 planned_line orders = Says (Replies (Planned orders [] []))
 
--- two plans before any claim: the second goes on behind the first, and orders nothing again; the claims may come in another order
+-- two plans before any claim: the second goes on after the first, and orders nothing again; the claims may come in another order
 abbrev pub TwoPlans : Type 0
 TwoPlans =
     report (two_nodes (octets_on 0 16))
@@ -43,7 +43,7 @@ TwoPlans =
     Do (Allocate (order_of 2)) ∷ Do (Allocate (order_of 1)) ∷ Do (Transmit (lane 0 Up) 1 Ok) ∷ Do (Transmit (lane 0 Up) 0 Ok) ∷ Do (Complete 0) ∷
     Tick 0 Ok Ok ∷ Pass (lane 0 Up) 0 ∷ []) ≡ (
       took_both 2 ++
-          (Says (Replies (MadeKeys 1 (key 1))) ∷ planned_line (told_key 1 8 ∷ []) ∷ Says (Replies (MadeKeys 1 (key 2))) ∷ planned_line (told_key 2 50 ∷ []) ∷ planned_line [] ∷
+          (Says (Replies (MadeKeys 1 (key 1))) ∷ planned_line (ordered_key 1 8 ∷ []) ∷ Says (Replies (MadeKeys 1 (key 2))) ∷ planned_line (ordered_key 2 50 ∷ []) ∷ planned_line [] ∷
           Says (Allocated 8) ∷ Says (Allocated 50) ∷ Says (Put 0) ∷ Says (Put 1) ∷ Says (Replies Noted) ∷ Ticks 0 0 0 ∷
           Passes (lane 0 Up) 0 (Replies (HeardFact true 1 (key 1))) ∷ []),
       true,
@@ -56,7 +56,7 @@ AckedMeanwhile =
     (Bits 0 true true 2 ∷ Asks 0 (Fill 0 1 64 1) Ok ∷ Asks 0 Plan Ok ∷ Do (Allocate (order_of 1)) ∷ Do (Transmit (lane 0 Up) 0 Ok) ∷ Pass (lane 0 Up) 0 ∷
     Tick 1 Ok Ok ∷ Pass (lane 0 Down) 0 ∷ Do (Complete 0) ∷ Tick 0 Ok Ok ∷ Tick 0 Ok Ok ∷ Tick 0 Ok Ok ∷ Tick 0 Ok Ok ∷ []) ≡ (
       took_both 2 ++
-          (Says (Replies (MadeKeys 1 (key 1))) ∷ planned_line (told_key 1 8 ∷ []) ∷ Says (Allocated 8) ∷ Says (Put 0) ∷ Passes (lane 0 Up) 0 (Replies (HeardFact true 1 (key 1))) ∷
+          (Says (Replies (MadeKeys 1 (key 1))) ∷ planned_line (ordered_key 1 8 ∷ []) ∷ Says (Allocated 8) ∷ Says (Put 0) ∷ Passes (lane 0 Up) 0 (Replies (HeardFact true 1 (key 1))) ∷
           Ticks 1 2 0 ∷ Sends (lane 0 Down) 0 8 17 ∷ Sends (lane 0 Down) 1 33 36 ∷ Passes (lane 0 Down) 0 (Replies (HeardFact true 3 (key 1))) ∷ Says (Replies Noted) ∷
           Ticks 0 0 0 ∷ Ticks 0 0 0 ∷ Ticks 0 0 0 ∷ Ticks 0 0 0 ∷ []),
       true,

@@ -61,7 +61,7 @@ Relay =
       true,
     )
 
--- the relay node crashes with the key in hand: it tells it on, and the origin tells it again
+-- the relay node crashes with the key in hand: it relays it, and the origin sends it again
 abbrev pub RelayCrash : Type 0
 RelayCrash =
     report (three_in_line (octets_on 0 32))

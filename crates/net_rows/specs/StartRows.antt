@@ -1,11 +1,18 @@
 -- Crashes, stops and starts.
-use Rattle.std.specs.Prelude.{◌≡◌, true, false, [], ◌∷◌, ◌++◌}
+use Rattle.std.specs.Prelude.{◌≡◌, ℕ, ◌+◌, ◌==◌, ◌&&◌, nat_le, Bool, true, false, List, [], ◌∷◌, ◌++◌, map}
 use Rattle.qkd_base.specs.declared.lane.Way.TheVariants.{Up, Down}
 use Rattle.net_model.specs.declared.event.Event.TheVariants.{Fill, Enc, Status}
+use Rattle.net_model.specs.declared.reply.Reply.{Reply}
 use Rattle.net_model.specs.declared.reply.Reply.TheVariants.{MadeKeys, HeardFact, Handed, Counted, Down as IsDown, Stopped, Few}
+use Rattle.net_model.specs.Site.{count_up, outgoing_lane}
+use Rattle.net_model.specs.World.{World, planned}
+use Rattle.net_model.specs.View.{port_of}
+use Rattle.net_model.specs.Needed.{view_of}
+use Rattle.net_model.specs.Show.{counted_of}
 use Rattle.net_model.specs.Action.{Ok, IoFault, Recovers, Cut, Fail, Lost, Kept, Start, Crash, Arm, Replies, Started, WasUp, Crashed, WasDown, Armed}
-use Rattle.net_rows.specs.Lines.{Ticks, Short, Sends, Passes, Counts, Says, Bits, Asks, Tick, Settle, Pass, Do, Ledger, lane, key, note, counts, octets_on, took_both, two_nodes}
+use Rattle.net_rows.specs.Lines.{Command, Ticks, Short, Sends, Passes, Counts, Says, Bits, Asks, Tick, Settle, Pass, Do, Ledger, lane, key, note, counts, octets_on, took_both, two_nodes}
 use Rattle.net_rows.specs.Driver.{report}
+use Rattle.net_rows.specs.Runs.{done, restart, one_key, planned_only}
 
 -- a plan leases 4,096 bytes; after a crash they are burnt, and the lane is short
 abbrev pub Leases : Type 0
@@ -177,7 +184,7 @@ DrawnStays =
       true,
     )
 
--- a start empties the window: a fact is told again as a new order, an acknowledgement only if its frame comes again
+-- a start empties the window: a fact is sent again as a new order, an acknowledgement only if its frame comes again
 abbrev pub NewLife : Type 0
 NewLife =
     report (two_nodes (octets_on 0 32))
@@ -211,3 +218,21 @@ NewLife =
           Sends (lane 0 Up) 1 4096 58 ∷ []),
       true,
     )
+
+-- a manager's own count adds up, and what a start gave up is planned: before and after starts, also those that give up a lease
+
+abbrev pub adds_up : Reply → Bool
+adds_up (Counted c) = c.received == c.unused + c.spent + c.burnt
+adds_up _ = false
+
+abbrev pub is_counted : World → ℕ → Bool
+is_counted w v =
+    adds_up (counted_of (port_of (view_of (two_nodes (octets_on 0 32)) w v) 0)) && nat_le (w.recovered (outgoing_lane (two_nodes []).site v 0)) (planned w (outgoing_lane (two_nodes []).site v 0))
+
+abbrev pub counted_after : List Command → List Bool
+counted_after cs = map (is_counted (done (two_nodes (octets_on 0 32)) cs).world) (count_up 2)
+
+abbrev pub OwnCounts : Type 0
+OwnCounts =
+    (counted_after [] ++ counted_after one_key ++ counted_after (one_key ++ restart) ++ counted_after (planned_only ++ Asks 0 (Enc 0 1 1 256) Ok ∷ [])) ≡
+    (true ∷ true ∷ true ∷ true ∷ true ∷ true ∷ true ∷ true ∷ [])

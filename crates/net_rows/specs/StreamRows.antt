@@ -1,10 +1,11 @@
 -- Streams.
 use Rattle.std.specs.Prelude.{◌≡◌, true, false, [], ◌∷◌, ◌++◌, Some, None}
 use Rattle.qkd_base.specs.declared.lane.Way.TheVariants.{Up, Down}
-use Rattle.net_model.specs.declared.event.Event.TheVariants.{Feed, Open, Join, Get, Close}
+use Rattle.qkd_base.specs.declared.key_name.NameKind.TheVariants.{Stream as StreamKind}
+use Rattle.net_model.specs.declared.event.Event.TheVariants.{Fill, Feed, Open, Join, Get, Close}
 use Rattle.net_model.specs.declared.reply.Reply.TheVariants.{MadeKeys, HeardFact, Stream, UnknownStream}
 use Rattle.net_model.specs.Action.{Ok, SetLink, Replies, LinkSet}
-use Rattle.net_rows.specs.Lines.{Ticks, Sends, Passes, Says, Bits, Asks, Settle, Do, lane, key, note, stream, octets_on, took_both, two_nodes, with_third}
+use Rattle.net_rows.specs.Lines.{Ticks, Sends, Passes, Says, Bits, Asks, Settle, Do, lane, a_name, key, note, stream, octets_on, took_both, two_nodes, with_third}
 use Rattle.net_rows.specs.Driver.{report}
 
 -- a stream is opened, joined, fed, read at both ends and closed
@@ -133,5 +134,22 @@ Joining =
           Says (Replies (Stream 0 None 0 [])) ∷
           Says (Replies (Stream 9 None 0 [])) ∷
           Says (Replies (Stream 9 None 0 [])) ∷ []),
+      true,
+    )
+
+-- a name of any kind and of any node may be fed: it is no stream here
+abbrev pub FedByAnyName : Type 0
+FedByAnyName =
+    report (two_nodes (octets_on 0 8))
+    (Bits 0 true true 2 ∷
+    Asks 0 (Fill 0 1 64 1) Ok ∷
+    Asks 0 (Feed (key 1) 1) Ok ∷
+    Asks 0 (Feed (note 0 7) 128) Ok ∷
+    Asks 1 (Feed (a_name 9 StreamKind 1) 2) Ok ∷ []) ≡ (
+      took_both 2 ++
+          (Says (Replies (MadeKeys 1 (key 1))) ∷
+          Says (Replies UnknownStream) ∷
+          Says (Replies UnknownStream) ∷
+          Says (Replies UnknownStream) ∷ []),
       true,
     )

@@ -3,7 +3,7 @@ use Rattle.std.specs.List.{list_all}
 use Rattle.std.specs.Prelude.{◌≡◌, ℕ, ◌&&◌, nat_lt, nat_le, not, slice_get, Bool, true, false, List, [], ◌∷◌, ◌++◌, length, map, replicate, Some, None}
 use Rattle.qkd_base.specs.declared.lane.Lane.{Lane}
 use Rattle.qkd_base.specs.declared.lane.Way.TheVariants.{Up, Down}
-use Rattle.net_model.specs.declared.event.Event.TheVariants.{Block, Fill, Feed, Enc, Dec, Status, Plan, FillGroup, EncGroup, Note}
+use Rattle.net_model.specs.declared.event.Event.TheVariants.{Block, Fill, Enc, Dec, Status, Plan, FillGroup, EncGroup, Note}
 use Rattle.net_model.specs.declared.reply.Reply.TheVariants.{Down as IsDown}
 use Rattle.net_model.specs.Item.{DataItem}
 use Rattle.net_model.specs.Ownership.{is_frame, is_key, covers}
@@ -112,5 +112,5 @@ Illegal =
     -- events out of their ranges, of other nodes, or not asked by a line
     (Asks 0 (Fill 0 1 100 1) Ok ∷ []) ∷ (Asks 0 (Fill 0 1 56 1) Ok ∷ []) ∷ (Asks 0 (Fill 0 1 4104 1) Ok ∷ []) ∷ (Asks 0 (Fill 0 1 256 0) Ok ∷ []) ∷ (Asks 0 (Fill 0 1 256 129) Ok ∷ []) ∷
     (Asks 0 (Enc 0 1 129 256) Ok ∷ []) ∷ (Asks 1 (Dec 1 0 []) Ok ∷ []) ∷ (Asks 0 (FillGroup 0 (1 ∷ []) 256 1) Ok ∷ []) ∷ (Asks 0 (FillGroup 0 (2 ∷ 1 ∷ []) 256 1) Ok ∷ []) ∷
-    (Asks 0 (EncGroup 0 (1 ∷ 1 ∷ []) 1 256) Ok ∷ []) ∷ (Asks 0 (Feed (key 1) 1) Ok ∷ []) ∷ (Asks 0 (Block 0 0 (replicate 1024 0)) Ok ∷ []) ∷ (Asks 0 (Note []) Ok ∷ []) ∷
-    (Asks 2 (Status 0 1) Ok ∷ []) ∷ (Do (TakeBlock 0 1 Ok) ∷ []) ∷ (Do (Forge (lane 0 Up) [] Ok) ∷ []) ∷ (Do (SetLink 1 true) ∷ []) ∷ []) ≡ replicate 34 false
+    (Asks 0 (EncGroup 0 (1 ∷ 1 ∷ []) 1 256) Ok ∷ []) ∷ (Asks 0 (Block 0 0 (replicate 1024 0)) Ok ∷ []) ∷ (Asks 0 (Note []) Ok ∷ []) ∷
+    (Asks 2 (Status 0 1) Ok ∷ []) ∷ (Do (TakeBlock 0 1 Ok) ∷ []) ∷ (Do (Forge (lane 0 Up) [] Ok) ∷ []) ∷ (Do (SetLink 1 true) ∷ []) ∷ []) ≡ replicate 33 false

@@ -5,11 +5,11 @@
 ghost use Rattle.net_rows.specs.TickRows.{OneKey, EmptyLanes, HeardAgain, AnyOrder, FullLane, ShortLane, FewBytes, RefusedPut, Ages, ManyRepeats, LinkDown};
 ghost use Rattle.net_rows.specs.RelayRows.{Relay, RelayCrash};
 ghost use Rattle.net_rows.specs.KeyRows.{Pools, Faults, Entitled, NotReady, ShownKeys, ShortEntropy};
-ghost use Rattle.net_rows.specs.StreamRows.{Streams, Joining};
-ghost use Rattle.net_rows.specs.StartRows.{Leases, PlanCommitted, PlanLost, HandingCommitted, HandingLost, DrawnStays, NewLife};
+ghost use Rattle.net_rows.specs.StreamRows.{Streams, Joining, FedByAnyName};
+ghost use Rattle.net_rows.specs.StartRows.{Leases, PlanCommitted, PlanLost, HandingCommitted, HandingLost, DrawnStays, NewLife, OwnCounts};
 ghost use Rattle.net_rows.specs.GroupRows.{GroupKey, GroupWaits, GroupNames, TwoAtHome};
-ghost use Rattle.net_rows.specs.FrameRows.{Tampered, ForgedFrames, Blocks};
-ghost use Rattle.net_rows.specs.JournalRows.{Checkpoints, CheckpointInDoubt, Migration, CheckpointOnce, FullJournal, HandingRuns, UsedKeys};
+ghost use Rattle.net_rows.specs.FrameRows.{Tampered, ForgedFrames, Blocks, FrameRefusals};
+ghost use Rattle.net_rows.specs.JournalRows.{Checkpoints, CheckpointInDoubt, Migration, CheckpointOnce, FullJournal, HandingRuns, UsedKeys, BlankOfVersion1};
 ghost use Rattle.net_rows.specs.WorldRows.{Resting, SameFrame, Ownership, FirstStarts, FirstForeign, Legal, Illegal};
 ghost use Rattle.net_rows.specs.ManagerRows.{KeysFollowed, StreamsFollowed, GroupsFollowed, RelayFollowed};
 ghost use Rattle.net_rows.specs.PartRows.{TwoPlans, AckedMeanwhile, FullPools, Walks, LaneBytes};
@@ -49,6 +49,7 @@ pub fn key_rows()
 pub fn stream_rows()
     ensures streams { Streams }
     ensures joining { Joining }
+    ensures fed_by_any_name { FedByAnyName }
 {}
 
 /// Crashes, stops and starts come out as written.
@@ -60,6 +61,7 @@ pub fn start_rows()
     ensures handing_lost { HandingLost }
     ensures drawn_stays { DrawnStays }
     ensures new_life { NewLife }
+    ensures own_counts { OwnCounts }
 {}
 
 /// Group keys come out as written.
@@ -75,6 +77,7 @@ pub fn frame_rows()
     ensures tampered { Tampered }
     ensures forged_frames { ForgedFrames }
     ensures blocks { Blocks }
+    ensures frame_refusals { FrameRefusals }
 {}
 
 /// Journals and their checkpoints come out as written.
@@ -83,6 +86,7 @@ pub fn journal_rows()
     ensures checkpoint_in_doubt { CheckpointInDoubt }
     ensures migration { Migration }
     ensures checkpoint_once { CheckpointOnce }
+    ensures blank_of_version_1 { BlankOfVersion1 }
     ensures full_journal { FullJournal }
     ensures handing_runs { HandingRuns }
     ensures used_keys { UsedKeys }

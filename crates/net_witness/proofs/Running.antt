@@ -11,15 +11,15 @@ use Rattle.net_model.specs.Step.{run}
 use Rattle.net_model.specs.Deliveries.{deliveries}
 use Rattle.net_model.specs.BlockOrder.{claimed_on, put_on, all_histories}
 use Rattle.net_rows.proofs.Opened.{opened}
-use Rattle.net_witness.specs.Witness.{here, Runs, Tells, Hands, Doubts, Blocks, block_start, parts}
+use Rattle.net_witness.specs.Witness.{here, Runs, Relays, Hands, Doubts, Blocks, block_start, parts}
 
 pub runs : Runs
 unfolding opened
 runs = refl
 
-pub tells : Tells
+pub relays : Relays
 unfolding opened
-tells = refl
+relays = refl
 
 pub hands : Hands
 unfolding opened deliveries

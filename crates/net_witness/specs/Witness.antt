@@ -46,8 +46,8 @@ abbrev pub Doubts : Type 0
 Doubts = IsRun here first (actions_of (stopped_lines ++ Do (Start 0 (Recovers true)) ∷ [])) × (length ((after stopped_lines).in_doubt 0).batch ≡ 1)
 
 -- two frames on each wire, and two facts
-abbrev pub Tells : Type 0
-Tells = let end = after one_key in
+abbrev pub Relays : Type 0
+Relays = let end = after one_key in
     length (end.wire (lane 0 Up)) ∷ length (end.wire (lane 0 Down)) ∷ length end.durable.facts ∷ [] ≡ 2 ∷ 2 ∷ 2 ∷ []
 
 -- a block in which a manager plans, and its one order is claimed and put

@@ -2,7 +2,7 @@
 #![tactic(auto)]
 
 ghost use Rattle.net_model.specs.Premises.{IsNetwork};
-ghost use Rattle.net_witness.specs.Witness.{here, Runs, Tells, Hands, Doubts, Blocks};
+ghost use Rattle.net_witness.specs.Witness.{here, Runs, Relays, Hands, Doubts, Blocks};
 
 use hop_frames::frames_of_a_network;
 
@@ -10,7 +10,7 @@ use hop_frames::frames_of_a_network;
 pub fn law_premises_are_met()
     ensures network { IsNetwork here }
     ensures runs { Runs }
-    ensures tells { Tells }
+    ensures relays { Relays }
     ensures hands { Hands }
     ensures doubts { Doubts }
     ensures blocks { Blocks }

@@ -12,7 +12,7 @@ use Rattle.qkd_base.specs.declared.lane.Lane.{Lane}
 use Rattle.net_model.specs.declared.fact.Fact.{Fact}
 use Rattle.net_model.specs.declared.fact.Fact.TheVariants.{Key, Chunk, Stored, Open, Joined, Part}
 use Rattle.net_model.specs.declared.payload.Payload.{Payload}
-use Rattle.net_model.specs.declared.payload.Payload.TheVariants.{Told, Ack}
+use Rattle.net_model.specs.declared.payload.Payload.TheVariants.{Data, Ack}
 use Rattle.net_model.specs.Facts.{payload_len, fact_len, IsWellFormed}
 use Rattle.frame_codec.specs.Payload.{IsPayload, payload_octets}
 use Rattle.qkd_base.specs.LaneBytes.{lane_octets, lane_len}
@@ -25,9 +25,9 @@ use Rattle.report_text.specs.declared.item.Item.TheVariants as items
 use Rattle.net_world.specs.declared.network.Network.{Network}
 use Rattle.net_world.specs.World.{World, Lanes, Claim, Owner, Frame, claimed, need, is_spent, is_burnt}
 use Rattle.net_world.specs.Wire.{up_lane, first_blocks, lane_up, frame_octets, wire_octets}
-use Rattle.net_world.specs.Steps.{ticked, ticked_with, passed, handed, learnt}
-use Rattle.net_world.specs.Stands.{LinkStands, Stands, Did, IsMade, IsFramed, Tells, Lacks, Puts}
-use Rattle.net_world.proofs.Taking.{blocks_length, lane_front}
+use Rattle.net_world.specs.Steps.{ticked, ticked_with, passed, passed_claim, learnt}
+use Rattle.net_world.specs.Stands.{LinkStands, Stands, Did, IsMade, IsFramed, Emits, Lacks, Puts}
+use Rattle.net_world.proofs.Taking.{blocks_length, lane_prefix}
 
 -- ---- the laws of frames
 
@@ -43,11 +43,11 @@ Lengths = (p : Payload) → length (payload_octets p) ≡ payload_len p
 
 -- a frame over the received bytes is the frame over the whole lane
 received_frame : (device : List ℕ) (n : ℕ) (c : Claim) → Front → Lengths → n ≤ 1024 → c.offset + need c.fact ≤ length (lane_octets Up (first_blocks n device))
-    → frame_octets device c ≡ spell up_lane c.offset (lane_octets Up (first_blocks n device)) (payload_octets (Told c.fact))
-received_frame device n c front lengths le reach =
-    let r = lane_front n device le in
-    ap (λ (b : List ℕ). spell up_lane c.offset b (payload_octets (Told c.fact))) r.1
-    ∙ front up_lane c.offset (lane_octets Up (first_blocks n device)) r.0 (payload_octets (Told c.fact)) (omega (arith, lengths (Told c.fact), reach))
+    → frame_octets device c ≡ spell up_lane c.offset (lane_octets Up (first_blocks n device)) (payload_octets (Data c.fact))
+received_frame device n c prefix lengths le reach =
+    let r = lane_prefix n device le in
+    ap (λ (b : List ℕ). spell up_lane c.offset b (payload_octets (Data c.fact))) r.1
+    ∙ prefix up_lane c.offset (lane_octets Up (first_blocks n device)) r.0 (payload_octets (Data c.fact)) (omega (arith, lengths (Data c.fact), reach))
 
 -- ---- lists
 
@@ -88,14 +88,14 @@ burnt_frame (suc n) j =
 pub blocks_held : (device : List ℕ) (net : Network) (wire : List ℕ) (w : World) → Stands device net wire w → length net.link.low ≡ w.lanes.blocks
 blocks_held device net wire w s = ap length s.link.low ∙ blocks_length w.lanes.blocks device
 
-told_already : (device : List ℕ) (net : Network) (wire : List ℕ) (w : World) → Stands device net wire w → length net.sent ≡ length w.frames
-told_already device net wire w s = ap length s.sent ∙ map_length (frame_octets device) w.frames
+sent_already : (device : List ℕ) (net : Network) (wire : List ℕ) (w : World) → Stands device net wire w → length net.sent ≡ length w.frames
+sent_already device net wire w s = ap length s.sent ∙ map_length (frame_octets device) w.frames
 
 next_fact : (device : List ℕ) (net : Network) (wire : List ℕ) (w : World) (x : Option Fact) → Stands device net wire w → slice_get net.low_known (length net.sent) ≡ x → slice_get w.low_known (length w.frames) ≡ x
-next_fact device net wire w x s e = ap (λ (fs : List Fact). slice_get fs (length w.frames)) (sym s.low_known) ∙ ap (slice_get net.low_known) (sym (told_already device net wire w s)) ∙ e
+next_fact device net wire w x s e = ap (λ (fs : List Fact). slice_get fs (length w.frames)) (sym s.low_known) ∙ ap (slice_get net.low_known) (sym (sent_already device net wire w s)) ∙ e
 
 -- a made key has a spelling's sizes
-made_formed : (f : Fact) → IsMade f → IsWellFormed (Told f)
+made_formed : (f : Fact) → IsMade f → IsWellFormed (Data f)
 made_formed (Key name master slave route bytes) m = m
 made_formed (Chunk name stream index route bytes) m = absurd m
 made_formed (Stored note about route) m = absurd m
@@ -103,7 +103,7 @@ made_formed (Open stream source peer size route) m = absurd m
 made_formed (Joined note about route) m = absurd m
 made_formed (Part name key master slave route bytes) m = absurd m
 
-pub next_formed : (device : List ℕ) (net : Network) (wire : List ℕ) (w : World) (fact : Fact) → Stands device net wire w → slice_get net.low_known (length net.sent) ≡ Some fact → IsWellFormed (Told fact)
+pub next_formed : (device : List ℕ) (net : Network) (wire : List ℕ) (w : World) (fact : Fact) → Stands device net wire w → slice_get net.low_known (length net.sent) ≡ Some fact → IsWellFormed (Data fact)
 next_formed device net wire w fact s e = made_formed fact (all_at IsMade w.low_known (length w.frames) fact s.made (next_fact device net wire w (Some fact) s e))
 
 -- ---- a tick
@@ -118,8 +118,8 @@ idles device net wire w v before all s e a = subst (λ x. Did device x net wire 
 -- with a frame put on the wire
 puts : (device : List ℕ) (old new : Network) (wire wire_new : List ℕ) (w : World) (v : ℕ) (fact : Fact) (before all : List Item) → Front → Lengths
     → length (lane_octets Up old.link.low) ≡ lane_len Up (length old.link.low) → length old.link.low ≤ 1024 → IsMade fact
-    → Stands device old wire w → Puts v (Told fact) old new wire wire_new before all → Stands device new wire_new (claimed w fact)
-puts device old new wire wire_new w v fact before all front lengths len most made s p =
+    → Stands device old wire w → Puts v (Data fact) old new wire wire_new before all → Stands device new wire_new (claimed w fact)
+puts device old new wire wire_new w v fact before all prefix lengths len most made s p =
     let n : length old.link.low ≡ w.lanes.blocks = blocks_held device old wire w s in
     let u : old.link.used ≡ length w.lanes.up = s.link.used in
     let own = replicate (need fact) (Frame (length w.frames)) in
@@ -129,9 +129,9 @@ puts device old new wire wire_new w v fact before all front lengths len most mad
     let bytes : length (lane_octets Up (first_blocks w.lanes.blocks device)) ≡ lane_len Up w.lanes.blocks = ap (λ (bs : List (List ℕ)). length (lane_octets Up bs)) (sym s.link.low) ∙ len ∙ ap (lane_len Up) n in
     let within : length w.lanes.up + need fact ≤ lane_len Up w.lanes.blocks = subst (λ (k : ℕ). k + need fact ≤ lane_len Up w.lanes.blocks) u (subst (λ (k : ℕ). old.link.used + need fact ≤ lane_len Up k) n p.reach) in
     let spelled : p.frame ≡ frame_octets device c = p.spelled
-    ∙ ap (λ (k : ℕ). spell up_lane k (lane_octets Up old.link.low) (payload_octets (Told fact))) u
-    ∙ ap (λ (bs : List (List ℕ)). spell up_lane (length w.lanes.up) (lane_octets Up bs) (payload_octets (Told fact))) s.link.low
-    ∙ sym (received_frame device w.lanes.blocks c front lengths (subst (λ (k : ℕ). k ≤ 1024) n most) (subst (λ (k : ℕ). length w.lanes.up + need fact ≤ k) (sym bytes) within)) in
+    ∙ ap (λ (k : ℕ). spell up_lane k (lane_octets Up old.link.low) (payload_octets (Data fact))) u
+    ∙ ap (λ (bs : List (List ℕ)). spell up_lane (length w.lanes.up) (lane_octets Up bs) (payload_octets (Data fact))) s.link.low
+    ∙ sym (received_frame device w.lanes.blocks c prefix lengths (subst (λ (k : ℕ). k ≤ 1024) n most) (subst (λ (k : ℕ). length w.lanes.up + need fact ≤ k) (sym bytes) within)) in
     subst (λ (net : Network). Stands device net wire_new (claimed w fact)) (sym p.state) (record {
       link = record {
         low = s.link.low;
@@ -151,10 +151,10 @@ puts device old new wire wire_new w v fact before all front lengths len most mad
       on_wire = p.wire ∙ ap (λ (x : List ℕ). x ++ p.frame) s.on_wire ∙ ap (λ (f : List ℕ). wire_octets device w.frames ++ f) (spelled ∙ sym (append-nil (frame_octets device c))) ∙ sym (flat_map-append (frame_octets device) w.frames (c ∷ []));
     })
 
-pub tells : (device : List ℕ) (old new : Network) (wire wire_new : List ℕ) (w : World) (v : ℕ) (fact : Fact) (before all : List Item) → Front → Lengths
+pub emits : (device : List ℕ) (old new : Network) (wire wire_new : List ℕ) (w : World) (v : ℕ) (fact : Fact) (before all : List Item) → Front → Lengths
     → length (lane_octets Up old.link.low) ≡ lane_len Up (length old.link.low) → length old.link.low ≤ 1024
-    → Stands device old wire w → slice_get old.low_known (length old.sent) ≡ Some fact → Tells v (Told fact) old new wire wire_new before all → Did device (ticked w v) new wire_new before all
-tells device old new wire wire_new w v fact before all front lengths len most s e (inl p) =
+    → Stands device old wire w → slice_get old.low_known (length old.sent) ≡ Some fact → Emits v (Data fact) old new wire wire_new before all → Did device (ticked w v) new wire_new before all
+emits device old new wire wire_new w v fact before all prefix lengths len most s e (inl p) =
     let n : length old.link.low ≡ w.lanes.blocks = blocks_held device old wire w s in
     let u : old.link.used ≡ length w.lanes.up = s.link.used in
     let few : lane_len Up w.lanes.blocks < length w.lanes.up + need fact = subst (λ (k : ℕ). lane_len Up w.lanes.blocks < k + need fact) u (subst (λ (k : ℕ). lane_len Up k < old.link.used + need fact) n p.few) in
@@ -165,7 +165,7 @@ tells device old new wire wire_new w v fact before all front lengths len most s 
     ∙ ap (λ (k : ℕ). before ++ items.Ticked v 0 0 ∷ items.Short up_lane (length w.lanes.up) (need fact) (lane_len Up k) ∷ []) n in
     let stands : Stands device new wire_new w = subst (λ (x : List ℕ). Stands device new x w) (sym p.wire) (subst (λ (net : Network). Stands device net wire w) (sym p.state) s) in
     subst (λ x. Did device x new wire_new before all) (sym (ticks w v (Some fact) next)) (rw test (said, stands))
-tells device old new wire wire_new w v fact before all front lengths len most s e (inr p) =
+emits device old new wire wire_new w v fact before all prefix lengths len most s e (inr p) =
     let n : length old.link.low ≡ w.lanes.blocks = blocks_held device old wire w s in
     let u : old.link.used ≡ length w.lanes.up = s.link.used in
     let within : length w.lanes.up + need fact ≤ lane_len Up w.lanes.blocks = subst (λ (k : ℕ). k + need fact ≤ lane_len Up w.lanes.blocks) u (subst (λ (k : ℕ). old.link.used + need fact ≤ lane_len Up k) n p.reach) in
@@ -173,9 +173,9 @@ tells device old new wire wire_new w v fact before all front lengths len most s 
     let next = next_fact device old wire w (Some fact) s e in
     let made : IsMade fact = all_at IsMade w.low_known (length w.frames) fact s.made next in
     let said : all ≡ before ++ items.Ticked v 1 0 ∷ items.Sent up_lane (length w.frames) (length w.lanes.up) (fact_len fact) ∷ [] = p.items
-    ∙ ap (λ (k : ℕ). before ++ items.Ticked v 1 0 ∷ items.Sent up_lane k old.link.used (fact_len fact) ∷ []) (told_already device old wire w s)
+    ∙ ap (λ (k : ℕ). before ++ items.Ticked v 1 0 ∷ items.Sent up_lane k old.link.used (fact_len fact) ∷ []) (sent_already device old wire w s)
     ∙ ap (λ (k : ℕ). before ++ items.Ticked v 1 0 ∷ items.Sent up_lane (length w.frames) k (fact_len fact) ∷ []) u in
-    subst (λ x. Did device x new wire_new before all) (sym (ticks w v (Some fact) next)) (rw test (said, puts device old new wire wire_new w v fact before all front lengths len most made s p))
+    subst (λ x. Did device x new wire_new before all) (sym (ticks w v (Some fact) next)) (rw test (said, puts device old new wire wire_new w v fact before all prefix lengths len most made s p))
 
 -- ---- a pass
 
@@ -195,8 +195,8 @@ sent_of device net wire w n frame s e = sent_there device net w n frame (slice_g
 
 pub opens : (device : List ℕ) (net : Network) (wire : List ℕ) (w : World) (n : ℕ) (frame : List ℕ) (high : List (List ℕ)) → Front → Opens → Lengths
     → length (lane_octets Up net.link.low) ≡ lane_len Up (length net.link.low) → length net.link.low ≤ 1024 → high ≡ net.link.high → (s : Stands device net wire w) → (x : Sent device net w n frame)
-    → open_of up_lane (lane_octets Up high) frame ≡ Ok (record { offset = x.claim.offset; payload = Told x.claim.fact })
-opens device net wire w n frame high front opened lengths len most same s x =
+    → open_of up_lane (lane_octets Up high) frame ≡ Ok (record { offset = x.claim.offset; payload = Data x.claim.fact })
+opens device net wire w n frame high prefix opened lengths len most same s x =
     let k : length net.link.low ≡ w.lanes.blocks = blocks_held device net wire w s in
     let c = x.claim in
     let few : w.lanes.blocks ≤ 1024 = subst (λ (m : ℕ). m ≤ 1024) k most in
@@ -204,32 +204,32 @@ opens device net wire w n frame high front opened lengths len most same s x =
     let within : c.offset + need c.fact ≤ length (lane_octets Up (first_blocks w.lanes.blocks device)) = subst (λ (m : ℕ). c.offset + need c.fact ≤ m) (sym bytes) x.framed.3 in
     let room : length (lane_octets Up (first_blocks w.lanes.blocks device)) < 2 ^ 63 = subst (λ (m : ℕ). m < 2 ^ 63) (sym bytes) (omega (arith, few)) in
     ap (λ (bs : List (List ℕ)). open_of up_lane (lane_octets Up bs) frame) (same ∙ s.link.high)
-    ∙ ap (open_of up_lane (lane_octets Up (first_blocks w.lanes.blocks device))) (x.is ∙ received_frame device w.lanes.blocks c front lengths few within)
-    ∙ opened up_lane (lane_octets Up (first_blocks w.lanes.blocks device)) c.offset (Told c.fact) x.framed.1 x.framed.2 (omega (arith, within)) room
+    ∙ ap (open_of up_lane (lane_octets Up (first_blocks w.lanes.blocks device))) (x.is ∙ received_frame device w.lanes.blocks c prefix lengths few within)
+    ∙ opened up_lane (lane_octets Up (first_blocks w.lanes.blocks device)) c.offset (Data c.fact) x.framed.1 x.framed.2 (omega (arith, within)) room
 
-passes : (w : World) (n : ℕ) (x : Option Claim) → slice_get w.frames n ≡ x → passed w n ≡ handed w n x
+passes : (w : World) (n : ℕ) (x : Option Claim) → slice_get w.frames n ≡ x → passed w n ≡ passed_claim w n x
 unfolding passed
-passes w n x e = ap (handed w n) e
+passes w n x e = ap (passed_claim w n) e
 
 pub none_sent : (device : List ℕ) (net : Network) (wire : List ℕ) (w : World) (n : ℕ) → Stands device net wire w → slice_get net.sent n ≡ None → (items.NoFrame up_lane n (length net.sent) ≡ (passed w n).0) × Stands device net wire (passed w n).1
 none_sent device net wire w n s e =
     let gone : slice_get w.frames n ≡ None = none_there (slice_get w.frames n) (sym (slice_get-map (frame_octets device) w.frames n) ∙ ap (λ (fs : List (List ℕ)). slice_get fs n) (sym s.sent) ∙ e) in
-    subst (λ (x : Item × World). (items.NoFrame up_lane n (length net.sent) ≡ x.0) × Stands device net wire x.1) (sym (passes w n None gone)) (ap (items.NoFrame up_lane n) (told_already device net wire w s), s)
+    subst (λ (x : Item × World). (items.NoFrame up_lane n (length net.sent) ≡ x.0) × Stands device net wire x.1) (sym (passes w n None gone)) (ap (items.NoFrame up_lane n) (sent_already device net wire w s), s)
   where
     none_there : (x : Option Claim) → option_map (frame_octets device) x ≡ None → x ≡ None
     none_there None f = refl
     none_there (Some c) f = absurd cc
 
-abbrev fact_told : Fact → Payload → Fact
-fact_told d (Told f) = f
-fact_told d (Ack n) = d
+abbrev fact_in : Fact → Payload → Fact
+fact_in d (Data f) = f
+fact_in d (Ack n) = d
 
 abbrev fact_opened : Fact → Result Opened OpenRefusal → Fact
-fact_opened d (Ok o) = fact_told d o.payload
+fact_opened d (Ok o) = fact_in d o.payload
 fact_opened d (Err e) = d
 
-pub told_fact : (bytes frame : List ℕ) (x y : ℕ) (f g : Fact) → open_of up_lane bytes frame ≡ Ok (record { offset = x; payload = Told f }) → open_of up_lane bytes frame ≡ Ok (record { offset = y; payload = Told g }) → f ≡ g
-told_fact bytes frame x y f g p q = ap (fact_opened f) (sym p ∙ q)
+pub received_fact : (bytes frame : List ℕ) (x y : ℕ) (f g : Fact) → open_of up_lane bytes frame ≡ Ok (record { offset = x; payload = Data f }) → open_of up_lane bytes frame ≡ Ok (record { offset = y; payload = Data g }) → f ≡ g
+received_fact bytes frame x y f g p q = ap (fact_opened f) (sym p ∙ q)
 
 pub learns : (device : List ℕ) (net new : Network) (wire : List ℕ) (w : World) (n : ℕ) (frame : List ℕ) (fact : Fact) (item : Item) → (s : Stands device net wire w) → (x : Sent device net w n frame) → x.claim.fact ≡ fact
     → (item, new.high_known) ≡ learnt net.high_known n fact → new ≡ record net { high_known = new.high_known } → (item ≡ (passed w n).0) × Stands device new wire (passed w n).1

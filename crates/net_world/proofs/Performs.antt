@@ -8,7 +8,7 @@ use Rattle.qkd_base.specs.Name.{Name}
 use Rattle.net_model.specs.declared.fact.Fact.{Fact}
 use Rattle.net_model.specs.Facts.{IsSize}
 use Rattle.qkd_base.specs.LaneBytes.{lane_len}
-use Rattle.report_text.specs.declared.counts.Counts.{Counts}
+use Rattle.net_model.specs.declared.counts.Counts4.{Counts4}
 use Rattle.report_text.specs.declared.item.Item.{Item}
 use Rattle.report_text.specs.declared.item.Item.TheVariants as items
 use Rattle.scenario_text.specs.declared.command.Command.{Command}
@@ -87,17 +87,17 @@ show_did device net wire w v n item before all s e added =
 
 -- ---- the ledger
 
-abbrev up_counts : ℕ → ℕ → Counts
+abbrev up_counts : ℕ → ℕ → Counts4
 up_counts n used = record { received = lane_len Up n; unused = lane_len Up n - used; spent = used; burnt = 0 }
 
-abbrev down_counts : ℕ → ℕ → Counts
+abbrev down_counts : ℕ → ℕ → Counts4
 down_counts n spent = record { received = lane_len Down n; unused = lane_len Down n - spent; spent = spent; burnt = 0 }
 
 up_same : (l : Lanes) → count_by is_spent l.up ≡ length l.up → count_by is_burnt l.up ≡ 0 → up_counts l.blocks (length l.up) ≡ counts_of l Up
 unfolding counts_of
 up_same l spent burnt = ap (λ (k : ℕ). record { received = lane_len Up l.blocks; unused = lane_len Up l.blocks - length l.up; spent = k; burnt = 0 }) (sym spent) ∙ ap (λ (k : ℕ). record { received = lane_len Up l.blocks; unused = lane_len Up l.blocks - length l.up; spent = count_by is_spent l.up; burnt = k }) (sym burnt)
 
-abbrev counts_down : ℕ → List Owner → Counts
+abbrev counts_down : ℕ → List Owner → Counts4
 counts_down n own = record { received = lane_len Down n; unused = lane_len Down n - length own; spent = count_by is_spent own; burnt = count_by is_burnt own }
 
 down_by : (n : ℕ) (b : Bool) → down_counts n (cond b 0 8) ≡ counts_down n (cond b [] hash_key)
@@ -108,7 +108,7 @@ down_same : (l : Lanes) → l.down ≡ cond (ltb l.blocks 2) [] hash_key → dow
 unfolding counts_of
 down_same l e = down_by l.blocks (ltb l.blocks 2) ∙ ap (counts_down l.blocks) (sym e)
 
-pub counts_same : (device : List ℕ) (net : Network) (wire : List ℕ) (w : World) (way : Way) (counts : Counts) → Stands device net wire w
+pub counts_same : (device : List ℕ) (net : Network) (wire : List ℕ) (w : World) (way : Way) (counts : Counts4) → Stands device net wire w
     → (way ≡ Up → counts ≡ record { received = lane_len Up (length net.link.low); unused = lane_len Up (length net.link.low) - net.link.used; spent = net.link.used; burnt = 0 })
     → (way ≡ Down → counts ≡ record { received = lane_len Down (length net.link.low); unused = lane_len Down (length net.link.low) - cond (ltb (length net.link.low) 2) 0 8; spent = cond (ltb (length net.link.low) 2) 0 8; burnt = 0 })
     → counts ≡ counts_of w.lanes way
@@ -117,9 +117,9 @@ counts_same device net wire w Up counts s up down =
 counts_same device net wire w Down counts s up down =
     down refl ∙ ap (λ (k : ℕ). down_counts k (cond (ltb k 2) 0 8)) (blocks_held device net wire w s) ∙ down_same w.lanes s.link.down
 
-pub ledger_did : (device : List ℕ) (net : Network) (wire : List ℕ) (w : World) (lane : Lane) (counts : Counts) (before all : List Item) → Stands device net wire w → counts ≡ counts_of w.lanes lane.way → all ≡ before ++ items.Counted lane counts ∷ []
+pub ledger_did : (device : List ℕ) (net : Network) (wire : List ℕ) (w : World) (lane : Lane) (counts : Counts4) (before all : List Item) → Stands device net wire w → counts ≡ counts_of w.lanes lane.way → all ≡ before ++ items.Counted lane counts ∷ []
     → Did device (items.Counted lane (counts_of w.lanes lane.way) ∷ [], w) net wire before all
-ledger_did device net wire w lane counts before all s e added = (added ∙ ap (λ (c : Counts). before ++ items.Counted lane c ∷ []) e, s)
+ledger_did device net wire w lane counts before all s e added = (added ∙ ap (λ (c : Counts4). before ++ items.Counted lane c ∷ []) e, s)
 
 -- what a command did, by what it is
 pub for_command : (device entropy : List ℕ) (w : World) (command same : Command) (net : Network) (wire : List ℕ) (before all : List Item) → command ≡ same → Did device (line_run device entropy w same) net wire before all → Did device (line_run device entropy w command) net wire before all

@@ -91,8 +91,8 @@ run_more g lines i line d is all now next old mid new lt e same run s w = record
   entries = s.entries ++ numbered line.number is;
   continues = λ more rest last h.
       let here = s.continues (line ∷ more) (numbered line.number is ++ rest) last (is, next, rest, run, refl, h) in
-      let front : take (i + 1) lines ++ more ≡ take i lines ++ line ∷ more = ap (λ (l : List Line). l ++ more) (take_more lines i d lt ∙ ap (λ (y : Line). take i lines ++ y ∷ []) (sym e)) ∙ append_assoc (take i lines) (line ∷ []) more in
-      rw (front, append_assoc s.entries (numbered line.number is) rest) here;
+      let prefix : take (i + 1) lines ++ more ≡ take i lines ++ line ∷ more = ap (λ (l : List Line). l ++ more) (take_more lines i d lt ∙ ap (λ (y : Line). take i lines ++ y ∷ []) (sym e)) ∙ append_assoc (take i lines) (line ∷ []) more in
+      rw (prefix, append_assoc s.entries (numbered line.number is) rest) here;
   taken = subst (Appends old new) (sym (flat_map-append (entry_text g) s.entries (numbered line.number is))) (Appends-trans old mid new _ _ s.taken (subst (λ (l : List ℕ). Appends mid new l) (ap (flat_map (text_of g.nodes line.number)) same ∙ sym (numbered_texts g line.number is)) w));
 }
 
@@ -126,9 +126,9 @@ run_failed g lines i line d is all now next old mid new wire lt e same run s w o
   last = next;
   runs =
       let here = s.continues (line ∷ []) (numbered line.number is ++ []) next (is, next, [], run, refl, (refl, refl)) in
-      let front : take (i + 1) lines ≡ take i lines ++ line ∷ [] = take_more lines i d lt ∙ ap (λ (y : Line). take i lines ++ y ∷ []) (sym e) in
+      let prefix : take (i + 1) lines ≡ take i lines ++ line ∷ [] = take_more lines i d lt ∙ ap (λ (y : Line). take i lines ++ y ∷ []) (sym e) in
       let tail : s.entries ++ numbered line.number is ≡ s.entries ++ (numbered line.number is ++ []) = ap (λ (l : List Entry). s.entries ++ l) (sym (append-nil (numbered line.number is))) in
-      subst (λ (es : List Entry). Runs g first_world (take (i + 1) lines) es next) (sym tail) (rw front here);
+      subst (λ (es : List Entry). Runs g first_world (take (i + 1) lines) es next) (sym tail) (rw prefix here);
   taken = subst (AppendsPrefix old new) (sym (flat_map-append (entry_text g) s.entries (numbered line.number is))) (prefix_after old mid new _ _ s.taken (subst (λ (l : List ℕ). AppendsPrefix mid new l) (ap (flat_map (text_of g.nodes line.number)) same ∙ sym (numbered_texts g line.number is)) w));
 }
 

@@ -21,30 +21,30 @@ pub blocks_length : (n : ℕ) (device : List ℕ) → length (first_blocks n dev
 blocks_length zero device = refl
 blocks_length (suc n) device = ap suc (blocks_length n (drop 1024 device))
 
-pub blocks_front : (n m : ℕ) (device : List ℕ) → first_blocks (n + m) device ≡ first_blocks n device ++ first_blocks m (drop (1024 * n) device)
-blocks_front zero m device = let e : 0 + m ≡ m = omega arith in rw e refl
-blocks_front (suc n) m device =
+pub blocks_prefix : (n m : ℕ) (device : List ℕ) → first_blocks (n + m) device ≡ first_blocks n device ++ first_blocks m (drop (1024 * n) device)
+blocks_prefix zero m device = let e : 0 + m ≡ m = omega arith in rw e refl
+blocks_prefix (suc n) m device =
     let e : drop (1024 * n) (drop 1024 device) ≡ drop (1024 * suc n) device = drop-drop (1024 * n) 1024 device ∙ ap (λ (k : ℕ). drop k device) (omega arith) in
     let k : suc n + m ≡ suc (n + m) = omega arith in
-    rw k (ap (λ (bs : List (List ℕ)). take 1024 device ∷ bs) (blocks_front n m (drop 1024 device) ∙ ap (λ (d : List ℕ). first_blocks n (drop 1024 device) ++ first_blocks m d) e))
+    rw k (ap (λ (bs : List (List ℕ)). take 1024 device ∷ bs) (blocks_prefix n m (drop 1024 device) ∙ ap (λ (d : List ℕ). first_blocks n (drop 1024 device) ++ first_blocks m d) e))
 
 one_block : (n : ℕ) (device : List ℕ) (h : List (List ℕ)) (k : ℕ) → h ≡ first_blocks n device → k ≡ n → h ++ block_at k device ∷ [] ≡ first_blocks (n + 1) device
-one_block n device h k e same = rw (e, same) (sym (blocks_front n 1 device))
+one_block n device h k e same = rw (e, same) (sym (blocks_prefix n 1 device))
 
 -- ---- the lane's front
 
-even_front : (a b : List (List ℕ)) → (more : List (List ℕ)) × (even_places (a ++ b) ≡ even_places a ++ more)
-even_front [] b = (even_places b, refl)
-even_front (x ∷ []) [] = ([], refl)
-even_front (x ∷ []) (y ∷ b) = (even_places b, refl)
-even_front (x ∷ y ∷ a) b = let r = even_front a b in (r.0, ap (λ (l : List (List ℕ)). x ∷ l) r.1)
+even_prefix : (a b : List (List ℕ)) → (more : List (List ℕ)) × (even_places (a ++ b) ≡ even_places a ++ more)
+even_prefix [] b = (even_places b, refl)
+even_prefix (x ∷ []) [] = ([], refl)
+even_prefix (x ∷ []) (y ∷ b) = (even_places b, refl)
+even_prefix (x ∷ y ∷ a) b = let r = even_prefix a b in (r.0, ap (λ (l : List (List ℕ)). x ∷ l) r.1)
 
-pub lane_front : (n : ℕ) (device : List ℕ) → n ≤ 1024 → (more : List ℕ) × (lane_up device ≡ lane_octets Up (first_blocks n device) ++ more)
+pub lane_prefix : (n : ℕ) (device : List ℕ) → n ≤ 1024 → (more : List ℕ) × (lane_up device ≡ lane_octets Up (first_blocks n device) ++ more)
 unfolding lane_octets
-lane_front n device le =
+lane_prefix n device le =
     let e : 1024 ≡ n + (1024 - n) = omega (arith, le) in
-    let all : first_blocks 1024 device ≡ first_blocks n device ++ first_blocks (1024 - n) (drop (1024 * n) device) = ap (λ (k : ℕ). first_blocks k device) e ∙ blocks_front n (1024 - n) device in
-    let r = even_front (first_blocks n device) (first_blocks (1024 - n) (drop (1024 * n) device)) in
+    let all : first_blocks 1024 device ≡ first_blocks n device ++ first_blocks (1024 - n) (drop (1024 * n) device) = ap (λ (k : ℕ). first_blocks k device) e ∙ blocks_prefix n (1024 - n) device in
+    let r = even_prefix (first_blocks n device) (first_blocks (1024 - n) (drop (1024 * n) device)) in
     (flat_map (λ b. b) r.0, ap (λ (bs : List (List ℕ)). flat_map (λ b. b) (even_places bs)) all ∙ ap (flat_map (λ b. b)) r.1 ∙ flat_map-append (λ b. b) (even_places (first_blocks n device)) r.0)
 
 -- ---- one more block

@@ -18,7 +18,7 @@ pub record Entry : Type 0 where
 abbrev pub numbered : ℕ → List Item → List Entry
 numbered n is = map (λ i. record { number = n; item = i }) is
 
--- What a run is given: the names of the nodes, and what the link's device and the lower node's entropy tell.
+-- What a run is given: the names of the nodes, and what the link's device and the lower node's entropy give.
 pub record Given : Type 0 where
   pub nodes : List (List ℕ)
   pub device : List ℕ

@@ -32,7 +32,7 @@ abbrev pub IsMade : Fact → Type 0
 IsMade (Key name master slave route bytes) = (name.kind ≡ KeyKind) × IsSize (length bytes)
 IsMade _ = ⊥
 
--- a key's frame within the first so many blocks, behind the hash key
+-- a key's frame within the first so many blocks, after the hash key
 abbrev pub IsFramed : ℕ → Claim → Type 0
 IsFramed blocks c = IsMade c.fact × IsFact c.fact × (8 ≤ c.offset) × (c.offset + need c.fact ≤ lane_len Up blocks)
 
@@ -71,5 +71,5 @@ pub record Puts (v : ℕ) (p : Payload) (old new : Network) (wire_old wire_new :
   pub wire : wire_new ≡ wire_old ++ frame
   pub items : items_new ≡ items_old ++ items.Ticked v 1 0 ∷ items.Sent up_lane (length old.sent) old.link.used (payload_len p) ∷ []
 
-abbrev pub Tells : ℕ → Payload → Network → Network → List ℕ → List ℕ → List Item → List Item → Type 0
-Tells v p old new wire_old wire_new items_old items_new = Lacks v p old new wire_old wire_new items_old items_new ⊎ Puts v p old new wire_old wire_new items_old items_new
+abbrev pub Emits : ℕ → Payload → Network → Network → List ℕ → List ℕ → List Item → List Item → Type 0
+Emits v p old new wire_old wire_new items_old items_new = Lacks v p old new wire_old wire_new items_old items_new ⊎ Puts v p old new wire_old wire_new items_old items_new

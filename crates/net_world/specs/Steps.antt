@@ -10,8 +10,8 @@ use Rattle.net_model.specs.Facts.{fact_len}
 use Rattle.qkd_base.specs.LaneBytes.{lane_len}
 use Rattle.report_text.specs.declared.end.End.{End}
 use Rattle.report_text.specs.declared.end.End.TheVariants.{Low, High}
-use Rattle.report_text.specs.declared.held.Held.{Held}
-use Rattle.report_text.specs.declared.held.Held.TheVariants as states
+use Rattle.net_model.specs.declared.held.Held.{Held}
+use Rattle.net_model.specs.declared.held.Held.TheVariants as states
 use Rattle.report_text.specs.declared.item.Item.{Item}
 use Rattle.report_text.specs.declared.item.Item.TheVariants as items
 use Rattle.scenario_text.specs.declared.command.Command.{Command}
@@ -31,7 +31,7 @@ refusal link l end = if nat_lt l.blocks 1024 then items.NoBits link end else ite
 
 -- these items, and then those of what follows
 abbrev pub with_items : List Item → List Item × Lanes → List Item × Lanes
-with_items front x = (front ++ x.0, x.1)
+with_items prefix x = (prefix ++ x.0, x.1)
 
 -- Block after block at both ends, low end first. An end that takes no more is left out for the rest of the line.
 unfoldable pub bits_run : List ℕ → ℕ → ℕ → Lanes → List Item × Lanes
@@ -69,7 +69,7 @@ state_at v = if v == 0 then states.Made else states.Kept
 -- what is shown of a fact: its bytes are needed until the application has them
 abbrev pub shown : ℕ → Name → Option Fact → Item
 shown v n (Some (Key name master slave route bytes)) = items.Shown v n (state_at v) bytes
-shown v n _ = items.Absent v n
+shown v n _ = items.Shown v n states.Absent []
 
 -- what a node shows, of what the lower node knows, which has number 0, and of what the higher one knows
 unfoldable pub shown_at : List Fact → List Fact → ℕ → Name → Item
@@ -77,7 +77,7 @@ shown_at low high v n = shown v n (find (is_key_named n) (if v == 0 then low els
 
 -- ---- frames
 
--- what a tick reports and leaves, whose next fact to tell is this: the fact is short of lane bytes, or its frame is put on the wire
+-- what a tick reports and leaves, whose next fact to send is this: the fact is short of lane bytes, or its frame is put on the wire
 abbrev pub ticked_with : World → ℕ → Option Fact → List Item × World
 ticked_with w v None = (items.Idle v ∷ [], w)
 ticked_with w v (Some fact) =
@@ -86,11 +86,11 @@ ticked_with w v (Some fact) =
     then (items.Ticked v 0 0 ∷ items.Short up_lane used (need fact) (lane_len Up w.lanes.blocks) ∷ [], w)
     else (items.Ticked v 1 0 ∷ items.Sent up_lane (length w.frames) used (fact_len fact) ∷ [], claimed w fact)
 
--- A tick of the lower node tells the first fact that no frame tells yet.
+-- A tick of the lower node sends the first fact that no frame carries yet.
 unfoldable pub ticked : World → ℕ → List Item × World
 ticked w v = ticked_with w v (slice_get w.low_known (length w.frames))
 
--- What is reported of a frame that tells a fact, and what its receiver then knows: a fact of a new name is taken.
+-- What is reported of a frame that carries a fact, and what its receiver then knows: a fact of a new name is taken.
 abbrev pub learnt_named : List Fact → ℕ → Fact → Name → Item × List Fact
 learnt_named known number fact name =
     if is_some (find (is_key_named name) known) then (items.Passed up_lane number false name, known)
@@ -99,13 +99,13 @@ learnt_named known number fact name =
 unfoldable pub learnt : List Fact → ℕ → Fact → Item × List Fact
 learnt known number fact = learnt_named known number fact (name_of fact)
 
-abbrev pub handed : World → ℕ → Option Claim → Item × World
-handed w number None = (items.NoFrame up_lane number (length w.frames), w)
-handed w number (Some c) = let x = learnt w.high_known number c.fact in (x.0, record w { high_known = x.1 })
+abbrev pub passed_claim : World → ℕ → Option Claim → Item × World
+passed_claim w number None = (items.NoFrame up_lane number (length w.frames), w)
+passed_claim w number (Some c) = let x = learnt w.high_known number c.fact in (x.0, record w { high_known = x.1 })
 
--- a frame of the wire is handed to the higher node
+-- a frame of the wire is passed to the higher node
 unfoldable pub passed : World → ℕ → Item × World
-passed w number = handed w number (slice_get w.frames number)
+passed w number = passed_claim w number (slice_get w.frames number)
 
 -- ---- lines
 
@@ -118,7 +118,7 @@ after_fill w x = (x.0 ∷ [], record w { low_known = x.1; drawn = x.2 })
 abbrev pub one : Item × World → List Item × World
 one x = (x.0 ∷ [], x.1)
 
--- What a command reports and leaves, over what the device and the lower node's entropy tell.
+-- What a command reports and leaves, over what the device and the lower node's entropy give.
 abbrev pub line_run : List ℕ → List ℕ → World → Command → List Item × World
 line_run device entropy w (Bits link ends count) = lanes_after w (bits_run device link count w.lanes)
 line_run device entropy w (Fill master slave bits) = after_fill w (filled entropy w.low_known w.drawn master slave bits)

@@ -6,7 +6,7 @@ use Rattle.qkd_base.specs.declared.lane.Way.TheVariants.{Up, Down}
 use Rattle.net_model.specs.declared.fact.Fact.{Fact}
 use Rattle.net_model.specs.Facts.{fact_len}
 use Rattle.qkd_base.specs.LaneBytes.{lane_len}
-use Rattle.report_text.specs.declared.counts.Counts.{Counts}
+use Rattle.net_model.specs.declared.counts.Counts4.{Counts4}
 
 -- who a byte of a lane went to
 pub data Owner : Type 0 where
@@ -20,7 +20,7 @@ pub record Lanes : Type 0 where
   pub up : List Owner
   pub down : List Owner
 
--- a frame on the lane up: the place of its first byte, and the fact that it tells
+-- a frame on the lane up: the place of its first byte, and the fact that it carries
 pub record Claim : Type 0 where
   pub offset : ℕ
   pub fact : Fact
@@ -59,7 +59,7 @@ is_spent (Frame j) = true
 is_spent Burnt = false
 
 -- a lane's bytes at its sender, by what became of them
-unfoldable pub counts_of : Lanes → Way → Counts
+unfoldable pub counts_of : Lanes → Way → Counts4
 counts_of l way = record {
   received = lane_len way l.blocks;
   unused = lane_len way l.blocks - length (own l way);

@@ -7,10 +7,9 @@ ghost use Rattle.net_world.specs.Held.{block_at};
 
 use hop_frames::seal;
 use link_segments::{Segments, TakeRefusal};
-use net_model::{Payload, spelled_len};
+use net_model::{Counts4, Payload, spelled_len};
 use pad_ledger::{PadLedger, Short};
 use qkd_base::{FrameOctets, Lane, LinkNo, Memory, Way};
-use report_text::Counts;
 use std::alloc::Global;
 use std::marker::Model;
 
@@ -33,7 +32,7 @@ impl Model for Link {
 
     ghost view = { λ l. record { low = l.low.blocks; high = l.high.blocks; used = l.up.used } };
 
-    ghost invariant = { λ l. (length l.low.blocks ≡ l.blocks) × (length l.high.blocks ≡ l.blocks) × (l.blocks ≤ 1024) × (l.up.end ≡ lane_len UpWay l.blocks) × (l.up.got ≡ lane_len UpWay l.blocks) × (l.up.burnt ≡ 0) × (8 * ((l.blocks + 1023) / 1024) ≤ l.up.used) };
+    ghost invariant = { λ l. (length l.low.blocks ≡ l.blocks) × (length l.high.blocks ≡ l.blocks) × (l.blocks ≤ 1024) × (l.up.end ≡ lane_len UpWay l.blocks) × (l.up.received ≡ lane_len UpWay l.blocks) × (l.up.burnt ≡ 0) × (8 * ((l.blocks + 1023) / 1024) ≤ l.up.used) };
 }
 
 /// The lane up of the one link.
@@ -61,8 +60,8 @@ fn take_next(held: &mut Segments, number: u32, block: &[u8; 1024])
     }
 }
 
-// What stands behind so many octets.
-fn behind(octets: &[u8], size: usize) -> &[u8]
+// What stands after so many octets.
+fn after(octets: &[u8], size: usize) -> &[u8]
     requires { size ≤ length octets.now }
     ensures { result.now ≡ drop size octets.now }
 {
@@ -84,13 +83,13 @@ fn block_of(device: &[u8], number: u32) -> [u8; 1024]
     requires { 1024 * number + 1024 ≤ length device.now }
     ensures { result ≡ block_at number device.now }
 {
-    first_block(behind(device, 1024 * number as usize))
+    first_block(after(device, 1024 * number as usize))
 }
 
 // The lane has its first block.
 fn receive_first(up: &mut PadLedger)
-    requires none { up.old.got ≡ 0 }
-    ensures { up.new ≡ record { used = 8; end = 1024; got = 1024; burnt = up.old.burnt } }
+    requires none { up.old.received ≡ 0 }
+    ensures { up.new ≡ record { used = 8; end = 1024; received = 1024; burnt = up.old.burnt } }
 {
     up.receive(1024);
     up.raise(1024);
@@ -98,24 +97,24 @@ fn receive_first(up: &mut PadLedger)
 
 // The lane has one more block.
 fn receive_more(up: &mut PadLedger)
-    requires some { 0 < up.old.got }
-    requires end { up.old.end ≡ up.old.got }
-    requires fits { up.old.got + 1024 < 2 ^ 32 }
-    ensures { up.new ≡ record { used = up.old.used; end = up.old.got + 1024; got = up.old.got + 1024; burnt = up.old.burnt } }
+    requires some { 0 < up.old.received }
+    requires end { up.old.end ≡ up.old.received }
+    requires fits { up.old.received + 1024 < 2 ^ 32 }
+    ensures { up.new ≡ record { used = up.old.used; end = up.old.received + 1024; received = up.old.received + 1024; burnt = up.old.burnt } }
 {
     up.receive(1024);
-    let got = up.counts().received;
-    up.raise(got);
+    let received = up.counts().received;
+    up.raise(received);
 }
 
 // The lane's bytes after one more block of the link, of which so many were there.
 fn receive(up: &mut PadLedger, blocks: u32)
     requires few { blocks < 1024 }
     requires end { up.old.end ≡ lane_len UpWay blocks }
-    requires got { up.old.got ≡ lane_len UpWay blocks }
+    requires received { up.old.received ≡ lane_len UpWay blocks }
     ensures used { up.new.used ≡ (if blocks == 0 then 8 else up.old.used) }
     ensures end { up.new.end ≡ lane_len UpWay (blocks + 1) }
-    ensures got { up.new.got ≡ lane_len UpWay (blocks + 1) }
+    ensures received { up.new.received ≡ lane_len UpWay (blocks + 1) }
     ensures burnt { up.new.burnt ≡ up.old.burnt }
 {
     if blocks == 0 {
@@ -220,14 +219,14 @@ impl Link {
     }
 
     /// A lane's bytes at its sender, by what became of them.
-    pub fn counts(&self, way: Way) -> Counts
+    pub fn counts(&self, way: Way) -> Counts4
         ensures up { way ≡ UpWay → result ≡ record { received = lane_len UpWay (length self.now.low); unused = lane_len UpWay (length self.now.low) - self.now.used; spent = self.now.used; burnt = 0 } }
         ensures down { way ≡ DownWay → result ≡ record { received = lane_len DownWay (length self.now.low); unused = lane_len DownWay (length self.now.low) - (if nat_lt (length self.now.low) 2 then 0 else 8); spent = if nat_lt (length self.now.low) 2 then 0 else 8; burnt = 0 } }
     {
         match way {
             Way::Up => {
                 let counts = self.up.counts();
-                Counts {
+                Counts4 {
                     received: counts.received,
                     unused: counts.unused,
                     spent: counts.spent,
@@ -237,7 +236,7 @@ impl Link {
             Way::Down => {
                 let received = 1024 * (u64::from(self.blocks) / 2);
                 let spent = if self.blocks < 2 { 0 } else { 8 };
-                Counts {
+                Counts4 {
                     received,
                     unused: received - spent,
                     spent,

@@ -3,7 +3,7 @@ ghost use Rattle.std.specs.Prelude.{◌≡◌, ℕ, ◌∷◌, [], List, Ok, IfO
 ghost use Rattle.std.specs.Option.{option_copied};
 ghost use Rattle.qkd_base.specs.declared.key_name.NameKind.TheVariants.{Key as KeyKind};
 ghost use Rattle.qkd_base.specs.declared.lane.Way.TheVariants.{Up as UpWay};
-ghost use Rattle.net_model.specs.declared.payload.Payload.TheVariants.{Told};
+ghost use Rattle.net_model.specs.declared.payload.Payload.TheVariants.{Data};
 ghost use Rattle.net_model.specs.declared.fact.Fact.{Fact as FactValue};
 ghost use Rattle.qkd_base.specs.LaneBytes.{lane_octets};
 ghost use Rattle.hop_frames.specs.Opening.{open_of};
@@ -13,13 +13,13 @@ ghost use Rattle.net_world.specs.Steps.{is_key_named, next_name};
 use crate::blocks::take_blocks;
 use crate::link::{Link, up_lane};
 use frame_codec::spelled_is_read;
-use hop_frames::{OpenRefusal, Opened, front_of_a_lane, open, sealed_is_opened};
+use hop_frames::{OpenRefusal, Opened, open, prefix_of_a_lane, sealed_is_opened};
 use link_segments::Segments;
-use net_model::{Fact, Payload, spelled_len};
+use net_model::{Fact, Held, Payload, spelled_len};
 use qkd_base::{
     FrameOctets, Items, KeyName, Lists, Memory, NameKind, NodeNo, Octets, Replica, Route, SaeNo,
 };
-use report_text::{Held, Item};
+use report_text::Item;
 use scenario_text::{Command, KeySize};
 use std::alloc::Global;
 
@@ -70,16 +70,16 @@ fn find_key<'a>(known: &'a [Fact], name: KeyName) -> Option<&'a Fact>
     None
 }
 
-// The fact of a frame that tells one.
+// The fact of a frame that carries one.
 fn opened_fact(alloc: Global, frame: &[u8], high: &Segments) -> Result<Fact, Memory>
-    requires { (offset : ℕ) × (fact : FactValue) × (open_of up_lane (lane_octets UpWay high.now.blocks) frame.now ≡ Ok (record { offset = offset; payload = Told fact })) }
-    ensures { IfOk result (λ fact. (offset : ℕ) × (open_of up_lane (lane_octets UpWay high.now.blocks) frame.now ≡ Ok (record { offset = offset; payload = Told fact }))) }
+    requires { (offset : ℕ) × (fact : FactValue) × (open_of up_lane (lane_octets UpWay high.now.blocks) frame.now ≡ Ok (record { offset = offset; payload = Data fact })) }
+    ensures { IfOk result (λ fact. (offset : ℕ) × (open_of up_lane (lane_octets UpWay high.now.blocks) frame.now ≡ Ok (record { offset = offset; payload = Data fact }))) }
 {
     match open(alloc, up_lane(), frame, high) {
         Ok(
             Opened {
                 offset: _,
-                payload: Payload::Told(fact),
+                payload: Payload::Data(fact),
             },
         ) => Ok(fact),
         Err(OpenRefusal::Memory) => Err(Memory),
@@ -93,7 +93,7 @@ impl Network {
     ghost use Rattle.report_text.specs.declared.item.Item.{Item};
     ghost use Rattle.net_world.specs.World.{World, first_world};
     ghost use Rattle.net_world.specs.Steps.{filled, shown_at, learnt, ticked, passed, line_run};
-    ghost use Rattle.net_world.specs.Stands.{Stands, Did, IsMade, Tells};
+    ghost use Rattle.net_world.specs.Stands.{Stands, Did, IsMade, Emits};
 
     /// Nothing has happened.
     pub fn new(alloc: Global) -> Self
@@ -160,12 +160,17 @@ impl Network {
                 held,
                 bytes: bytes.copy()?,
             }),
-            _ => Ok(Item::Absent { node, name }),
+            _ => Ok(Item::Shown {
+                node,
+                name,
+                held: Held::Absent,
+                bytes: Octets::new(self.alloc),
+            }),
         }
     }
 
     // Puts the frame of a payload on the wire, or says how far the lane's bytes reach.
-    fn tell(
+    fn emit(
         &mut self,
         node: NodeNo,
         payload: &Payload,
@@ -173,7 +178,7 @@ impl Network {
         items: &mut Vec<Item>,
     ) -> Result<(), Memory>
         requires formed { IsWellFormed payload.now }
-        ensures ok { OnOk result (Tells node payload.now self.old self.new wire.old wire.new items.old.items items.new.items) }
+        ensures ok { OnOk result (Emits node payload.now self.old self.new wire.old wire.new items.old.items items.new.items) }
         ensures err { OnErr result (wire.new ≡ wire.old) }
     {
         let length = spelled_len(payload);
@@ -215,7 +220,7 @@ impl Network {
         }
     }
 
-    // Tells the first fact that no frame tells yet.
+    // Sends the first fact that no frame carries yet.
     fn tick(
         &mut self,
         device: &[u8],
@@ -229,15 +234,15 @@ impl Network {
     {
         let _have = self.link.received();
         spelled_is_read();
-        front_of_a_lane();
+        prefix_of_a_lane();
         let payload = match self.low_known.get(self.sent.len()) {
-            Some(fact) => Payload::Told(fact.copy()?),
+            Some(fact) => Payload::Data(fact.copy()?),
             None => {
                 items.push(Item::Idle { node })?;
                 return Ok(());
             }
         };
-        self.tell(node, &payload, wire, items)
+        self.emit(node, &payload, wire, items)
     }
 
     // The higher node learns a key, if it doesn't know it yet.
@@ -271,7 +276,7 @@ impl Network {
         let _have = self.link.received();
         spelled_is_read();
         sealed_is_opened();
-        front_of_a_lane();
+        prefix_of_a_lane();
         match self.sent.get(number as usize) {
             None => Ok(Item::NoFrame {
                 lane: up_lane(),
@@ -285,7 +290,7 @@ impl Network {
         }
     }
 
-    /// Does what a command asks for over what the device and the lower node's entropy tell, and adds what is reported.
+    /// Does what a command asks for over what the device and the lower node's entropy give, and adds what is reported.
     /// An `Err` leaves the wire as it was.
     pub fn perform(
         &mut self,

@@ -45,9 +45,9 @@ fn write_items<W: Sink>(
     Ok(())
 }
 
-/// Runs the lines of a scenario in order over what the link's device and the lower node's entropy tell, and writes the
+/// Runs the lines of a scenario in order over what the link's device and the lower node's entropy give, and writes the
 /// report, a piece for each item. The names of the nodes stand in the report. The wire of the lane up begins empty and
-/// gets the frames, one behind another.
+/// gets the frames, one after another.
 pub fn run_scenario<W: Sink>(
     alloc: Global,
     nodes: &Texts,

@@ -5,14 +5,14 @@ use Rattle.std.specs.Prelude.{ℕ, ◌+◌, ◌≤◌, ◌<◌, ◌^◌, ◌==�
 pub record Ledger : Type 0 where
   pub used : ℕ
   pub end : ℕ
-  pub got : ℕ
+  pub received : ℕ
   pub burnt : ℕ
 
 pub record IsLedger (l : Ledger) : Type 0 where
   pub burnt : l.burnt ≤ l.used
   pub used : l.used ≤ l.end
-  pub end : l.end ≤ l.got
-  pub got : l.got < 2 ^ 32
+  pub end : l.end ≤ l.received
+  pub received : l.received < 2 ^ 32
 
 -- claimed bytes: the place of the first, and their number
 pub record Range : Type 0 where
@@ -21,4 +21,4 @@ pub record Range : Type 0 where
 
 -- With more bytes received. The first 8 of a lane are its hash key, and so are used.
 abbrev pub received_more : Ledger → ℕ → Ledger
-received_more l n = if l.got == 0 then record { used = 8; end = 8; got = n; burnt = l.burnt } else record l { got = l.got + n }
+received_more l n = if l.received == 0 then record { used = 8; end = 8; received = n; burnt = l.burnt } else record l { received = l.received + n }

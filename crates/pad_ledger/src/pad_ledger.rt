@@ -12,7 +12,7 @@ use std::marker::Model;
 pub struct PadLedger {
     used: u64,
     end: u64,
-    got: u64,
+    received: u64,
     burnt: u64,
 }
 
@@ -21,20 +21,20 @@ impl Model for PadLedger {
 
     ghost Value = { Ledger };
 
-    ghost view = { λ l. record { used = l.used; end = l.end; got = l.got; burnt = l.burnt } };
+    ghost view = { λ l. record { used = l.used; end = l.end; received = l.received; burnt = l.burnt } };
 
-    ghost invariant = { λ l. IsLedger (record { used = l.used; end = l.end; got = l.got; burnt = l.burnt }) };
+    ghost invariant = { λ l. IsLedger (record { used = l.used; end = l.end; received = l.received; burnt = l.burnt }) };
 }
 
 impl PadLedger {
     /// A lane of which nothing was received.
     pub fn new() -> Self
-        ensures { result ≡ record { used = 0; end = 0; got = 0; burnt = 0 } }
+        ensures { result ≡ record { used = 0; end = 0; received = 0; burnt = 0 } }
     {
         PadLedger {
             used: 0,
             end: 0,
-            got: 0,
+            received: 0,
             burnt: 0,
         }
     }
@@ -42,20 +42,20 @@ impl PadLedger {
     /// More bytes were received. With the first ones the hash key's 8 are used.
     pub fn receive(&mut self, n: u64)
         requires first { 8 ≤ n }
-        requires fits { self.old.got + n < 2 ^ 32 }
+        requires fits { self.old.received + n < 2 ^ 32 }
         ensures { self.new ≡ received_more self.old n }
     {
-        if self.got == 0 {
+        if self.received == 0 {
             self.used = 8;
             self.end = 8;
         }
-        self.got += n;
+        self.received += n;
     }
 
     /// Lets claims go on up to a later end, once that end is durable.
     pub fn raise(&mut self, end: u64)
         requires later { self.old.end ≤ end }
-        requires received { end ≤ self.old.got }
+        requires received { end ≤ self.old.received }
         ensures { self.new ≡ record self.old { end = end } }
     {
         self.end = end;
@@ -100,13 +100,13 @@ impl PadLedger {
 
     /// The bytes by what became of them. They add up to those received.
     pub fn counts(&self) -> Counts
-        ensures counts { result ≡ record { received = self.now.got; unused = self.now.got - self.now.used; spent = self.now.used - self.now.burnt; burnt = self.now.burnt } }
+        ensures counts { result ≡ record { received = self.now.received; unused = self.now.received - self.now.used; spent = self.now.used - self.now.burnt; burnt = self.now.burnt } }
         ensures sum { result.received ≡ result.unused + result.spent + result.burnt }
         ensures ledger { IsLedger self.now }
     {
         Counts {
-            received: self.got,
-            unused: self.got - self.used,
+            received: self.received,
+            unused: self.received - self.used,
             spent: self.used - self.burnt,
             burnt: self.burnt,
         }

@@ -26,7 +26,7 @@ use Rattle.net_model.specs.Premises.{IsSite}
 use Rattle.net_model.specs.View.{View}
 use Rattle.net_model.specs.Handle.{is_numbered}
 use Rattle.record_laws.proofs.Base.{name_eq_from, name_eq_same, eq_from, and_left, and_right, or_first, or_second, not_false, not_both, number_set_same}
-use Rattle.record_laws.proofs.Tables.{at_front, at_back, learned_new, learned_keeps, push_there, facts_of-push, facts_of_one}
+use Rattle.record_laws.proofs.Tables.{at_prefix, at_back, learned_new, learned_keeps, push_there, facts_of-push, facts_of_one}
 use Rattle.view_laws.proofs.Shortest.{IsWay, route_is}
 use Rattle.view_laws.proofs.Masked.{count-cons}
 use Rattle.view_laws.proofs.Seen.{Sees, chunks_seen}
@@ -42,7 +42,7 @@ same_at : (T : List Fact) (f : Fact) (m : Name) → fact_at T (name_of f) ≡ No
 same_at T f m free other =
     ap (λ (fs : List Fact). fact_at fs m) (learned_new T f free) ∙
     (elim (fact_at T m) as (λ o. fact_at T m ≡ o → fact_at (T ++ f ∷ []) m ≡ o) [
-      | Some g ↦ λ e. at_front T (f ∷ []) m g e
+      | Some g ↦ λ e. at_prefix T (f ∷ []) m g e
       | None ↦ λ e. at_back T (f ∷ []) m e ∙ ap (λ (t : Bool). if t then Some f else None) (not_false (name_eq (name_of f) m) (λ y.
           let same : name_of f ≡ m = name_eq_from (name_of f) m y in
           not_both (name_eq m (name_of f)) (ap (name_eq m) same ∙ name_eq_same m) other))

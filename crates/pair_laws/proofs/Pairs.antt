@@ -4,7 +4,7 @@ use Rattle.qkd_base.specs.Name.{Name}
 use Rattle.net_model.specs.World.{Network, World}
 use Rattle.net_model.specs.Invariant.{Conserved}
 use Rattle.net_model.specs.Premises.{IsNetwork}
-use Rattle.net_model.specs.Told.{octets_from}
+use Rattle.net_model.specs.OctetSequence.{octets_from}
 use Rattle.net_model.specs.Needed.{view_of}
 use Rattle.net_model.specs.Pools.{fill, enc, dec}
 use Rattle.net_model.specs.Streams.{is_size}

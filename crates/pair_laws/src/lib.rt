@@ -6,7 +6,7 @@ ghost use Rattle.qkd_base.specs.Name.{Name};
 ghost use Rattle.net_model.specs.World.{Network, World};
 ghost use Rattle.net_model.specs.Invariant.{Conserved};
 ghost use Rattle.net_model.specs.Premises.{IsNetwork};
-ghost use Rattle.net_model.specs.Told.{octets_from};
+ghost use Rattle.net_model.specs.OctetSequence.{octets_from};
 ghost use Rattle.net_model.specs.Needed.{view_of};
 ghost use Rattle.net_model.specs.Pools.{fill, enc, dec};
 ghost use Rattle.net_model.specs.Streams.{is_size};

@@ -12,8 +12,8 @@ inside_of ns = record { room = room_of ns; size = length ns }
 abbrev pub inside : List ℕ → ℕ → Inside
 inside room size = record { room = room; size = size }
 
-front_size : (room : List ℕ) (size : ℕ) → IsRoom room size → length (take size room) ≡ size
-front_size room size h = omega (arith, length-take size room, h.whole, h.within)
+prefix_size : (room : List ℕ) (size : ℕ) → IsRoom room size → length (take size room) ≡ size
+prefix_size room size h = omega (arith, length-take size room, h.whole, h.within)
 
 two_of : (ns : List ℕ) → is_route ns ≡ true → 2 ≤ length ns
 two_of ns h = grind arith
@@ -26,7 +26,7 @@ first_of_take (x ∷ xs) (suc n) h = refl
 
 same_room : (room : List ℕ) (size : ℕ) → IsRoom room size → room_of (take size room) ≡ room
 same_room room size h =
-    let n : length (take size room) ≡ size = front_size room size h in
+    let n : length (take size room) ≡ size = prefix_size room size h in
     let first : first_of (take size room) ≡ first_of room = first_of_take room size (omega (arith, two_of (take size room) h.route, n)) in
     ap (λ (k : ℕ). take size room ++ replicate (9 - k) (first_of (take size room))) n
     ∙ ap (λ (v : ℕ). take size room ++ replicate (9 - size) v) first
@@ -36,4 +36,4 @@ same_room room size h =
 pub same_inside : (a : Inside) → IsRoom a.room a.size → inside_of (take a.size a.room) ≡ a
 same_inside a h =
     ap (λ (room : List ℕ). inside room (length (take a.size a.room))) (same_room a.room a.size h)
-    ∙ ap (λ (n : ℕ). inside a.room n) (front_size a.room a.size h)
+    ∙ ap (λ (n : ℕ). inside a.room n) (prefix_size a.room a.size h)

@@ -1,7 +1,7 @@
 -- The laws of runs that the program's promise rests on.
 use Rattle.std.specs.Prelude.{◌≡◌, ℕ, List, take, Ok}
 use Rattle.scenario_text.specs.declared.scenario.Line.{Line}
-use Rattle.scenario_text.specs.Stage.{Stage}
+use Rattle.scenario_text.specs.DeclaredSite.{DeclaredSite}
 use Rattle.scenario_text.specs.Text.{meaning_of}
 use Rattle.net_model.specs.World.{Network, first}
 use Rattle.net_model.specs.Action.{Action}
@@ -15,16 +15,16 @@ use Rattle.net_world.specs.Run.{given, Entry, Runs}
 use Rattle.line_laws.specs.Scenario.{network_of}
 use Rattle.script_laws.specs.AbstractRun.{RunsOnNetwork}
 
--- The runs of whole scenarios and of their first lines are runs of the abstract network, and all is conserved behind each.
+-- The runs of whole scenarios and of their first lines are runs of the abstract network, and all is conserved after each.
 pub record Laws : Type 0 where
-  pub whole : (text : List ℕ) (site : Stage) (lines : List Line) (device entropy : List ℕ) (entries : List Entry) (last : World) →
+  pub whole : (text : List ℕ) (site : DeclaredSite) (lines : List Line) (device entropy : List ℕ) (entries : List Entry) (last : World) →
       meaning_of text ≡ Ok (site, lines) → Runs (given site.nodes device entropy) first_world lines entries last →
       RunsOnNetwork (network_of site device entropy) lines entries (wire_octets device last.frames)
-  pub front : (text : List ℕ) (site : Stage) (lines : List Line) (device entropy : List ℕ) (count : ℕ) (entries : List Entry) (last : World) →
+  pub front : (text : List ℕ) (site : DeclaredSite) (lines : List Line) (device entropy : List ℕ) (count : ℕ) (entries : List Entry) (last : World) →
       meaning_of text ≡ Ok (site, lines) → Runs (given site.nodes device entropy) first_world (take count lines) entries last →
       RunsOnNetwork (network_of site device entropy) (take count lines) entries (wire_octets device last.frames)
   pub list : (net : Network) (lines : List Line) (entries : List Entry) (wire : List ℕ) (r : RunsOnNetwork net lines entries wire) →
       (actions : List Action) × IsRun net first actions × (r.last ≡ run net first actions)
-  pub network : (text : List ℕ) (site : Stage) (lines : List Line) (device entropy : List ℕ) → meaning_of text ≡ Ok (site, lines) →
+  pub network : (text : List ℕ) (site : DeclaredSite) (lines : List Line) (device entropy : List ℕ) → meaning_of text ≡ Ok (site, lines) →
       IsOctets device → IsOctets entropy → IsNetwork (network_of site device entropy)
   pub keeps : (net : Network) (actions : List Action) → IsNetwork net → IsRun net first actions → Conserved net (run net first actions)

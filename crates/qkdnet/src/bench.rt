@@ -3,14 +3,14 @@ use crate::generator::octets;
 use qkd_base::{Items, Lists, Memory};
 use std::alloc::Global;
 
-/// The lists that the outside of a run tells.
+/// The lists that the outside of a run gives.
 #[derive(Debug, Drop)]
 pub struct Bench {
-    /// What the device of each link tells, by the link's number.
+    /// What the device of each link gives, by the link's number.
     pub devices: Lists,
-    /// What the entropy of each node tells, by the node's number.
+    /// What the entropy of each node gives, by the node's number.
     pub entropies: Lists,
-    /// The octets of the frames on each lane's wire, one frame behind another: the lane up of link l at 2l, the lane
+    /// The octets of the frames on each lane's wire, one frame after another: the lane up of link l at 2l, the lane
     /// down at 2l + 1.
     pub wires: Lists,
 }
@@ -21,8 +21,8 @@ pub fn generated(alloc: Global) -> Result<Bench, Memory> {
     let bits = octets(alloc, b'L', 0, 1048576)?;
     devices.push(bits)?;
     let mut entropies: Lists = Items::new(alloc);
-    let told = octets(alloc, b'E', 0, 65536)?;
-    entropies.push(told)?;
+    let entropy = octets(alloc, b'E', 0, 65536)?;
+    entropies.push(entropy)?;
     Ok(Bench {
         devices,
         entropies,

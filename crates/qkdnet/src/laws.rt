@@ -6,7 +6,7 @@ use net_laws::law_run_keeps;
 use run_laws::{law_first_lines_run_on_the_network, law_runs_on_the_network};
 use script_laws::law_run_is_one_list;
 
-/// A scenario's run is one of the abstract network, and all is conserved behind it.
+/// A scenario's run is one of the abstract network, and all is conserved after it.
 pub fn laws_of_runs()
     ensures { Laws }
 {

@@ -42,7 +42,7 @@ fn is_sole(words: &Texts, word: &str) -> bool {
     }
 }
 
-/// Reads the words behind the program's name.
+/// Reads the words after the program's name.
 pub fn read_request(rt: &HostRuntime) -> Result<Request, Memory> {
     let mut words: Texts = Items::new(rt.alloc());
     for place in 1..usize::MAX {

@@ -2,19 +2,18 @@
 use Rattle.std.proofs.Common.{◌≡◌, ℕ, zero, suc, ◌+◌, ◌<◌, ◌≤◌, Bool, true, false, ◌&&◌, List, [], ◌∷◌, length, refl, sym, ◌∙◌, ap, subst, arith, replicate}
 use Rattle.std.specs.Prelude.{◌==◌, nat_lt, slice_get, if◌then◌else◌}
 use Rattle.std.proofs.lemmas.Bool.Decides.{nat_tests}
-use Rattle.qkd_base.specs.Family.{number_set}
 use Rattle.qkd_base.specs.Lane.{lane_eq}
 use Rattle.qkd_base.specs.LaneBytes.{lane_len}
 use Rattle.qkd_base.specs.declared.lane.Way.{Way}
 use Rattle.qkd_base.specs.declared.lane.Way.TheVariants.{Up, Down}
 use Rattle.qkd_base.specs.declared.lane.Lane.{Lane}
 use Rattle.net_model.specs.declared.fact.Fact.{Fact}
-use Rattle.net_model.specs.Site.{Site, lane_of, of_way}
+use Rattle.net_model.specs.Site.{Site}
 use Rattle.net_model.specs.World.{Durable, Allocation, Transmission, Owner, HashKey, received}
 use Rattle.net_model.specs.Ownership.{IsOwned, HasRoom, is_frame, is_key}
 use Rattle.net_model.specs.Records.{is_first, keyed_own, keyed_lease, block_taken}
 use Rattle.net_model.specs.Invariant.{Invariant}
-use Rattle.record_laws.proofs.Base.{by_other_lane, and_true, eq_same}
+use Rattle.record_laws.proofs.Base.{by_other_lane, lane_same}
 
 no_frames : (n : ℕ) (x j : ℕ) → is_frame j (slice_get (replicate n HashKey) x) ≡ false
 no_frames zero x j = refl
@@ -31,7 +30,7 @@ is_empty [] h = refl
 is_empty (x ∷ xs) h = absurd (omega arith)
 
 module _ (T : List Fact) (own : List Owner) (frames : List Allocation) (unclaimed : List Transmission) (lease before after : ℕ) (more : before ≤ after)
-    (enough : 0 < after → 8 ≤ after) (o : IsOwned T own frames before) (r : HasRoom T own unclaimed lease before) where
+    (key_fits : 0 < after → 8 ≤ after) (o : IsOwned T own frames before) (r : HasRoom T own unclaimed lease before) where
   keyed_owned : IsOwned T (keyed_own before after own) frames after
   keyed_owned = elim (is_first before after) as (λ t. is_first before after ≡ t → IsOwned T (if t then replicate 8 HashKey else own) frames after) [
     | true ↦ λ e. let nothing : before ≡ 0 = grind (arith, nat_tests) in
@@ -55,51 +54,36 @@ module _ (T : List Fact) (own : List Owner) (frames : List Allocation) (unclaime
       HasRoom T (if t then replicate 8 HashKey else own) unclaimed (if t then 8 else lease) after) [
         | true ↦ λ e. let nothing : before ≡ 0 = grind (arith, nat_tests) in
             let some : 0 < after = grind (arith, nat_tests) in
-            record { planned = omega (arith, r.planned, r.leased); leased = enough some }
+            record { planned = omega (arith, r.planned, r.leased); leased = key_fits some }
         | false ↦ λ e. record { planned = r.planned; leased = omega (arith, r.leased) }
       ] refl
 
-grows_up : (n : ℕ) → lane_len Up n ≤ lane_len Up (n + 1)
-grows_up n = omega arith
+len_grows : (way : Way) (n : ℕ) → lane_len way n ≤ lane_len way (n + 1)
+len_grows Up n = omega arith
+len_grows Down n = omega arith
 
-grows_down : (n : ℕ) → lane_len Down n ≤ lane_len Down (n + 1)
-grows_down n = omega arith
+enough : (way : Way) (n : ℕ) → 0 < lane_len way n → 8 ≤ lane_len way n
+enough Up n h = omega arith
+enough Down n h = omega arith
 
-enough_up : (n : ℕ) → 0 < lane_len Up n → 8 ≤ lane_len Up n
-enough_up n h = omega arith
-
-enough_down : (n : ℕ) → 0 < lane_len Down n → 8 ≤ lane_len Down n
-enough_down n h = omega arith
-
-other_up : (low high : ℕ → ℕ) (link a n : ℕ) (way : Way) → lane_eq (lane_of n way) (lane_of link Up) ≡ false →
-    lane_len way (of_way way (number_set low link a n) (high n)) ≡ lane_len way (of_way way (low n) (high n))
-other_up low high link a n Up h = ap (λ (t : Bool). lane_len Up (if t then a else low n)) (and_true (n == link) h)
-other_up low high link a n Down h = refl
-
-other_down : (low high : ℕ → ℕ) (link a n : ℕ) (way : Way) → lane_eq (lane_of n way) (lane_of link Down) ≡ false →
-    lane_len way (of_way way (low n) (number_set high link a n)) ≡ lane_len way (of_way way (low n) (high n))
-other_down low high link a n Up h = refl
-other_down low high link a n Down h = ap (λ (t : Bool). lane_len Down (if t then a else high n)) (and_true (n == link) h)
-
-pub taken_keeps : (s : Site) (d : Durable) (frames : Lane → List Allocation) (unclaimed : Lane → List Transmission) (link : ℕ) (way : Way) →
-    Invariant s d frames unclaimed → Invariant s (block_taken way link d) frames unclaimed
+pub taken_keeps : (s : Site) (d : Durable) (frames : Lane → List Allocation) (unclaimed : Lane → List Transmission) (l : Lane) →
+    Invariant s d frames unclaimed → Invariant s (block_taken l d) frames unclaimed
 unfolding block_taken
-taken_keeps s d frames unclaimed link Up c =
-    let l : Lane = lane_of link Up in
-    let before : ℕ = lane_len Up (d.low_blocks link) in
-    let after : ℕ = lane_len Up (d.low_blocks link + 1) in
-    let got : Lane → ℕ = received (block_taken Up link d) in
-    let here : got l ≡ after = ap (λ (t : Bool). lane_len Up (if t then d.low_blocks link + 1 else d.low_blocks link)) (eq_same link) in
-    let other : (k : Lane) → lane_eq k l ≡ false → received d k ≡ got k =
-    λ k ne. sym (other_up d.low_blocks d.high_blocks link (d.low_blocks link + 1) k.link k.way ne) in
+taken_keeps s d frames unclaimed l c =
+    let before : ℕ = lane_len l.way (d.blocks l) in
+    let after : ℕ = lane_len l.way (d.blocks l + 1) in
+    let came : Lane → ℕ = received (block_taken l d) in
+    let here : came l ≡ after = ap (λ (t : Bool). lane_len l.way (if t then d.blocks l + 1 else d.blocks l)) (lane_same l) in
+    let other : (k : Lane) → lane_eq k l ≡ false → received d k ≡ came k =
+    λ k ne. ap (λ (t : Bool). lane_len k.way (if t then d.blocks l + 1 else d.blocks k)) (sym ne) in
     record {
-      owned = by_other_lane (λ k t. IsOwned d.facts (if t then keyed_own before after (d.own l) else d.own k) (frames k) (got k)) l
+      owned = by_other_lane (λ k t. IsOwned d.facts (if t then keyed_own before after (d.own l) else d.own k) (frames k) (came k)) l
           (subst (λ (n : ℕ). IsOwned d.facts (keyed_own before after (d.own l)) (frames l) n) (sym here)
-          (keyed_owned d.facts (d.own l) (frames l) (unclaimed l) (d.lease l) before after (grows_up (d.low_blocks link)) (enough_up (d.low_blocks link + 1)) (c.owned l) (c.room l)))
+          (keyed_owned d.facts (d.own l) (frames l) (unclaimed l) (d.lease l) before after (len_grows l.way (d.blocks l)) (enough l.way (d.blocks l + 1)) (c.owned l) (c.room l)))
           (λ k ne. subst (λ (n : ℕ). IsOwned d.facts (d.own k) (frames k) n) (other k ne) (c.owned k));
-      room = by_other_lane (λ k t. HasRoom d.facts (if t then keyed_own before after (d.own l) else d.own k) (unclaimed k) (if t then keyed_lease before after (d.lease l) else d.lease k) (got k)) l
+      room = by_other_lane (λ k t. HasRoom d.facts (if t then keyed_own before after (d.own l) else d.own k) (unclaimed k) (if t then keyed_lease before after (d.lease l) else d.lease k) (came k)) l
           (subst (λ (n : ℕ). HasRoom d.facts (keyed_own before after (d.own l)) (unclaimed l) (keyed_lease before after (d.lease l)) n) (sym here)
-          (keyed_room d.facts (d.own l) (frames l) (unclaimed l) (d.lease l) before after (grows_up (d.low_blocks link)) (enough_up (d.low_blocks link + 1)) (c.owned l) (c.room l)))
+          (keyed_room d.facts (d.own l) (frames l) (unclaimed l) (d.lease l) before after (len_grows l.way (d.blocks l)) (enough l.way (d.blocks l + 1)) (c.owned l) (c.room l)))
           (λ k ne. subst (λ (n : ℕ). HasRoom d.facts (d.own k) (unclaimed k) (d.lease k) n) (other k ne) (c.room k));
       table = c.table;
       streams = c.streams;
@@ -110,29 +94,17 @@ taken_keeps s d frames unclaimed link Up c =
       stored = c.stored;
       handings = c.handings;
     }
-taken_keeps s d frames unclaimed link Down c =
-    let l : Lane = lane_of link Down in
-    let before : ℕ = lane_len Down (d.high_blocks link) in
-    let after : ℕ = lane_len Down (d.high_blocks link + 1) in
-    let got : Lane → ℕ = received (block_taken Down link d) in
-    let here : got l ≡ after = ap (λ (t : Bool). lane_len Down (if t then d.high_blocks link + 1 else d.high_blocks link)) (eq_same link) in
-    let other : (k : Lane) → lane_eq k l ≡ false → received d k ≡ got k =
-    λ k ne. sym (other_down d.low_blocks d.high_blocks link (d.high_blocks link + 1) k.link k.way ne) in
-    record {
-      owned = by_other_lane (λ k t. IsOwned d.facts (if t then keyed_own before after (d.own l) else d.own k) (frames k) (got k)) l
-          (subst (λ (n : ℕ). IsOwned d.facts (keyed_own before after (d.own l)) (frames l) n) (sym here)
-          (keyed_owned d.facts (d.own l) (frames l) (unclaimed l) (d.lease l) before after (grows_down (d.high_blocks link)) (enough_down (d.high_blocks link + 1)) (c.owned l) (c.room l)))
-          (λ k ne. subst (λ (n : ℕ). IsOwned d.facts (d.own k) (frames k) n) (other k ne) (c.owned k));
-      room = by_other_lane (λ k t. HasRoom d.facts (if t then keyed_own before after (d.own l) else d.own k) (unclaimed k) (if t then keyed_lease before after (d.lease l) else d.lease k) (got k)) l
-          (subst (λ (n : ℕ). HasRoom d.facts (keyed_own before after (d.own l)) (unclaimed l) (keyed_lease before after (d.lease l)) n) (sym here)
-          (keyed_room d.facts (d.own l) (frames l) (unclaimed l) (d.lease l) before after (grows_down (d.high_blocks link)) (enough_down (d.high_blocks link + 1)) (c.owned l) (c.room l)))
-          (λ k ne. subst (λ (n : ℕ). HasRoom d.facts (d.own k) (unclaimed k) (d.lease k) n) (other k ne) (c.room k));
-      table = c.table;
-      streams = c.streams;
-      groups = c.groups;
-      knowledge = c.knowledge;
-      carried = c.carried;
-      marked = c.marked;
-      stored = c.stored;
-      handings = c.handings;
-    }
+
+-- no lane loses an owner: the first block of a lane comes where nothing is owned
+pub taken_owned : (d : Durable) (unclaimed : Lane → List Transmission) (k : Lane) → HasRoom d.facts (d.own k) (unclaimed k) (d.lease k) (received d k) →
+    (l : Lane) → length (d.own l) ≤ length ((block_taken k d).own l)
+unfolding block_taken
+taken_owned d unclaimed k r =
+    let before : ℕ = lane_len k.way (d.blocks k) in
+    let after : ℕ = lane_len k.way (d.blocks k + 1) in
+    by_other_lane (λ l t. length (d.own l) ≤ length (if t then keyed_own before after (d.own k) else d.own l)) k
+    (elim (is_first before after) as (λ t. is_first before after ≡ t → length (d.own k) ≤ length (if t then replicate 8 HashKey else d.own k)) [
+      | true ↦ λ e. let nothing : before ≡ 0 = grind (arith, nat_tests) in omega (arith, r.planned, r.leased)
+      | false ↦ λ e. omega arith
+    ] refl)
+    (λ l ne. omega arith)

@@ -13,11 +13,11 @@ use Rattle.net_model.specs.declared.record.Record.{Record}
 use Rattle.net_model.specs.declared.record.Record.TheVariants.{Block, Lease, Learned, Acked, Handed, Closed, Bare}
 use Rattle.net_model.specs.declared.fact.Fact.{Fact}
 use Rattle.net_model.specs.Table.{name_of, fact_at, facts_of, learned, was_handed}
-use Rattle.net_model.specs.Site.{Site, sender, lane_of, outgoing_way, is_incident}
+use Rattle.net_model.specs.Site.{Site, sender, lane_of, outgoing_lane, is_incident}
 use Rattle.net_model.specs.World.{Durable, Allocation, Transmission}
 use Rattle.net_model.specs.Records.{apply_record, replay, block_taken}
 use Rattle.net_model.specs.Knowledge.{IsKnowledge}
-use Rattle.net_model.specs.Doubt.{MayBeTold, MayBeMade, MayApply, MayReplay, Extends}
+use Rattle.net_model.specs.Doubt.{MayBeReceived, MayBeMade, MayApply, MayReplay, Extends}
 use Rattle.net_model.specs.Invariant.{Invariant}
 use Rattle.record_laws.proofs.Base.{lane_eq_from, name_eq_from, eq_from, and_right, not_false, or_same}
 use Rattle.record_laws.proofs.Tables.{learned_there, learned_new, learned_keeps}
@@ -34,8 +34,7 @@ extends_same s v d =
       seen = refl;
       hands = λ n sae h. refl;
       leases = λ l h. refl;
-      lows = λ l h. refl;
-      highs = λ l h. refl;
+      taken = λ l h. refl;
     }
 
 pub extends_then : (s : Site) (v : ℕ) (a b c : Durable) → Extends s v a b → Extends s v b c → Extends s v a c
@@ -48,12 +47,11 @@ extends_then s v a b c h k =
       seen = k.seen ∙ h.seen;
       hands = λ n sae e. k.hands n sae e ∙ h.hands n sae e;
       leases = λ l e. k.leases l e ∙ h.leases l e;
-      lows = λ l e. k.lows l e ∙ h.lows l e;
-      highs = λ l e. k.highs l e ∙ h.highs l e;
+      taken = λ l e. k.taken l e ∙ h.taken l e;
     }
 
 -- the end of a link that a block comes to is the node's
-pub end_of : (s : Site) (v link : ℕ) → is_incident s v link ≡ true → sender s (lane_of link (outgoing_way s v link)) ≡ v
+pub end_of : (s : Site) (v link : ℕ) → is_incident s v link ≡ true → sender s (outgoing_lane s v link) ≡ v
 end_of s v link h = elim (s.low link == v) as (λ t. (s.low link == v) ≡ t → (t || (s.high link == v)) ≡ true → sender s (lane_of link (if t then Up else Down)) ≡ v) [
   | true ↦ λ e k. eq_from (s.low link) v e
   | false ↦ λ e k. eq_from (s.high link) v k
@@ -77,7 +75,7 @@ module _ (s : Site) (u v : ℕ) (apart : u ≡ v → ⊥) (d : Durable) where
   or_none None = refl
   or_none (Some x) = refl
 
-  others_learn : IsKnowledge d.facts d.known → (f : Fact) → MayBeTold d.facts d.known v f ⊎ MayBeMade s d.facts d.known d.handed v f →
+  others_learn : IsKnowledge d.facts d.known → (f : Fact) → MayBeReceived d.facts d.known v f ⊎ MayBeMade s d.facts d.known d.handed v f →
       Extends s u d (apply_record s v (Learned f) d)
   unfolding apply_record
   others_learn c f m =
@@ -96,37 +94,21 @@ module _ (s : Site) (u v : ℕ) (apart : u ≡ v → ⊥) (d : Durable) where
         seen = ap (facts_of (learned d.facts f)) same ∙ facts_stay d.facts (learned d.facts f) (λ n g e. learned_keeps d.facts f n g e) (d.known u) there;
         hands = λ n sae h. refl;
         leases = λ l h. refl;
-        lows = λ l h. refl;
-        highs = λ l h. refl;
+        taken = λ l h. refl;
       }
 
-  others_block : (link : ℕ) (way : Way) → sender s (lane_of link way) ≡ v → Extends s u d (block_taken way link d)
+  others_block : (k : Lane) → sender s k ≡ v → Extends s u d (block_taken k d)
   unfolding block_taken
-  others_block link Up at =
+  others_block k at =
       record {
         grows = λ n f h. h;
         mine = λ n h. refl;
-        more = λ k n h. h;
+        more = λ x n h. h;
         here = refl;
         seen = refl;
         hands = λ n sae h. refl;
-        highs = λ l h. refl;
-        leases = λ l to. other_lane d.lease (lane_of link Up) l _ at to;
-        lows = λ l to. ap (λ (t : Bool). if t then d.low_blocks link + 1 else d.low_blocks l)
-            (not_false (l == link) (λ e. apart (sym to ∙ ap s.low (eq_from l link e) ∙ at)));
-      }
-  others_block link Down at =
-      record {
-        grows = λ n f h. h;
-        mine = λ n h. refl;
-        more = λ k n h. h;
-        here = refl;
-        seen = refl;
-        hands = λ n sae h. refl;
-        lows = λ l h. refl;
-        leases = λ l to. other_lane d.lease (lane_of link Down) l _ at to;
-        highs = λ l to. ap (λ (t : Bool). if t then d.high_blocks link + 1 else d.high_blocks l)
-            (not_false (l == link) (λ e. apart (sym to ∙ ap s.high (eq_from l link e) ∙ at)));
+        leases = λ l to. other_lane d.lease k l _ at to;
+        taken = λ l to. other_lane d.blocks k l _ at to;
       }
 
   other_handed : (n : Name) (sae : ℕ) (k : Name) (t : ℕ) → s.home sae ≡ v → s.home t ≡ u → (name_eq n k && (sae == t)) ≡ false
@@ -135,7 +117,7 @@ module _ (s : Site) (u v : ℕ) (apart : u ≡ v → ⊥) (d : Durable) where
 
   pub other_extends : IsKnowledge d.facts d.known → (r : Record) → MayApply s d v r → Extends s u d (apply_record s v r d)
   unfolding apply_record
-  other_extends c (Block link number bytes) m = others_block link (outgoing_way s v link) (end_of s v link m.0)
+  other_extends c (Block link number bytes) m = others_block (outgoing_lane s v link) (end_of s v link m.0)
   other_extends c (Lease l end) m =
       record {
         grows = λ n f h. h;
@@ -144,8 +126,7 @@ module _ (s : Site) (u v : ℕ) (apart : u ≡ v → ⊥) (d : Durable) where
         here = refl;
         seen = refl;
         hands = λ n sae h. refl;
-        lows = λ k h. refl;
-        highs = λ k h. refl;
+        taken = λ k h. refl;
         leases = λ k to. other_lane d.lease l k end m.0 to;
       }
   other_extends c (Learned f) m = others_learn c f m.1
@@ -158,8 +139,7 @@ module _ (s : Site) (u v : ℕ) (apart : u ≡ v → ⊥) (d : Durable) where
         here = refl;
         seen = refl;
         leases = λ l h. refl;
-        lows = λ k h. refl;
-        highs = λ k h. refl;
+        taken = λ k h. refl;
         hands = λ k t to. handed-push d.handed n sae k t ∙ or_same (was_handed d.handed k t) (name_eq n k && (sae == t)) (other_handed n sae k t m.0 to);
       }
   other_extends c (Closed n sae) m = extends_same s u d

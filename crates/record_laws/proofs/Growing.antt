@@ -1,18 +1,18 @@
 -- What replaying a batch that may be made changes: facts and knowledge only grow, and no link gets more than 1,024 blocks.
-use Rattle.std.proofs.Common.{◌≡◌, ℕ, suc, ◌+◌, ◌<◌, ◌≤◌, List, [], ◌∷◌, refl, sym, ◌∙◌, ap, subst, arith, Some, ◌⊎◌, inl, inr}
+use Rattle.std.proofs.Common.{◌≡◌, ℕ, true, false, suc, ◌+◌, ◌<◌, ◌≤◌, List, [], ◌∷◌, refl, sym, ◌∙◌, ap, subst, arith, Some, ◌⊎◌, inl, inr}
 use Rattle.std.specs.Prelude.{slice_get, if◌then◌else◌}
 use Rattle.qkd_base.specs.Name.{Name}
-use Rattle.qkd_base.specs.declared.lane.Way.{Way}
-use Rattle.qkd_base.specs.declared.lane.Way.TheVariants.{Up, Down}
+use Rattle.qkd_base.specs.Lane.{lane_eq}
+use Rattle.qkd_base.specs.declared.lane.Lane.{Lane}
 use Rattle.net_model.specs.declared.record.Record.{Record}
 use Rattle.net_model.specs.declared.record.Record.TheVariants.{Block, Lease, Learned, Acked, Handed, Closed, Bare}
 use Rattle.net_model.specs.declared.fact.Fact.{Fact}
 use Rattle.net_model.specs.Table.{name_of, fact_at}
-use Rattle.net_model.specs.Site.{Site, of_way, outgoing_way}
+use Rattle.net_model.specs.Site.{Site, outgoing_lane}
 use Rattle.net_model.specs.World.{Durable}
 use Rattle.net_model.specs.Records.{apply_record, replay, block_taken}
 use Rattle.net_model.specs.Doubt.{MayApply, MayReplay}
-use Rattle.record_laws.proofs.Base.{by_number}
+use Rattle.record_laws.proofs.Base.{lane_eq_from}
 use Rattle.record_laws.proofs.Tables.{learned_keeps, learned_cases}
 use Rattle.record_laws.proofs.Grow.{Grows, KnownGrows}
 use Rattle.record_laws.proofs.Knowing.{known_with_grows}
@@ -21,15 +21,14 @@ pub record HasGrown (a b : Durable) : Type 0 where
   pub facts : Grows a.facts b.facts
   pub known : KnownGrows a.known b.known
 
-taken_grows : (way : Way) (link : ℕ) (d : Durable) → HasGrown d (block_taken way link d)
+taken_grows : (l : Lane) (d : Durable) → HasGrown d (block_taken l d)
 unfolding block_taken
-taken_grows Up link d = record { facts = λ n f h. h; known = λ u n h. h }
-taken_grows Down link d = record { facts = λ n f h. h; known = λ u n h. h }
+taken_grows l d = record { facts = λ n f h. h; known = λ u n h. h }
 
 -- any record grows them
 pub apply_grows : (s : Site) (v : ℕ) (r : Record) (d : Durable) → HasGrown d (apply_record s v r d)
 unfolding apply_record
-apply_grows s v (Block link number bytes) d = taken_grows (outgoing_way s v link) link d
+apply_grows s v (Block link number bytes) d = taken_grows (outgoing_lane s v link) d
 apply_grows s v (Lease l end) d = record { facts = λ n f h. h; known = λ u n h. h }
 apply_grows s v (Learned f) d = record { facts = λ n g h. learned_keeps d.facts f n g h; known = known_with_grows d.known v (name_of f) }
 apply_grows s v (Acked n) d = record { facts = λ n f h. h; known = λ u n h. h }
@@ -46,67 +45,50 @@ replay_grows s v (r ∷ rs) d =
     record { facts = λ n f h. rest.facts n f (one.facts n f h); known = λ u n h. rest.known u n (one.known u n h) }
 
 -- no end of a link has fewer blocks than before
-pub record HasMore (a b : Durable) : Type 0 where
-  pub low : (l : ℕ) → a.low_blocks l ≤ b.low_blocks l
-  pub high : (l : ℕ) → a.high_blocks l ≤ b.high_blocks l
+abbrev pub HasMore : Durable → Durable → Type 0
+HasMore a b = (l : Lane) → a.blocks l ≤ b.blocks l
 
-same_blocks : (a b : Durable) → a.low_blocks ≡ b.low_blocks → a.high_blocks ≡ b.high_blocks → HasMore a b
-same_blocks a b low high = record { low = λ l. let e = ap (λ (f : ℕ → ℕ). f l) low in omega (arith, e); high = λ l. let e = ap (λ (f : ℕ → ℕ). f l) high in omega (arith, e) }
-
-taken_more : (way : Way) (link : ℕ) (d : Durable) → HasMore d (block_taken way link d)
+taken_more : (k : Lane) (d : Durable) → HasMore d (block_taken k d)
 unfolding block_taken
-taken_more Up link d =
-    record {
-      low = by_number (λ k t. d.low_blocks k ≤ (if t then d.low_blocks link + 1 else d.low_blocks k)) link (omega arith) (λ k ne. omega arith);
-      high = λ l. omega arith;
-    }
-taken_more Down link d =
-    record {
-      low = λ l. omega arith;
-      high = by_number (λ k t. d.high_blocks k ≤ (if t then d.high_blocks link + 1 else d.high_blocks k)) link (omega arith) (λ k ne. omega arith);
-    }
+taken_more k d l = elim (lane_eq l k) as (λ t. lane_eq l k ≡ t → d.blocks l ≤ (if t then d.blocks k + 1 else d.blocks l)) [
+  | true ↦ λ e. let same = ap d.blocks (lane_eq_from l k e) in omega (arith, same)
+  | false ↦ λ e. omega arith
+] refl
 
 apply_more_blocks : (s : Site) (v : ℕ) (r : Record) (d : Durable) → HasMore d (apply_record s v r d)
 unfolding apply_record
-apply_more_blocks s v (Block link number bytes) d = taken_more (outgoing_way s v link) link d
-apply_more_blocks s v (Lease l end) d = same_blocks d _ refl refl
-apply_more_blocks s v (Learned f) d = same_blocks d _ refl refl
-apply_more_blocks s v (Acked n) d = same_blocks d _ refl refl
-apply_more_blocks s v (Handed n sae) d = same_blocks d _ refl refl
-apply_more_blocks s v (Closed n sae) d = same_blocks d _ refl refl
-apply_more_blocks s v (Bare f) d = same_blocks d _ refl refl
+apply_more_blocks s v (Block link number bytes) d = taken_more (outgoing_lane s v link) d
+apply_more_blocks s v (Lease l end) d = λ k. omega arith
+apply_more_blocks s v (Learned f) d = λ k. omega arith
+apply_more_blocks s v (Acked n) d = λ k. omega arith
+apply_more_blocks s v (Handed n sae) d = λ k. omega arith
+apply_more_blocks s v (Closed n sae) d = λ k. omega arith
+apply_more_blocks s v (Bare f) d = λ k. omega arith
 
 pub replay_more_blocks : (s : Site) (v : ℕ) (rs : List Record) (d : Durable) → HasMore d (replay s v rs d)
 unfolding replay
-replay_more_blocks s v [] d = same_blocks d d refl refl
+replay_more_blocks s v [] d = λ k. omega arith
 replay_more_blocks s v (r ∷ rs) d =
     let one = apply_more_blocks s v r d in
     let rest = replay_more_blocks s v rs (apply_record s v r d) in
-    record {
-      low = λ l. let a = one.low l in let b = rest.low l in omega (arith, a, b);
-      high = λ l. let a = one.high l in let b = rest.high l in omega (arith, a, b);
-    }
+    λ l. let a = one l in let b = rest l in omega (arith, a, b)
 
--- both ends of each link have at most 1,024 blocks
-pub record AreFew (d : Durable) : Type 0 where
-  pub low : (l : ℕ) → d.low_blocks l ≤ 1024
-  pub high : (l : ℕ) → d.high_blocks l ≤ 1024
+-- each end of a link has at most 1,024 blocks
+abbrev pub AreFew : Durable → Type 0
+AreFew d = (l : Lane) → d.blocks l ≤ 1024
 
-taken_few : (way : Way) (link : ℕ) (d : Durable) → of_way way (d.low_blocks link) (d.high_blocks link) < 1024 → AreFew d → AreFew (block_taken way link d)
+taken_few : (k : Lane) (d : Durable) → d.blocks k < 1024 → AreFew d → AreFew (block_taken k d)
 unfolding block_taken
-taken_few Up link d below few =
-    record { low = by_number (λ k t. (if t then d.low_blocks link + 1 else d.low_blocks k) ≤ 1024) link (omega arith) (λ k ne. few.low k); high = few.high }
-taken_few Down link d below few =
-    record { low = few.low; high = by_number (λ k t. (if t then d.high_blocks link + 1 else d.high_blocks k) ≤ 1024) link (omega arith) (λ k ne. few.high k) }
+taken_few k d below few l = elim (lane_eq l k) as (λ t. (if t then d.blocks k + 1 else d.blocks l) ≤ 1024) [ true ↦ omega arith | false ↦ few l ]
 
 apply_few : (s : Site) (v : ℕ) (r : Record) (d : Durable) → MayApply s d v r → AreFew d → AreFew (apply_record s v r d)
 unfolding apply_record
-apply_few s v (Block link number bytes) d m few = taken_few (outgoing_way s v link) link d (subst (λ (n : ℕ). n < 1024) m.1 m.2) few
-apply_few s v (Lease l end) d m few = record { low = few.low; high = few.high }
-apply_few s v (Learned f) d m few = record { low = few.low; high = few.high }
-apply_few s v (Acked n) d m few = record { low = few.low; high = few.high }
-apply_few s v (Handed n sae) d m few = record { low = few.low; high = few.high }
-apply_few s v (Closed n sae) d m few = record { low = few.low; high = few.high }
+apply_few s v (Block link number bytes) d m few = taken_few (outgoing_lane s v link) d (subst (λ (n : ℕ). n < 1024) m.1 m.2) few
+apply_few s v (Lease l end) d m few = few
+apply_few s v (Learned f) d m few = few
+apply_few s v (Acked n) d m few = few
+apply_few s v (Handed n sae) d m few = few
+apply_few s v (Closed n sae) d m few = few
 apply_few s v (Bare f) d m few = absurd m
 
 pub replay_few : (s : Site) (v : ℕ) (rs : List Record) (d : Durable) → MayReplay s d v rs → AreFew d → AreFew (replay s v rs d)
@@ -116,15 +98,14 @@ replay_few s v (r ∷ rs) d m few = replay_few s v rs (apply_record s v r d) m.1
 
 -- a fact of the table behind a batch was there, or the batch has it
 
-pub taken_facts : (way : Way) (link : ℕ) (d : Durable) → (block_taken way link d).facts ≡ d.facts
+pub taken_facts : (l : Lane) (d : Durable) → (block_taken l d).facts ≡ d.facts
 unfolding block_taken
-taken_facts Up link d = refl
-taken_facts Down link d = refl
+taken_facts l d = refl
 
 pub apply_cases : (s : Site) (v : ℕ) (r : Record) (d : Durable) → MayApply s d v r → (n : Name) (f : Fact) → fact_at (apply_record s v r d).facts n ≡ Some f →
     (fact_at d.facts n ≡ Some f) ⊎ (r ≡ Learned f)
 unfolding apply_record
-apply_cases s v (Block link number bytes) d m n f h = inl (ap (λ (facts : List Fact). fact_at facts n) (sym (taken_facts (outgoing_way s v link) link d)) ∙ h)
+apply_cases s v (Block link number bytes) d m n f h = inl (ap (λ (facts : List Fact). fact_at facts n) (sym (taken_facts (outgoing_lane s v link) d)) ∙ h)
 apply_cases s v (Lease l end) d m n f h = inl h
 apply_cases s v (Learned g) d m n f h = elim (learned_cases d.facts g n f h) [ inl old ↦ inl old | inr (at, is) ↦ inr (ap Learned (sym is)) ]
 apply_cases s v (Acked k) d m n f h = inl h

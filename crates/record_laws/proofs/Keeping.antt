@@ -7,19 +7,19 @@ use Rattle.net_model.specs.declared.record.Record.{Record}
 use Rattle.net_model.specs.declared.record.Record.TheVariants.{Block, Lease, Learned, Acked, Handed, Closed, Bare}
 use Rattle.net_model.specs.declared.fact.Fact.{Fact}
 use Rattle.net_model.specs.Table.{name_of, was_handed}
-use Rattle.net_model.specs.Site.{Site, sender, receiver, outgoing_way}
+use Rattle.net_model.specs.Site.{Site, sender, receiver, outgoing_lane}
 use Rattle.net_model.specs.World.{Durable, Allocation, Transmission, received}
 use Rattle.net_model.specs.Ownership.{HasRoom}
 use Rattle.net_model.specs.Knowledge.{IsAdjacent}
 use Rattle.net_model.specs.Handings.{PairsDiffer, MayHave}
-use Rattle.net_model.specs.Doubt.{MayBeTold, MayBeMade, MayApply, MayReplay}
+use Rattle.net_model.specs.Doubt.{MayBeReceived, MayBeMade, MayApply, MayReplay}
 use Rattle.net_model.specs.Records.{apply_record, replay}
 use Rattle.net_model.specs.Invariant.{Invariant}
 use Rattle.record_laws.proofs.Base.{by_lane, by_number, name_eq_from, name_eq_same, eq_from, eq_same, and_left, and_right, or_cases, or_first, or_second, or_both}
 use Rattle.record_laws.proofs.Tables.{has-push, learned_there, learned_new}
 use Rattle.record_laws.proofs.Grow.{adjacent_grows, owned_grows, room_grows, carried_grows}
 use Rattle.record_laws.proofs.Knowing.{known_with, known_with_grows}
-use Rattle.record_laws.proofs.Learning.{Learns, told_learns, made_learns, learned_knowledge, learned_table, learned_stored}
+use Rattle.record_laws.proofs.Learning.{Learns, receipt_learns, made_learns, learned_knowledge, learned_table, learned_stored}
 use Rattle.record_laws.proofs.Chunks.{learned_streams}
 use Rattle.record_laws.proofs.Parts.{learned_groups, learned_handings}
 use Rattle.record_laws.proofs.Blocks.{taken_keeps}
@@ -135,11 +135,11 @@ module _ (s : Site) (d : Durable) (frames : Lane → List Allocation) (unclaimed
         handings = learned_handings s d v f facts l c.table c.groups c.handings;
       }
 
-  told_keeps : (f : Fact) → has (d.known v) (name_of f) ≡ false → MayBeTold d.facts d.known v f → Invariant s (apply_record s v (Learned f) d) frames unclaimed
+  receipt_keeps : (f : Fact) → has (d.known v) (name_of f) ≡ false → MayBeReceived d.facts d.known v f → Invariant s (apply_record s v (Learned f) d) frames unclaimed
   unfolding apply_record
-  told_keeps f fresh m =
+  receipt_keeps f fresh m =
       subst (λ (facts : List Fact). Invariant s (record d { facts = facts; known = known_with d.known v (name_of f) }) frames unclaimed)
-      (sym (learned_there d.facts f m.there)) (learns_keeps f d.facts (told_learns s d v f fresh m))
+      (sym (learned_there d.facts f m.there)) (learns_keeps f d.facts (receipt_learns s d v f fresh m))
 
   made_keeps : (f : Fact) → has (d.known v) (name_of f) ≡ false → MayBeMade s d.facts d.known d.handed v f → Invariant s (apply_record s v (Learned f) d) frames unclaimed
   unfolding apply_record
@@ -149,12 +149,12 @@ module _ (s : Site) (d : Durable) (frames : Lane → List Allocation) (unclaimed
 
   block_keeps : (link number : ℕ) (bytes : List ℕ) → Invariant s (apply_record s v (Block link number bytes) d) frames unclaimed
   unfolding apply_record
-  block_keeps link number bytes = taken_keeps s d frames unclaimed link (outgoing_way s v link) c
+  block_keeps link number bytes = taken_keeps s d frames unclaimed (outgoing_lane s v link) c
 
   pub apply_keeps : (r : Record) → MayApply s d v r → Invariant s (apply_record s v r d) frames unclaimed
   apply_keeps (Block link number bytes) m = block_keeps link number bytes
   apply_keeps (Lease l end) m = leased_keeps l end m.1 m.2
-  apply_keeps (Learned f) m = elim m.1 [ inl told ↦ told_keeps f m.0 told | inr made ↦ made_keeps f m.0 made ]
+  apply_keeps (Learned f) m = elim m.1 [ inl came ↦ receipt_keeps f m.0 came | inr made ↦ made_keeps f m.0 made ]
   apply_keeps (Acked n) m = acked_keeps n m
   apply_keeps (Handed n sae) m = handed_keeps n sae m.1 m.2
   apply_keeps (Closed n sae) m = closed_keeps n sae

@@ -1,42 +1,35 @@
 -- A batch that may be made may still be made in a world that extends the one it was decided in.
-use Rattle.std.proofs.Common.{◌≡◌, ℕ, ◌+◌, Bool, true, false, ◌&&◌, ◌||◌, List, [], ◌∷◌, ◌++◌, refl, sym, ◌∙◌, ap, subst, Option, Some, None, ◌⊎◌, inl, inr}
+use Rattle.std.proofs.Common.{◌≡◌, ℕ, ◌+◌, ◌≤◌, length, arith, Bool, true, false, ◌&&◌, ◌||◌, List, [], ◌∷◌, ◌++◌, refl, sym, ◌∙◌, ap, subst, Option, Some, None, ◌⊎◌, inl, inr}
 use Rattle.std.specs.Prelude.{◌==◌, is_some, count_by, if◌then◌else◌}
 use Rattle.std.specs.Option.{option_or}
 use Rattle.std.proofs.lemmas.List.Folds.{find-append}
 use Rattle.qkd_base.specs.Name.{Name, name_eq, has}
-use Rattle.qkd_base.specs.Family.{number_set, lane_set}
+use Rattle.qkd_base.specs.Family.{lane_set}
 use Rattle.qkd_base.specs.Lane.{lane_eq}
 use Rattle.qkd_base.specs.LaneBytes.{lane_len}
-use Rattle.qkd_base.specs.declared.lane.Way.{Way}
-use Rattle.qkd_base.specs.declared.lane.Way.TheVariants.{Up, Down}
 use Rattle.qkd_base.specs.declared.lane.Lane.{Lane}
 use Rattle.net_model.specs.declared.record.Record.{Record}
 use Rattle.net_model.specs.declared.record.Record.TheVariants.{Block, Lease, Learned, Acked, Handed, Closed, Bare}
 use Rattle.net_model.specs.declared.fact.Fact.{Fact}
 use Rattle.net_model.specs.declared.fact.Fact.TheVariants.{Stored}
 use Rattle.net_model.specs.Table.{PartOf, name_of, route_of, fact_at, facts_of, learned}
-use Rattle.net_model.specs.Site.{Site, sender, lane_of, of_way, outgoing_way}
+use Rattle.net_model.specs.Site.{Site, sender, outgoing_lane}
 use Rattle.net_model.specs.Streams.{is_chunk_of}
 use Rattle.net_model.specs.World.{Durable, Allocation, Transmission, received}
-use Rattle.net_model.specs.Records.{apply_record, block_taken, keyed_lease}
-use Rattle.net_model.specs.Doubt.{MayBeTold, MayBeMade, MayNote, IsPartAmong, MayApply, MayReplay, Extends}
+use Rattle.net_model.specs.Records.{apply_record, replay, block_taken, keyed_lease}
+use Rattle.net_model.specs.Doubt.{MayBeReceived, MayBeMade, MayNote, IsPartAmong, MayApply, MayReplay, Extends}
 use Rattle.net_model.specs.Invariant.{Invariant}
-use Rattle.record_laws.proofs.Tables.{at_front, learned_there, learned_new, learned_keeps, push_cases, push_there, facts_of-push, facts_of_one}
+use Rattle.record_laws.proofs.Tables.{at_prefix, learned_there, learned_new, learned_keeps, push_cases, push_there, facts_of-push, facts_of_one}
 use Rattle.record_laws.proofs.Grow.{Grows, source_grows, adjacent_grows, entitled_grows, target_grows, have_grows, NoNewPartOf}
 use Rattle.record_laws.proofs.Knowing.{known_with, known_with_here, known_with_grows, known_with_new, known_with_cases, AreThere, facts_stay}
 use Rattle.record_laws.proofs.Parts.{part_starts}
+use Rattle.record_laws.proofs.Blocks.{taken_owned}
 use Rattle.record_laws.proofs.Keeping.{handed-push, apply_keeps}
 use Rattle.record_laws.proofs.Extending.{end_of}
 
 module _ (s : Site) (v : ℕ) (a b : Durable) (h : Extends s v a b) where
-  received_later : (n : ℕ) (way : Way) → sender s (lane_of n way) ≡ v → received b (lane_of n way) ≡ received a (lane_of n way)
-  received_later n Up e = ap (lane_len Up) (h.lows n e)
-  received_later n Down e = ap (lane_len Down) (h.highs n e)
-
-  blocks_later : (link : ℕ) (way : Way) → sender s (lane_of link way) ≡ v →
-      of_way way (b.low_blocks link) (b.high_blocks link) ≡ of_way way (a.low_blocks link) (a.high_blocks link)
-  blocks_later link Up e = h.lows link e
-  blocks_later link Down e = h.highs link e
+  received_later : (l : Lane) → sender s l ≡ v → received b l ≡ received a l
+  received_later l e = ap (lane_len l.way) (h.taken l e)
 
   note_later : (f : Fact) → MayNote a.facts a.known v f → MayNote b.facts b.known v f
   note_later (Stored note about route) m = (
@@ -46,8 +39,8 @@ module _ (s : Site) (v : ℕ) (a b : Durable) (h : Extends s v a b) where
   )
   note_later _ m = m
 
-  told_later : (f : Fact) → MayBeTold a.facts a.known v f → MayBeTold b.facts b.known v f
-  told_later f m =
+  receipt_later : (f : Fact) → MayBeReceived a.facts a.known v f → MayBeReceived b.facts b.known v f
+  receipt_later f m =
       record {
         there = h.grows (name_of f) f m.there;
         on = m.on;
@@ -97,10 +90,10 @@ module _ (s : Site) (v : ℕ) (a b : Durable) (h : Extends s v a b) where
   pub apply_later : (frames : Lane → List Allocation) (unclaimed : Lane → List Transmission) → Invariant s b frames unclaimed → (r : Record) →
       MayApply s a v r → MayApply s b v r
   apply_later frames unclaimed c (Block link number bytes) m =
-      (m.0, m.1 ∙ sym (blocks_later link (outgoing_way s v link) (end_of s v link m.0)), m.2)
-  apply_later frames unclaimed c (Lease l end) m = (m.0, rw (h.leases l m.0) m.1, rw (received_later l.link l.way m.0) m.2)
+      (m.0, m.1 ∙ sym (h.taken (outgoing_lane s v link) (end_of s v link m.0)), m.2)
+  apply_later frames unclaimed c (Lease l end) m = (m.0, rw (h.leases l m.0) m.1, rw (received_later l m.0) m.2)
   apply_later frames unclaimed c (Learned f) m =
-      (ap (λ (ns : List Name). has ns (name_of f)) h.here ∙ m.0, elim m.1 [ inl t ↦ inl (told_later f t) | inr x ↦ inr (made_later f x) ])
+      (ap (λ (ns : List Name). has ns (name_of f)) h.here ∙ m.0, elim m.1 [ inl t ↦ inl (receipt_later f t) | inr x ↦ inr (made_later f x) ])
   apply_later frames unclaimed c (Acked n) m = (m.0, adjacent_grows a.facts b.facts a.known b.known h.grows h.more m.0 v m.0 n m.1)
   apply_later frames unclaimed c (Handed n sae) m =
       (m.0, h.hands n sae m.0 ∙ m.1, have_grows a.facts b.facts a.known b.known h.grows h.more s n sae (handed_whole frames unclaimed c n sae m.0) m.2)
@@ -109,7 +102,7 @@ module _ (s : Site) (v : ℕ) (a b : Durable) (h : Extends s v a b) where
 
   -- the same change made in both
 
-  learned_grows : (f : Fact) → MayBeTold a.facts a.known v f ⊎ MayBeMade s a.facts a.known a.handed v f → Grows (learned a.facts f) (learned b.facts f)
+  learned_grows : (f : Fact) → MayBeReceived a.facts a.known v f ⊎ MayBeMade s a.facts a.known a.handed v f → Grows (learned a.facts f) (learned b.facts f)
   learned_grows f m n g e = elim m [
     | inl t ↦
         learned_keeps b.facts f n g (h.grows n g (ap (λ (facts : List Fact). fact_at facts n) (sym (learned_there a.facts f t.there)) ∙ e))
@@ -117,13 +110,13 @@ module _ (s : Site) (v : ℕ) (a b : Durable) (h : Extends s v a b) where
         let free = h.mine (name_of f) x.mine ∙ x.free in
         ap (λ (facts : List Fact). fact_at facts n) (learned_new b.facts f free) ∙
         (elim (push_cases a.facts f n g (ap (λ (facts : List Fact). fact_at facts n) (sym (learned_new a.facts f x.free)) ∙ e)) [
-          | inl old ↦ at_front b.facts (f ∷ []) n g (h.grows n g old)
+          | inl old ↦ at_prefix b.facts (f ∷ []) n g (h.grows n g old)
           | inr (is, same) ↦ subst (λ (y : Name). fact_at (b.facts ++ f ∷ []) y ≡ Some g) (sym is)
               (subst (λ (y : Fact). fact_at (b.facts ++ f ∷ []) (name_of f) ≡ Some y) (sym same) (push_there b.facts f free))
         ])
   ]
 
-  learned_mine : (f : Fact) → MayBeTold a.facts a.known v f ⊎ MayBeMade s a.facts a.known a.handed v f → (n : Name) → n.node ≡ v →
+  learned_mine : (f : Fact) → MayBeReceived a.facts a.known v f ⊎ MayBeMade s a.facts a.known a.handed v f → (n : Name) → n.node ≡ v →
       fact_at (learned b.facts f) n ≡ fact_at (learned a.facts f) n
   learned_mine f m n at = elim m [
     | inl t ↦
@@ -156,7 +149,7 @@ module _ (s : Site) (v : ℕ) (a b : Durable) (h : Extends s v a b) where
       ap (λ (fs : List Fact). fs ++ f ∷ []) (facts_stay d.facts (learned d.facts f) (λ n g e. learned_keeps d.facts f n g e) (d.known v) there)
 
   learned_seen : AreThere a.facts (a.known v) → AreThere b.facts (b.known v) → (f : Fact) →
-      MayBeTold a.facts a.known v f ⊎ MayBeMade s a.facts a.known a.handed v f →
+      MayBeReceived a.facts a.known v f ⊎ MayBeMade s a.facts a.known a.handed v f →
       facts_of (learned b.facts f) (known_with b.known v (name_of f) v) ≡ facts_of (learned a.facts f) (known_with a.known v (name_of f) v)
   learned_seen there there' f m =
       let old = elim m as (λ x. (fact_at a.facts (name_of f) ≡ Some f) ⊎ (fact_at a.facts (name_of f) ≡ None)) [ inl t ↦ inl t.there | inr x ↦ inr x.free ] in
@@ -167,7 +160,7 @@ module _ (s : Site) (v : ℕ) (a b : Durable) (h : Extends s v a b) where
       seen_with b f there' (learned_there_now b f new) ∙ ap (λ (fs : List Fact). fs ++ f ∷ []) h.seen ∙ sym (seen_with a f there (learned_there_now a f old))
 
   learned_extends : AreThere a.facts (a.known v) → AreThere b.facts (b.known v) → (f : Fact) →
-      MayBeTold a.facts a.known v f ⊎ MayBeMade s a.facts a.known a.handed v f → Extends s v (apply_record s v (Learned f) a) (apply_record s v (Learned f) b)
+      MayBeReceived a.facts a.known v f ⊎ MayBeMade s a.facts a.known a.handed v f → Extends s v (apply_record s v (Learned f) a) (apply_record s v (Learned f) b)
   unfolding apply_record
   learned_extends there there' f m =
       record {
@@ -182,19 +175,15 @@ module _ (s : Site) (v : ℕ) (a b : Durable) (h : Extends s v a b) where
         seen = learned_seen there there' f m;
         hands = h.hands;
         leases = h.leases;
-        lows = h.lows;
-        highs = h.highs;
+        taken = h.taken;
       }
-
-  set_same : (f g : ℕ → ℕ) (k : ℕ) (n : ℕ) (x y : ℕ) → x ≡ y → g n ≡ f n → number_set g k y n ≡ number_set f k x n
-  set_same f g k n x y e e2 = elim (n == k) as (λ t. (if t then y else g n) ≡ (if t then x else f n)) [ true ↦ sym e | false ↦ e2 ]
 
   lane_same : (f g : Lane → ℕ) (k l : Lane) (x y : ℕ) → x ≡ y → g l ≡ f l → lane_set g k y l ≡ lane_set f k x l
   lane_same f g k l x y e e2 = elim (lane_eq l k) as (λ t. (if t then y else g l) ≡ (if t then x else f l)) [ true ↦ sym e | false ↦ e2 ]
 
-  taken_extends : (link : ℕ) (way : Way) → sender s (lane_of link way) ≡ v → Extends s v (block_taken way link a) (block_taken way link b)
+  taken_extends : (k : Lane) → sender s k ≡ v → Extends s v (block_taken k a) (block_taken k b)
   unfolding block_taken
-  taken_extends link Up at =
+  taken_extends k at =
       record {
         grows = h.grows;
         mine = h.mine;
@@ -202,33 +191,17 @@ module _ (s : Site) (v : ℕ) (a b : Durable) (h : Extends s v a b) where
         here = h.here;
         seen = h.seen;
         hands = h.hands;
-        leases = λ l e. let p = sym (h.lows link at) in let q = sym (h.leases (lane_of link Up) at) in
-            lane_same a.lease b.lease (lane_of link Up) l (keyed_lease (lane_len Up (a.low_blocks link)) (lane_len Up (a.low_blocks link + 1)) (a.lease (lane_of link Up)))
-            (keyed_lease (lane_len Up (b.low_blocks link)) (lane_len Up (b.low_blocks link + 1)) (b.lease (lane_of link Up)))
-            (λ i. keyed_lease (lane_len Up (p i)) (lane_len Up (p i + 1)) (q i)) (h.leases l e);
-        lows = λ l e. set_same a.low_blocks b.low_blocks link l (a.low_blocks link + 1) (b.low_blocks link + 1) (ap (λ n. n + 1) (sym (h.lows link at))) (h.lows l e);
-        highs = h.highs;
-      }
-  taken_extends link Down at =
-      record {
-        grows = h.grows;
-        mine = h.mine;
-        more = h.more;
-        here = h.here;
-        seen = h.seen;
-        hands = h.hands;
-        leases = λ l e. let p = sym (h.highs link at) in let q = sym (h.leases (lane_of link Down) at) in
-            lane_same a.lease b.lease (lane_of link Down) l (keyed_lease (lane_len Down (a.high_blocks link)) (lane_len Down (a.high_blocks link + 1)) (a.lease (lane_of link Down)))
-            (keyed_lease (lane_len Down (b.high_blocks link)) (lane_len Down (b.high_blocks link + 1)) (b.lease (lane_of link Down)))
-            (λ i. keyed_lease (lane_len Down (p i)) (lane_len Down (p i + 1)) (q i)) (h.leases l e);
-        lows = h.lows;
-        highs = λ l e. set_same a.high_blocks b.high_blocks link l (a.high_blocks link + 1) (b.high_blocks link + 1) (ap (λ n. n + 1) (sym (h.highs link at))) (h.highs l e);
+        leases = λ l e. let p = sym (h.taken k at) in let q = sym (h.leases k at) in
+            lane_same a.lease b.lease k l (keyed_lease (lane_len k.way (a.blocks k)) (lane_len k.way (a.blocks k + 1)) (a.lease k))
+            (keyed_lease (lane_len k.way (b.blocks k)) (lane_len k.way (b.blocks k + 1)) (b.lease k))
+            (λ i. keyed_lease (lane_len k.way (p i)) (lane_len k.way (p i + 1)) (q i)) (h.leases l e);
+        taken = λ l e. lane_same a.blocks b.blocks k l (a.blocks k + 1) (b.blocks k + 1) (ap (λ n. n + 1) (sym (h.taken k at))) (h.taken l e);
       }
 
   pub both_extend : AreThere a.facts (a.known v) → AreThere b.facts (b.known v) → (r : Record) → MayApply s a v r →
       Extends s v (apply_record s v r a) (apply_record s v r b)
   unfolding apply_record
-  both_extend there there' (Block link number bytes) m = taken_extends link (outgoing_way s v link) (end_of s v link m.0)
+  both_extend there there' (Block link number bytes) m = taken_extends (outgoing_lane s v link) (end_of s v link m.0)
   both_extend there there' (Lease l end) m =
       record {
         grows = h.grows;
@@ -237,13 +210,12 @@ module _ (s : Site) (v : ℕ) (a b : Durable) (h : Extends s v a b) where
         here = h.here;
         seen = h.seen;
         hands = h.hands;
-        lows = h.lows;
-        highs = h.highs;
+        taken = h.taken;
         leases = λ k e. lane_same a.lease b.lease l k end end refl (h.leases k e);
       }
   both_extend there there' (Learned f) m = learned_extends there there' f m.1
   both_extend there there' (Acked n) m =
-      record { grows = h.grows; mine = h.mine; more = h.more; here = h.here; seen = h.seen; hands = h.hands; leases = h.leases; lows = h.lows; highs = h.highs }
+      record { grows = h.grows; mine = h.mine; more = h.more; here = h.here; seen = h.seen; hands = h.hands; leases = h.leases; taken = h.taken }
   both_extend there there' (Handed n sae) m =
       record {
         grows = h.grows;
@@ -252,13 +224,33 @@ module _ (s : Site) (v : ℕ) (a b : Durable) (h : Extends s v a b) where
         here = h.here;
         seen = h.seen;
         leases = h.leases;
-        lows = h.lows;
-        highs = h.highs;
+        taken = h.taken;
         hands = λ k t e. handed-push b.handed n sae k t ∙ ap (λ (x : Bool). x || (name_eq n k && (sae == t))) (h.hands k t e) ∙ sym (handed-push a.handed n sae k t);
       }
   both_extend there there' (Closed n sae) m =
-      record { grows = h.grows; mine = h.mine; more = h.more; here = h.here; seen = h.seen; hands = h.hands; leases = h.leases; lows = h.lows; highs = h.highs }
+      record { grows = h.grows; mine = h.mine; more = h.more; here = h.here; seen = h.seen; hands = h.hands; leases = h.leases; taken = h.taken }
   both_extend there there' (Bare f) m = absurd m
+
+-- no lane loses an owner by what may be made
+apply_owned : (s : Site) (v : ℕ) (r : Record) (d : Durable) (frames : Lane → List Allocation) (unclaimed : Lane → List Transmission) → Invariant s d frames unclaimed →
+    (l : Lane) → length (d.own l) ≤ length ((apply_record s v r d).own l)
+unfolding apply_record
+apply_owned s v (Block link number bytes) d frames unclaimed c l = taken_owned d unclaimed (outgoing_lane s v link) (c.room (outgoing_lane s v link)) l
+apply_owned s v (Lease k end) d frames unclaimed c l = omega arith
+apply_owned s v (Learned f) d frames unclaimed c l = omega arith
+apply_owned s v (Acked n) d frames unclaimed c l = omega arith
+apply_owned s v (Handed n sae) d frames unclaimed c l = omega arith
+apply_owned s v (Closed n sae) d frames unclaimed c l = omega arith
+apply_owned s v (Bare f) d frames unclaimed c l = omega arith
+
+pub replay_owned : (s : Site) (v : ℕ) (rs : List Record) (d : Durable) (frames : Lane → List Allocation) (unclaimed : Lane → List Transmission) →
+    Invariant s d frames unclaimed → MayReplay s d v rs → (l : Lane) → length (d.own l) ≤ length ((replay s v rs d).own l)
+unfolding replay
+replay_owned s v [] d frames unclaimed c m l = omega arith
+replay_owned s v (r ∷ rs) d frames unclaimed c m l =
+    let one = apply_owned s v r d frames unclaimed c l in
+    let rest = replay_owned s v rs (apply_record s v r d) frames unclaimed (apply_keeps s d frames unclaimed c v r m.0) m.1 l in
+    omega (arith, one, rest)
 
 known_there : (s : Site) (d : Durable) (frames : Lane → List Allocation) (unclaimed : Lane → List Transmission) → Invariant s d frames unclaimed → (v : ℕ) →
     AreThere d.facts (d.known v)

@@ -8,9 +8,9 @@ use Rattle.net_model.specs.Table.{name_of, route_of, fact_at, is_stored_about}
 use Rattle.net_model.specs.Site.{Site}
 use Rattle.net_model.specs.World.{Durable}
 use Rattle.net_model.specs.Knowledge.{PredecessorKnows, KnownOnRoute, IsOn, IsFactOf, IsTable, IsKnowledge, IsTargetOf, IsStoredOnce, AllDiffer}
-use Rattle.net_model.specs.Doubt.{MayBeTold, MayBeMade, MayNote, NoStoredBy}
+use Rattle.net_model.specs.Doubt.{MayBeReceived, MayBeMade, MayNote, NoStoredBy}
 use Rattle.record_laws.proofs.Base.{name_eq_from, by_number}
-use Rattle.record_laws.proofs.Tables.{at_front, push_cases, push_there}
+use Rattle.record_laws.proofs.Tables.{at_prefix, push_cases, push_there}
 use Rattle.record_laws.proofs.Grow.{Grows, KnownGrows, source_grows, known_grows, entitled_grows, target_grows}
 use Rattle.record_laws.proofs.Knowing.{known_with, known_with_grows, known_with_new, known_with_cases, differ_push}
 
@@ -29,15 +29,15 @@ pub record Learns (s : Site) (d : Durable) (v : ℕ) (f : Fact) (facts : List Fa
   pub on : IsOn (route_of f) v
   pub source : PredecessorKnows d.known v (name_of f) (route_of f)
 
-pub told_learns : (s : Site) (d : Durable) (v : ℕ) (f : Fact) → has (d.known v) (name_of f) ≡ false → MayBeTold d.facts d.known v f → Learns s d v f d.facts
-told_learns s d v f fresh m =
+pub receipt_learns : (s : Site) (d : Durable) (v : ℕ) (f : Fact) → has (d.known v) (name_of f) ≡ false → MayBeReceived d.facts d.known v f → Learns s d v f d.facts
+receipt_learns s d v f fresh m =
     record { grows = λ n g h. h; cases = λ n g h. inl h; there = m.there; fresh = fresh; on = m.on; source = m.source }
 
 pub made_learns : (s : Site) (d : Durable) (v : ℕ) (f : Fact) → has (d.known v) (name_of f) ≡ false → MayBeMade s d.facts d.known d.handed v f →
     Learns s d v f (d.facts ++ f ∷ [])
 made_learns s d v f fresh m =
     record {
-      grows = λ n g h. at_front d.facts (f ∷ []) n g h;
+      grows = λ n g h. at_prefix d.facts (f ∷ []) n g h;
       cases = λ n g h. elim (push_cases d.facts f n g h) [ inl old ↦ inl old | inr (is, same) ↦ inr (record { name = is; same = same; made = m }) ];
       there = push_there d.facts f m.free;
       fresh = fresh;

@@ -12,3 +12,4 @@ pub mod Learning
 pub mod Octets
 pub mod Parts
 pub mod Tables
+pub mod Walks

@@ -20,8 +20,8 @@ found_name (x ∷ xs) n f h =
     ] refl h
 
 -- more facts behind
-pub at_front : (facts more : List Fact) (n : Name) (f : Fact) → fact_at facts n ≡ Some f → fact_at (facts ++ more) n ≡ Some f
-at_front facts more n f h = rw (find-append, h) refl
+pub at_prefix : (facts more : List Fact) (n : Name) (f : Fact) → fact_at facts n ≡ Some f → fact_at (facts ++ more) n ≡ Some f
+at_prefix facts more n f h = rw (find-append, h) refl
 
 pub at_back : (facts more : List Fact) (n : Name) → fact_at facts n ≡ None → fact_at (facts ++ more) n ≡ fact_at more n
 at_back facts more n h = rw (find-append, h) refl
@@ -60,7 +60,7 @@ pub push_cases : (facts : List Fact) (f : Fact) (n : Name) (g : Fact) → fact_a
     (fact_at facts n ≡ Some g) ⊎ ((n ≡ name_of f) × (g ≡ f))
 push_cases facts f n g h =
     elim (fact_at facts n) as (λ o. fact_at facts n ≡ o → (o ≡ Some g) ⊎ ((n ≡ name_of f) × (g ≡ f))) [
-      | Some x ↦ λ e. inl (sym (at_front facts (f ∷ []) n x e) ∙ h)
+      | Some x ↦ λ e. inl (sym (at_prefix facts (f ∷ []) n x e) ∙ h)
       | None ↦ λ e. inr (one_at f n g (sym (at_back facts (f ∷ []) n e) ∙ h))
     ] refl
 
@@ -72,7 +72,7 @@ pub learned_keeps : (facts : List Fact) (g : Fact) (n : Name) (f : Fact) → fac
 learned_keeps facts g n f h =
     elim (has_fact facts (name_of g)) as (λ t. fact_at (if t then facts else facts ++ g ∷ []) n ≡ Some f) [
       | true ↦ h
-      | false ↦ at_front facts (g ∷ []) n f h
+      | false ↦ at_prefix facts (g ∷ []) n f h
     ]
 
 -- what is found was there, or is the new one

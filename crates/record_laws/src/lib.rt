@@ -41,6 +41,6 @@ pub fn law_doubts_made()
 
 /// No end of a link gets more than 1,024 blocks.
 pub fn law_blocks_few()
-    ensures { (s : Site) (d : Durable) (v : ℕ) (batch : List Record) → MayReplay s d v batch → ((l : ℕ) → (d.low_blocks l ≤ 1024) × (d.high_blocks l ≤ 1024)) →
-        (l : ℕ) → ((replay s v batch d).low_blocks l ≤ 1024) × ((replay s v batch d).high_blocks l ≤ 1024) }
+    ensures { (s : Site) (d : Durable) (v : ℕ) (batch : List Record) → MayReplay s d v batch → ((l : Lane) → d.blocks l ≤ 1024) →
+        (l : Lane) → (replay s v batch d).blocks l ≤ 1024 }
 {}

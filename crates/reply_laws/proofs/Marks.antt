@@ -4,11 +4,10 @@ use Rattle.std.specs.List.{flat_map}
 use Rattle.std.proofs.lemmas.List.{append-nil}
 use Rattle.std.specs.Prelude.{nat_lt, if◌then◌else◌, true, false}
 use Rattle.qkd_base.specs.Name.{Name}
-use Rattle.qkd_base.specs.declared.lane.Way.{Way}
-use Rattle.qkd_base.specs.declared.lane.Way.TheVariants.{Up, Down}
+use Rattle.qkd_base.specs.declared.lane.Lane.{Lane}
 use Rattle.net_model.specs.declared.record.Record.{Record}
 use Rattle.net_model.specs.declared.record.Record.TheVariants.{Block, Lease, Learned, Acked, Handed, Closed, Bare}
-use Rattle.net_model.specs.Site.{Site, outgoing_way}
+use Rattle.net_model.specs.Site.{Site, outgoing_lane}
 use Rattle.net_model.specs.World.{Durable}
 use Rattle.net_model.specs.Records.{block_taken, apply_record, replay}
 use Rattle.net_model.specs.Pools.{new_keys, hand_to}
@@ -32,15 +31,14 @@ marks_append (Acked n ∷ rs) ys = marks_append rs ys
 marks_append (Closed n sae ∷ rs) ys = marks_append rs ys
 marks_append (Bare f ∷ rs) ys = marks_append rs ys
 
-block_handed : (way : Way) (link : ℕ) (d : Durable) → (block_taken way link d).handed ≡ d.handed
+block_handed : (l : Lane) (d : Durable) → (block_taken l d).handed ≡ d.handed
 unfolding block_taken
-block_handed Up link d = refl
-block_handed Down link d = refl
+block_handed l d = refl
 
 -- one record adds its mark
 record_marks : (s : Site) (v : ℕ) (r : Record) (d : Durable) → (apply_record s v r d).handed ≡ d.handed ++ marks (r ∷ [])
 unfolding apply_record
-record_marks s v (Block link number bytes) d = block_handed (outgoing_way s v link) link d ∙ sym (append-nil d.handed)
+record_marks s v (Block link number bytes) d = block_handed (outgoing_lane s v link) d ∙ sym (append-nil d.handed)
 record_marks s v (Lease lane end') d = sym (append-nil d.handed)
 record_marks s v (Learned f) d = sym (append-nil d.handed)
 record_marks s v (Acked n) d = sym (append-nil d.handed)

@@ -12,7 +12,7 @@ use Rattle.net_model.specs.declared.reply.Reply.{Reply}
 use Rattle.net_model.specs.declared.reply.Reply.TheVariants.{Down, Stopped, Memory, JournalFull, NoRandom}
 use Rattle.net_model.specs.Site.{Site}
 use Rattle.net_model.specs.Sealing.{Sealing}
-use Rattle.net_model.specs.Told.{tells, octets_from}
+use Rattle.net_model.specs.OctetSequence.{has_octets, octets_from}
 use Rattle.net_model.specs.World.{Network, World, Durable, Allocation, Transmission}
 use Rattle.net_model.specs.Journal.{journal_limit, added_len, is_nil}
 use Rattle.net_model.specs.Invariant.{Invariant, Conserved}
@@ -32,41 +32,41 @@ use Rattle.view_laws.proofs.Seen.{Sees, bare_view, view_sees, view_me}
 use Rattle.event_laws.proofs.Decisions.{slaves_are}
 use Rattle.reply_laws.specs.Truth.{IsTrueReply}
 use Rattle.reply_laws.proofs.Marks.{replay_marks}
-use Rattle.reply_laws.proofs.Tells.{AllTrue, IsTold, Tells, enc_tells, group_tells, dec_tells, get_tells}
+use Rattle.reply_laws.proofs.TrueDecisions.{AllTrue, IsTrueEffect, IsTrueDecision, enc_true, group_true, dec_true, get_true}
 use Rattle.reply_laws.proofs.Silent.{Unmarked, fill_unmarked, feed_unmarked, fill_group_unmarked, open_unmarked, join_unmarked, close_unmarked, status_unmarked, plan_unmarked}
 
 silent : (s : Site) (T seen : List Fact) (v : ℕ) (event : Event) (decision : Decision) → ((reply : Reply) → delivered seen event reply ≡ []) → Unmarked decision →
-    Tells s T seen v event decision
+    IsTrueDecision s T seen v event decision
 silent s T seen v event (Refuses reply) none h = none reply
 silent s T seen v event (Does e) none h = record { marked = h ∙ ap pairs_of (sym (none e.reply)); true' = subst (AllTrue s T v) (sym (none e.reply)) tt }
 
 module _ (s : Site) (d : Durable) (frames : Lane → List Allocation) (unclaimed : Lane → List Transmission) (inv : Invariant s d frames unclaimed) (see bare : View)
     (h : Sees s d see bare) (site : IsSite s) (here : see.me < s.nodes) where
-  asked_tells : (sealing : Sealing) (up : ℕ → Bool) (random : List ℕ) (event : Event) → is_asked event ≡ true → is_valid_event s see.me event ≡ true →
-      Tells s d.facts see.facts see.me event (decide s sealing up see random event)
+  asked_true : (sealing : Sealing) (up : ℕ → Bool) (random : List ℕ) (event : Event) → is_asked event ≡ true → is_valid_event s see.me event ≡ true →
+      IsTrueDecision s d.facts see.facts see.me event (decide s sealing up see random event)
   unfolding decide is_valid_event
-  asked_tells sealing up random (Enc m t n bits) asked valid = enc_tells s d frames unclaimed inv see bare h site here m t n bits
-  asked_tells sealing up random (Dec t m names) asked valid = dec_tells s d frames unclaimed inv see bare h site here t m names
-  asked_tells sealing up random (EncGroup m slaves n bits) asked valid =
+  asked_true sealing up random (Enc m t n bits) asked valid = enc_true s d frames unclaimed inv see bare h site here m t n bits
+  asked_true sealing up random (Dec t m names) asked valid = dec_true s d frames unclaimed inv see bare h site here t m names
+  asked_true sealing up random (EncGroup m slaves n bits) asked valid =
       let front = and_left (are_slaves slaves && is_count n) (is_size bits) valid in
-      group_tells s d frames unclaimed inv see bare h site here m slaves n bits (slaves_are slaves (and_left (are_slaves slaves) (is_count n) front)).0
-  asked_tells sealing up random (Get caller stream index) asked valid = get_tells s d frames unclaimed inv see bare h site here caller stream index
-  asked_tells sealing up random (Fill m t bits count) asked valid =
+      group_true s d frames unclaimed inv see bare h site here m slaves n bits (slaves_are slaves (and_left (are_slaves slaves) (is_count n) front)).0
+  asked_true sealing up random (Get caller stream index) asked valid = get_true s d frames unclaimed inv see bare h site here caller stream index
+  asked_true sealing up random (Fill m t bits count) asked valid =
       silent s d.facts see.facts see.me (Fill m t bits count) _ (λ reply. refl) (fill_unmarked s up see m t bits count random)
-  asked_tells sealing up random (Feed stream count) asked valid = silent s d.facts see.facts see.me (Feed stream count) _ (λ reply. refl) (feed_unmarked s up see stream count random)
-  asked_tells sealing up random (FillGroup m slaves bits count) asked valid =
+  asked_true sealing up random (Feed stream count) asked valid = silent s d.facts see.facts see.me (Feed stream count) _ (λ reply. refl) (feed_unmarked s up see stream count random)
+  asked_true sealing up random (FillGroup m slaves bits count) asked valid =
       silent s d.facts see.facts see.me (FillGroup m slaves bits count) _ (λ reply. refl) (fill_group_unmarked s up see m slaves bits count random)
-  asked_tells sealing up random Plan asked valid = silent s d.facts see.facts see.me Plan (decide s sealing up see random Plan) (λ reply. refl) (plan_unmarked s up see)
-  asked_tells sealing up random (Status m t) asked valid = silent s d.facts see.facts see.me (Status m t) _ (λ reply. refl) (status_unmarked s up see m t)
-  asked_tells sealing up random (Open source peer bits) asked valid = silent s d.facts see.facts see.me (Open source peer bits) _ (λ reply. refl) (open_unmarked s up see source peer bits)
-  asked_tells sealing up random (Join caller other stream bits) asked valid =
+  asked_true sealing up random Plan asked valid = silent s d.facts see.facts see.me Plan (decide s sealing up see random Plan) (λ reply. refl) (plan_unmarked s up see)
+  asked_true sealing up random (Status m t) asked valid = silent s d.facts see.facts see.me (Status m t) _ (λ reply. refl) (status_unmarked s up see m t)
+  asked_true sealing up random (Open source peer bits) asked valid = silent s d.facts see.facts see.me (Open source peer bits) _ (λ reply. refl) (open_unmarked s up see source peer bits)
+  asked_true sealing up random (Join caller other stream bits) asked valid =
       silent s d.facts see.facts see.me (Join caller other stream bits) _ (λ reply. refl) (join_unmarked s up see caller other stream bits)
-  asked_tells sealing up random (Close caller stream) asked valid = silent s d.facts see.facts see.me (Close caller stream) _ (λ reply. refl) (close_unmarked s up see caller stream)
-  asked_tells sealing up random (Show name) asked valid = silent s d.facts see.facts see.me (Show name) (decide s sealing up see random (Show name)) (λ reply. refl) refl
-  asked_tells sealing up random (Ledger lane) asked valid = silent s d.facts see.facts see.me (Ledger lane) (decide s sealing up see random (Ledger lane)) (λ reply. refl) refl
-  asked_tells sealing up random (Block link number bytes) asked valid = cc
-  asked_tells sealing up random (Heard lane bytes) asked valid = cc
-  asked_tells sealing up random (Note placings) asked valid = cc
+  asked_true sealing up random (Close caller stream) asked valid = silent s d.facts see.facts see.me (Close caller stream) _ (λ reply. refl) (close_unmarked s up see caller stream)
+  asked_true sealing up random (Show name) asked valid = silent s d.facts see.facts see.me (Show name) (decide s sealing up see random (Show name)) (λ reply. refl) refl
+  asked_true sealing up random (Ledger lane) asked valid = silent s d.facts see.facts see.me (Ledger lane) (decide s sealing up see random (Ledger lane)) (λ reply. refl) refl
+  asked_true sealing up random (Block link number bytes) asked valid = cc
+  asked_true sealing up random (Heard lane bytes) asked valid = cc
+  asked_true sealing up random (Note placings) asked valid = cc
 
 -- replies of no decision hand out nothing
 
@@ -103,7 +103,7 @@ each_true s T v [] n d h e = cc
 each_true s T v (x ∷ ds) zero d h e = let is : x ≡ d = cc in subst (λ (y : Delivery). IsTrueDelivery T y × (s.home y.sae ≡ v)) is (h.0, h.1)
 each_true s T v (x ∷ ds) (suc n) d h e = each_true s T v ds n d h.2 e
 
-committed_true : (net : Network) (w : World) (v octets : ℕ) (event : Event) (environment : Environment) (e : Effect) → IsTold net.site w.durable.facts (view_of net w v).facts v event e →
+committed_true : (net : Network) (w : World) (v octets : ℕ) (event : Event) (environment : Environment) (e : Effect) → IsTrueEffect net.site w.durable.facts (view_of net w v).facts v event e →
     TrueOut net w v event environment (commit net.site w v octets e, Replies e.reply)
 unfolding commit
 committed_true net w v octets event environment e h =
@@ -117,7 +117,7 @@ stopped_same : (w : World) (v octets : ℕ) (e : Effect) → (stopped w v octets
 unfolding stopped
 stopped_same w v octets e = refl
 
-performed_true : (net : Network) (w : World) (v octets : ℕ) (event : Event) (environment : Environment) (e : Effect) → IsTold net.site w.durable.facts (view_of net w v).facts v event e →
+performed_true : (net : Network) (w : World) (v octets : ℕ) (event : Event) (environment : Environment) (e : Effect) → IsTrueEffect net.site w.durable.facts (view_of net w v).facts v event e →
     TrueOut net w v event environment (perform net w v octets environment e)
 unfolding perform
 performed_true net w v octets event environment e h =
@@ -126,12 +126,12 @@ performed_true net w v octets event environment e h =
     let bare = bare_of (view_of net w v).facts event in
     by_test P (is_no_memory environment || not (list_all is_numbered e.batch)) _ _ (λ e1. nothing_true net w w v _ bare.memory refl) (λ e1.
     by_test P (nat_lt journal_limit ((w.journal v).length' + added)) _ _ (λ e2. nothing_true net w w v _ (bare.full (w.journal v).length' added) refl) (λ e2.
-    by_test P (nat_lt 0 octets && (not (tells (net.entropy v) (w.drawn v + octets)) || is_entropy_fault environment)) _ _ (λ e3. nothing_true net w w v _ bare.random refl) (λ e3.
+    by_test P (nat_lt 0 octets && (not (has_octets (net.entropy v) (w.drawn v + octets)) || is_entropy_fault environment)) _ _ (λ e3. nothing_true net w w v _ bare.random refl) (λ e3.
     by_test P (is_io_fault environment && not (is_nil e.batch)) _ _
     (λ e4. nothing_true net w (stopped w v octets e) v _ bare.stopped' (stopped_same w v octets e))
     (λ e4. committed_true net w v octets event environment e h))))
 
-resolved_true : (net : Network) (w : World) (v octets : ℕ) (event : Event) (environment : Environment) (decision : Decision) → Tells net.site w.durable.facts (view_of net w v).facts v event decision →
+resolved_true : (net : Network) (w : World) (v octets : ℕ) (event : Event) (environment : Environment) (decision : Decision) → IsTrueDecision net.site w.durable.facts (view_of net w v).facts v event decision →
     TrueOut net w v event environment (resolve net w v octets environment decision)
 resolved_true net w v octets event environment (Refuses reply) h = nothing_true net w w v (delivered (view_of net w v).facts event reply) h refl
 resolved_true net w v octets event environment (Does e) h = performed_true net w v octets event environment e h
@@ -144,7 +144,7 @@ handled_true net w v event environment good c here asked valid =
     let me = view_me net w v in
     by_test (TrueOut net w v event environment) (w.up v) _ _
     (λ up. resolved_true net w v (random_need see event) event environment _
-    (subst (λ (u : ℕ). Tells net.site w.durable.facts see.facts u event (decide net.site net.sealing w.link_up see (octets_from (net.entropy v).octet (w.drawn v) (random_need see event)) event)) me
-    (asked_tells net.site w.durable w.frames w.unclaimed c.now see (bare_view net w v) (view_sees net w v) good.site (subst (λ (u : ℕ). u < net.site.nodes) (sym me) here)
+    (subst (λ (u : ℕ). IsTrueDecision net.site w.durable.facts see.facts u event (decide net.site net.sealing w.link_up see (octets_from (net.entropy v).octet (w.drawn v) (random_need see event)) event)) me
+    (asked_true net.site w.durable w.frames w.unclaimed c.now see (bare_view net w v) (view_sees net w v) good.site (subst (λ (u : ℕ). u < net.site.nodes) (sym me) here)
     net.sealing w.link_up _ event asked (ap (λ (u : ℕ). is_valid_event net.site u event) me ∙ valid))))
     (λ down. nothing_true net w w v _ (bare_of (view_of net w v).facts event).down refl)

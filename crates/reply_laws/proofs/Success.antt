@@ -13,7 +13,7 @@ use Rattle.net_model.specs.declared.reply.Reply.{Reply}
 use Rattle.net_model.specs.declared.reply.Reply.TheVariants.{Down, Handed, NotAllowed}
 use Rattle.net_model.specs.Table.{is_part_of, name_of, fact_at, was_handed}
 use Rattle.net_model.specs.Site.{Site}
-use Rattle.net_model.specs.Told.{octets_from}
+use Rattle.net_model.specs.OctetSequence.{octets_from}
 use Rattle.net_model.specs.World.{Network, World}
 use Rattle.net_model.specs.Journal.{journal_limit, added_len}
 use Rattle.net_model.specs.Knowledge.{AllDiffer}

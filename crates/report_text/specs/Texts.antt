@@ -1,6 +1,6 @@
 -- The text of each item of a report. Numbers are decimal, names of keys are hyphenated lower-case UUIDs, bytes are
 -- lower-case hexadecimal.
-use Rattle.std.specs.Prelude.{ℕ, Bool, true, false, List, [], ◌∷◌, ◌++◌, slice_get, unwrap_or}
+use Rattle.std.specs.Prelude.{if◌then◌else◌, ℕ, Bool, true, false, List, [], ◌∷◌, ◌++◌, slice_get, unwrap_or}
 use lib.Chars.{codes}
 use Rattle.std.specs.Fmt.{decimal}
 use Rattle.uuid.specs.Text.{hyphenated_text, lower}
@@ -9,11 +9,11 @@ use Rattle.qkd_base.specs.declared.lane.Way.{Way}
 use Rattle.qkd_base.specs.declared.lane.Way.TheVariants.{Up, Down}
 use Rattle.qkd_base.specs.declared.lane.Lane.{Lane}
 use Rattle.qkd_base.specs.Name.{Name, octets_of}
-use Rattle.report_text.specs.declared.counts.Counts.{Counts}
+use Rattle.net_model.specs.declared.counts.Counts4.{Counts4}
 use Rattle.report_text.specs.declared.end.End.{End}
 use Rattle.report_text.specs.declared.end.End.TheVariants.{Low, High}
-use Rattle.report_text.specs.declared.held.Held.{Held}
-use Rattle.report_text.specs.declared.held.Held.TheVariants.{Made, Kept}
+use Rattle.net_model.specs.declared.held.Held.{Held}
+use Rattle.net_model.specs.declared.held.Held.TheVariants.{Absent, Given, Ready, Made, Kept, Relayed}
 use Rattle.report_text.specs.declared.item.Item.{Item}
 use Rattle.report_text.specs.declared.item.Item.TheVariants as items
 
@@ -26,8 +26,17 @@ way_text Up = codes "up"
 way_text Down = codes "down"
 
 abbrev pub held_text : Held → List ℕ
+held_text Absent = codes "absent"
+held_text Given = codes "given"
+held_text Ready = codes "ready"
 held_text Made = codes "made"
 held_text Kept = codes "kept"
+held_text Relayed = codes "relayed"
+
+-- the node knows no such key
+abbrev pub is_absent : Held → Bool
+is_absent Absent = true
+is_absent _ = false
 
 abbrev pub fresh_text : Bool → List ℕ
 fresh_text true = codes "taken"
@@ -49,7 +58,7 @@ name_text n = hyphenated_text lower (octets_of n)
 abbrev pub node_text : List (List ℕ) → ℕ → List ℕ
 node_text nodes v = unwrap_or (slice_get nodes v) []
 
-abbrev pub counts_text : Counts → List ℕ
+abbrev pub counts_text : Counts4 → List ℕ
 counts_text c = codes "received " ++ decimal c.received ++ codes " unused " ++ decimal c.unused ++ codes " spent " ++ decimal c.spent ++ codes " burnt " ++ decimal c.burnt
 
 -- ---- the items
@@ -81,13 +90,12 @@ passed_text lane number fresh name = codes "pass " ++ lane_text lane ++ codes " 
 unfoldable pub no_frame_text : Lane → ℕ → ℕ → List ℕ
 no_frame_text lane number count = codes "pass " ++ lane_text lane ++ codes " " ++ decimal number ++ codes " no-frame " ++ decimal count
 
-unfoldable pub absent_text : List ℕ → Name → List ℕ
-absent_text node name = codes "show " ++ node ++ codes " " ++ name_text name ++ codes " " ++ codes "absent"
-
 unfoldable pub shown_text : List ℕ → Name → Held → List ℕ → List ℕ
-shown_text node name held bytes = codes "show " ++ node ++ codes " " ++ name_text name ++ codes " " ++ held_text held ++ codes " " ++ encode_lower bytes
+shown_text node name held bytes =
+    if is_absent held then codes "show " ++ node ++ codes " " ++ name_text name ++ codes " " ++ held_text held
+    else codes "show " ++ node ++ codes " " ++ name_text name ++ codes " " ++ held_text held ++ codes " " ++ encode_lower bytes
 
-unfoldable pub counted_text : Lane → Counts → List ℕ
+unfoldable pub counted_text : Lane → Counts4 → List ℕ
 counted_text lane counts = codes "ledger " ++ lane_text lane ++ codes " " ++ counts_text counts
 
 -- an item, over the names of the nodes
@@ -103,7 +111,6 @@ item_text nodes (items.Short lane used need received) = short_text lane used nee
 item_text nodes (items.Sent lane number offset size) = sent_text lane number offset size
 item_text nodes (items.Passed lane number fresh name) = passed_text lane number fresh name
 item_text nodes (items.NoFrame lane number count) = no_frame_text lane number count
-item_text nodes (items.Absent node name) = absent_text (node_text nodes node) name
 item_text nodes (items.Shown node name held bytes) = shown_text (node_text nodes node) name held bytes
 item_text nodes (items.Counted lane counts) = counted_text lane counts
 

@@ -1,5 +1,6 @@
 // What a report tells.
-use crate::{Counts, End, Held};
+use crate::End;
+use net_model::{Counts4, Held};
 use qkd_base::{KeyName, Lane, LinkNo, NodeNo, Octets};
 
 /// What happened at a line of a scenario.
@@ -65,12 +66,7 @@ pub enum Item {
         number: u32,
         count: u64,
     },
-    /// A node knows no key of this name.
-    Absent {
-        node: NodeNo,
-        name: KeyName,
-    },
-    /// A node knows a key, and needs its bytes.
+    /// Where a key stands at a node, and its bytes. Of a key that is absent the report shows none.
     Shown {
         node: NodeNo,
         name: KeyName,
@@ -80,6 +76,6 @@ pub enum Item {
     /// The bytes of a lane at its sender.
     Counted {
         lane: Lane,
-        counts: Counts,
+        counts: Counts4,
     },
 }

@@ -1,10 +1,11 @@
 // The text of an item.
 ghost use Rattle.std.specs.Prelude.{◌≡◌, ◌++◌, IfOk};
 ghost use Rattle.std.specs.String.{string_bytes};
-ghost use Rattle.report_text.specs.Texts.{end_text, way_text, held_text, fresh_text, full_text, end_of_list, node_text, lane_text, name_text, counts_text, took_text, link_full_text, no_bits_text, made_text, ticked_text, short_text, sent_text, passed_text, no_frame_text, absent_text, shown_text, counted_text, item_text, text_of};
+ghost use Rattle.report_text.specs.Texts.{end_text, way_text, held_text, fresh_text, full_text, end_of_list, node_text, lane_text, name_text, counts_text, took_text, link_full_text, no_bits_text, made_text, ticked_text, short_text, sent_text, passed_text, no_frame_text, is_absent, shown_text, counted_text, item_text, text_of};
 ghost use lib.Chars.{codes};
 
-use crate::{Counts, End, Held, Item};
+use crate::{End, Item};
+use net_model::{Counts4, Held};
 use qkd_base::{KeyName, Lane, LinkNo, Memory, NodeNo, Texts, Way};
 use std::alloc::Global;
 
@@ -30,8 +31,12 @@ fn held_text(held: Held) -> &'static str
     ensures { result.now ≡ held_text held }
 {
     match held {
+        Held::Absent => "absent",
+        Held::Given => "given",
+        Held::Ready => "ready",
         Held::Made => "made",
         Held::Kept => "kept",
+        Held::Relayed => "relayed",
     }
 }
 
@@ -78,10 +83,10 @@ fn name_text(alloc: Global, name: KeyName) -> Result<String, Memory>
     Ok(format!(in alloc; "{uuid}")?)
 }
 
-fn counts_text(alloc: Global, counts: Counts) -> Result<String, Memory>
+fn counts_text(alloc: Global, counts: Counts4) -> Result<String, Memory>
     ensures { IfOk result (λ text. string_bytes text ≡ counts_text counts) }
 {
-    let Counts {
+    let Counts4 {
         received,
         unused,
         spent,
@@ -198,13 +203,18 @@ fn no_frame_text(alloc: Global, lane: Lane, number: u32, count: u64) -> Result<S
     Ok(format!(in alloc; "pass {lane} {number} no-frame {count}")?)
 }
 
-#[tactic(auto, unfolding(crate::specs::Texts::absent_text))]
-fn absent_text(alloc: Global, node: &str, name: KeyName) -> Result<String, Memory>
-    ensures { IfOk result (λ text. string_bytes text ≡ absent_text node.now name) }
+// Whether a state says that the node knows no such key.
+fn is_absent(held: Held) -> bool
+    ensures { result ≡ is_absent held }
 {
-    let name = name_text(alloc, name)?;
-    let state = "absent";
-    Ok(format!(in alloc; "show {node} {name} {state}")?)
+    match held {
+        Held::Absent => true,
+        Held::Given => false,
+        Held::Ready => false,
+        Held::Made => false,
+        Held::Kept => false,
+        Held::Relayed => false,
+    }
 }
 
 #[tactic(auto, unfolding(crate::specs::Texts::shown_text))]
@@ -218,13 +228,16 @@ fn shown_text(
     ensures { IfOk result (λ text. string_bytes text ≡ shown_text node.now name held bytes.now) }
 {
     let name = name_text(alloc, name)?;
-    let held = held_text(held);
+    let state = held_text(held);
+    if is_absent(held) {
+        return Ok(format!(in alloc; "show {node} {name} {state}")?);
+    }
     let shown = hex::encode(alloc, bytes)?;
-    Ok(format!(in alloc; "show {node} {name} {held} {shown}")?)
+    Ok(format!(in alloc; "show {node} {name} {state} {shown}")?)
 }
 
 #[tactic(auto, unfolding(crate::specs::Texts::counted_text))]
-fn counted_text(alloc: Global, lane: Lane, counts: Counts) -> Result<String, Memory>
+fn counted_text(alloc: Global, lane: Lane, counts: Counts4) -> Result<String, Memory>
     ensures { IfOk result (λ text. string_bytes text ≡ counted_text lane counts) }
 {
     let lane = lane_text(alloc, lane)?;
@@ -270,7 +283,6 @@ fn item_text(alloc: Global, item: &Item, nodes: &Texts) -> Result<String, Memory
             number,
             count,
         } => no_frame_text(alloc, lane, number, count),
-        Item::Absent { node, name } => absent_text(alloc, node_text(nodes, node), name),
         Item::Shown {
             node,
             name,

@@ -13,9 +13,9 @@ use Rattle.net_model.specs.Action.{Complete, Outcome, Replies, Ok}
 use Rattle.net_model.specs.Handle.{commit, handle}
 use Rattle.net_model.specs.Step.{step, is_enabled, is_step}
 use Rattle.net_world.specs.World.{World as Small}
-use Rattle.scenario_text.specs.Stage.{Stage}
+use Rattle.scenario_text.specs.DeclaredSite.{DeclaredSite}
 use Rattle.line_laws.specs.Scenario.{network_of}
-use Rattle.script_laws.specs.Script.{Ends, untold, emitted}
+use Rattle.script_laws.specs.Script.{Ends, no_items, emitted}
 use Rattle.script_laws.specs.AbstractRun.{Performs}
 use Rattle.script_laws.proofs.Agreement.{Reach, up, Agrees}
 use Rattle.script_laws.proofs.Performing.{done, asked, takes_place}
@@ -26,8 +26,8 @@ without_placings room reach s w placings a = record {
   up_low = a.up_low;
   up_high = a.up_high;
   link = a.link;
-  low_blocks = a.low_blocks;
-  high_blocks = a.high_blocks;
+  blocks_up = a.blocks_up;
+  blocks_down = a.blocks_down;
   most = a.most;
   own_up = a.own_up;
   own_down = a.own_down;
@@ -55,7 +55,7 @@ completes : (net : Network) (w new : World) (out : Outcome) → handle net w 0 (
 unfolding step
 completes net w new out e = ap (λ (x : World × Outcome). (record (x.0) { placings = number_set w.placings 0 [] }, x.1)) e
 
-module _ (site : Stage) (device entropy : List ℕ) (room : ℕ) (few : room ≤ 3000000) (reach : Reach) (s : Small) (w : World) (a : Agrees room reach s w)
+module _ (site : DeclaredSite) (device entropy : List ℕ) (room : ℕ) (few : room ≤ 3000000) (reach : Reach) (s : Small) (w : World) (a : Agrees room reach s w)
     (unclaimed : w.unclaimed up ≡ []) (outgoing : w.outgoing up ≡ []) where
   abbrev net : Network
   net = network_of site device entropy
@@ -81,7 +81,7 @@ module _ (site : Stage) (device entropy : List ℕ) (room : ℕ) (few : room ≤
   end_may = rw (unclaimed, outgoing) refl
 
   pub ends : Performs net w (emitted 0 []) [] ended
-  ends = asked net w ended ended (λ x. Complete 0) untold (λ o. Ends) (Replies Noted) [] end_may end_step (done net ended)
+  ends = asked net w ended ended (λ x. Complete 0) no_items (λ o. Ends) (Replies Noted) [] end_may end_step (done net ended)
 
   pub ended_agrees : Agrees room reach s ended
   ended_agrees = without_placings room reach s committed (number_set w.placings 0 []) (quiet_low net.site room reach s w noted Noted a)

@@ -7,7 +7,7 @@ use Rattle.net_model.specs.World.{Network, World}
 use Rattle.report_text.specs.declared.item.Item.{Item}
 use Rattle.net_world.specs.World.{World as Small}
 use Rattle.net_world.specs.Steps.{line_run}
-use Rattle.scenario_text.specs.Stage.{Stage}
+use Rattle.scenario_text.specs.DeclaredSite.{DeclaredSite}
 use Rattle.scenario_text.specs.Phase.{after_bits, after_fill, after_tick, after_other}
 use Rattle.scenario_text.specs.declared.command.Command.{Command}
 use Rattle.scenario_text.specs.declared.command.Command.TheVariants.{Bits, Fill, Tick, Pass, Show, Ledger}
@@ -84,7 +84,7 @@ other_ready phases.Tick next s w e h = (cc, record { reach = h.reach; agrees = m
 other_ready phases.Others next s w e h = (cc, h)
 other_ready phase next s w e h = absurd h
 
-module _ (site : Stage) (device entropy : List ℕ) (s : Small) (w : World) where
+module _ (site : DeclaredSite) (device entropy : List ℕ) (s : Small) (w : World) where
   abbrev net : Network
   net = network_of site device entropy
 

@@ -12,7 +12,7 @@ use Rattle.net_model.specs.Table.{facts_of}
 use Rattle.net_model.specs.Site.{Site, outgoing_lanes}
 use Rattle.net_model.specs.Journal.{added_len, body_len, spelled_after, extended}
 use Rattle.net_model.specs.World.{Network, World, Durable, Transmission, no_volatile, planned}
-use Rattle.net_model.specs.Told.{first_blocks}
+use Rattle.net_model.specs.OctetSequence.{first_blocks}
 use Rattle.net_model.specs.View.{View}
 use Rattle.net_model.specs.Needed.{view_of}
 use Rattle.net_model.specs.Decide.{decide, random_need}
@@ -23,7 +23,7 @@ use Rattle.net_model.specs.Action.{Ask, Replies, Ok}
 use Rattle.net_model.specs.Handle.{is_numbered, with_orders, commit, handle, perform}
 use Rattle.net_model.specs.Step.{step, is_enabled, is_step}
 use Rattle.net_world.specs.World.{World as Small}
-use Rattle.scenario_text.specs.Stage.{Stage}
+use Rattle.scenario_text.specs.DeclaredSite.{DeclaredSite}
 use Rattle.line_laws.specs.Scenario.{network_of}
 use Rattle.script_laws.proofs.Agreement.{Reach, up, table, low_names, Agrees, IsFresh}
 use Rattle.script_laws.proofs.Performing.{takes_place}
@@ -82,17 +82,17 @@ pub record Plans (net : Network) (w : World) (orders : List Transmission) (reply
   pub few : octets ≤ 18
   pub goes : step net w (Ask 0 events.Plan Ok) ≡ (planned_world w lease octets orders, Replies reply)
 
-pub plan_may : (site : Stage) (device entropy : List ℕ) (w : World) → is_step (network_of site device entropy) w (Ask 0 events.Plan Ok) ≡ true
+pub plan_may : (site : DeclaredSite) (device entropy : List ℕ) (w : World) → is_step (network_of site device entropy) w (Ask 0 events.Plan Ok) ≡ true
 unfolding is_enabled is_valid_event
 plan_may site device entropy w = refl
 
-module _ (site : Stage) (device entropy : List ℕ) (room : ℕ) (few : room ≤ 3000000) (reach : Reach) (s : Small) (w : World) (a : Agrees room reach s w) (fresh : IsFresh s w) where
+module _ (site : DeclaredSite) (device entropy : List ℕ) (room : ℕ) (few : room ≤ 3000000) (reach : Reach) (s : Small) (w : World) (a : Agrees room reach s w) (fresh : IsFresh s w) where
   abbrev net : Network
   net = network_of site device entropy
 
   -- what the lower manager sees, with its one port
   abbrev pub sees : View
-  sees = seen 0 (facts_of (table reach) (low_names reach)) (w.durable.closed 0) (port (first_blocks (net.device 0) (w.durable.low_blocks 0)) (w.durable.lease up) (planned w up) (w.recovered up) ∷ []) no_volatile
+  sees = seen 0 (facts_of (table reach) (low_names reach)) (w.durable.closed 0) (port (first_blocks (net.device 0) (w.durable.blocks up)) (w.durable.lease up) (planned w up) (w.recovered up) ∷ []) no_volatile
 
   empty : w.volatile 0 ≡ no_volatile
   empty = λ i. record { window = fresh.window i; pending_acks = fresh.pending i; awaiting = fresh.awaiting i }
@@ -100,7 +100,7 @@ module _ (site : Stage) (device entropy : List ℕ) (room : ℕ) (few : room ≤
   pub is_seen : view_of net w 0 ≡ sees
   unfolding outgoing_lanes
   is_seen = view_low site device entropy room reach s w a ∙
-      ap (seen 0 (facts_of (table reach) (low_names reach)) (w.durable.closed 0) (port (first_blocks (net.device 0) (w.durable.low_blocks 0)) (w.durable.lease up) (planned w up) (w.recovered up) ∷ [])) empty
+      ap (seen 0 (facts_of (table reach) (low_names reach)) (w.durable.closed 0) (port (first_blocks (net.device 0) (w.durable.blocks up)) (w.durable.lease up) (planned w up) (w.recovered up) ∷ [])) empty
 
   pub plan_step : (batch : List Record) (orders : List Transmission) (reply : Reply) → IsLease batch → plan net.site w.link_up sees ≡ plans batch orders reply → Plans net w orders reply
   unfolding step handle random_need decide
@@ -122,8 +122,8 @@ module _ (site : Stage) (device entropy : List ℕ) (room : ℕ) (few : room ≤
     up_low = a.up_low;
     up_high = a.up_high;
     link = a.link;
-    low_blocks = a.low_blocks;
-    high_blocks = a.high_blocks;
+    blocks_up = a.blocks_up;
+    blocks_down = a.blocks_down;
     most = a.most;
     own_up = a.own_up;
     own_down = a.own_down;

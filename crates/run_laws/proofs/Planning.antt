@@ -5,7 +5,7 @@ use Rattle.qkd_base.specs.Name.{Name}
 use Rattle.qkd_base.specs.LaneBytes.{lane_len}
 use Rattle.qkd_base.specs.declared.lane.Way.TheVariants.{Up}
 use Rattle.net_model.specs.declared.order.Order.{Order}
-use Rattle.net_model.specs.declared.payload.Payload.TheVariants.{Told}
+use Rattle.net_model.specs.declared.payload.Payload.TheVariants.{Data}
 use Rattle.net_model.specs.declared.record.Record.{Record}
 use Rattle.net_model.specs.declared.record.Record.TheVariants.{Lease}
 use Rattle.net_model.specs.declared.reply.Reply.{Reply}
@@ -18,7 +18,7 @@ use Rattle.net_model.specs.Decision.{Effect}
 use Rattle.net_model.specs.Window.{repeats_on}
 use Rattle.net_model.specs.Relay.{owed}
 use Rattle.net_model.specs.Plan.{wanted_on, orders_on, raise, plan}
-use Rattle.scenario_text.specs.Stage.{Stage}
+use Rattle.scenario_text.specs.DeclaredSite.{DeclaredSite}
 use Rattle.line_laws.specs.Scenario.{site_of}
 use Rattle.script_laws.proofs.Agreement.{key_name, key, up}
 use Rattle.script_laws.proofs.Showing.{seen}
@@ -42,24 +42,24 @@ idle = Planned [] [] []
 abbrev pub short : ℕ → ℕ → List ℕ → Reply
 short used got bytes = Planned [] [] (record { lane = up; used = used; need = 26 + length bytes + 8; received = got } ∷ [])
 
-abbrev pub told_order : ℕ → ℕ → ℕ → List ℕ → Order
-told_order used m s bytes = record { lane = up; offset = used; ack_of = None; payload = Told (key m s bytes) }
+abbrev pub item_order : ℕ → ℕ → ℕ → List ℕ → Order
+item_order used m s bytes = record { lane = up; offset = used; ack_of = None; payload = Data (key m s bytes) }
 
-pub plan_idle : (site : Stage) (is_up : ℕ → Bool) (closed : List (Name × ℕ)) (blocks : List (List ℕ)) (lease used recovered : ℕ) → is_up 0 ≡ true →
+pub plan_idle : (site : DeclaredSite) (is_up : ℕ → Bool) (closed : List (Name × ℕ)) (blocks : List (List ℕ)) (lease used recovered : ℕ) → is_up 0 ≡ true →
     plan (site_of site) is_up (seen 0 [] closed (port blocks lease used recovered ∷ []) no_volatile) ≡ plans (lease_of lease (used + 0) (lane_len Up (length blocks)) ++ []) [] idle
 unfolding plan wanted_on orders_on owed repeats_on masked
 plan_idle site is_up closed blocks lease used recovered e = rw e refl
 
-pub plan_short : (site : Stage) (is_up : ℕ → Bool) (closed : List (Name × ℕ)) (blocks : List (List ℕ)) (lease used recovered m s : ℕ) (bytes : List ℕ) → is_up 0 ≡ true →
+pub plan_short : (site : DeclaredSite) (is_up : ℕ → Bool) (closed : List (Name × ℕ)) (blocks : List (List ℕ)) (lease used recovered m s : ℕ) (bytes : List ℕ) → is_up 0 ≡ true →
     nat_lt (lane_len Up (length blocks)) (used + (26 + length bytes + 8)) ≡ true →
     plan (site_of site) is_up (seen 0 (key m s bytes ∷ []) closed (port blocks lease used recovered ∷ []) no_volatile) ≡
     plans (lease_of lease (used + 0) (lane_len Up (length blocks)) ++ []) [] (short used (lane_len Up (length blocks)) bytes)
 unfolding plan wanted_on orders_on owed repeats_on masked is_needed
 plan_short site is_up closed blocks lease used recovered m s bytes e few = rw (e, few) refl
 
-pub plan_sent : (site : Stage) (is_up : ℕ → Bool) (closed : List (Name × ℕ)) (blocks : List (List ℕ)) (lease used recovered m s : ℕ) (bytes : List ℕ) → is_up 0 ≡ true →
+pub plan_sent : (site : DeclaredSite) (is_up : ℕ → Bool) (closed : List (Name × ℕ)) (blocks : List (List ℕ)) (lease used recovered m s : ℕ) (bytes : List ℕ) → is_up 0 ≡ true →
     nat_lt (lane_len Up (length blocks)) (used + (26 + length bytes + 8)) ≡ false →
     plan (site_of site) is_up (seen 0 (key m s bytes ∷ []) closed (port blocks lease used recovered ∷ []) no_volatile) ≡
-    plans (lease_of lease (used + (26 + length bytes + 8 + 0)) (lane_len Up (length blocks)) ++ []) (order ∷ []) (Planned (told_order used m s bytes ∷ []) [] [])
+    plans (lease_of lease (used + (26 + length bytes + 8 + 0)) (lane_len Up (length blocks)) ++ []) (order ∷ []) (Planned (item_order used m s bytes ∷ []) [] [])
 unfolding plan wanted_on orders_on owed repeats_on masked is_needed
 plan_sent site is_up closed blocks lease used recovered m s bytes e enough = rw (e, enough) refl

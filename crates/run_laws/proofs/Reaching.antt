@@ -6,7 +6,7 @@ use Rattle.qkd_base.specs.LaneBytes.{lane_len}
 use Rattle.qkd_base.specs.declared.lane.Way.TheVariants.{Up}
 use Rattle.net_model.specs.declared.fact.Fact.{Fact}
 use Rattle.net_world.specs.World.{World as Small, Lanes, Claim, with_block, need}
-use Rattle.net_world.specs.Steps.{has_block, bits_run, ticked, ticked_with, passed, handed, line_run}
+use Rattle.net_world.specs.Steps.{has_block, bits_run, ticked, ticked_with, passed, passed_claim, line_run}
 use Rattle.scenario_text.specs.declared.command.Command.{Command}
 use Rattle.scenario_text.specs.declared.command.Command.TheVariants.{Bits, Fill, Tick, Pass, Show, Ledger}
 use Rattle.record_laws.proofs.Base.{and_right}
@@ -32,7 +32,7 @@ ticked_reach device s v (Some fact) h =
       | false ↦ λ e. rw e h
     ] refl
 
-handed_reach : (device : List ℕ) (s : Small) (number : ℕ) (x : Option Claim) → IsInReach device s.lanes → IsInReach device (handed s number x).1.lanes
+handed_reach : (device : List ℕ) (s : Small) (number : ℕ) (x : Option Claim) → IsInReach device s.lanes → IsInReach device (passed_claim s number x).1.lanes
 handed_reach device s number None h = h
 handed_reach device s number (Some c) h = h
 

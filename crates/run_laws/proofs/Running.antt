@@ -7,7 +7,7 @@ use Rattle.net_world.specs.World.{World as Small, first_world}
 use Rattle.net_world.specs.Steps.{line_run}
 use Rattle.net_world.specs.Run.{Entry, Given, given, Runs}
 use Rattle.net_world.specs.Wire.{wire_octets}
-use Rattle.scenario_text.specs.Stage.{Stage}
+use Rattle.scenario_text.specs.DeclaredSite.{DeclaredSite}
 use Rattle.scenario_text.specs.Text.{meaning_of}
 use Rattle.scenario_text.specs.declared.phase.Phase.{Phase}
 use Rattle.scenario_text.specs.declared.phase.Phase.TheVariants as phases
@@ -39,7 +39,7 @@ led phases.Tick s w h = record { room = fill_room; reach = h.reach; agrees = h.a
 led phases.Others s w h = record { room = last_room; reach = h.reach; agrees = h.agrees }
 led phase s w h = absurd h
 
-module _ (site : Stage) (device entropy : List ℕ) where
+module _ (site : DeclaredSite) (device entropy : List ℕ) where
   abbrev net : Network
   net = network_of site device entropy
 
@@ -87,17 +87,17 @@ module _ (site : Stage) (device entropy : List ℕ) where
       }
 
 -- the first lines of lines in order are in order
-pub first_in_order : (site : Stage) (phase : Phase) (lines : List Line) (count : ℕ) → AreInOrder site phase lines → AreInOrder site phase (take count lines)
+pub first_in_order : (site : DeclaredSite) (phase : Phase) (lines : List Line) (count : ℕ) → AreInOrder site phase lines → AreInOrder site phase (take count lines)
 first_in_order site phase lines zero order = tt
 first_in_order site phase [] (suc count) order = tt
 first_in_order site phase (line ∷ lines) (suc count) order = (order.0, order.1, order.2, first_in_order site order.0 lines count order.3)
 
 -- a run of the first lines of a text, or of all of them
-pub first_lines_run : (text : List ℕ) (site : Stage) (lines : List Line) (device entropy : List ℕ) (count : ℕ) (entries : List Entry) (last : Small) → meaning_of text ≡ Ok (site, lines) →
+pub first_lines_run : (text : List ℕ) (site : DeclaredSite) (lines : List Line) (device entropy : List ℕ) (count : ℕ) (entries : List Entry) (last : Small) → meaning_of text ≡ Ok (site, lines) →
     Runs (given site.nodes device entropy) first_world (take count lines) entries last → RunsOnNetwork (network_of site device entropy) (take count lines) entries (wire_octets device last.frames)
 first_lines_run text site lines device entropy count entries last means run =
     runs_on_network site device entropy (take count lines) entries last (first_in_order site phases.Bits lines count (text_order text site lines means)) run
 
-pub all_lines_run : (text : List ℕ) (site : Stage) (lines : List Line) (device entropy : List ℕ) (entries : List Entry) (last : Small) → meaning_of text ≡ Ok (site, lines) →
+pub all_lines_run : (text : List ℕ) (site : DeclaredSite) (lines : List Line) (device entropy : List ℕ) (entries : List Entry) (last : Small) → meaning_of text ≡ Ok (site, lines) →
     Runs (given site.nodes device entropy) first_world lines entries last → RunsOnNetwork (network_of site device entropy) lines entries (wire_octets device last.frames)
 all_lines_run text site lines device entropy entries last means run = runs_on_network site device entropy lines entries last (text_order text site lines means) run

@@ -6,7 +6,7 @@ use Rattle.net_model.specs.Action.{Allocate, Transmit, Allocated, Put, Ok}
 use Rattle.net_model.specs.Frames.{allocate, put, outgoing_of, transmit_one, transmit}
 use Rattle.net_model.specs.Step.{step, is_enabled, is_step}
 use Rattle.net_world.specs.World.{Owner as SmallOwner, Frame as SmallFrame}
-use Rattle.scenario_text.specs.Stage.{Stage}
+use Rattle.scenario_text.specs.DeclaredSite.{DeclaredSite}
 use Rattle.line_laws.specs.Scenario.{network_of}
 use Rattle.script_laws.proofs.Agreement.{up, owner}
 use Rattle.run_laws.proofs.Planning.{order}
@@ -19,7 +19,7 @@ pub map_same : (n j : ℕ) → map owner (replicate n (SmallFrame j)) ≡ replic
 map_same zero j = refl
 map_same (suc n) j = ap (λ (os : List Owner). Frame j ∷ os) (map_same n j)
 
-module _ (site : Stage) (device entropy : List ℕ) where
+module _ (site : DeclaredSite) (device entropy : List ℕ) where
   abbrev net : Network
   net = network_of site device entropy
 

@@ -6,12 +6,12 @@ use Rattle.net_model.specs.Journal.{is_checkpoint_due}
 use Rattle.net_model.specs.Start.{restarted, start, may_recover}
 use Rattle.net_model.specs.Step.{step, is_enabled, run, is_run, IsRun}
 use Rattle.net_world.specs.World.{first_world}
-use Rattle.scenario_text.specs.Stage.{Stage}
+use Rattle.scenario_text.specs.DeclaredSite.{DeclaredSite}
 use Rattle.line_laws.specs.Scenario.{network_of, starts, started}
 use Rattle.script_laws.proofs.Agreement.{NoKey, Agrees, IsFresh}
 use Rattle.script_laws.proofs.Taking.{IsYoung, block_room}
 
-module _ (site : Stage) (device entropy : List ℕ) where
+module _ (site : DeclaredSite) (device entropy : List ℕ) where
   pub starts_may : IsRun (network_of site device entropy) first starts
   unfolding first step start restarted is_checkpoint_due may_recover is_enabled is_run outgoing_lanes
   starts_may = refl
@@ -22,8 +22,8 @@ module _ (site : Stage) (device entropy : List ℕ) where
     up_low = refl;
     up_high = refl;
     link = refl;
-    low_blocks = refl;
-    high_blocks = refl;
+    blocks_up = refl;
+    blocks_down = refl;
     most = omega arith;
     own_up = refl;
     own_down = refl;

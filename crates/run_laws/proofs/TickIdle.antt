@@ -7,16 +7,16 @@ use Rattle.net_model.specs.declared.event.Event.TheVariants as events
 use Rattle.net_model.specs.declared.reply.Reply.{Reply}
 use Rattle.net_model.specs.Site.{outgoing_lanes}
 use Rattle.net_model.specs.World.{Network, World, planned, needs}
-use Rattle.net_model.specs.Told.{told_list, first_blocks}
+use Rattle.net_model.specs.OctetSequence.{sequence_of, first_blocks}
 use Rattle.net_model.specs.Tick.{Emission, tick_order}
 use Rattle.net_model.specs.Action.{Ask, Replies, Ok}
 use Rattle.report_text.specs.declared.item.Item.{Item}
 use Rattle.report_text.specs.declared.item.Item.TheVariants as items
 use Rattle.net_world.specs.World.{World as Small}
-use Rattle.scenario_text.specs.Stage.{Stage}
+use Rattle.scenario_text.specs.DeclaredSite.{DeclaredSite}
 use Rattle.lane_laws.proofs.Blocks.{count_blocks}
 use Rattle.line_laws.specs.Scenario.{network_of}
-use Rattle.script_laws.specs.Script.{plan_told, emissions, emitted, ticked}
+use Rattle.script_laws.specs.Script.{plan_items, emissions, emitted, ticked}
 use Rattle.script_laws.specs.AbstractRun.{Performs}
 use Rattle.script_laws.proofs.Agreement.{Reach, NoKey, HasKey, up, owner, Agrees, IsFresh}
 use Rattle.script_laws.proofs.Filling.{fill_room}
@@ -40,10 +40,10 @@ pub used_is : (room : ℕ) (reach : Reach) (s : Small) (w : World) → Agrees ro
 used_is room reach s w a fresh =
     (λ i. length (a.own_up i) + needs w.durable.facts (fresh.unclaimed i)) ∙ (let e : length (map owner s.lanes.up) + 0 ≡ length (map owner s.lanes.up) = omega arith in e) ∙ size_of_owners s.lanes.up
 
-pub got_is : (device : List ℕ) (room : ℕ) (reach : Reach) (s : Small) (w : World) → Agrees room reach s w → lane_len Up (length (first_blocks (told_list device) (w.durable.low_blocks 0))) ≡ lane_len Up s.lanes.blocks
-got_is device room reach s w a = ap (lane_len Up) (count_blocks (told_list device) (w.durable.low_blocks 0) ∙ a.low_blocks)
+pub got_is : (device : List ℕ) (room : ℕ) (reach : Reach) (s : Small) (w : World) → Agrees room reach s w → lane_len Up (length (first_blocks (sequence_of device) (w.durable.blocks up))) ≡ lane_len Up s.lanes.blocks
+got_is device room reach s w a = ap (lane_len Up) (count_blocks (sequence_of device) (w.durable.blocks up) ∙ a.blocks_up)
 
-module _ (site : Stage) (device entropy : List ℕ) (s : Small) (w : World) where
+module _ (site : DeclaredSite) (device entropy : List ℕ) (s : Small) (w : World) where
   abbrev net : Network
   net = network_of site device entropy
 
@@ -55,9 +55,9 @@ module _ (site : Stage) (device entropy : List ℕ) (s : Small) (w : World) wher
     pub agrees : Agrees last_room reach x.1 new
 
   -- a plan with no orders
-  no_orders : (reach : Reach) (reply : Reply) (told : List Item) → Agrees fill_room reach s w → IsFresh s w → Plans net w [] reply →
-      plan_told 0 (Replies reply) ≡ told → emissions net.site 0 (Replies reply) ≡ [] → Ticks (told, s)
-  no_orders reach reply told a fresh p tells none =
+  no_orders : (reach : Reach) (reply : Reply) (said : List Item) → Agrees fill_room reach s w → IsFresh s w → Plans net w [] reply →
+      plan_items 0 (Replies reply) ≡ said → emissions net.site 0 (Replies reply) ≡ [] → Ticks (said, s)
+  no_orders reach reply said a fresh p reports none =
       let next = planned_agrees site device entropy fill_room few_fill reach s w a fresh p.lease p.octets [] p.few in
       let w1 : World = planned_world w p.lease p.octets [] in
       let end = ends site device entropy last_room few_last reach s w1 next fresh.unclaimed fresh.outgoing in
@@ -66,8 +66,8 @@ module _ (site : Stage) (device entropy : List ℕ) (s : Small) (w : World) wher
       record {
         reach = reach;
         new = last;
-        performs = subst (λ (is : List Item). Performs net w (ticked net.site 0) is last) (append-nil (plan_told 0 (Replies reply)) ∙ tells)
-            (asked net w w1 last (λ x. Ask 0 events.Plan Ok) (plan_told 0) (λ out. emitted 0 (emissions net.site 0 out)) (Replies reply) [] (plan_may site device entropy w) p.goes rest);
+        performs = subst (λ (is : List Item). Performs net w (ticked net.site 0) is last) (append-nil (plan_items 0 (Replies reply)) ∙ reports)
+            (asked net w w1 last (λ x. Ask 0 events.Plan Ok) (plan_items 0) (λ out. emitted 0 (emissions net.site 0 out)) (Replies reply) [] (plan_may site device entropy w) p.goes rest);
         agrees = ended_agrees site device entropy last_room few_last reach s w1 next fresh.unclaimed fresh.outgoing;
       }
 
@@ -75,8 +75,8 @@ module _ (site : Stage) (device entropy : List ℕ) (s : Small) (w : World) wher
   pub tick_idle : Agrees fill_room NoKey s w → IsFresh s w → Ticks (items.Idle 0 ∷ [], s)
   unfolding outgoing_lanes tick_order
   tick_idle a fresh =
-      let p = plan_step site device entropy fill_room few_fill NoKey s w a fresh _ [] idle (is_lease (w.durable.lease up) (planned w up + 0) (lane_len Up (length (first_blocks (net.device 0) (w.durable.low_blocks 0)))))
-      (plan_idle site w.link_up (w.durable.closed 0) (first_blocks (net.device 0) (w.durable.low_blocks 0)) (w.durable.lease up) (planned w up) (w.recovered up) a.link) in
+      let p = plan_step site device entropy fill_room few_fill NoKey s w a fresh _ [] idle (is_lease (w.durable.lease up) (planned w up + 0) (lane_len Up (length (first_blocks (net.device 0) (w.durable.blocks up)))))
+      (plan_idle site w.link_up (w.durable.closed 0) (first_blocks (net.device 0) (w.durable.blocks up)) (w.durable.lease up) (planned w up) (w.recovered up) a.link) in
       no_orders NoKey idle (items.Idle 0 ∷ []) a fresh p refl refl
 
   -- the bytes received don't reach
@@ -86,7 +86,7 @@ module _ (site : Stage) (device entropy : List ℕ) (s : Small) (w : World) wher
   tick_short m n bytes a fresh few =
       let used = used_is fill_room (HasKey m n bytes) s w a fresh in
       let got = got_is device fill_room (HasKey m n bytes) s w a in
-      let blocks = first_blocks (net.device 0) (w.durable.low_blocks 0) in
+      let blocks = first_blocks (net.device 0) (w.durable.blocks up) in
       let test : nat_lt (lane_len Up (length blocks)) (planned w up + (26 + length bytes + 8)) ≡ true = (λ i. nat_lt (got i) (used i + (26 + length bytes + 8))) ∙ few in
       let p = plan_step site device entropy fill_room few_fill (HasKey m n bytes) s w a fresh _ [] (short (planned w up) (lane_len Up (length blocks)) bytes) (is_lease (w.durable.lease up) (planned w up + 0) (lane_len Up (length blocks)))
       (plan_short site w.link_up (w.durable.closed 0) blocks (w.durable.lease up) (planned w up) (w.recovered up) m n bytes a.link test) in

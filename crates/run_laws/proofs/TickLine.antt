@@ -7,7 +7,7 @@ use Rattle.net_model.specs.declared.fact.Fact.{Fact}
 use Rattle.net_model.specs.World.{World}
 use Rattle.net_world.specs.World.{World as Small}
 use Rattle.net_world.specs.Steps.{ticked, ticked_with}
-use Rattle.scenario_text.specs.Stage.{Stage}
+use Rattle.scenario_text.specs.DeclaredSite.{DeclaredSite}
 use Rattle.script_laws.proofs.Agreement.{Reach, NoKey, HasKey, CameKey, key, low_facts, Agrees, IsFresh, IsEarly}
 use Rattle.script_laws.proofs.Filling.{fill_room}
 use Rattle.run_laws.proofs.TickIdle.{Ticks, tick_idle, tick_short}
@@ -16,7 +16,7 @@ use Rattle.run_laws.proofs.TickSent.{tick_sent}
 next_is : (reach : Reach) (s : Small) (w : World) → Agrees fill_room reach s w → IsFresh s w → slice_get s.low_known (length s.frames) ≡ slice_get (low_facts reach) 0
 next_is reach s w a fresh = λ i. slice_get (a.small_low i) (length (fresh.none i))
 
-pub tick_line : (site : Stage) (device entropy : List ℕ) (s : Small) (w : World) (reach : Reach) → IsEarly reach → Agrees fill_room reach s w → IsFresh s w → Ticks site device entropy s w (ticked s 0)
+pub tick_line : (site : DeclaredSite) (device entropy : List ℕ) (s : Small) (w : World) (reach : Reach) → IsEarly reach → Agrees fill_room reach s w → IsFresh s w → Ticks site device entropy s w (ticked s 0)
 unfolding ticked
 tick_line site device entropy s w NoKey early a fresh =
     subst (λ (x : Option Fact). Ticks site device entropy s w (ticked_with s 0 x)) (sym (next_is NoKey s w a fresh)) (tick_idle site device entropy s w a fresh)

@@ -12,7 +12,7 @@ use Rattle.net_model.specs.declared.reply.Reply.TheVariants.{Planned}
 use Rattle.net_model.specs.Item.{DataItem, need}
 use Rattle.net_model.specs.Site.{outgoing_lanes, count_up}
 use Rattle.net_model.specs.World.{Network, World, Owner, Frame, Allocation, Outgoing, Transmission, planned}
-use Rattle.net_model.specs.Told.{first_blocks}
+use Rattle.net_model.specs.OctetSequence.{first_blocks}
 use Rattle.net_model.specs.Tick.{tick_order}
 use Rattle.net_model.specs.Frames.{without, without_frame, allocate, put}
 use Rattle.net_model.specs.Step.{step, is_step}
@@ -20,22 +20,22 @@ use Rattle.net_model.specs.Action.{Ask, Allocate, Transmit, Replies, Allocated, 
 use Rattle.report_text.specs.declared.item.Item.{Item}
 use Rattle.report_text.specs.declared.item.Item.TheVariants as items
 use Rattle.net_world.specs.World.{World as Small, Frame as SmallFrame, Claim, claimed}
-use Rattle.scenario_text.specs.Stage.{Stage}
+use Rattle.scenario_text.specs.DeclaredSite.{DeclaredSite}
 use Rattle.record_laws.proofs.Base.{eq_same, when_true}
 use Rattle.line_laws.specs.Scenario.{network_of}
-use Rattle.script_laws.specs.Script.{plan_told, put_told, untold, emissions, emitted, ticked}
+use Rattle.script_laws.specs.Script.{plan_items, put_items, no_items, emissions, emitted, ticked}
 use Rattle.script_laws.specs.AbstractRun.{Performs}
 use Rattle.script_laws.proofs.Agreement.{HasKey, up, owner, allocation, key_name, key, Agrees, IsFresh, IsSent}
 use Rattle.script_laws.proofs.Filling.{fill_room}
 use Rattle.script_laws.proofs.Performing.{asked}
-use Rattle.run_laws.proofs.Planning.{order, told_order, plan_sent}
+use Rattle.run_laws.proofs.Planning.{order, item_order, plan_sent}
 use Rattle.run_laws.proofs.Planned.{is_lease, planned_world, plan_may, plan_step, planned_agrees}
 use Rattle.run_laws.proofs.Ending.{ended, ends, ended_agrees}
 use Rattle.script_laws.proofs.Counting.{size_of_owners}
 use Rattle.run_laws.proofs.Sending.{map_both, map_same, allocate_may, allocate_step, transmit_may, transmit_step}
 use Rattle.run_laws.proofs.TickIdle.{few_fill, last_room, few_last, used_is, got_is, Ticks}
 
-module _ (site : Stage) (device entropy : List ℕ) (s : Small) (w : World) (m n : ℕ) (bytes : List ℕ) (a : Agrees fill_room (HasKey m n bytes) s w) (fresh : IsFresh s w)
+module _ (site : DeclaredSite) (device entropy : List ℕ) (s : Small) (w : World) (m n : ℕ) (bytes : List ℕ) (a : Agrees fill_room (HasKey m n bytes) s w) (fresh : IsFresh s w)
     (fits : length s.lanes.up + (26 + length bytes + 8) ≤ lane_len Up s.lanes.blocks) (lease : Lane → ℕ) (octets : ℕ) (few : octets ≤ 18) where
   abbrev net : Network
   net = network_of site device entropy
@@ -105,8 +105,8 @@ module _ (site : Stage) (device entropy : List ℕ) (s : Small) (w : World) (m n
         up_low = a.up_low;
         up_high = a.up_high;
         link = a.link;
-        low_blocks = a.low_blocks;
-        high_blocks = a.high_blocks;
+        blocks_up = a.blocks_up;
+        blocks_down = a.blocks_down;
         most = a.most;
         own_up = (λ i. a.own_up i ++ replicate (needed i) (Frame (number i))) ∙
             sym (map_both s.lanes.up (replicate (26 + length bytes + 8) (SmallFrame (length s.frames))) ∙ ap (λ (os : List Owner). map owner s.lanes.up ++ os) (map_same (26 + length bytes + 8) (length s.frames)));
@@ -141,31 +141,31 @@ module _ (site : Stage) (device entropy : List ℕ) (s : Small) (w : World) (m n
   last_agrees = ended_agrees site device entropy last_room end_room (HasKey m n bytes) after w3 sent_agrees none_left none_out
 
   abbrev reply : Reply
-  reply = Planned (told_order (planned w up) m n bytes ∷ []) [] []
+  reply = Planned (item_order (planned w up) m n bytes ∷ []) [] []
 
   -- the frame is claimed and put, and its end noted
   pub sends : Performs net w1 (emitted 0 (emissions net.site 0 (Replies reply))) (items.Sent up 0 (length (w.durable.own up)) (26 + length bytes) ∷ []) last
   unfolding outgoing_lanes tick_order
   sends =
-      asked net w1 w2 last (λ x. Allocate order) untold _ (Allocated (length (w.durable.own up))) (items.Sent up 0 (length (w.durable.own up)) (26 + length bytes) ∷ [])
+      asked net w1 w2 last (λ x. Allocate order) no_items _ (Allocated (length (w.durable.own up))) (items.Sent up 0 (length (w.durable.own up)) (26 + length bytes) ∷ [])
       (allocate_may site device entropy w1 ordered_one) (allocate_step site device entropy w1)
-      (asked net w2 w3 last (λ x. Transmit up (length (x.frames up) - 1) Ok) (put_told up (length (w.durable.own up)) (26 + length bytes)) (λ out. emitted 0 []) (Put 0) [] put_may put_step
+      (asked net w2 w3 last (λ x. Transmit up (length (x.frames up) - 1) Ok) (put_items up (length (w.durable.own up)) (26 + length bytes)) (λ out. emitted 0 []) (Put 0) [] put_may put_step
       (ends site device entropy last_room end_room (HasKey m n bytes) after w3 sent_agrees none_left none_out))
 
 -- the key goes out
-pub tick_sent : (site : Stage) (device entropy : List ℕ) (s : Small) (w : World) (m n : ℕ) (bytes : List ℕ) → Agrees fill_room (HasKey m n bytes) s w → IsFresh s w →
+pub tick_sent : (site : DeclaredSite) (device entropy : List ℕ) (s : Small) (w : World) (m n : ℕ) (bytes : List ℕ) → Agrees fill_room (HasKey m n bytes) s w → IsFresh s w →
     nat_lt (lane_len Up s.lanes.blocks) (length s.lanes.up + (26 + length bytes + 8)) ≡ false →
     Ticks site device entropy s w (items.Ticked 0 1 0 ∷ items.Sent up (length s.frames) (length s.lanes.up) (26 + length bytes) ∷ [], claimed s (key m n bytes))
 tick_sent site device entropy s w m n bytes a fresh enough =
     let net : Network = network_of site device entropy in
     let used = used_is fill_room (HasKey m n bytes) s w a fresh in
     let got = got_is device fill_room (HasKey m n bytes) s w a in
-    let blocks : List (List ℕ) = first_blocks (net.device 0) (w.durable.low_blocks 0) in
+    let blocks : List (List ℕ) = first_blocks (net.device 0) (w.durable.blocks up) in
     let test : nat_lt (lane_len Up (length blocks)) (planned w up + (26 + length bytes + 8)) ≡ false = (λ i. nat_lt (got i) (used i + (26 + length bytes + 8))) ∙ enough in
     let fits : length s.lanes.up + (26 + length bytes + 8) ≤ lane_len Up s.lanes.blocks = ltb-false (lane_len Up s.lanes.blocks) (length s.lanes.up + (26 + length bytes + 8)) enough in
     let size : length (w.durable.own up) ≡ length s.lanes.up = ap (λ (os : List Owner). length os) a.own_up ∙ size_of_owners s.lanes.up in
     let number : 0 ≡ length s.frames = sym (ap (λ (cs : List Claim). length cs) fresh.none) in
-    let p = plan_step site device entropy fill_room few_fill (HasKey m n bytes) s w a fresh _ (order ∷ []) (Planned (told_order (planned w up) m n bytes ∷ []) [] [])
+    let p = plan_step site device entropy fill_room few_fill (HasKey m n bytes) s w a fresh _ (order ∷ []) (Planned (item_order (planned w up) m n bytes ∷ []) [] [])
     (is_lease (w.durable.lease up) (planned w up + (26 + length bytes + 8 + 0)) (lane_len Up (length blocks)))
     (plan_sent site w.link_up (w.durable.closed 0) blocks (w.durable.lease up) (planned w up) (w.recovered up) m n bytes a.link test) in
     let end : World = last site device entropy s w m n bytes a fresh fits p.lease p.octets p.few in
@@ -174,8 +174,8 @@ tick_sent site device entropy s w m n bytes a fresh enough =
       new = end;
       performs = subst (λ (is : List Item). Performs net w (ticked net.site 0) is end)
           (λ i. items.Ticked 0 1 0 ∷ items.Sent up (number i) (size i) (26 + length bytes) ∷ [])
-          (asked net w (w1 site device entropy s w m n bytes a fresh fits p.lease p.octets p.few) end (λ x. Ask 0 events.Plan Ok) (plan_told 0) (λ out. emitted 0 (emissions net.site 0 out))
-          (Replies (Planned (told_order (planned w up) m n bytes ∷ []) [] [])) (items.Sent up 0 (length (w.durable.own up)) (26 + length bytes) ∷ [])
+          (asked net w (w1 site device entropy s w m n bytes a fresh fits p.lease p.octets p.few) end (λ x. Ask 0 events.Plan Ok) (plan_items 0) (λ out. emitted 0 (emissions net.site 0 out))
+          (Replies (Planned (item_order (planned w up) m n bytes ∷ []) [] [])) (items.Sent up 0 (length (w.durable.own up)) (26 + length bytes) ∷ [])
           (plan_may site device entropy w) p.goes (sends site device entropy s w m n bytes a fresh fits p.lease p.octets p.few));
       agrees = last_agrees site device entropy s w m n bytes a fresh fits p.lease p.octets p.few;
     }

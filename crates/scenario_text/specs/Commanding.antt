@@ -14,7 +14,7 @@ use Rattle.scenario_text.specs.declared.line.Taken.TheVariants.{Does, Ends}
 use Rattle.scenario_text.specs.KeySize.{is_size}
 use Rattle.scenario_text.specs.Words.{◌>>=◌, word_at, is_end, number_of}
 use Rattle.scenario_text.specs.Phase.{after_bits, after_fill, after_tick, after_other}
-use Rattle.scenario_text.specs.Stage.{Stage, place_of, sae_of}
+use Rattle.scenario_text.specs.DeclaredSite.{DeclaredSite, place_of, sae_of}
 
 abbrev pub way_of : List ℕ → Option Way
 way_of word = if bytes_eq word (codes "up") then Some Up else if bytes_eq word (codes "down") then Some Down else None
@@ -27,7 +27,7 @@ name_of word = do
   if bytes_eq word (hyphenated_text lower (octets_of n)) then Some n else None
 
 -- `bits 0 both COUNT`, from 2 to 1,024 blocks
-unfoldable pub bits_at : Stage → List ℕ → Option (Stage × Taken)
+unfoldable pub bits_at : DeclaredSite → List ℕ → Option (DeclaredSite × Taken)
 bits_at s rest = do
   link ← word_at rest
   ends ← word_at link.1
@@ -45,7 +45,7 @@ sae_at_home id saes home = do
   if sae.1 == home then Some sae.0 else None
 
 -- `fill ID ID BITS 1`, of the allowed pair: the master is at home at the lower node
-unfoldable pub fill_at : Stage → List ℕ → Option (Stage × Taken)
+unfoldable pub fill_at : DeclaredSite → List ℕ → Option (DeclaredSite × Taken)
 fill_at s rest = do
   master ← word_at rest
   slave ← word_at master.1
@@ -60,7 +60,7 @@ fill_at s rest = do
       then Some (record s { phase = phase }, Does (Fill m n bits)) else None
 
 -- `tick NAME`, of the lower node
-unfoldable pub tick_at : Stage → List ℕ → Option (Stage × Taken)
+unfoldable pub tick_at : DeclaredSite → List ℕ → Option (DeclaredSite × Taken)
 tick_at s rest = do
   node ← word_at rest
   v ← place_of node.0 s.nodes
@@ -68,7 +68,7 @@ tick_at s rest = do
   if is_end node.1 && v == 0 then Some (record s { phase = phase }, Does (Tick v)) else None
 
 -- `pass 0 up 0`
-unfoldable pub pass_at : Stage → List ℕ → Option (Stage × Taken)
+unfoldable pub pass_at : DeclaredSite → List ℕ → Option (DeclaredSite × Taken)
 pass_at s rest = do
   link ← word_at rest
   way ← word_at link.1
@@ -80,7 +80,7 @@ pass_at s rest = do
       then Some (record s { phase = phase }, Does (Pass l Up n)) else None
 
 -- `show NAME KEY`
-unfoldable pub show_at : Stage → List ℕ → Option (Stage × Taken)
+unfoldable pub show_at : DeclaredSite → List ℕ → Option (DeclaredSite × Taken)
 show_at s rest = do
   node ← word_at rest
   key ← word_at node.1
@@ -90,7 +90,7 @@ show_at s rest = do
   if is_end key.1 then Some (record s { phase = phase }, Does (Show v n)) else None
 
 -- `ledger 0 WAY`
-unfoldable pub ledger_at : Stage → List ℕ → Option (Stage × Taken)
+unfoldable pub ledger_at : DeclaredSite → List ℕ → Option (DeclaredSite × Taken)
 ledger_at s rest = do
   link ← word_at rest
   way ← word_at link.1
@@ -100,7 +100,7 @@ ledger_at s rest = do
   if is_end way.1 && l == 0 then Some (record s { phase = phase }, Does (Ledger (record { link = l; way = w }))) else None
 
 -- `end`
-unfoldable pub end_at : Stage → List ℕ → Option (Stage × Taken)
+unfoldable pub end_at : DeclaredSite → List ℕ → Option (DeclaredSite × Taken)
 end_at s rest = do
   phase ← after_other s.phase
   if is_end rest then Some (s, Ends) else None

@@ -1,7 +1,7 @@
 pub mod Words
 pub mod KeySize
 pub mod Phase
-pub mod Stage
+pub mod DeclaredSite
 pub mod Gives
 pub mod Declaring
 pub mod Commanding

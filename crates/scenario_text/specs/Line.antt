@@ -6,12 +6,12 @@ use lib.Chars.{codes}
 use Rattle.scenario_text.specs.declared.line.Taken.{Taken}
 use Rattle.scenario_text.specs.declared.line.Taken.TheVariants.{Skipped}
 use Rattle.scenario_text.specs.Words.{◌>>=◌, word_at, is_blank, is_space}
-use Rattle.scenario_text.specs.Stage.{Stage}
+use Rattle.scenario_text.specs.DeclaredSite.{DeclaredSite}
 use Rattle.scenario_text.specs.Declaring.{node_at, link_at, sae_at, allow_at}
 use Rattle.scenario_text.specs.Commanding.{bits_at, fill_at, tick_at, pass_at, show_at, ledger_at, end_at}
 
 -- a line that begins with this word
-unfoldable pub declaration_at : Stage → List ℕ → List ℕ → Option (Stage × Taken)
+unfoldable pub declaration_at : DeclaredSite → List ℕ → List ℕ → Option (DeclaredSite × Taken)
 declaration_at s word rest =
     if bytes_eq word (codes "node") then node_at s rest
     else if bytes_eq word (codes "link") then link_at s rest
@@ -19,7 +19,7 @@ declaration_at s word rest =
     else if bytes_eq word (codes "allow") then allow_at s rest
     else None
 
-unfoldable pub command_at : Stage → List ℕ → List ℕ → Option (Stage × Taken)
+unfoldable pub command_at : DeclaredSite → List ℕ → List ℕ → Option (DeclaredSite × Taken)
 command_at s word rest =
     if bytes_eq word (codes "bits") then bits_at s rest
     else if bytes_eq word (codes "fill") then fill_at s rest
@@ -42,7 +42,7 @@ begins_blank [] = false
 begins_blank (b ∷ bs) = is_space b
 
 -- Spaces separate words, and stand neither before the first nor after the last one.
-unfoldable pub line_at : Stage → List ℕ → Option (Stage × Taken)
+unfoldable pub line_at : DeclaredSite → List ℕ → Option (DeclaredSite × Taken)
 line_at s line =
     if not (list_all is_printable line) then None
     else if is_blank line || is_comment line then Some (s, Skipped)

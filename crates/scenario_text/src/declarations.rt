@@ -1,7 +1,7 @@
 // What the lines so far have declared.
 ghost use Rattle.std.specs.Prelude.{◌≡◌, ◌<◌, ◌==◌, not, length, IfSome};
 ghost use Rattle.std.specs.List.{list_all};
-ghost use Rattle.scenario_text.specs.Stage.{place_of, sae_of};
+ghost use Rattle.scenario_text.specs.DeclaredSite.{place_of, sae_of};
 
 use crate::phase::Phase;
 use crate::words::{is_name, text_of};
@@ -27,9 +27,9 @@ pub struct Declarations {
 
 impl Model for Declarations {
     ghost use Rattle.std.specs.Prelude.{◌≤◌, length};
-    ghost use Rattle.scenario_text.specs.Stage.{Stage};
+    ghost use Rattle.scenario_text.specs.DeclaredSite.{DeclaredSite};
 
-    ghost Value = { Stage };
+    ghost Value = { DeclaredSite };
 
     ghost view = { λ d. record { phase = d.phase; nodes = d.nodes; saes = d.saes } };
 
@@ -76,13 +76,13 @@ fn lives_elsewhere(home: NodeNo, saes: &[Sae]) -> bool
 
 impl Declarations {
     ghost use Rattle.std.specs.Prelude.{◌≡◌, ◌==◌, ◌<◌, ◌++◌, ◌∷◌, ◌&&◌, [], true, length, nat_lt, is_none, OnOk, OnErr};
-    ghost use Rattle.scenario_text.specs.Stage.{first_stage, place_of, sae_of};
+    ghost use Rattle.scenario_text.specs.DeclaredSite.{nothing_declared, place_of, sae_of};
     ghost use Rattle.scenario_text.specs.Words.{is_name};
     ghost use Rattle.scenario_text.specs.Declaring.{is_new_sae};
 
     /// Nothing was declared.
     pub fn new(alloc: Global) -> Self
-        ensures { result ≡ first_stage }
+        ensures { result ≡ nothing_declared }
     {
         Declarations {
             alloc,

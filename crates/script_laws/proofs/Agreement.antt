@@ -103,8 +103,8 @@ pub record Agrees (room : ℕ) (reach : Reach) (s : Small) (w : World) : Type 0 
   pub up_low : w.up 0 ≡ true
   pub up_high : w.up 1 ≡ true
   pub link : w.link_up 0 ≡ true
-  pub low_blocks : w.durable.low_blocks 0 ≡ s.lanes.blocks
-  pub high_blocks : w.durable.high_blocks 0 ≡ s.lanes.blocks
+  pub blocks_up : w.durable.blocks up ≡ s.lanes.blocks
+  pub blocks_down : w.durable.blocks down ≡ s.lanes.blocks
   pub most : s.lanes.blocks ≤ 1024
   pub own_up : w.durable.own up ≡ map owner s.lanes.up
   pub own_down : w.durable.own down ≡ map owner s.lanes.down

@@ -9,14 +9,14 @@ use Rattle.qkd_base.specs.declared.lane.Way.TheVariants.{Up, Down}
 use Rattle.net_model.specs.World.{Network, World, Owner}
 use Rattle.net_model.specs.Ledger.{ledger, is_spent, is_burnt}
 use Rattle.report_text.specs.declared.item.Item.TheVariants as items
-use Rattle.report_text.specs.declared.counts.Counts.{Counts}
+use Rattle.net_model.specs.declared.counts.Counts4.{Counts4}
 use Rattle.net_world.specs.World.{World as Small, Owner as SmallOwner, HashKey as SmallHashKey, Frame as SmallFrame, Burnt as SmallBurnt, own, counts_of, is_spent as small_spent, is_burnt as small_burnt}
 use Rattle.scenario_text.specs.declared.command.Command.TheVariants.{Ledger}
 use Rattle.net_model.specs.Site.{lane_of}
-use Rattle.script_laws.specs.Script.{counts_told, script_of}
+use Rattle.script_laws.specs.Script.{script_of}
 use Rattle.script_laws.specs.AbstractRun.{Performs}
 use Rattle.script_laws.proofs.Agreement.{Reach, Agrees, owner}
-use Rattle.script_laws.proofs.Performing.{tells_now}
+use Rattle.script_laws.proofs.Performing.{reports_now}
 
 pub size_of_owners : (os : List SmallOwner) → length (map owner os) ≡ length os
 size_of_owners [] = refl
@@ -49,10 +49,10 @@ owned room reach s w a Down = a.own_down
 got : (room : ℕ) (reach : Reach) (s : Small) (w : World) → Agrees room reach s w → (way : Way) →
     (ledger w (lane_of 0 way)).received ≡ lane_len way s.lanes.blocks
 unfolding ledger
-got room reach s w a Up = ap (lane_len Up) a.low_blocks
-got room reach s w a Down = ap (lane_len Down) a.high_blocks
+got room reach s w a Up = ap (lane_len Up) a.blocks_up
+got room reach s w a Down = ap (lane_len Down) a.blocks_down
 
-pub counts_agree : (room : ℕ) (reach : Reach) (s : Small) (w : World) → Agrees room reach s w → (way : Way) → counts_told (ledger w (lane_of 0 way)) ≡ counts_of s.lanes way
+pub counts_agree : (room : ℕ) (reach : Reach) (s : Small) (w : World) → Agrees room reach s w → (way : Way) → ledger w (lane_of 0 way) ≡ counts_of s.lanes way
 unfolding ledger counts_of
 counts_agree room reach s w a way =
     let g = got room reach s w a way in
@@ -66,5 +66,5 @@ pub ledger_line : (net : Network) (room : ℕ) (reach : Reach) (s : Small) (w : 
     Performs net w (script_of net.site (Ledger lane)) (items.Counted lane (counts_of s.lanes lane.way) ∷ []) w
 ledger_line net room reach s w a lane e =
     let same : lane ≡ lane_of 0 lane.way = λ i. record { link = e i; way = lane.way } in
-    let counts : counts_told (ledger w lane) ≡ counts_of s.lanes lane.way = ap (λ (l : Lane). counts_told (ledger w l)) same ∙ counts_agree room reach s w a lane.way in
-    subst (λ (c : Counts). Performs net w (script_of net.site (Ledger lane)) (items.Counted lane c ∷ []) w) counts (tells_now net w (λ x. items.Counted lane (counts_told (ledger x lane)) ∷ []))
+    let counts : ledger w lane ≡ counts_of s.lanes lane.way = ap (λ (l : Lane). ledger w l) same ∙ counts_agree room reach s w a lane.way in
+    subst (λ (c : Counts4). Performs net w (script_of net.site (Ledger lane)) (items.Counted lane c ∷ []) w) counts (reports_now net w (λ x. items.Counted lane (ledger x lane) ∷ []))

@@ -12,7 +12,7 @@ use Rattle.net_model.specs.Events.{is_valid_event}
 use Rattle.net_model.specs.Table.{learned}
 use Rattle.net_model.specs.Site.{outgoing_lanes}
 use Rattle.net_model.specs.Routes.{walks, route_from, route}
-use Rattle.net_model.specs.Told.{octets_from, told_list, tells}
+use Rattle.net_model.specs.OctetSequence.{octets_from, sequence_of, has_octets}
 use Rattle.net_model.specs.Journal.{added_len, body_len, spelled_after, journal_limit}
 use Rattle.net_model.specs.World.{Network, World, Volatile}
 use Rattle.net_model.specs.View.{Port}
@@ -29,12 +29,12 @@ use Rattle.report_text.specs.declared.item.Item.{Item}
 use Rattle.report_text.specs.declared.item.Item.TheVariants as items
 use Rattle.net_world.specs.World.{World as Small, Claim}
 use Rattle.net_world.specs.Steps.{next_name, new_key, filled, after_fill}
-use Rattle.scenario_text.specs.Stage.{Stage}
+use Rattle.scenario_text.specs.DeclaredSite.{DeclaredSite}
 use Rattle.scenario_text.specs.KeySize.{is_size}
 use Rattle.scenario_text.specs.declared.command.Command.TheVariants.{Fill}
 use Rattle.record_laws.proofs.Base.{and_both, and_left, and_right}
 use Rattle.line_laws.specs.Scenario.{network_of, site_of, home_of}
-use Rattle.script_laws.specs.Script.{Ends, asks, fill_told, script_of}
+use Rattle.script_laws.specs.Script.{Ends, asks, fill_items, script_of}
 use Rattle.script_laws.specs.AbstractRun.{Performs}
 use Rattle.script_laws.proofs.Agreement.{Reach, NoKey, HasKey, key_name, key, Agrees, IsFresh, IsSent, IsEarly}
 use Rattle.script_laws.proofs.Performing.{done, asked, takes_place}
@@ -43,7 +43,7 @@ use Rattle.record_laws.proofs.Octets.{length-octets_from}
 use Rattle.script_laws.proofs.Telling.{told_octets}
 
 -- the route over the one link
-pub one_way : (site : Stage) (up : ℕ → Bool) → up 0 ≡ true → route (site_of site) up 0 1 ≡ Some (0 ∷ 1 ∷ [])
+pub one_way : (site : DeclaredSite) (up : ℕ → Bool) → up 0 ≡ true → route (site_of site) up 0 1 ≡ Some (0 ∷ 1 ∷ [])
 unfolding route route_from walks
 one_way site up e = rw e refl
 
@@ -55,7 +55,7 @@ abbrev pub making : Volatile → ℕ → ℕ → List ℕ → Effect
 making volatile master slave bytes =
     record { batch = Learned (key master slave bytes) ∷ []; volatile = volatile; orders = []; repeats = []; reply = MadeKeys 1 key_name }
 
-decides : (site : Stage) (device entropy : List ℕ) (up : ℕ → Bool) (closed : List (Name × ℕ)) (ports : List Port) (volatile : Volatile) (random : List ℕ) (master slave bits : ℕ) →
+decides : (site : DeclaredSite) (device entropy : List ℕ) (up : ℕ → Bool) (closed : List (Name × ℕ)) (ports : List Port) (volatile : Volatile) (random : List ℕ) (master slave bits : ℕ) →
     up 0 ≡ true → home_of site.saes master ≡ 0 → home_of site.saes slave ≡ 1 →
     decide (site_of site) (network_of site device entropy).sealing up (seen 0 [] closed ports volatile) random (events.Fill master slave bits 1) ≡ Does (making volatile master slave (take (bits / 8) random))
 unfolding decide fill masked unhanded last_count
@@ -66,7 +66,7 @@ decides site device entropy up closed ports volatile random master slave bits is
 -- the entropy tells too few octets
 pub no_random : (net : Network) (w : World) (v octets : ℕ) (effect : Effect) → list_all is_numbered effect.batch ≡ true →
     (w.journal v).length' + added_len (w.journal v).version effect.batch ≤ journal_limit →
-    (nat_lt 0 octets && (not (tells (net.entropy v) (w.drawn v + octets)) || false)) ≡ true →
+    (nat_lt 0 octets && (not (has_octets (net.entropy v) (w.drawn v + octets)) || false)) ≡ true →
     perform net w v octets Ok effect ≡ (w, Replies NoRandom)
 unfolding perform
 no_random net w v octets effect numbered room drawn =
@@ -82,8 +82,8 @@ more_room room more reach s w h a = record {
   up_low = a.up_low;
   up_high = a.up_high;
   link = a.link;
-  low_blocks = a.low_blocks;
-  high_blocks = a.high_blocks;
+  blocks_up = a.blocks_up;
+  blocks_down = a.blocks_down;
   most = a.most;
   own_up = a.own_up;
   own_down = a.own_down;
@@ -114,7 +114,7 @@ octets_size bits h =
     let high : bits ≤ 4096 = leb-true bits 4096 (and_right (nat_le 64 bits) (nat_le bits 4096) both) in
     (omega arith, omega arith)
 
-module _ (site : Stage) (device entropy : List ℕ) (room : ℕ) (few : room + 600 ≤ fill_room) (s : Small) (w : World) (a : Agrees room NoKey s w) (fresh : IsFresh s w)
+module _ (site : DeclaredSite) (device entropy : List ℕ) (room : ℕ) (few : room + 600 ≤ fill_room) (s : Small) (w : World) (a : Agrees room NoKey s w) (fresh : IsFresh s w)
     (master slave bits : ℕ) (m : home_of site.saes master ≡ 0) (n : home_of site.saes slave ≡ 1) (size : is_size bits ≡ true) where
   abbrev net : Network
   net = network_of site device entropy
@@ -123,19 +123,19 @@ module _ (site : Stage) (device entropy : List ℕ) (room : ℕ) (few : room + 6
   octets = (bits / 8) * 1
 
   abbrev drawn_bytes : List ℕ
-  drawn_bytes = take (bits / 8) (octets_from (told_list entropy).octet (w.drawn 0) octets)
+  drawn_bytes = take (bits / 8) (octets_from (sequence_of entropy).octet (w.drawn 0) octets)
 
   same_octets : octets ≡ bits / 8
   same_octets = omega arith
 
   fill_asked : step net w (Ask 0 (events.Fill master slave bits 1) Ok) ≡ perform net w 0 octets Ok (making (w.volatile 0) master slave drawn_bytes)
   unfolding step handle random_need
-  fill_asked = rw (a.up_low, view_low site device entropy room NoKey s w a, decides site device entropy w.link_up (w.durable.closed 0) (map (port_at net w) (outgoing_lanes net.site 0)) (w.volatile 0) (octets_from (told_list entropy).octet (w.drawn 0) octets) master slave bits a.link m n) refl
+  fill_asked = rw (a.up_low, view_low site device entropy room NoKey s w a, decides site device entropy w.link_up (w.durable.closed 0) (map (port_at net w) (outgoing_lanes net.site 0)) (w.volatile 0) (octets_from (sequence_of entropy).octet (w.drawn 0) octets) master slave bits a.link m n) refl
 
   drawn_size : length drawn_bytes ≡ bits / 8
   drawn_size =
-      let all : length (octets_from (told_list entropy).octet (w.drawn 0) octets) ≡ octets = length-octets_from (told_list entropy).octet (w.drawn 0) octets in
-      length-take-le (bits / 8) (octets_from (told_list entropy).octet (w.drawn 0) octets) (omega arith)
+      let all : length (octets_from (sequence_of entropy).octet (w.drawn 0) octets) ≡ octets = length-octets_from (sequence_of entropy).octet (w.drawn 0) octets in
+      length-take-le (bits / 8) (octets_from (sequence_of entropy).octet (w.drawn 0) octets) (omega arith)
 
   fill_fits : (w.journal 0).length' + added_len (w.journal 0).version (making (w.volatile 0) master slave drawn_bytes).batch ≤ journal_limit
   fill_fits =
@@ -158,10 +158,10 @@ module _ (site : Stage) (device entropy : List ℕ) (room : ℕ) (few : room + 6
   pos : nat_lt 0 octets ≡ true
   pos = let bounds = octets_size bits size in lt-ltb 0 octets (omega (arith, bounds.0))
 
-  performed : (new : World) (out : Outcome) → step net w (Ask 0 (events.Fill master slave bits 1) Ok) ≡ (new, out) → Performs net w (script_of net.site (Fill master slave bits)) (fill_told out ++ []) new
+  performed : (new : World) (out : Outcome) → step net w (Ask 0 (events.Fill master slave bits 1) Ok) ≡ (new, out) → Performs net w (script_of net.site (Fill master slave bits)) (fill_items out ++ []) new
   performed new out e =
-      subst (λ (v : ℕ). Performs net w (asks (Ask v (events.Fill master slave bits 1) Ok) fill_told) (fill_told out ++ []) new) (sym m)
-      (asked net w new new (λ x. Ask 0 (events.Fill master slave bits 1) Ok) fill_told (λ o. Ends) out [] may e (done net new))
+      subst (λ (v : ℕ). Performs net w (asks (Ask v (events.Fill master slave bits 1) Ok) fill_items) (fill_items out ++ []) new) (sym m)
+      (asked net w new new (λ x. Ask 0 (events.Fill master slave bits 1) Ok) fill_items (λ o. Ends) out [] may e (done net new))
 
   no_octets : nat_lt (length entropy) (s.drawn + bits / 8) ≡ true → Filled (items.NoRandom ∷ [], record s { low_known = s.low_known; drawn = s.drawn })
   no_octets lack =
@@ -185,8 +185,8 @@ module _ (site : Stage) (device entropy : List ℕ) (room : ℕ) (few : room + 6
   -- the octets that were drawn are the next ones of the list
   drawn_are : s.drawn + bits / 8 ≤ length entropy → drawn_bytes ≡ bytes
   drawn_are reach =
-      ap (λ (k : ℕ). take (bits / 8) (octets_from (told_list entropy).octet (w.drawn 0) k)) same_octets ∙
-      ap (λ (k : ℕ). take (bits / 8) (octets_from (told_list entropy).octet k (bits / 8))) a.drawn ∙
+      ap (λ (k : ℕ). take (bits / 8) (octets_from (sequence_of entropy).octet (w.drawn 0) k)) same_octets ∙
+      ap (λ (k : ℕ). take (bits / 8) (octets_from (sequence_of entropy).octet k (bits / 8))) a.drawn ∙
       ap (take (bits / 8)) (told_octets entropy s.drawn (bits / 8) reach) ∙
       take-take (bits / 8) (bits / 8) (drop s.drawn entropy) (omega arith)
 
@@ -202,8 +202,8 @@ module _ (site : Stage) (device entropy : List ℕ) (room : ℕ) (few : room + 6
         up_low = a.up_low;
         up_high = a.up_high;
         link = a.link;
-        low_blocks = a.low_blocks;
-        high_blocks = a.high_blocks;
+        blocks_up = a.blocks_up;
+        blocks_down = a.blocks_down;
         most = a.most;
         own_up = a.own_up;
         own_down = a.own_down;

@@ -7,7 +7,7 @@ use Rattle.qkd_base.specs.declared.lane.Way.TheVariants.{Up, Down}
 use Rattle.net_model.specs.declared.record.Record.TheVariants.{Block}
 use Rattle.net_model.specs.World.{Owner}
 use Rattle.net_model.specs.Records.{keyed_own}
-use Rattle.net_model.specs.Told.{Told, block_at}
+use Rattle.net_model.specs.OctetSequence.{OctetSequence, block_at}
 use Rattle.net_model.specs.Journal.{spelled_after, body_len, added_len}
 use Rattle.net_world.specs.World.{Owner as SmallOwner, hash_key}
 use Rattle.script_laws.proofs.Agreement.{owner}
@@ -34,7 +34,7 @@ keyed_down (suc (suc k)) own small e =
     let other : (suc (suc k) == 1) ≡ false = ne_eqb (suc (suc k)) 1 (λ e2. omega arith) in
     rw (some_down k, other) e
 
-pub block_added : (version n : ℕ) (t : Told) → version ≡ 2 → added_len version (Block 0 n (block_at t n) ∷ []) ≡ 1037
+pub block_added : (version n : ℕ) (t : OctetSequence) → version ≡ 2 → added_len version (Block 0 n (block_at t n) ∷ []) ≡ 1037
 unfolding body_len spelled_after
 block_added version n t e =
     let size : length (block_at t n) ≡ 1024 = length-octets_from t.octet (1024 * n) 1024 in

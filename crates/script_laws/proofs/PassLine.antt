@@ -13,11 +13,11 @@ use Rattle.net_model.specs.Step.{step}
 use Rattle.report_text.specs.declared.item.Item.{Item}
 use Rattle.report_text.specs.declared.item.Item.TheVariants as items
 use Rattle.net_world.specs.World.{World as Small, Claim}
-use Rattle.net_world.specs.Steps.{passed, handed, learnt, one}
-use Rattle.scenario_text.specs.Stage.{Stage}
+use Rattle.net_world.specs.Steps.{passed, passed_claim, learnt, one}
+use Rattle.scenario_text.specs.DeclaredSite.{DeclaredSite}
 use Rattle.scenario_text.specs.declared.command.Command.TheVariants.{Pass}
 use Rattle.line_laws.specs.Scenario.{network_of}
-use Rattle.script_laws.specs.Script.{Ends, pass_told, script_of}
+use Rattle.script_laws.specs.Script.{Ends, pass_items, script_of}
 use Rattle.script_laws.specs.AbstractRun.{Performs}
 use Rattle.script_laws.proofs.Agreement.{Reach, NoKey, HasKey, CameKey, key_name, key, up, Agrees, IsSent}
 use Rattle.script_laws.proofs.Performing.{done, asked}
@@ -32,7 +32,7 @@ knew : (known : List Fact) (m n : ℕ) (bytes : List ℕ) (fact : Fact) → know
 unfolding learnt
 knew known m n bytes fact k f = λ i. learnt (k i) 0 (f i)
 
-module _ (site : Stage) (device entropy : List ℕ) (room : ℕ) (s : Small) (w : World) where
+module _ (site : DeclaredSite) (device entropy : List ℕ) (room : ℕ) (s : Small) (w : World) where
   abbrev net : Network
   net = network_of site device entropy
 
@@ -43,10 +43,10 @@ module _ (site : Stage) (device entropy : List ℕ) (room : ℕ) (s : Small) (w 
     pub performs : Performs net w (script_of net.site (Pass 0 Up 0)) x.0 new
     pub agrees : Agrees room reach x.1 new
 
-  performed : (new : World) (out : Outcome) → step net w (Deliver up 0 Ok) ≡ (new, out) → Performs net w (script_of net.site (Pass 0 Up 0)) (pass_told up 0 out ++ []) new
-  performed new out e = asked net w new new (λ x. Deliver up 0 Ok) (pass_told up 0) (λ o. Ends) out [] (may site device entropy w) e (done net new)
+  performed : (new : World) (out : Outcome) → step net w (Deliver up 0 Ok) ≡ (new, out) → Performs net w (script_of net.site (Pass 0 Up 0)) (pass_items up 0 out ++ []) new
+  performed new out e = asked net w new new (λ x. Deliver up 0 Ok) (pass_items up 0) (λ o. Ends) out [] (may site device entropy w) e (done net new)
 
-  passes : (reach : Reach) (cs : List Claim) → s.frames ≡ cs → IsSent reach s.lanes.blocks cs → Agrees room reach s w → Passes (one (handed s 0 (slice_get cs 0)))
+  passes : (reach : Reach) (cs : List Claim) → s.frames ≡ cs → IsSent reach s.lanes.blocks cs → Agrees room reach s w → Passes (one (passed_claim s 0 (slice_get cs 0)))
   passes reach [] is sent a = record {
     reach = reach;
     new = w;

@@ -6,7 +6,7 @@ use Rattle.qkd_base.specs.Name.{Name}
 use Rattle.qkd_base.specs.LaneBytes.{lane_len}
 use Rattle.qkd_base.specs.declared.lane.Way.TheVariants.{Up}
 use Rattle.net_model.specs.declared.fact.Fact.{Fact}
-use Rattle.net_model.specs.declared.payload.Payload.TheVariants.{Told}
+use Rattle.net_model.specs.declared.payload.Payload.TheVariants.{Data}
 use Rattle.net_model.specs.declared.record.Record.TheVariants.{Learned}
 use Rattle.net_model.specs.declared.reply.Reply.TheVariants.{HeardFact}
 use Rattle.net_model.specs.Facts.{fact_len}
@@ -26,10 +26,10 @@ use Rattle.net_model.specs.Frames.{deliver_frame, deliver_number, deliver}
 use Rattle.net_model.specs.Handle.{commit, perform}
 use Rattle.net_model.specs.Step.{step, is_enabled, is_step}
 use Rattle.net_world.specs.World.{World as Small, Claim, need}
-use Rattle.scenario_text.specs.Stage.{Stage}
+use Rattle.scenario_text.specs.DeclaredSite.{DeclaredSite}
 use Rattle.lane_laws.proofs.Blocks.{lane_small}
 use Rattle.line_laws.specs.Scenario.{network_of}
-use Rattle.script_laws.proofs.Agreement.{HasKey, CameKey, key_name, note_name, key, note, up, allocation, Agrees, IsSent}
+use Rattle.script_laws.proofs.Agreement.{HasKey, CameKey, key_name, note_name, key, note, up, allocation, Agrees, IsSent, down}
 use Rattle.script_laws.proofs.Performing.{takes_place}
 use Rattle.script_laws.proofs.Showing.{seen, view_high}
 
@@ -51,12 +51,12 @@ abbrev pub has_it_already : Volatile → ℕ → Effect
 has_it_already volatile offset = record { batch = []; volatile = acknowledge volatile up offset key_name; orders = []; repeats = []; reply = HeardFact false 1 key_name }
 
 receives : (site : Site) (closed : List (Name × ℕ)) (ports : List Port) (volatile : Volatile) (offset m s : ℕ) (bytes : List ℕ) →
-    receive site (seen 1 [] closed ports volatile) up offset (Told (key m s bytes)) ≡ takes_key volatile offset m s bytes
+    receive site (seen 1 [] closed ports volatile) up offset (Data (key m s bytes)) ≡ takes_key volatile offset m s bytes
 unfolding receive_fact masked last_count
 receives site closed ports volatile offset m s bytes = refl
 
 receives_again : (site : Site) (closed : List (Name × ℕ)) (ports : List Port) (volatile : Volatile) (offset m s : ℕ) (bytes : List ℕ) →
-    receive site (seen 1 (key m s bytes ∷ note ∷ []) closed ports volatile) up offset (Told (key m s bytes)) ≡ has_it_already volatile offset
+    receive site (seen 1 (key m s bytes ∷ note ∷ []) closed ports volatile) up offset (Data (key m s bytes)) ≡ has_it_already volatile offset
 unfolding receive_fact masked is_needed
 receives_again site closed ports volatile offset m s bytes = refl
 
@@ -64,7 +64,7 @@ came_added : (version m s : ℕ) (bytes : List ℕ) → version ≡ 2 → added_
 unfolding body_len spelled_after
 came_added version m s bytes e = ap (λ (v : ℕ). added_len v (Learned (key m s bytes) ∷ Learned note ∷ [])) e ∙ omega arith
 
-module _ (site : Stage) (device entropy : List ℕ) where
+module _ (site : DeclaredSite) (device entropy : List ℕ) where
   abbrev net : Network
   net = network_of site device entropy
 
@@ -73,8 +73,8 @@ module _ (site : Stage) (device entropy : List ℕ) where
   nothing_there w wire = ap (λ (ns : List ℕ). deliver_number net w up Ok (slice_get ns 0)) wire ∙ ap (λ (ns : List ℕ). (w, NoFrame (length ns))) wire
 
   comes : (w : World) (rest : List Fact) (offset m s : ℕ) (bytes : List ℕ) → w.wire up ≡ 0 ∷ [] → w.frames up ≡ placed offset ∷ [] → w.up 1 ≡ true →
-      w.durable.facts ≡ key m s bytes ∷ rest → nat_lt (lane_len Up (w.durable.high_blocks 0)) (offset + (fact_len (key m s bytes) + 8)) ≡ false →
-      step net w (Deliver up 0 Ok) ≡ perform net w 1 0 Ok (receive net.site (view_of net w 1) up offset (Told (key m s bytes)))
+      w.durable.facts ≡ key m s bytes ∷ rest → nat_lt (lane_len Up (w.durable.blocks down)) (offset + (fact_len (key m s bytes) + 8)) ≡ false →
+      step net w (Deliver up 0 Ok) ≡ perform net w 1 0 Ok (receive net.site (view_of net w 1) up offset (Data (key m s bytes)))
   unfolding step deliver deliver_frame
   comes w rest offset m s bytes wire frames is_up facts fits = rw (wire, frames, is_up, facts, fits) refl
 
@@ -93,21 +93,21 @@ module _ (site : Stage) (device entropy : List ℕ) where
     size : c.offset + (fact_len (key m n bytes) + 8) ≤ lane_len Up s.lanes.blocks
     size = subst (λ (f : Fact). c.offset + (fact_len f + 8) ≤ lane_len Up s.lanes.blocks) fact fits
 
-    fits_there : w.durable.high_blocks 0 ≡ s.lanes.blocks → nat_lt (lane_len Up (w.durable.high_blocks 0)) (c.offset + (fact_len (key m n bytes) + 8)) ≡ false
+    fits_there : w.durable.blocks down ≡ s.lanes.blocks → nat_lt (lane_len Up (w.durable.blocks down)) (c.offset + (fact_len (key m n bytes) + 8)) ≡ false
     fits_there e = ap (λ (k : ℕ). nat_lt (lane_len Up k) (c.offset + (fact_len (key m n bytes) + 8))) e ∙ le-ltb _ _ size
 
     pub takes_step : Agrees room (HasKey m n bytes) s w → step net w (Deliver up 0 Ok) ≡ (commit net.site w 1 0 (takes_key (w.volatile 1) c.offset m n bytes), Replies (HeardFact true 1 key_name))
     takes_step a =
-        comes w [] c.offset m n bytes (wire_is a.wire) (frames_are a.frames) a.up_high a.facts (fits_there a.high_blocks) ∙
-        ap (λ (v : View). perform net w 1 0 Ok (receive net.site v up c.offset (Told (key m n bytes)))) (view_high site device entropy room (HasKey m n bytes) s w a) ∙
+        comes w [] c.offset m n bytes (wire_is a.wire) (frames_are a.frames) a.up_high a.facts (fits_there a.blocks_down) ∙
+        ap (λ (v : View). perform net w 1 0 Ok (receive net.site v up c.offset (Data (key m n bytes)))) (view_high site device entropy room (HasKey m n bytes) s w a) ∙
         ap (perform net w 1 0 Ok) (receives net.site (w.durable.closed 1) (map (port_at net w) (outgoing_lanes net.site 1)) (w.volatile 1) c.offset m n bytes) ∙
         takes_place net w 1 0 (takes_key (w.volatile 1) c.offset m n bytes) refl
         (omega (arith, a.room_high, came_added (w.journal 1).version m n bytes a.version_high, size, lane_small Up s.lanes.blocks a.most)) refl
 
     pub again_step : Agrees room (CameKey m n bytes) s w → step net w (Deliver up 0 Ok) ≡ (commit net.site w 1 0 (has_it_already (w.volatile 1) c.offset), Replies (HeardFact false 1 key_name))
     again_step a =
-        comes w (note ∷ []) c.offset m n bytes (wire_is a.wire) (frames_are a.frames) a.up_high a.facts (fits_there a.high_blocks) ∙
-        ap (λ (v : View). perform net w 1 0 Ok (receive net.site v up c.offset (Told (key m n bytes)))) (view_high site device entropy room (CameKey m n bytes) s w a) ∙
+        comes w (note ∷ []) c.offset m n bytes (wire_is a.wire) (frames_are a.frames) a.up_high a.facts (fits_there a.blocks_down) ∙
+        ap (λ (v : View). perform net w 1 0 Ok (receive net.site v up c.offset (Data (key m n bytes)))) (view_high site device entropy room (CameKey m n bytes) s w a) ∙
         ap (perform net w 1 0 Ok) (receives_again net.site (w.durable.closed 1) (map (port_at net w) (outgoing_lanes net.site 1)) (w.volatile 1) c.offset m n bytes) ∙
         takes_place net w 1 0 (has_it_already (w.volatile 1) c.offset) refl (omega (arith, a.room_high)) refl
 
@@ -119,8 +119,8 @@ module _ (site : Stage) (device entropy : List ℕ) where
           up_low = a.up_low;
           up_high = a.up_high;
           link = a.link;
-          low_blocks = a.low_blocks;
-          high_blocks = a.high_blocks;
+          blocks_up = a.blocks_up;
+          blocks_down = a.blocks_down;
           most = a.most;
           own_up = a.own_up;
           own_down = a.own_down;

@@ -22,11 +22,11 @@ use Rattle.net_model.specs.Step.{step, is_enabled, is_step}
 use Rattle.report_text.specs.declared.item.Item.{Item}
 use Rattle.net_world.specs.World.{World as Small}
 use Rattle.net_world.specs.Steps.{shown_at}
-use Rattle.scenario_text.specs.Stage.{Stage}
+use Rattle.scenario_text.specs.DeclaredSite.{DeclaredSite}
 use Rattle.scenario_text.specs.declared.command.Command.TheVariants.{Show}
 use Rattle.record_laws.proofs.Base.{and_both}
 use Rattle.line_laws.specs.Scenario.{network_of}
-use Rattle.script_laws.specs.Script.{Script, Ends, show_told, script_of}
+use Rattle.script_laws.specs.Script.{Script, Ends, show_items, script_of}
 use Rattle.script_laws.specs.AbstractRun.{Performs}
 use Rattle.script_laws.proofs.Agreement.{Reach, NoKey, HasKey, CameKey, key_name, note_name, table, low_names, high_names, low_facts, high_facts, high_room, Agrees}
 use Rattle.script_laws.proofs.Performing.{done, asked, takes_place}
@@ -36,7 +36,7 @@ use Rattle.script_laws.proofs.Performing.{done, asked, takes_place}
 abbrev pub seen : ℕ → List Fact → List (Name × ℕ) → List Port → Volatile → View
 seen v facts closed ports volatile = masked (record { me = v; facts = facts; acked = []; handed = []; closed = closed; ports = ports; volatile = volatile })
 
-pub view_low : (site : Stage) (device entropy : List ℕ) (room : ℕ) (reach : Reach) (s : Small) (w : World) → Agrees room reach s w →
+pub view_low : (site : DeclaredSite) (device entropy : List ℕ) (room : ℕ) (reach : Reach) (s : Small) (w : World) → Agrees room reach s w →
     view_of (network_of site device entropy) w 0 ≡
     seen 0 (facts_of (table reach) (low_names reach)) (w.durable.closed 0) (map (port_at (network_of site device entropy) w) (outgoing_lanes (network_of site device entropy).site 0)) (w.volatile 0)
 unfolding view_of
@@ -50,7 +50,7 @@ view_low site device entropy room reach s w a = λ i. masked (record {
   volatile = w.volatile 0;
 })
 
-pub view_high : (site : Stage) (device entropy : List ℕ) (room : ℕ) (reach : Reach) (s : Small) (w : World) → Agrees room reach s w →
+pub view_high : (site : DeclaredSite) (device entropy : List ℕ) (room : ℕ) (reach : Reach) (s : Small) (w : World) → Agrees room reach s w →
     view_of (network_of site device entropy) w 1 ≡
     seen 1 (facts_of (table reach) (high_names reach)) (w.durable.closed 1) (map (port_at (network_of site device entropy) w) (outgoing_lanes (network_of site device entropy).site 1)) (w.volatile 1)
 unfolding view_of
@@ -67,33 +67,33 @@ view_high site device entropy room reach s w a = λ i. masked (record {
 -- ---- what is shown
 
 shows_low : (reach : Reach) (n : Name) (closed : List (Name × ℕ)) (ports : List Port) (volatile : Volatile) →
-    show_told 0 n (Replies (show (seen 0 (facts_of (table reach) (low_names reach)) closed ports volatile) n)) ≡ shown_at (low_facts reach) (high_facts reach) 0 n ∷ []
+    show_items 0 n (Replies (show (seen 0 (facts_of (table reach) (low_names reach)) closed ports volatile) n)) ≡ shown_at (low_facts reach) (high_facts reach) 0 n ∷ []
 unfolding show masked is_needed shown_at
 shows_low NoKey n closed ports volatile = refl
 shows_low (HasKey m s bytes) n closed ports volatile =
     elim (name_eq key_name n) as (λ t. name_eq key_name n ≡ t →
-    show_told 0 n (Replies (show (seen 0 (facts_of (table (HasKey m s bytes)) (low_names (HasKey m s bytes))) closed ports volatile) n)) ≡ shown_at (low_facts (HasKey m s bytes)) (high_facts (HasKey m s bytes)) 0 n ∷ []) [
+    show_items 0 n (Replies (show (seen 0 (facts_of (table (HasKey m s bytes)) (low_names (HasKey m s bytes))) closed ports volatile) n)) ≡ shown_at (low_facts (HasKey m s bytes)) (high_facts (HasKey m s bytes)) 0 n ∷ []) [
       | true ↦ λ e. rw e refl
       | false ↦ λ e. rw e refl
     ] refl
 shows_low (CameKey m s bytes) n closed ports volatile =
     elim (name_eq key_name n) as (λ t. name_eq key_name n ≡ t →
-    show_told 0 n (Replies (show (seen 0 (facts_of (table (CameKey m s bytes)) (low_names (CameKey m s bytes))) closed ports volatile) n)) ≡ shown_at (low_facts (CameKey m s bytes)) (high_facts (CameKey m s bytes)) 0 n ∷ []) [
+    show_items 0 n (Replies (show (seen 0 (facts_of (table (CameKey m s bytes)) (low_names (CameKey m s bytes))) closed ports volatile) n)) ≡ shown_at (low_facts (CameKey m s bytes)) (high_facts (CameKey m s bytes)) 0 n ∷ []) [
       | true ↦ λ e. rw e refl
       | false ↦ λ e. rw e refl
     ] refl
 
 shows_high : (reach : Reach) (n : Name) (closed : List (Name × ℕ)) (ports : List Port) (volatile : Volatile) →
-    show_told 1 n (Replies (show (seen 1 (facts_of (table reach) (high_names reach)) closed ports volatile) n)) ≡ shown_at (low_facts reach) (high_facts reach) 1 n ∷ []
+    show_items 1 n (Replies (show (seen 1 (facts_of (table reach) (high_names reach)) closed ports volatile) n)) ≡ shown_at (low_facts reach) (high_facts reach) 1 n ∷ []
 unfolding show masked is_needed shown_at
 shows_high NoKey n closed ports volatile = refl
 shows_high (HasKey m s bytes) n closed ports volatile = refl
 shows_high (CameKey m s bytes) n closed ports volatile =
     elim (name_eq key_name n) as (λ t. name_eq key_name n ≡ t →
-    show_told 1 n (Replies (show (seen 1 (facts_of (table (CameKey m s bytes)) (high_names (CameKey m s bytes))) closed ports volatile) n)) ≡ shown_at (low_facts (CameKey m s bytes)) (high_facts (CameKey m s bytes)) 1 n ∷ []) [
+    show_items 1 n (Replies (show (seen 1 (facts_of (table (CameKey m s bytes)) (high_names (CameKey m s bytes))) closed ports volatile) n)) ≡ shown_at (low_facts (CameKey m s bytes)) (high_facts (CameKey m s bytes)) 1 n ∷ []) [
       | true ↦ λ e. rw e refl
       | false ↦ λ e. elim (name_eq note_name n) as (λ t. name_eq note_name n ≡ t →
-          show_told 1 n (Replies (show (seen 1 (facts_of (table (CameKey m s bytes)) (high_names (CameKey m s bytes))) closed ports volatile) n)) ≡ shown_at (low_facts (CameKey m s bytes)) (high_facts (CameKey m s bytes)) 1 n ∷ []) [
+          show_items 1 n (Replies (show (seen 1 (facts_of (table (CameKey m s bytes)) (high_names (CameKey m s bytes))) closed ports volatile) n)) ≡ shown_at (low_facts (CameKey m s bytes)) (high_facts (CameKey m s bytes)) 1 n ∷ []) [
             | true ↦ λ g. rw (e, g) refl
             | false ↦ λ g. rw (e, g) refl
           ] refl
@@ -110,8 +110,8 @@ quiet_low site room reach s w volatile reply a = record {
   up_low = a.up_low;
   up_high = a.up_high;
   link = a.link;
-  low_blocks = a.low_blocks;
-  high_blocks = a.high_blocks;
+  blocks_up = a.blocks_up;
+  blocks_down = a.blocks_down;
   most = a.most;
   own_up = a.own_up;
   own_down = a.own_down;
@@ -140,8 +140,8 @@ quiet_high site room reach s w volatile reply a = record {
   up_low = a.up_low;
   up_high = a.up_high;
   link = a.link;
-  low_blocks = a.low_blocks;
-  high_blocks = a.high_blocks;
+  blocks_up = a.blocks_up;
+  blocks_down = a.blocks_down;
   most = a.most;
   own_up = a.own_up;
   own_down = a.own_down;
@@ -179,12 +179,12 @@ named n h =
     and_both _ _ (and_both _ _ node positive) count
 
 -- what a line did: its script may be performed, tells these items, and leads to a world that agrees
-pub record DoesLine (net : Network) (w : World) (script : Script) (told : List Item) (room : ℕ) (reach : Reach) (s : Small) : Type 0 where
+pub record DoesLine (net : Network) (w : World) (script : Script) (said : List Item) (room : ℕ) (reach : Reach) (s : Small) : Type 0 where
   pub new : World
-  pub performs : Performs net w script told new
+  pub performs : Performs net w script said new
   pub agrees : Agrees room reach s new
 
-module _ (site : Stage) (device entropy : List ℕ) (room : ℕ) (few : room ≤ 3000000) (reach : Reach) (s : Small) (w : World) (a : Agrees room reach s w) (n : Name) (name : IsName n) where
+module _ (site : DeclaredSite) (device entropy : List ℕ) (room : ℕ) (few : room ≤ 3000000) (reach : Reach) (s : Small) (w : World) (a : Agrees room reach s w) (n : Name) (name : IsName n) where
   abbrev net : Network
   net = network_of site device entropy
 
@@ -207,25 +207,25 @@ module _ (site : Stage) (device entropy : List ℕ) (room : ℕ) (few : room ≤
   unfolding is_enabled is_valid_event
   high_may = and_both _ _ (named n name) refl
 
-  shown_low : show_told 0 n (Replies (reply 0)) ≡ shown_at s.low_known s.high_known 0 n ∷ []
-  shown_low = ap (λ (v : View). show_told 0 n (Replies (show v n))) (view_low site device entropy room reach s w a) ∙ shows_low reach n _ _ _ ∙
+  shown_low : show_items 0 n (Replies (reply 0)) ≡ shown_at s.low_known s.high_known 0 n ∷ []
+  shown_low = ap (λ (v : View). show_items 0 n (Replies (show v n))) (view_low site device entropy room reach s w a) ∙ shows_low reach n _ _ _ ∙
       (λ i. shown_at (sym a.small_low i) (sym a.small_high i) 0 n ∷ [])
 
-  shown_high : show_told 1 n (Replies (reply 1)) ≡ shown_at s.low_known s.high_known 1 n ∷ []
-  shown_high = ap (λ (v : View). show_told 1 n (Replies (show v n))) (view_high site device entropy room reach s w a) ∙ shows_high reach n _ _ _ ∙
+  shown_high : show_items 1 n (Replies (reply 1)) ≡ shown_at s.low_known s.high_known 1 n ∷ []
+  shown_high = ap (λ (v : View). show_items 1 n (Replies (show v n))) (view_high site device entropy room reach s w a) ∙ shows_high reach n _ _ _ ∙
       (λ i. shown_at (sym a.small_low i) (sym a.small_high i) 1 n ∷ [])
 
   pub show_line : (v : ℕ) → v < 2 → DoesLine net w (script_of net.site (Show v n)) (shown_at s.low_known s.high_known v n ∷ []) room reach s
   show_line zero h = record {
     new = commit net.site w 0 0 (says (w.volatile 0) (reply 0));
     performs = subst (λ (is : List Item). Performs net w (script_of net.site (Show 0 n)) is (commit net.site w 0 0 (says (w.volatile 0) (reply 0)))) (append-nil _ ∙ shown_low)
-        (asked net w _ _ (λ x. Ask 0 (events.Show n) Ok) (show_told 0 n) (λ out. Ends) (Replies (reply 0)) [] low_may low_step (done net _));
+        (asked net w _ _ (λ x. Ask 0 (events.Show n) Ok) (show_items 0 n) (λ out. Ends) (Replies (reply 0)) [] low_may low_step (done net _));
     agrees = quiet_low net.site room reach s w (w.volatile 0) (reply 0) a;
   }
   show_line (suc zero) h = record {
     new = commit net.site w 1 0 (says (w.volatile 1) (reply 1));
     performs = subst (λ (is : List Item). Performs net w (script_of net.site (Show 1 n)) is (commit net.site w 1 0 (says (w.volatile 1) (reply 1)))) (append-nil _ ∙ shown_high)
-        (asked net w _ _ (λ x. Ask 1 (events.Show n) Ok) (show_told 1 n) (λ out. Ends) (Replies (reply 1)) [] high_may high_step (done net _));
+        (asked net w _ _ (λ x. Ask 1 (events.Show n) Ok) (show_items 1 n) (λ out. Ends) (Replies (reply 1)) [] high_may high_step (done net _));
     agrees = quiet_high net.site room reach s w (w.volatile 1) (reply 1) a;
   }
   show_line (suc (suc v)) h = absurd (omega arith)

@@ -7,7 +7,7 @@ use Rattle.net_model.specs.declared.reply.Reply.TheVariants.{Took, LinkFull}
 use Rattle.qkd_base.specs.LaneBytes.{lane_len}
 use Rattle.qkd_base.specs.declared.lane.Way.TheVariants.{Up, Down}
 use Rattle.net_model.specs.Site.{outgoing_lanes}
-use Rattle.net_model.specs.Told.{told_list, block_at, first_blocks}
+use Rattle.net_model.specs.OctetSequence.{sequence_of, block_at, first_blocks}
 use Rattle.net_model.specs.World.{Network, World, Volatile}
 use Rattle.net_model.specs.Needed.{masked, view_of}
 use Rattle.net_model.specs.Decision.{Effect}
@@ -20,10 +20,10 @@ use Rattle.report_text.specs.declared.item.Item.{Item}
 use Rattle.report_text.specs.declared.item.Item.TheVariants as items
 use Rattle.report_text.specs.declared.end.End.TheVariants.{Low, High}
 use Rattle.net_world.specs.World.{World as Small, Claim, with_block}
-use Rattle.scenario_text.specs.Stage.{Stage}
+use Rattle.scenario_text.specs.DeclaredSite.{DeclaredSite}
 use Rattle.lane_laws.proofs.Blocks.{count_blocks}
 use Rattle.line_laws.specs.Scenario.{network_of}
-use Rattle.script_laws.specs.Script.{blocks, block_told}
+use Rattle.script_laws.specs.Script.{blocks, block_items}
 use Rattle.script_laws.specs.AbstractRun.{Performs}
 use Rattle.script_laws.proofs.Agreement.{NoKey, Agrees, IsFresh, IsSent, up, down}
 use Rattle.script_laws.proofs.Owning.{keyed_up, keyed_down, block_added}
@@ -44,42 +44,42 @@ not_full k h = ne_eqb k 1024 (λ e. omega arith)
 abbrev taking : Network → Volatile → ℕ → Effect
 taking net volatile number = record { batch = Block 0 number (block_at (net.device 0) number) ∷ []; volatile = volatile; orders = []; repeats = []; reply = Took number }
 
-module _ (site : Stage) (device entropy : List ℕ) where
+module _ (site : DeclaredSite) (device entropy : List ℕ) where
   abbrev net : Network
   net = network_of site device entropy
 
-  low_step : (w : World) → w.up 0 ≡ true → (w.durable.low_blocks 0 == 1024) ≡ false → nat_le (1024 + 1024 * w.durable.low_blocks 0) (length device) ≡ true →
+  low_step : (w : World) → w.up 0 ≡ true → (w.durable.blocks up == 1024) ≡ false → nat_le (1024 + 1024 * w.durable.blocks up) (length device) ≡ true →
       (w.journal 0).version ≡ 2 → (w.journal 0).length' + 1037 ≤ 33554432 →
-      step net w (TakeBlock 0 0 Ok) ≡ (commit net.site w 0 0 (taking net (w.volatile 0) (w.durable.low_blocks 0)), Replies (Took (w.durable.low_blocks 0)))
+      step net w (TakeBlock 0 0 Ok) ≡ (commit net.site w 0 0 (taking net (w.volatile 0) (w.durable.blocks up)), Replies (Took (w.durable.blocks up)))
   unfolding step take_block handle random_need decide view_of masked outgoing_lanes
   low_step w is_up more there version room =
-      let count : length (first_blocks (told_list device) (w.durable.low_blocks 0)) ≡ w.durable.low_blocks 0 = count_blocks (told_list device) (w.durable.low_blocks 0) in
-      let added = block_added (w.journal 0).version (w.durable.low_blocks 0) (told_list device) version in
-      rw (is_up, more, there, count, more) (takes_place net w 0 0 (taking net (w.volatile 0) (w.durable.low_blocks 0)) refl (omega (arith, added, room)) refl)
+      let count : length (first_blocks (sequence_of device) (w.durable.blocks up)) ≡ w.durable.blocks up = count_blocks (sequence_of device) (w.durable.blocks up) in
+      let added = block_added (w.journal 0).version (w.durable.blocks up) (sequence_of device) version in
+      rw (is_up, more, there, count, more) (takes_place net w 0 0 (taking net (w.volatile 0) (w.durable.blocks up)) refl (omega (arith, added, room)) refl)
 
-  high_step : (w : World) → w.up 1 ≡ true → (w.durable.high_blocks 0 == 1024) ≡ false → nat_le (1024 + 1024 * w.durable.high_blocks 0) (length device) ≡ true →
+  high_step : (w : World) → w.up 1 ≡ true → (w.durable.blocks down == 1024) ≡ false → nat_le (1024 + 1024 * w.durable.blocks down) (length device) ≡ true →
       (w.journal 1).version ≡ 2 → (w.journal 1).length' + 1037 ≤ 33554432 →
-      step net w (TakeBlock 1 0 Ok) ≡ (commit net.site w 1 0 (taking net (w.volatile 1) (w.durable.high_blocks 0)), Replies (Took (w.durable.high_blocks 0)))
+      step net w (TakeBlock 1 0 Ok) ≡ (commit net.site w 1 0 (taking net (w.volatile 1) (w.durable.blocks down)), Replies (Took (w.durable.blocks down)))
   unfolding step take_block handle random_need decide view_of masked outgoing_lanes
   high_step w is_up more there version room =
-      let count : length (first_blocks (told_list device) (w.durable.high_blocks 0)) ≡ w.durable.high_blocks 0 = count_blocks (told_list device) (w.durable.high_blocks 0) in
-      let added = block_added (w.journal 1).version (w.durable.high_blocks 0) (told_list device) version in
-      rw (is_up, more, there, count, more) (takes_place net w 1 0 (taking net (w.volatile 1) (w.durable.high_blocks 0)) refl (omega (arith, added, room)) refl)
+      let count : length (first_blocks (sequence_of device) (w.durable.blocks down)) ≡ w.durable.blocks down = count_blocks (sequence_of device) (w.durable.blocks down) in
+      let added = block_added (w.journal 1).version (w.durable.blocks down) (sequence_of device) version in
+      rw (is_up, more, there, count, more) (takes_place net w 1 0 (taking net (w.volatile 1) (w.durable.blocks down)) refl (omega (arith, added, room)) refl)
 
-  pub full_low : (w : World) → w.up 0 ≡ true → (w.durable.low_blocks 0 == 1024) ≡ true → step net w (TakeBlock 0 0 Ok) ≡ (w, Replies LinkFull)
+  pub full_low : (w : World) → w.up 0 ≡ true → (w.durable.blocks up == 1024) ≡ true → step net w (TakeBlock 0 0 Ok) ≡ (w, Replies LinkFull)
   unfolding step take_block
   full_low w is_up full = rw (is_up, full) refl
 
-  pub full_high : (w : World) → w.up 1 ≡ true → (w.durable.high_blocks 0 == 1024) ≡ true → step net w (TakeBlock 1 0 Ok) ≡ (w, Replies LinkFull)
+  pub full_high : (w : World) → w.up 1 ≡ true → (w.durable.blocks down == 1024) ≡ true → step net w (TakeBlock 1 0 Ok) ≡ (w, Replies LinkFull)
   unfolding step take_block
   full_high w is_up full = rw (is_up, full) refl
 
-  pub none_low : (w : World) → w.up 0 ≡ true → (w.durable.low_blocks 0 == 1024) ≡ false → nat_le (1024 + 1024 * w.durable.low_blocks 0) (length device) ≡ false →
+  pub none_low : (w : World) → w.up 0 ≡ true → (w.durable.blocks up == 1024) ≡ false → nat_le (1024 + 1024 * w.durable.blocks up) (length device) ≡ false →
       step net w (TakeBlock 0 0 Ok) ≡ (w, NoBlock)
   unfolding step take_block
   none_low w is_up more there = rw (is_up, more, there) refl
 
-  pub none_high : (w : World) → w.up 1 ≡ true → (w.durable.high_blocks 0 == 1024) ≡ false → nat_le (1024 + 1024 * w.durable.high_blocks 0) (length device) ≡ false →
+  pub none_high : (w : World) → w.up 1 ≡ true → (w.durable.blocks down == 1024) ≡ false → nat_le (1024 + 1024 * w.durable.blocks down) (length device) ≡ false →
       step net w (TakeBlock 1 0 Ok) ≡ (w, NoBlock)
   unfolding step take_block
   none_high w is_up more there = rw (is_up, more, there) refl
@@ -104,10 +104,10 @@ module _ (site : Stage) (device entropy : List ℕ) where
     k = s.lanes.blocks
 
     abbrev pub w1 : World
-    w1 = commit net.site w 0 0 (taking net (w.volatile 0) (w.durable.low_blocks 0))
+    w1 = commit net.site w 0 0 (taking net (w.volatile 0) (w.durable.blocks up))
 
     abbrev pub w2 : World
-    w2 = commit net.site w1 1 0 (taking net (w1.volatile 1) (w1.durable.high_blocks 0))
+    w2 = commit net.site w1 1 0 (taking net (w1.volatile 1) (w1.durable.blocks down))
 
     abbrev pub s2 : Small
     s2 = record s { lanes = with_block s.lanes }
@@ -115,17 +115,17 @@ module _ (site : Stage) (device entropy : List ℕ) where
     pub both_agree : Agrees block_room NoKey s2 w2
     unfolding commit replay apply_record block_taken
     both_agree =
-        let low_added = block_added (w.journal 0).version (w.durable.low_blocks 0) (told_list device) a.version_low in
-        let high_added = block_added (w.journal 1).version (w.durable.high_blocks 0) (told_list device) a.version_high in
+        let low_added = block_added (w.journal 0).version (w.durable.blocks up) (sequence_of device) a.version_low in
+        let high_added = block_added (w.journal 1).version (w.durable.blocks down) (sequence_of device) a.version_high in
         record {
           up_low = a.up_low;
           up_high = a.up_high;
           link = a.link;
-          low_blocks = ap (λ (n : ℕ). n + 1) a.low_blocks;
-          high_blocks = ap (λ (n : ℕ). n + 1) a.high_blocks;
+          blocks_up = ap (λ (n : ℕ). n + 1) a.blocks_up;
+          blocks_down = ap (λ (n : ℕ). n + 1) a.blocks_down;
           most = omega arith;
-          own_up = ap (λ (n : ℕ). keyed_own (lane_len Up n) (lane_len Up (n + 1)) (w.durable.own up)) a.low_blocks ∙ keyed_up k (w.durable.own up) s.lanes.up a.own_up;
-          own_down = ap (λ (n : ℕ). keyed_own (lane_len Down n) (lane_len Down (n + 1)) (w.durable.own down)) a.high_blocks ∙ keyed_down k (w.durable.own down) s.lanes.down a.own_down;
+          own_up = ap (λ (n : ℕ). keyed_own (lane_len Up n) (lane_len Up (n + 1)) (w.durable.own up)) a.blocks_up ∙ keyed_up k (w.durable.own up) s.lanes.up a.own_up;
+          own_down = ap (λ (n : ℕ). keyed_own (lane_len Down n) (lane_len Down (n + 1)) (w.durable.own down)) a.blocks_down ∙ keyed_down k (w.durable.own down) s.lanes.down a.own_down;
           facts = a.facts;
           known_low = a.known_low;
           known_high = a.known_high;
@@ -148,8 +148,8 @@ module _ (site : Stage) (device entropy : List ℕ) where
     pub both_young : IsYoung s2 w2
     unfolding commit replay apply_record block_taken
     both_young =
-        let low_added = block_added (w.journal 0).version (w.durable.low_blocks 0) (told_list device) a.version_low in
-        let high_added = block_added (w.journal 1).version (w.durable.high_blocks 0) (told_list device) a.version_high in
+        let low_added = block_added (w.journal 0).version (w.durable.blocks up) (sequence_of device) a.version_low in
+        let high_added = block_added (w.journal 1).version (w.durable.blocks down) (sequence_of device) a.version_high in
         record { low = omega (arith, young.low, low_added); high = omega (arith, young.high, high_added) }
 
     pub both_fresh : IsFresh s2 w2
@@ -165,26 +165,26 @@ module _ (site : Stage) (device entropy : List ℕ) where
     }
 
     module _ (has : nat_le (1024 * (k + 1)) (length device) ≡ true) where
-      low_there : nat_le (1024 + 1024 * w.durable.low_blocks 0) (length device) ≡ true
-      low_there = let e : 1024 + 1024 * w.durable.low_blocks 0 ≡ 1024 * (k + 1) = omega (arith, a.low_blocks) in ap (λ (n : ℕ). nat_le n (length device)) e ∙ has
+      low_there : nat_le (1024 + 1024 * w.durable.blocks up) (length device) ≡ true
+      low_there = let e : 1024 + 1024 * w.durable.blocks up ≡ 1024 * (k + 1) = omega (arith, a.blocks_up) in ap (λ (n : ℕ). nat_le n (length device)) e ∙ has
 
-      high_there : nat_le (1024 + 1024 * w.durable.high_blocks 0) (length device) ≡ true
-      high_there = let e : 1024 + 1024 * w.durable.high_blocks 0 ≡ 1024 * (k + 1) = omega (arith, a.high_blocks) in ap (λ (n : ℕ). nat_le n (length device)) e ∙ has
+      high_there : nat_le (1024 + 1024 * w.durable.blocks down) (length device) ≡ true
+      high_there = let e : 1024 + 1024 * w.durable.blocks down ≡ 1024 * (k + 1) = omega (arith, a.blocks_down) in ap (λ (n : ℕ). nat_le n (length device)) e ∙ has
 
       first_step : step net w (TakeBlock 0 0 Ok) ≡ (w1, Replies (Took k))
       first_step =
-          let other : (w.durable.low_blocks 0 == 1024) ≡ false = ap (λ (n : ℕ). n == 1024) a.low_blocks ∙ not_full k less in
-          low_step w a.up_low other low_there a.version_low (omega (arith, young.low)) ∙ ap (λ (n : ℕ). (w1, Replies (Took n))) a.low_blocks
+          let other : (w.durable.blocks up == 1024) ≡ false = ap (λ (n : ℕ). n == 1024) a.blocks_up ∙ not_full k less in
+          low_step w a.up_low other low_there a.version_low (omega (arith, young.low)) ∙ ap (λ (n : ℕ). (w1, Replies (Took n))) a.blocks_up
 
       second_step : step net w1 (TakeBlock 1 0 Ok) ≡ (w2, Replies (Took k))
       unfolding commit replay apply_record block_taken
       second_step =
-          let other : (w.durable.high_blocks 0 == 1024) ≡ false = ap (λ (n : ℕ). n == 1024) a.high_blocks ∙ not_full k less in
-          high_step w1 a.up_high other high_there a.version_high (omega (arith, young.high)) ∙ ap (λ (n : ℕ). (w2, Replies (Took n))) a.high_blocks
+          let other : (w.durable.blocks down == 1024) ≡ false = ap (λ (n : ℕ). n == 1024) a.blocks_down ∙ not_full k less in
+          high_step w1 a.up_high other high_there a.version_high (omega (arith, young.high)) ∙ ap (λ (n : ℕ). (w2, Replies (Took n))) a.blocks_down
 
       pub both_perform : (n : ℕ) (rest : List Item) (new : World) → Performs net w2 (blocks net.site 0 true true n) rest new →
           Performs net w (blocks net.site 0 true true (suc n)) (items.Took 0 Low k ∷ items.Took 0 High k ∷ rest) new
       unfolding blocks
       both_perform n rest new p =
-          asked net w w1 new (λ x. TakeBlock 0 0 Ok) (block_told 0 Low) _ (Replies (Took k)) (items.Took 0 High k ∷ rest) (low_may w) first_step
-          (asked net w1 w2 new (λ x. TakeBlock 1 0 Ok) (block_told 0 High) _ (Replies (Took k)) rest (high_may w1) second_step p)
+          asked net w w1 new (λ x. TakeBlock 0 0 Ok) (block_items 0 Low) _ (Replies (Took k)) (items.Took 0 High k ∷ rest) (low_may w) first_step
+          (asked net w1 w2 new (λ x. TakeBlock 1 0 Ok) (block_items 0 High) _ (Replies (Took k)) rest (high_may w1) second_step p)

@@ -28,8 +28,8 @@ find_passes p (x ∷ xs) w h =
 find_skip : (p : List ℕ → Bool) (xs ys : List (List ℕ)) → find p xs ≡ None → find p (xs ++ ys) ≡ find p ys
 find_skip p xs ys h = rw (find-append, h) refl
 
-find_front : (p : List ℕ → Bool) (xs ys : List (List ℕ)) (w : List ℕ) → find p xs ≡ Some w → find p (xs ++ ys) ≡ Some w
-find_front p xs ys w h = rw (find-append, h) refl
+find_prefix : (p : List ℕ → Bool) (xs ys : List (List ℕ)) (w : List ℕ) → find p xs ≡ Some w → find p (xs ++ ys) ≡ Some w
+find_prefix p xs ys w h = rw (find-append, h) refl
 
 find_flat : (p : List ℕ → Bool) (g : ℕ → List (List ℕ)) (xs : List ℕ) (w : List ℕ) → find p (flat_map g xs) ≡ Some w →
     (b : ℕ) × (find p (g b) ≡ Some w) × (list_any (λ x. x == b) xs ≡ true)
@@ -38,7 +38,7 @@ find_flat p g (x ∷ xs) w h =
     elim (find p (g x)) as (λ o. find p (g x) ≡ o → (b : ℕ) × (find p (g b) ≡ Some w) × (((x == b) || list_any (λ y. y == b) xs) ≡ true)) [
       | None ↦ λ e. let r = find_flat p g xs w (sym (find_skip p (g x) (flat_map g xs) e) ∙ h) in
           (r.0, r.1, or_right (x == r.0) (list_any (λ y. y == r.0) xs) r.2)
-      | Some y ↦ λ e. (x, e ∙ sym (find_front p (g x) (flat_map g xs) y e) ∙ h, or_left (x == x) (list_any (λ z. z == x) xs) (eq_same x))
+      | Some y ↦ λ e. (x, e ∙ sym (find_prefix p (g x) (flat_map g xs) y e) ∙ h, or_left (x == x) (list_any (λ z. z == x) xs) (eq_same x))
     ] refl
 
 some_flat : (p : List ℕ → Bool) (g : ℕ → List (List ℕ)) (xs : List ℕ) (b : ℕ) → is_some (find p (g b)) ≡ true → list_any (λ x. x == b) xs ≡ true →
@@ -46,7 +46,7 @@ some_flat : (p : List ℕ → Bool) (g : ℕ → List (List ℕ)) (xs : List ℕ
 some_flat p g [] b h k = cc
 some_flat p g (x ∷ xs) b h k =
     elim (find p (g x)) as (λ o. find p (g x) ≡ o → is_some (find p (g x ++ flat_map g xs)) ≡ true) [
-      | Some y ↦ λ e. ap is_some (find_front p (g x) (flat_map g xs) y e)
+      | Some y ↦ λ e. ap is_some (find_prefix p (g x) (flat_map g xs) y e)
       | None ↦ λ e. ap is_some (find_skip p (g x) (flat_map g xs) e) ∙
           (elim (or_cases (x == b) (list_any (λ y. y == b) xs) k) [
             | inl is ↦ let same : x ≡ b = eq_from x b is in let no : find p (g b) ≡ None = ap (λ (z : ℕ). find p (g z)) (sym same) ∙ e in

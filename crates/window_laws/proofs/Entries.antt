@@ -9,7 +9,7 @@ use Rattle.net_model.specs.Window.{age, is_data_entry, sent_again, mark_due, cle
 use Rattle.net_model.specs.Windows.{IsEntry, IsVolatile, PlacesDiffer, place_of, answered_at}
 use Rattle.record_laws.proofs.Base.{by_test}
 use Rattle.lane_laws.proofs.Lists.{mapped_at, kept_at}
-use Rattle.window_laws.proofs.Places.{differ_kept, differ_fewer, differ_some, has_some, differ_behind}
+use Rattle.window_laws.proofs.Places.{differ_kept, differ_fewer, differ_some, has_some, differ_after}
 
 -- the places of pending acknowledgements, and those that entries answer
 abbrev pub pending_place : PendingAck → Lane × ℕ
@@ -88,7 +88,7 @@ fewer_keeps net w v vol keep h = record {
   pending = h.pending;
   once = differ_fewer (map pending_place vol.pending_acks) (filter_map answer_of vol.window) (filter_map answer_of (filter keep vol.window))
       (λ q e. has_some answer_of keep vol.window q e)
-      (differ_some answer_of keep vol.window (differ_behind (map pending_place vol.pending_acks) (filter_map answer_of vol.window) h.once)) h.once;
+      (differ_some answer_of keep vol.window (differ_after (map pending_place vol.pending_acks) (filter_map answer_of vol.window) h.once)) h.once;
   awaiting = h.awaiting;
 }
 

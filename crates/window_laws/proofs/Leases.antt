@@ -56,7 +56,7 @@ module _ (net : Network) (w : World) (v : ℕ) (c : Conserved net w) where
   orders_wanted l = fitting net w v c l (seen net w v).facts (received_of (port_at net w l)) (planned w l) (wanted_on net.site (seen net w v) l) (all_wanted net w v c l)
 
   got_is : (l : Lane) → received_of (port_at net w l) ≡ received w.durable l
-  got_is l = ap (lane_len l.way) (count_blocks (net.device l.link) (of_way l.way (w.durable.low_blocks l.link) (w.durable.high_blocks l.link)))
+  got_is l = ap (lane_len l.way) (count_blocks (net.device l.link) (w.durable.blocks l))
 
   end_bound : (l : Lane) → end_at l ≤ received_of (port_at net w l)
   unfolding orders_on

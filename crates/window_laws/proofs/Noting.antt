@@ -35,41 +35,41 @@ module _ (net : Network) (w : World) (v : ℕ) (network : IsNetwork net) (c : Co
   abbrev effect : Effect
   effect = record { batch = []; volatile = noted; orders = []; repeats = []; reply = Noted }
 
-  abbrev told : World → World
-  told x = record x { placings = number_set w.placings v [] }
+  abbrev without_placings : World → World
+  without_placings x = record x { placings = number_set w.placings v [] }
 
   none_placed : (x : World) → Outgrows w x → (u n : ℕ) (p : Placing) → slice_get (number_set w.placings v [] u) n ≡ Some p → IsPlaced net x u p
   none_placed x g u n p = by_number (λ k b. slice_get (if b then [] else w.placings k) n ≡ Some p → IsPlaced net x k p) v
       (λ h. cc) (λ k ne h. placed_stays net w network c x g k p (c.placed k n p h)) u
 
-  same_lanes : Outgrows w (told w)
-  same_lanes = record { facts = λ n f h. h; known = λ u n h. h; low = λ l. omega arith; high = λ l. omega arith; frames = λ l j a h. h; wire = λ l n j h. h }
+  same_lanes : Outgrows w (without_placings w)
+  same_lanes = record { facts = λ n f h. h; known = λ u n h. h; blocks = λ l. omega arith; frames = λ l j a h. h; wire = λ l n j h. h }
 
   -- it is told in vain
-  vain_keeps : Conserved net (told w)
+  vain_keeps : Conserved net (without_placings w)
   vain_keeps = record {
     now = c.now;
     doubts = c.doubts;
     doubtful = c.doubtful;
     resting = c.resting;
-    volatile = λ u. volatile_stays net w network c (told w) same_lanes u (w.volatile u) (c.volatile u);
-    placed = none_placed (told w) same_lanes;
+    volatile = λ u. volatile_stays net w network c (without_placings w) same_lanes u (w.volatile u) (c.volatile u);
+    placed = none_placed (without_placings w) same_lanes;
     posted = c.posted;
     wired = c.wired;
     journals = c.journals;
     started = c.started;
     doubt_room = c.doubt_room;
-    drawn = drawn_stays net w (told w) (λ n f h. h) refl (λ u. omega arith) c.drawn;
-    low_blocks = c.low_blocks;
-    high_blocks = c.high_blocks;
+    drawn = drawn_stays net w (without_placings w) (λ n f h. h) refl (λ u. omega arith) c.drawn;
+    few_blocks = c.few_blocks;
+    recovered = c.recovered;
   }
 
   abbrev after : World
-  after = told (commit net.site w v 0 effect)
+  after = without_placings (commit net.site w v 0 effect)
 
   after_lanes : Outgrows w after
   unfolding commit replay
-  after_lanes = record { facts = λ n f h. h; known = λ u n h. h; low = λ l. omega arith; high = λ l. omega arith; frames = λ l j a h. h; wire = λ l n j h. h }
+  after_lanes = record { facts = λ n f h. h; known = λ u n h. h; blocks = λ l. omega arith; frames = λ l j a h. h; wire = λ l n j h. h }
 
   noted_keeps : w.up v ≡ true → Conserved net after
   unfolding commit replay
@@ -90,12 +90,12 @@ module _ (net : Network) (w : World) (v : ℕ) (network : IsNetwork net) (c : Co
         (subst (λ (j : Journal). HasRoomFor j (w.in_doubt v)) (no_octets (w.journal v)) (c.doubt_room v)) (λ u ne. c.doubt_room u);
     drawn = drawn_stays net w after (λ n f h. h) refl
         (by_number (λ u b. w.drawn u ≤ (if b then w.drawn v + 0 else w.drawn u)) v (omega arith) (λ u ne. omega arith)) c.drawn;
-    low_blocks = c.low_blocks;
-    high_blocks = c.high_blocks;
+    few_blocks = c.few_blocks;
+    recovered = c.recovered;
   }
 
   abbrev Keeps : World × Outcome → Type 0
-  Keeps x = Conserved net (told x.0)
+  Keeps x = Conserved net (without_placings x.0)
 
   performed : w.up v ≡ true → Keeps (perform net w v 0 Ok effect)
   unfolding perform

@@ -30,23 +30,23 @@ place_other p q h = not_false (is_at q p) (λ e. not_both (is_at p q) (subst (λ
 pub has_both : (ps qs : List Place) (q : Place) → has_place ps q ≡ false → has_place qs q ≡ false → has_place (ps ++ qs) q ≡ false
 has_both ps qs q h k = list_any-append (λ p. is_at p q) ps qs ∙ or_both (has_place ps q) (has_place qs q) h k
 
-has_front : (ps qs : List Place) (q : Place) → has_place (ps ++ qs) q ≡ false → has_place ps q ≡ false
-has_front ps qs q h = or_first (has_place ps q) (has_place qs q) (sym (list_any-append (λ p. is_at p q) ps qs) ∙ h)
+has_prefix : (ps qs : List Place) (q : Place) → has_place (ps ++ qs) q ≡ false → has_place ps q ≡ false
+has_prefix ps qs q h = or_first (has_place ps q) (has_place qs q) (sym (list_any-append (λ p. is_at p q) ps qs) ∙ h)
 
-has_behind : (ps qs : List Place) (q : Place) → has_place (ps ++ qs) q ≡ false → has_place qs q ≡ false
-has_behind ps qs q h = or_second (has_place ps q) (has_place qs q) (sym (list_any-append (λ p. is_at p q) ps qs) ∙ h)
+has_after : (ps qs : List Place) (q : Place) → has_place (ps ++ qs) q ≡ false → has_place qs q ≡ false
+has_after ps qs q h = or_second (has_place ps q) (has_place qs q) (sym (list_any-append (λ p. is_at p q) ps qs) ∙ h)
 
 -- the second part of places that differ
-pub differ_behind : (ps qs : List Place) → PlacesDiffer (ps ++ qs) → PlacesDiffer qs
-differ_behind [] qs d = d
-differ_behind (p ∷ ps) qs d = differ_behind ps qs d.1
+pub differ_after : (ps qs : List Place) → PlacesDiffer (ps ++ qs) → PlacesDiffer qs
+differ_after [] qs d = d
+differ_after (p ∷ ps) qs d = differ_after ps qs d.1
 
 -- one more between two parts
 pub differ_between : (ps qs : List Place) (q : Place) → PlacesDiffer (ps ++ qs) → has_place (ps ++ qs) q ≡ false → PlacesDiffer (ps ++ q ∷ qs)
 differ_between [] qs q d h = (h, d)
 differ_between (p ∷ ps) qs q d h = (
-  has_both ps (q ∷ qs) p (has_front ps qs p d.0)
-      (or_both (is_at q p) (has_place qs p) (place_other p q (or_first (is_at p q) (has_place (ps ++ qs) q) h)) (has_behind ps qs p d.0)),
+  has_both ps (q ∷ qs) p (has_prefix ps qs p d.0)
+      (or_both (is_at q p) (has_place qs p) (place_other p q (or_first (is_at p q) (has_place (ps ++ qs) q) h)) (has_after ps qs p d.0)),
   differ_between ps qs q d.1 (or_second (is_at p q) (has_place (ps ++ qs) q) h),
 )
 
@@ -61,7 +61,7 @@ differ_last (p ∷ ps) q d h = (
 -- fewer in the second part
 pub differ_fewer : (ps qs rs : List Place) → ((q : Place) → has_place qs q ≡ false → has_place rs q ≡ false) → PlacesDiffer rs → PlacesDiffer (ps ++ qs) → PlacesDiffer (ps ++ rs)
 differ_fewer [] qs rs h k d = k
-differ_fewer (p ∷ ps) qs rs h k d = (has_both ps rs p (has_front ps qs p d.0) (h p (has_behind ps qs p d.0)), differ_fewer ps qs rs h k d.1)
+differ_fewer (p ∷ ps) qs rs h k d = (has_both ps rs p (has_prefix ps qs p d.0) (h p (has_after ps qs p d.0)), differ_fewer ps qs rs h k d.1)
 
 module _ {A : Type 0} (f : A → Place) (keep : A → Bool) where
   has_kept : (xs : List A) (q : Place) → has_place (map f xs) q ≡ false → has_place (map f (filter keep xs)) q ≡ false
@@ -79,7 +79,7 @@ module _ {A : Type 0} (f : A → Place) (keep : A → Bool) where
   differ_kept (x ∷ xs) qs d =
       let rest = differ_kept xs qs d.1 in
       elim (keep x) as (λ t. PlacesDiffer (map f (if t then x ∷ filter keep xs else filter keep xs) ++ qs)) [
-        | true ↦ (has_both (map f (filter keep xs)) qs (f x) (has_kept xs (f x) (has_front (map f xs) qs (f x) d.0)) (has_behind (map f xs) qs (f x) d.0), rest)
+        | true ↦ (has_both (map f (filter keep xs)) qs (f x) (has_kept xs (f x) (has_prefix (map f xs) qs (f x) d.0)) (has_after (map f xs) qs (f x) d.0), rest)
         | false ↦ rest
       ]
 
@@ -134,5 +134,5 @@ module _ {A : Type 0} (f : A → Place) where
   -- and it isn't in the second part
   pub apart : (xs : List A) (qs : List Place) (i : ℕ) (a : A) → PlacesDiffer (map f xs ++ qs) → slice_get xs i ≡ Some a → has_place qs (f a) ≡ false
   apart [] qs i a d h = cc
-  apart (x ∷ xs) qs zero a d h = let is : x ≡ a = cc in subst (λ (y : A). has_place qs (f y) ≡ false) is (has_behind (map f xs) qs (f x) d.0)
+  apart (x ∷ xs) qs zero a d h = let is : x ≡ a = cc in subst (λ (y : A). has_place qs (f y) ≡ false) is (has_after (map f xs) qs (f x) d.0)
   apart (x ∷ xs) qs (suc i) a d h = apart xs qs i a d.1 h

@@ -1,4 +1,4 @@
-use Rattle.net_rows.proofs.FrameRowsProofs.{tampered, forged_frames, blocks}
+use Rattle.net_rows.proofs.FrameRowsProofs.{tampered, forged_frames, blocks, frame_refusals}
 use Rattle.net_rows.proofs.frame_rows.Goals as goal
 
 pub returns-clause-tampered : goal.returns-clause-tampered
@@ -9,3 +9,6 @@ returns-clause-forged_frames c = forged_frames
 
 pub returns-clause-blocks : goal.returns-clause-blocks
 returns-clause-blocks c = blocks
+
+pub returns-clause-frame_refusals : goal.returns-clause-frame_refusals
+returns-clause-frame_refusals c = frame_refusals

@@ -1,4 +1,4 @@
-use Rattle.net_rows.proofs.JournalRowsProofs.{checkpoints, checkpoint_in_doubt, migration, checkpoint_once, full_journal, handing_runs, used_keys}
+use Rattle.net_rows.proofs.JournalRowsProofs.{checkpoints, checkpoint_in_doubt, migration, checkpoint_once, full_journal, handing_runs, used_keys, blank_of_version_1}
 use Rattle.net_rows.proofs.journal_rows.Goals as goal
 
 pub returns-clause-checkpoints : goal.returns-clause-checkpoints
@@ -21,3 +21,6 @@ returns-clause-handing_runs c = handing_runs
 
 pub returns-clause-used_keys : goal.returns-clause-used_keys
 returns-clause-used_keys c = used_keys
+
+pub returns-clause-blank_of_version_1 : goal.returns-clause-blank_of_version_1
+returns-clause-blank_of_version_1 c = blank_of_version_1

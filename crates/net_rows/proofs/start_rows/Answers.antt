@@ -1,4 +1,4 @@
-use Rattle.net_rows.proofs.StartRowsProofs.{leases, plan_committed, plan_lost, handing_committed, handing_lost, drawn_stays, new_life}
+use Rattle.net_rows.proofs.StartRowsProofs.{leases, plan_committed, plan_lost, handing_committed, handing_lost, drawn_stays, new_life, own_counts}
 use Rattle.net_rows.proofs.start_rows.Goals as goal
 
 pub returns-clause-leases : goal.returns-clause-leases
@@ -21,3 +21,6 @@ returns-clause-drawn_stays c = drawn_stays
 
 pub returns-clause-new_life : goal.returns-clause-new_life
 returns-clause-new_life c = new_life
+
+pub returns-clause-own_counts : goal.returns-clause-own_counts
+returns-clause-own_counts c = own_counts

@@ -1,5 +1,5 @@
 use Rattle.net_witness.proofs.Networks.{is_network}
-use Rattle.net_witness.proofs.Running.{runs, tells, hands, doubts, blocks}
+use Rattle.net_witness.proofs.Running.{runs, relays, hands, doubts, blocks}
 use Rattle.net_witness.proofs.law_premises_are_met.Goals as goal
 
 pub returns-clause-network : goal.returns-clause-network
@@ -8,8 +8,8 @@ returns-clause-network c = is_network c.frames_of_a_network.ensures
 pub returns-clause-runs : goal.returns-clause-runs
 returns-clause-runs c = runs
 
-pub returns-clause-tells : goal.returns-clause-tells
-returns-clause-tells c = tells
+pub returns-clause-relays : goal.returns-clause-relays
+returns-clause-relays c = relays
 
 pub returns-clause-hands : goal.returns-clause-hands
 returns-clause-hands c = hands

@@ -2,9 +2,9 @@ use Rattle.frame_codec.specs.Payload.{payload_octets}
 use Rattle.frame_codec.proofs.Writes.{then_puts}
 use Rattle.frame_codec.proofs.spelling.put_payload.Goals as goal
 
-pub returns-in-Told-clause-octets : goal.returns-in-Told-clause-octets
+pub returns-in-Data-clause-octets : goal.returns-in-Data-clause-octets
 unfolding payload_octets
-returns-in-Told-clause-octets c = rw c.in-Told.is c.put_fact.ensures.octets
+returns-in-Data-clause-octets c = rw c.in-Data.is c.put_fact.ensures.octets
 
 pub returns-in-Ack-clause-octets : goal.returns-in-Ack-clause-octets
 unfolding payload_octets

@@ -9,4 +9,4 @@ pub returns-clause-whole : goal.returns-clause-whole
 returns-clause-whole c = payload_length c.args.payload.now
 
 pub returns-clause-octets : goal.returns-clause-octets
-returns-clause-octets c = ap (λ (n : ℕ). take n c.put_payload.new.into) (omega (arith, c.put_payload.ensures.octets.end_is)) ∙ c.put_payload.ensures.octets.front
+returns-clause-octets c = ap (λ (n : ℕ). take n c.put_payload.new.into) (omega (arith, c.put_payload.ensures.octets.end_is)) ∙ c.put_payload.ensures.octets.prefix

@@ -7,8 +7,8 @@ use Rattle.hop_frames.proofs.sealing.seal.Goals as goal
 pub returns-clause-frame : goal.returns-clause-frame
 returns-clause-frame c =
     let size : c.from-size.result ≡ 0 + c.spell.result = omega (arith, c.from-size.ensures, c.spelled_len.ensures.length, c.spell.ensures.len) in
-    let clear : c.front-clear.result.now ≡ payload_octets c.args.payload.now = c.front-clear.ensures ∙ ap (λ (n : ℕ). take n c.spell.new.into.octets) size ∙ c.spell.ensures.octets in
-    let len : length c.front-clear.result.now ≡ c.from-size.result = omega (arith, ap length clear, c.spell.ensures.whole, c.spell.ensures.len, size) in
+    let clear : c.prefix-clear.result.now ≡ payload_octets c.args.payload.now = c.prefix-clear.ensures ∙ ap (λ (n : ℕ). take n c.spell.new.into.octets) size ∙ c.spell.ensures.octets in
+    let len : length c.prefix-clear.result.now ≡ c.from-size.result = omega (arith, ap length clear, c.spell.ensures.whole, c.spell.ensures.len, size) in
     let need : c.args.range.len ≡ length (payload_octets c.args.payload.now) + 8 = omega (arith, c.requires.size, c.spell.ensures.whole) in
     λ bytes is pads.
     ap (λ (n : ℕ). take (24 + n) c.put_frame.new.into) (omega (arith, len)) ∙ c.put_frame.ensures

@@ -1,5 +1,5 @@
 use Rattle.std.proofs.Common.{◌≡◌, drop}
-use Rattle.scenario_text.specs.Stage.{sae_from, sae_of}
+use Rattle.scenario_text.specs.DeclaredSite.{sae_from, sae_of}
 use Rattle.scenario_text.proofs.declarations.find_sae.Given as goal
 
 abbrev pub invariant-loop-i : goal.invariant-loop-i

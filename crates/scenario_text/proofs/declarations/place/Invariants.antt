@@ -1,5 +1,5 @@
 use Rattle.std.proofs.Common.{◌≡◌, drop}
-use Rattle.scenario_text.specs.Stage.{place_from, place_of}
+use Rattle.scenario_text.specs.DeclaredSite.{place_from, place_of}
 use Rattle.scenario_text.proofs.declarations.place.Given as goal
 
 abbrev pub invariant-loop-i : goal.invariant-loop-i

@@ -6,13 +6,13 @@ use Rattle.scenario_text.specs.declared.phase.Phase.TheVariants.{FirstNode}
 use Rattle.scenario_text.specs.declared.declarations.Sae.{Sae}
 
 -- the names of the nodes and the applications, each by number
-pub record Stage : Type 0 where
+pub record DeclaredSite : Type 0 where
   pub phase : Phase
   pub nodes : List (List ℕ)
   pub saes : List Sae
 
-abbrev pub first_stage : Stage
-first_stage = record { phase = FirstNode; nodes = []; saes = [] }
+abbrev pub nothing_declared : DeclaredSite
+nothing_declared = record { phase = FirstNode; nodes = []; saes = [] }
 
 -- the number of a name among names that are numbered from n
 abbrev pub place_from : ℕ → List ℕ → List (List ℕ) → Option ℕ

@@ -8,7 +8,7 @@ use Rattle.scenario_text.specs.declared.phase.Phase.{Phase}
 use Rattle.scenario_text.specs.declared.phase.Phase.TheVariants as phases
 use Rattle.scenario_text.specs.declared.scenario.Line.{Line}
 use Rattle.scenario_text.specs.Phase.{after_node, after_link, after_sae, after_allow, after_bits, after_fill, after_tick, after_other}
-use Rattle.scenario_text.specs.Stage.{Stage}
+use Rattle.scenario_text.specs.DeclaredSite.{DeclaredSite}
 use Rattle.line_laws.specs.Scenario.{home_of}
 use Rattle.line_laws.specs.LineOrder.{after_command, AreInOrder}
 
@@ -21,14 +21,14 @@ pub record IsPaired (nodes : List (List ℕ)) (saes : List Sae) : Type 0 where
   pub slave : ℕ
   pub at_high : home_of saes slave ≡ 1
 
-abbrev pub IsStageAt : Phase → List (List ℕ) → List Sae → Type 0
-IsStageAt phases.FirstNode nodes saes = (length nodes ≡ 0) × (length saes ≡ 0)
-IsStageAt phases.SecondNode nodes saes = (length nodes ≡ 1) × (length saes ≡ 0)
-IsStageAt phases.Link nodes saes = (length nodes ≡ 2) × (length saes ≡ 0)
-IsStageAt phases.FirstSae nodes saes = (length nodes ≡ 2) × (length saes ≡ 0)
-IsStageAt phases.SecondSae nodes saes = (length nodes ≡ 2) × (length saes ≡ 1)
-IsStageAt phases.Allow nodes saes = (length nodes ≡ 2) × (length saes ≡ 2)
-IsStageAt phase nodes saes = IsPaired nodes saes
+abbrev pub IsSiteAt : Phase → List (List ℕ) → List Sae → Type 0
+IsSiteAt phases.FirstNode nodes saes = (length nodes ≡ 0) × (length saes ≡ 0)
+IsSiteAt phases.SecondNode nodes saes = (length nodes ≡ 1) × (length saes ≡ 0)
+IsSiteAt phases.Link nodes saes = (length nodes ≡ 2) × (length saes ≡ 0)
+IsSiteAt phases.FirstSae nodes saes = (length nodes ≡ 2) × (length saes ≡ 0)
+IsSiteAt phases.SecondSae nodes saes = (length nodes ≡ 2) × (length saes ≡ 1)
+IsSiteAt phases.Allow nodes saes = (length nodes ≡ 2) × (length saes ≡ 2)
+IsSiteAt phase nodes saes = IsPaired nodes saes
 
 -- behind the declarations: the applications stay as they are
 abbrev pub IsWorking : Phase → Type 0
@@ -38,39 +38,39 @@ IsWorking phases.Tick = Unit {0}
 IsWorking phases.Others = Unit {0}
 IsWorking phase = ⊥
 
-pub record Goes (phase : Phase) (saes : List Sae) (site : Stage) (lines : List Line) : Type 0 where
+pub record Goes (phase : Phase) (saes : List Sae) (site : DeclaredSite) (lines : List Line) : Type 0 where
   pub same : site.saes ≡ saes
   pub order : AreInOrder site phase lines
 
-abbrev pub Ordered : Phase → List Sae → Stage → List Line → Type 0
+abbrev pub Ordered : Phase → List Sae → DeclaredSite → List Line → Type 0
 Ordered phases.Bits saes site lines = Goes phases.Bits saes site lines
 Ordered phases.Fill saes site lines = Goes phases.Fill saes site lines
 Ordered phases.Tick saes site lines = Goes phases.Tick saes site lines
 Ordered phases.Others saes site lines = Goes phases.Others saes site lines
 Ordered phase saes site lines = AreInOrder site phases.Bits lines
 
-pub goes : (phase : Phase) (saes : List Sae) (site : Stage) (lines : List Line) → IsWorking phase → Ordered phase saes site lines → Goes phase saes site lines
+pub goes : (phase : Phase) (saes : List Sae) (site : DeclaredSite) (lines : List Line) → IsWorking phase → Ordered phase saes site lines → Goes phase saes site lines
 goes phases.Bits saes site lines w o = o
 goes phases.Fill saes site lines w o = o
 goes phases.Tick saes site lines w o = o
 goes phases.Others saes site lines w o = o
 goes phase saes site lines w o = absurd w
 
-pub went : (phase : Phase) (saes : List Sae) (site : Stage) (lines : List Line) → IsWorking phase → Goes phase saes site lines → Ordered phase saes site lines
+pub went : (phase : Phase) (saes : List Sae) (site : DeclaredSite) (lines : List Line) → IsWorking phase → Goes phase saes site lines → Ordered phase saes site lines
 went phases.Bits saes site lines w o = o
 went phases.Fill saes site lines w o = o
 went phases.Tick saes site lines w o = o
 went phases.Others saes site lines w o = o
 went phase saes site lines w o = absurd w
 
-pub paired : (phase : Phase) (nodes : List (List ℕ)) (saes : List Sae) → IsWorking phase → IsStageAt phase nodes saes → IsPaired nodes saes
+pub paired : (phase : Phase) (nodes : List (List ℕ)) (saes : List Sae) → IsWorking phase → IsSiteAt phase nodes saes → IsPaired nodes saes
 paired phases.Bits nodes saes w o = o
 paired phases.Fill nodes saes w o = o
 paired phases.Tick nodes saes w o = o
 paired phases.Others nodes saes w o = o
 paired phase nodes saes w o = absurd w
 
-pub staged : (phase : Phase) (nodes : List (List ℕ)) (saes : List Sae) → IsWorking phase → IsPaired nodes saes → IsStageAt phase nodes saes
+pub staged : (phase : Phase) (nodes : List (List ℕ)) (saes : List Sae) → IsWorking phase → IsPaired nodes saes → IsSiteAt phase nodes saes
 staged phases.Bits nodes saes w o = o
 staged phases.Fill nodes saes w o = o
 staged phases.Tick nodes saes w o = o
@@ -109,9 +109,9 @@ works (Ledger lane) p q e = other_works p q e
 -- ---- declarations
 
 -- from the stage of one phase to that of the next, and back for the lines
-pub record Declares (s t : Stage) : Type 0 where
-  pub stage : IsStageAt s.phase s.nodes s.saes → IsStageAt t.phase t.nodes t.saes
-  pub order : (site : Stage) (lines : List Line) → Ordered t.phase t.saes site lines → Ordered s.phase s.saes site lines
+pub record Declares (s t : DeclaredSite) : Type 0 where
+  pub stage : IsSiteAt s.phase s.nodes s.saes → IsSiteAt t.phase t.nodes t.saes
+  pub order : (site : DeclaredSite) (lines : List Line) → Ordered t.phase t.saes site lines → Ordered s.phase s.saes site lines
 
 one_more : {A : Type 0} (xs : List A) (x : A) (n : ℕ) → length xs ≡ n → length (xs ++ x ∷ []) ≡ n + 1
 one_more xs x n e = omega (arith, length-append xs (x ∷ []))

@@ -38,22 +38,22 @@ AllTrue s T v [] = Unit {0}
 AllTrue s T v (d ∷ ds) = IsTrueDelivery T d × (s.home d.sae ≡ v) × AllTrue s T v ds
 
 -- by the facts that are seen, of a table
-pub record IsTold (s : Site) (T seen : List Fact) (v : ℕ) (event : Event) (e : Effect) : Type 0 where
+pub record IsTrueEffect (s : Site) (T seen : List Fact) (v : ℕ) (event : Event) (e : Effect) : Type 0 where
   pub marked : marks e.batch ≡ pairs_of (delivered seen event e.reply)
   pub true' : AllTrue s T v (delivered seen event e.reply)
 
-abbrev pub Tells : Site → List Fact → List Fact → ℕ → Event → Decision → Type 0
-Tells s T seen v event (Refuses reply) = delivered seen event reply ≡ []
-Tells s T seen v event (Does e) = IsTold s T seen v event e
+abbrev pub IsTrueDecision : Site → List Fact → List Fact → ℕ → Event → Decision → Type 0
+IsTrueDecision s T seen v event (Refuses reply) = delivered seen event reply ≡ []
+IsTrueDecision s T seen v event (Does e) = IsTrueEffect s T seen v event e
 
-pub tells_either : (s : Site) (T seen : List Fact) (v : ℕ) (event : Event) (b : Bool) (x y : Decision) → (b ≡ true → Tells s T seen v event x) →
-    (b ≡ false → Tells s T seen v event y) → Tells s T seen v event (if b then x else y)
-tells_either s T seen v event b x y = by_test (Tells s T seen v event) b x y
+pub true_either : (s : Site) (T seen : List Fact) (v : ℕ) (event : Event) (b : Bool) (x y : Decision) → (b ≡ true → IsTrueDecision s T seen v event x) →
+    (b ≡ false → IsTrueDecision s T seen v event y) → IsTrueDecision s T seen v event (if b then x else y)
+true_either s T seen v event b x y = by_test (IsTrueDecision s T seen v event) b x y
 
 -- an answer that hands out nothing
-pub tells_nothing : (s : Site) (T : List Fact) (see : View) (event : Event) (batch : List Record) (reply : Reply) → marks batch ≡ [] → delivered see.facts event reply ≡ [] →
-    Tells s T see.facts see.me event (makes see batch reply)
-tells_nothing s T see event batch reply none silent =
+pub true_nothing : (s : Site) (T : List Fact) (see : View) (event : Event) (batch : List Record) (reply : Reply) → marks batch ≡ [] → delivered see.facts event reply ≡ [] →
+    IsTrueDecision s T see.facts see.me event (makes see batch reply)
+true_nothing s T see event batch reply none silent =
     record { marked = none ∙ ap pairs_of (sym silent); true' = subst (AllTrue s T see.me) (sym silent) tt }
 
 -- keys to one application
@@ -73,7 +73,7 @@ true_each s T v m bytes (n ∷ ns) home h = (
 
 hands_true : (s : Site) (T : List Fact) (see : View) (event : Event) (m : ℕ) (bytes : Name → List ℕ) (ns : List Name) →
     delivered see.facts event (Handed (map (λ n. (n, bytes n)) ns)) ≡ map (to_one m) (map (λ n. (n, bytes n)) ns) → s.home m ≡ see.me →
-    ((n : Name) → has ns n ≡ true → HasTrueBytes T n m (bytes n)) → Tells s T see.facts see.me event (makes see (hand_to m ns) (Handed (map (λ n. (n, bytes n)) ns)))
+    ((n : Name) → has ns n ≡ true → HasTrueBytes T n m (bytes n)) → IsTrueDecision s T see.facts see.me event (makes see (hand_to m ns) (Handed (map (λ n. (n, bytes n)) ns)))
 hands_true s T see event m bytes ns is home h =
     record {
       marked = marks_hands m ns ∙ pairs_one m bytes ns ∙ ap pairs_of (sym is);
@@ -93,22 +93,22 @@ one_chunk T caller stream index f (b ∷ bytes) e some = ap (chunk_delivery call
 
 module _ (s : Site) (d : Durable) (frames : Lane → List Allocation) (unclaimed : Lane → List Transmission) (inv : Invariant s d frames unclaimed) (see bare : View)
     (h : Sees s d see bare) (site : IsSite s) (here : see.me < s.nodes) where
-  pub enc_tells : (m t n bits : ℕ) → Tells s d.facts see.facts see.me (Enc m t n bits) (enc s see m t n bits)
+  pub enc_true : (m t n bits : ℕ) → IsTrueDecision s d.facts see.facts see.me (Enc m t n bits) (enc s see m t n bits)
   unfolding enc pool
-  enc_tells m t n bits =
-      tells_either s d.facts see.facts see.me (Enc m t n bits) (not (is_entitled s see m m t)) _ _ (λ e. refl) (λ e.
-      tells_either s d.facts see.facts see.me (Enc m t n bits) (nat_lt (length (pool see m t bits)) n) _ _ (λ e2. refl) (λ e2.
+  enc_true m t n bits =
+      true_either s d.facts see.facts see.me (Enc m t n bits) (not (is_entitled s see m m t)) _ _ (λ e. refl) (λ e.
+      true_either s d.facts see.facts see.me (Enc m t n bits) (nat_lt (length (pool see m t bits)) n) _ _ (λ e2. refl) (λ e2.
       let ok = entitled_is s see m m t e in
       hands_true s d.facts see (Enc m t n bits) m (λ x. bytes_or_none (fact_at see.facts x)) (take n (pool see m t bits)) refl ok.home (λ x k.
       pool_bytes s d frames unclaimed inv see bare h m t bits x ok.home
       (has_filter (is_in_pool see m t bits) (own_names see) x (has_take (pool see m t bits) n x k)).1)))
 
-  pub group_tells : (m : ℕ) (slaves : List ℕ) (n bits : ℕ) → 0 < length slaves → Tells s d.facts see.facts see.me (EncGroup m slaves n bits) (enc_group s see m slaves n bits)
+  pub group_true : (m : ℕ) (slaves : List ℕ) (n bits : ℕ) → 0 < length slaves → IsTrueDecision s d.facts see.facts see.me (EncGroup m slaves n bits) (enc_group s see m slaves n bits)
   unfolding enc_group group
-  group_tells m slaves n bits some =
+  group_true m slaves n bits some =
       let ready : List Name = group see m slaves bits in
-      tells_either s d.facts see.facts see.me (EncGroup m slaves n bits) (not (is_entitled_group s see m slaves)) _ _ (λ e. refl) (λ e.
-      tells_either s d.facts see.facts see.me (EncGroup m slaves n bits) (nat_lt (length ready) n) _ _ (λ e2. refl) (λ e2.
+      true_either s d.facts see.facts see.me (EncGroup m slaves n bits) (not (is_entitled_group s see m slaves)) _ _ (λ e. refl) (λ e.
+      true_either s d.facts see.facts see.me (EncGroup m slaves n bits) (nat_lt (length ready) n) _ _ (λ e2. refl) (λ e2.
       let home : s.home m ≡ see.me = eq_from (s.home m) see.me (and_left (s.home m == see.me) (list_all (λ t. s.allowed m t) slaves) (not_true (is_entitled_group s see m slaves) e)) in
       hands_true s d.facts see (EncGroup m slaves n bits) m (λ x. bytes_or_none (find (is_part_of x) see.facts)) (take n ready) refl home (λ x k.
       group_bytes_true s d frames unclaimed inv see bare h m bits slaves x home some
@@ -124,30 +124,30 @@ module _ (s : Site) (d : Durable) (frames : Lane → List Allocation) (unclaimed
       first_fault P (was_handed see.handed n t) (AlreadyHanded (length before)) _ fault e2 refl (λ e3.
       fault_silent t m ns (before ++ n ∷ []) all fault e3)))
 
-  decs_tell : (t m : ℕ) (ns : List Name) (o : Option Reply) → dec_fault see m t [] ns ≡ o → IsMine s see t m t → Tells s d.facts see.facts see.me (Dec t m ns) (decs see m t ns o)
-  decs_tell t m ns (Some fault) e ok = fault_silent t m ns [] ns fault e
-  decs_tell t m ns None e ok =
+  decs_true : (t m : ℕ) (ns : List Name) (o : Option Reply) → dec_fault see m t [] ns ≡ o → IsMine s see t m t → IsTrueDecision s d.facts see.facts see.me (Dec t m ns) (decs see m t ns o)
+  decs_true t m ns (Some fault) e ok = fault_silent t m ns [] ns fault e
+  decs_true t m ns None e ok =
       let r = faultless see m t [] ns e in
       hands_true s d.facts see (Dec t m ns) t (λ n. bytes_or_none (for_slave see m t n)) ns refl ok.home (λ n k.
       slave_bytes_true s d frames unclaimed inv see bare h site m t n ok.allowed ok.home (r.fresh n k) (r.pair n k))
 
-  pub dec_tells : (t m : ℕ) (ns : List Name) → Tells s d.facts see.facts see.me (Dec t m ns) (dec s see t m ns)
+  pub dec_true : (t m : ℕ) (ns : List Name) → IsTrueDecision s d.facts see.facts see.me (Dec t m ns) (dec s see t m ns)
   unfolding dec
-  dec_tells t m ns =
-      tells_either s d.facts see.facts see.me (Dec t m ns) (not (is_entitled s see t m t)) _ _ (λ e. refl) (λ e.
-      decs_tell t m ns (dec_fault see m t [] ns) refl (entitled_is s see t m t e))
+  dec_true t m ns =
+      true_either s d.facts see.facts see.me (Dec t m ns) (not (is_entitled s see t m t)) _ _ (λ e. refl) (λ e.
+      decs_true t m ns (dec_fault see m t [] ns) refl (entitled_is s see t m t e))
 
-  quiet : (caller : ℕ) (stream : Name) (index n : ℕ) → Tells s d.facts see.facts see.me (Get caller stream index) (answers see (only_status n))
-  quiet caller stream index n = tells_nothing s d.facts see (Get caller stream index) [] (only_status n) refl refl
+  quiet : (caller : ℕ) (stream : Name) (index n : ℕ) → IsTrueDecision s d.facts see.facts see.me (Get caller stream index) (answers see (only_status n))
+  quiet caller stream index n = true_nothing s d.facts see (Get caller stream index) [] (only_status n) refl refl
 
   gives_tell : (caller index : ℕ) (stream : Name) (source peer size : ℕ) (way : List ℕ) (o : Option Fact) → IsStream s d see.me stream source peer size way →
       s.home caller ≡ see.me → ((caller == source) ≡ false → caller ≡ peer) → chunk_at see stream index ≡ o →
-      Tells s d.facts see.facts see.me (Get caller stream index) (gives_chunk see caller index (caller == source) o)
+      IsTrueDecision s d.facts see.facts see.me (Get caller stream index) (gives_chunk see caller index (caller == source) o)
   gives_tell caller index stream source peer size way None x home other e = quiet caller stream index 2
   gives_tell caller index stream source peer size way (Some g) x home other e =
       let seen = seen_found s d see bare h (is_chunk_at stream index) g e in
-      tells_either s d.facts see.facts see.me (Get caller stream index) (was_handed see.handed (name_of g) caller) _ _ (λ e1. quiet caller stream index 10) (λ e1.
-      tells_either s d.facts see.facts see.me (Get caller stream index) ((caller == source) && not (is_confirmed see (name_of g))) _ _ (λ e2. quiet caller stream index 2) (λ e2.
+      true_either s d.facts see.facts see.me (Get caller stream index) (was_handed see.handed (name_of g) caller) _ _ (λ e1. quiet caller stream index 10) (λ e1.
+      true_either s d.facts see.facts see.me (Get caller stream index) ((caller == source) && not (is_confirmed see (name_of g))) _ _ (λ e2. quiet caller stream index 2) (λ e2.
       let c = true_chunk s d frames unclaimed inv see bare h site stream source peer size index caller way x g seen.0 seen.1 home other e1 in
       let is = one_chunk see.facts caller stream index g (bytes_of g) e c.some in
       record {
@@ -155,25 +155,25 @@ module _ (s : Site) (d : Durable) (frames : Lane → List Allocation) (unclaimed
         true' = subst (AllTrue s d.facts see.me) (sym is) (c.true', home, tt);
       }))
 
-  end_tells : (n : Name) (caller index : ℕ) (o : Option Fact) (next : Name → ℕ → Decision) → stream_here s see n ≡ o →
+  end_true : (n : Name) (caller index : ℕ) (o : Option Fact) (next : Name → ℕ → Decision) → stream_here s see n ≡ o →
       ((stream : Name) (source peer size : ℕ) (way : List ℕ) → n ≡ stream → IsStream s d see.me stream source peer size way →
       (((caller == source) && (s.home source == see.me)) || ((caller == peer) && (s.home peer == see.me))) ≡ true →
-      Tells s d.facts see.facts see.me (Get caller n index) (next stream source)) → Tells s d.facts see.facts see.me (Get caller n index) (at_end s see caller o next)
-  end_tells n caller index None next e k = quiet caller n index 9
-  end_tells n caller index (Some (Open stream source peer size way)) next e k =
+      IsTrueDecision s d.facts see.facts see.me (Get caller n index) (next stream source)) → IsTrueDecision s d.facts see.facts see.me (Get caller n index) (at_end s see caller o next)
+  end_true n caller index None next e k = quiet caller n index 9
+  end_true n caller index (Some (Open stream source peer size way)) next e k =
       let event : Event = Get caller n index in
-      tells_either s d.facts see.facts see.me event ((s.home peer == see.me) && not (has_joined see stream)) _ _ (λ e1. quiet caller n index 9) (λ e1.
-      tells_either s d.facts see.facts see.me event (not (((caller == source) && (s.home source == see.me)) || ((caller == peer) && (s.home peer == see.me)))) _ _ (λ e2. quiet caller n index 8) (λ e2.
+      true_either s d.facts see.facts see.me event ((s.home peer == see.me) && not (has_joined see stream)) _ _ (λ e1. quiet caller n index 9) (λ e1.
+      true_either s d.facts see.facts see.me event (not (((caller == source) && (s.home source == see.me)) || ((caller == peer) && (s.home peer == see.me)))) _ _ (λ e2. quiet caller n index 8) (λ e2.
       let named = seen_at s d see bare h n (Open stream source peer size way) (open_end_is s see (fact_at see.facts n) (Open stream source peer size way) e) in
       k stream source peer size way (sym named.0) (stream_is s d frames unclaimed inv see bare h site here n stream source peer size way e)
       (not_true (((caller == source) && (s.home source == see.me)) || ((caller == peer) && (s.home peer == see.me))) e2)))
-  end_tells n caller index (Some _) next e k = quiet caller n index 9
+  end_true n caller index (Some _) next e k = quiet caller n index 9
 
-  pub get_tells : (caller : ℕ) (stream : Name) (index : ℕ) → Tells s d.facts see.facts see.me (Get caller stream index) (get_chunk s see caller stream index)
+  pub get_true : (caller : ℕ) (stream : Name) (index : ℕ) → IsTrueDecision s d.facts see.facts see.me (Get caller stream index) (get_chunk s see caller stream index)
   unfolding get_chunk
-  get_tells caller stream index =
-      end_tells stream caller index (stream_here s see stream) _ refl (λ st source peer size way is x ends.
-      tells_either s d.facts see.facts see.me (Get caller stream index) ((caller == source) && not (has_joined see st)) _ _ (λ e. quiet caller stream index 3) (λ e.
+  get_true caller stream index =
+      end_true stream caller index (stream_here s see stream) _ refl (λ st source peer size way is x ends.
+      true_either s d.facts see.facts see.me (Get caller stream index) ((caller == source) && not (has_joined see st)) _ _ (λ e. quiet caller stream index 3) (λ e.
       let home = caller_home s see.me caller source peer ends in
-      subst (λ (n : Name). Tells s d.facts see.facts see.me (Get caller n index) (gives_chunk see caller index (caller == source) (chunk_at see st index))) (sym is)
+      subst (λ (n : Name). IsTrueDecision s d.facts see.facts see.me (Get caller n index) (gives_chunk see caller index (caller == source) (chunk_at see st index))) (sym is)
       (gives_tell caller index st source peer size way (chunk_at see st index) x home.0 home.1 refl)))

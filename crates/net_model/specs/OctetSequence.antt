@@ -1,8 +1,8 @@
--- What devices and entropies tell.
+-- What devices and entropies give: sequences of octets.
 use Rattle.std.specs.Prelude.{ℕ, zero, suc, ◌+◌, ◌*◌, nat_le, Bool, true, List, [], ◌∷◌, ◌++◌, length, slice_index_or, Option, Some, None}
 
--- Octets in order, and their number if they end. What doesn't tell its octets has some, without an end.
-pub record Told : Type 0 where
+-- Octets in order, and their number if they end. What doesn't say which octets it gives has some, without an end.
+pub record OctetSequence : Type 0 where
   pub octet : ℕ → ℕ
   pub end : Option ℕ
 
@@ -11,22 +11,22 @@ abbrev pub reaches : Option ℕ → ℕ → Bool
 reaches None n = true
 reaches (Some end) n = nat_le n end
 
-abbrev pub tells : Told → ℕ → Bool
-tells t n = reaches t.end n
+abbrev pub has_octets : OctetSequence → ℕ → Bool
+has_octets t n = reaches t.end n
 
 -- n octets from a place on
 unfoldable pub octets_from : (ℕ → ℕ) → ℕ → ℕ → List ℕ
 octets_from octet place zero = []
 octets_from octet place (suc n) = octet place ∷ octets_from octet (place + 1) n
 
--- a list as what tells it
-abbrev pub told_list : List ℕ → Told
-told_list xs = record { octet = λ i. slice_index_or xs i 0; end = Some (length xs) }
+-- the sequence of a list
+abbrev pub sequence_of : List ℕ → OctetSequence
+sequence_of xs = record { octet = λ i. slice_index_or xs i 0; end = Some (length xs) }
 
 -- block number n of a device: 1,024 octets
-abbrev pub block_at : Told → ℕ → List ℕ
+abbrev pub block_at : OctetSequence → ℕ → List ℕ
 block_at t n = octets_from t.octet (1024 * n) 1024
 
-unfoldable pub first_blocks : Told → ℕ → List (List ℕ)
+unfoldable pub first_blocks : OctetSequence → ℕ → List (List ℕ)
 first_blocks t zero = []
 first_blocks t (suc n) = first_blocks t n ++ block_at t n ∷ []
