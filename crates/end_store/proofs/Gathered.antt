@@ -15,11 +15,11 @@ use Rattle.net_model.specs.Decision.{last_count}
 use Rattle.net_model.specs.Pools.{names_up_to, is_key_of, is_in_pool, pool}
 use Rattle.net_model.specs.View.{View}
 use Rattle.relay_core.proofs.Kept.{somewhere}
-use Rattle.relay_core.proofs.Names.{and_left, and_right, name_eq_from, eq_from, eq_same}
+use Rattle.relay_core.proofs.Names.{and_left, name_eq_from, eq_from, eq_same}
 use Rattle.end_store.specs.declared.pool.Pool.{Pool}
 use Rattle.end_store.specs.declared.pool.Line.TheVariants.{Keys}
-use Rattle.end_store.specs.Waiting.{Ends, own, is_in, is_free_key, is_free_key_at, is_waiting, IsNextWaiting, IsLastWaiting}
-use Rattle.end_store.specs.Pooled.{ends_view, octets_pool, is_ready}
+use Rattle.end_store.specs.Waiting.{own, is_free_key, is_free_key_at, IsNextWaiting, IsLastWaiting}
+use Rattle.end_store.specs.Pooled.{octets_pool, is_ready}
 use Rattle.end_store.proofs.Lines.{keys_bound}
 
 module _ (P : Name → Bool) (me : ℕ) where

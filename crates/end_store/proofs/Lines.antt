@@ -1,11 +1,11 @@
 -- What stands at a count of a line, and its entries.
-use Rattle.std.proofs.Common.{◌-◌, ◌≡◌, ℕ, zero, suc, ◌+◌, ◌<◌, ◌≤◌, ◌^◌, max, Bool, true, false, ◌&&◌, ◌||◌, List, [], ◌∷◌, ◌++◌, length, refl, sym, ◌∙◌, ap, subst, arith, Option, Some, None, ◌⊎◌, inl, inr}
-use Rattle.std.specs.Prelude.{slice_get, slice_index, find, is_some, not, nat_le, nat_lt, ◌==◌, if◌then◌else◌}
+use Rattle.std.proofs.Common.{◌≡◌, ℕ, zero, suc, ◌+◌, ◌<◌, ◌≤◌, ◌^◌, max, Bool, true, false, ◌&&◌, ◌||◌, List, [], ◌∷◌, ◌++◌, length, refl, sym, ◌∙◌, ap, arith, Option, Some, None, ◌⊎◌, inl, inr}
+use Rattle.std.specs.Prelude.{slice_get, slice_index, is_some, not, nat_le, nat_lt, ◌==◌, if◌then◌else◌}
 use Rattle.std.specs.List.{list_any}
 use Rattle.std.specs.Str.{bytes_eq}
 use Rattle.std.proofs.lemmas.Slice.Eq.{bytes_eq-Decides}
 use Rattle.qkd_base.specs.declared.key_name.NameKind.TheVariants.{Key as KeyKind}
-use Rattle.qkd_base.specs.Name.{Name, IsName, name_eq, kind_eq, kind_number}
+use Rattle.qkd_base.specs.Name.{Name, IsName, name_eq, kind_eq}
 use Rattle.net_model.specs.declared.fact.Fact.{Fact}
 use Rattle.net_model.specs.declared.fact.Fact.TheVariants.{Key, Chunk, Stored, Open, Joined, Part}
 use Rattle.net_model.specs.Table.{was_handed, fact_at, has_fact, name_of, is_part_of, part_of}
@@ -15,11 +15,11 @@ use Rattle.relay_core.specs.Firsts.{IsFirstFrom, IsNoneFrom}
 use Rattle.std.proofs.lemmas.Bool.Decides.{nat_tests}
 use Rattle.ordered_entries.specs.Entries.{has_entry, entry_at, IsNextIn, IsLastIn}
 use Rattle.relay_core.proofs.Firsts.{get_within, not_true, any_at}
-use Rattle.relay_core.proofs.Names.{same_name, names_same, name_eq_from, name_eq_same, eq_same, eq_from, and_left, and_right}
+use Rattle.relay_core.proofs.Names.{name_eq_from, eq_same, eq_from, and_left, and_right}
 use Rattle.end_store.specs.declared.pool.Pool.{Pool}
 use Rattle.end_store.specs.declared.pool.Line.{Line}
 use Rattle.end_store.specs.declared.pool.Line.TheVariants.{Stock, Keys, Parts}
-use Rattle.end_store.specs.Waiting.{own, is_in, is_own, pool_of, stands, is_taken, is_waiting, is_free_key, is_free_key_at, is_part_in, is_part_in_at, pool_entry, line_entry, place_entry, count_entry, Grows, GrowsBy, Shrinks, ShrinksBy, AreWaiting, IsNextWaiting, IsLastWaiting}
+use Rattle.end_store.specs.Waiting.{own, is_in, is_own, pool_of, stands, is_taken, is_waiting, is_free_key, is_free_key_at, is_part_in, is_part_in_at, pool_entry, line_entry, place_entry, count_entry, GrowsBy, AreWaiting, IsLastWaiting}
 
 bytes_same : (a b : List ℕ) → a ≡ b → bytes_eq a b ≡ true
 bytes_same a b e = (bytes_eq-Decides a b).1 e

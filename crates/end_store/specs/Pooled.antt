@@ -9,7 +9,7 @@ use Rattle.net_model.specs.World.{no_volatile}
 use Rattle.net_model.specs.View.{View}
 use Rattle.end_store.specs.declared.pool.Pool.{Pool}
 use Rattle.end_store.specs.declared.pool.Line.TheVariants.{Keys}
-use Rattle.end_store.specs.Waiting.{Ends, own, is_waiting}
+use Rattle.end_store.specs.Waiting.{Ends, is_waiting}
 
 -- what is kept, as a view without lanes and without what one life keeps
 abbrev pub ends_view : Ends → View

@@ -8,7 +8,7 @@ use Rattle.net_model.specs.declared.fact.Fact.{Fact}
 use Rattle.net_model.specs.declared.fact.Fact.TheVariants.{Key, Part}
 use Rattle.net_model.specs.Table.{was_handed, fact_at}
 use Rattle.ordered_entries.specs.Entries.{has_entry}
-use Rattle.relay_core.specs.Knowledge.{Knowledge, AreDistinct}
+use Rattle.relay_core.specs.Knowledge.{Knowledge}
 use Rattle.end_store.specs.declared.pool.Pool.{Pool}
 use Rattle.end_store.specs.declared.pool.Line.{Line}
 use Rattle.end_store.specs.declared.pool.Line.TheVariants.{Stock, Keys, Parts}

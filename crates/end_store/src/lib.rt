@@ -1,6 +1,7 @@
 //! Keys that wait for their applications, and which application has got which.
 #![tactic(auto)]
 
+mod listing;
 mod marks;
 mod pool;
 mod pools;

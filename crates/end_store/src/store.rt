@@ -5,7 +5,8 @@ ghost use Rattle.net_model.specs.Fold.{marked};
 ghost use Rattle.relay_core.specs.Knowledge.{acked_with};
 ghost use Rattle.end_store.specs.Waiting.{IsNextWaiting, IsLastWaiting};
 
-use crate::waiting::{list_more, next, release_name};
+use crate::listing::{list_more, release_name};
+use crate::waiting::next;
 use crate::{Line, Marks};
 use net_model::Fact;
 use ordered_entries::Entries;

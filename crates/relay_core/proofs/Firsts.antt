@@ -21,10 +21,10 @@ got (y ∷ ys) (suc i) x lt e = got ys i x (omega arith) e
 
 -- one more behind
 
-pub get_front : {A : Type 0} (xs ys : List A) (i : ℕ) → i < length xs → slice_get (xs ++ ys) i ≡ slice_get xs i
-get_front [] ys i h = absurd (omega arith)
-get_front (x ∷ xs) ys zero h = refl
-get_front (x ∷ xs) ys (suc i) h = get_front xs ys i (omega arith)
+pub get_prefix : {A : Type 0} (xs ys : List A) (i : ℕ) → i < length xs → slice_get (xs ++ ys) i ≡ slice_get xs i
+get_prefix [] ys i h = absurd (omega arith)
+get_prefix (x ∷ xs) ys zero h = refl
+get_prefix (x ∷ xs) ys (suc i) h = get_prefix xs ys i (omega arith)
 
 pub get_end : {A : Type 0} (xs : List A) (y : A) → slice_get (xs ++ y ∷ []) (length xs) ≡ Some y
 get_end [] y = refl

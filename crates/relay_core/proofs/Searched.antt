@@ -15,7 +15,7 @@ use Rattle.relay_core.specs.declared.group.Group.TheVariants.{Named, StoredAbout
 use Rattle.relay_core.specs.Firsts.{IsFirstFrom, IsNoneFrom}
 use Rattle.relay_core.specs.Knowledge.{AreDistinct}
 use Rattle.relay_core.specs.Index.{belongs, belongs_at, entry_of, IsIndex}
-use Rattle.relay_core.proofs.Firsts.{get_within, get_front, not_true}
+use Rattle.relay_core.proofs.Firsts.{get_within, get_prefix, not_true}
 use Rattle.relay_core.proofs.Names.{eq_from, and_left, and_right, name_eq_from, names_same}
 use Rattle.relay_core.proofs.Entered.{same_entry, front_of, front_is}
 
@@ -100,7 +100,7 @@ walked_none me acked facts g from count none rest = record {
 -- one more fact, not yet listed
 
 end_of : (facts : List Fact) (f : Fact) (p : ℕ) → p < length facts → slice_get (facts ++ f ∷ []) p ≡ slice_get facts p
-end_of facts f p lt = get_front facts (f ∷ []) p lt
+end_of facts f p lt = get_prefix facts (f ∷ []) p lt
 
 pub index_push : (me : ℕ) (acked : List Name) (facts : List Fact) (es : List (List ℕ)) (count : ℕ) (f : Fact) → IsIndex me acked facts es count → IsIndex me acked (facts ++ f ∷ []) es count
 index_push me acked facts es count f index = record {

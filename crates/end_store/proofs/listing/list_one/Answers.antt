@@ -1,7 +1,7 @@
 use Rattle.std.proofs.Common.{ℕ, List, Option, subst, sym, ◌∙◌, ap}
 use Rattle.end_store.specs.Waiting.{GrowsBy, count_entry}
 use Rattle.end_store.proofs.Lines.{waiting_more}
-use Rattle.end_store.proofs.waiting.list_one.Goals as goal
+use Rattle.end_store.proofs.listing.list_one.Goals as goal
 
 pub returns-else-not-add-clause-done : goal.returns-else-not-add-clause-done
 returns-else-not-add-clause-done c ok =

@@ -1,6 +1,6 @@
 use Rattle.std.proofs.Common.{length, ◌-◌}
 use Rattle.end_store.specs.Waiting.{AreWaiting}
-use Rattle.end_store.proofs.waiting.list_more.Given as goal
+use Rattle.end_store.proofs.listing.list_more.Given as goal
 
 abbrev pub invariant-loop-place : goal.invariant-loop-place
 invariant-loop-place l = AreWaiting l.known.me l.known.facts l.handed.pairs l.index l.place
