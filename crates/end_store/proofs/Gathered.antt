@@ -228,7 +228,7 @@ no_eights size bits h = elim (8 * size == bits) as (λ b. (8 * size == bits) ≡
 
 -- a key that waits, by its bits
 
-keyed : (handed : List (Name × ℕ)) (m s bits : ℕ) (n : Name) (f : Fact) → (bits % 8 == 0) ≡ true → name_of f ≡ n →
+pub keyed : (handed : List (Name × ℕ)) (m s bits : ℕ) (n : Name) (f : Fact) → (bits % 8 == 0) ≡ true → name_of f ≡ n →
     is_free_key handed (record { master = m; slave = s; octets = bits / 8 }) f ≡ (is_key_of m s bits (Some f) && not (was_handed handed n m))
 keyed handed m s bits n (Key name master slave route bytes) whole e =
     ap (λ (b : Bool). ((master == m) && (slave == s) && b) && not (was_handed handed name master)) (eights (length bytes) bits whole)
@@ -290,7 +290,7 @@ ready_pool v p keys e = by (p.bits % 8 == 0) refl e
         ap (λ (x : Pool). filter (is_ready v.me v.facts v.handed x) (names_up_to v.me KeyKind (last_count v.me v.facts))) is
         ∙ same_filter (is_ready v.me v.facts v.handed k) (is_in_pool v p.master p.slave p.bits) v.me (last_count v.me v.facts) (λ c. one_ready v p.master p.slave p.bits c h)
 
-no_key : (v : View) (m s bits : ℕ) (o : Option Fact) → (bits % 8 == 0) ≡ false → is_key_of m s bits o ≡ false
+pub no_key : (v : View) (m s bits : ℕ) (o : Option Fact) → (bits % 8 == 0) ≡ false → is_key_of m s bits o ≡ false
 no_key v m s bits None h = refl
 no_key v m s bits (Some (Key name master slave route bytes)) h = ap (λ (b : Bool). (master == m) && (slave == s) && b) (no_eights (length bytes) bits h) ∙ shut ((master == m) && (slave == s))
   where

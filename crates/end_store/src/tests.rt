@@ -116,8 +116,8 @@ fn confirmed(alloc: Global) -> Result<EndStore, Memory> {
     Ok(store)
 }
 
-// How many keys of so many bits are ready, and the first of them.
-fn ready(alloc: Global, bits: u16) -> Result<(usize, Option<KeyName>), Memory> {
+// How many keys of so many bits their master hasn't got, how many are ready, and the first of these.
+fn ready(alloc: Global, bits: u16) -> Result<(usize, usize, Option<KeyName>), Memory> {
     let store = confirmed(alloc)?;
     let pool = PoolNo {
         master: sae(0)?,
@@ -125,12 +125,17 @@ fn ready(alloc: Global, bits: u16) -> Result<(usize, Option<KeyName>), Memory> {
         bits,
     };
     let names = store.ready_keys(alloc, &pool, 5)?;
-    Ok((store.ready_count(&pool, 5), names.first().copied()))
+    let unhanded = store.unhanded_count(&pool, 5);
+    Ok((
+        unhanded,
+        store.ready_count(&pool, 5),
+        names.first().copied(),
+    ))
 }
 
 #[test]
 fn confirmed_keys_are_ready(rt: HostRuntime) -> Result<(), Fail> {
-    assert_eq!(rt; ready(rt.alloc(), 64)?, (1, Some(key_name(3)?)));
-    assert_eq!(rt; ready(rt.alloc(), 65)?, (0, None));
+    assert_eq!(rt; ready(rt.alloc(), 64)?, (2, 1, Some(key_name(3)?)));
+    assert_eq!(rt; ready(rt.alloc(), 65)?, (0, 0, None));
     Ok(())
 }
