@@ -1,4 +1,4 @@
-use crate::{EndStore, Line, Marks, Pool};
+use crate::{EndStore, Line, Pool};
 use net_model::Fact;
 use qkd_base::{KeyName, Memory, NameKind, NodeNo, Octets, PoolNo, Route, SaeNo};
 use std::alloc::Global;
@@ -30,112 +30,75 @@ fn key(alloc: Global, count: u64) -> Result<Fact, Memory> {
     })
 }
 
-// A part of group key 9.
-fn part(alloc: Global, count: u64) -> Result<Fact, Memory> {
-    Ok(Fact::Part {
-        name: key_name(count)?,
-        key: key_name(9)?,
-        master: sae(0)?,
-        slave: sae(1)?,
-        route: way()?,
-        bytes: Octets::from_slice(alloc, &[7; 8])?,
+// The word that a key has come.
+fn note(about: u64) -> Result<Fact, Memory> {
+    Ok(Fact::Stored {
+        note: KeyName::new(node(1)?, NameKind::Note, 1).ok_or(Memory)?,
+        about: key_name(about)?,
+        route: way()?.reversed(),
     })
 }
 
-// Keys 3 and 1, and a part of group key 9.
+fn learn(store: &mut EndStore, fact: Fact) -> Result<(), Memory> {
+    store.learn(fact)?;
+    Ok(())
+}
+
+// Keys 3 and 1, of which key 3 is confirmed.
 fn filled(alloc: Global) -> Result<EndStore, Memory> {
     let mut store = EndStore::new(alloc, node(0)?);
-    store.learn(key(alloc, 3)?)?;
-    store.learn(key(alloc, 1)?)?;
-    store.learn(part(alloc, 4)?)?;
+    learn(&mut store, key(alloc, 3)?)?;
+    learn(&mut store, key(alloc, 1)?)?;
+    learn(&mut store, note(3)?)?;
     Ok(store)
 }
 
-// The same, where the master has got a key.
-fn handed(alloc: Global, count: u64) -> Result<EndStore, Memory> {
-    let mut store = filled(alloc)?;
+fn hand(store: &mut EndStore, count: u64) -> Result<(), Memory> {
     store.room_handed(1)?;
     store.mark(key_name(count)?, sae(0)?);
-    Ok(store)
+    Ok(())
 }
 
-// What waits first in the stock, among the keys from a count on, and among the parts.
-fn waits(store: &EndStore, from: u64) -> Result<[Option<u64>; 3], Memory> {
+// The first key that waits from a count on.
+fn first_key(store: &EndStore, from: u64) -> Result<Option<u64>, Memory> {
     let pool = Pool {
         master: sae(0)?,
         slave: sae(1)?,
         octets: 8,
     };
-    let stock = store.next(&Line::Stock(pool), 0);
-    let keys = store.next(&Line::Keys(pool), from);
-    let parts = store.next(&Line::Parts(pool), 1);
-    Ok([stock, keys, parts])
+    Ok(store.next(&Line::Keys(pool), from))
 }
 
-#[test]
-fn keys_wait_in_order_of_name(rt: HostRuntime) -> Result<(), Fail> {
-    let store = filled(rt.alloc())?;
-    assert_eq!(rt; waits(&store, 1)?, [Some(0), Some(1), Some(9)]);
-    assert_eq!(rt; waits(&store, 2)?, [Some(0), Some(3), Some(9)]);
-    Ok(())
-}
-
-#[test]
-fn what_is_handed_waits_no_more(rt: HostRuntime) -> Result<(), Fail> {
-    let alloc = rt.alloc();
-    assert_eq!(rt; waits(&handed(alloc, 3)?, 1)?, [Some(1), Some(1), Some(9)]);
-    assert_eq!(rt; waits(&handed(alloc, 1)?, 1)?, [Some(0), Some(3), Some(9)]);
-    assert_eq!(rt; waits(&handed(alloc, 9)?, 4)?, [Some(0), None, None]);
-    Ok(())
-}
-
-// A pair is marked twice.
-fn twice(alloc: Global) -> Result<Marks, Memory> {
-    let mut marks = Marks::new(alloc);
-    marks.room(2)?;
-    marks.mark(key_name(1)?, sae(0)?);
-    marks.room(1)?;
-    marks.mark(key_name(1)?, sae(0)?);
-    Ok(marks)
-}
-
-#[test]
-fn a_pair_is_there_once(rt: HostRuntime) -> Result<(), Fail> {
-    assert_eq!(rt; twice(rt.alloc())?.as_slice().len(), 1);
-    Ok(())
-}
-
-// Keys 1 and 3, of which key 3 is confirmed.
-fn confirmed(alloc: Global) -> Result<EndStore, Memory> {
-    let mut store = filled(alloc)?;
-    store.learn(Fact::Stored {
-        note: KeyName::new(node(1)?, NameKind::Note, 1).ok_or(Memory)?,
-        about: key_name(3)?,
-        route: way()?.reversed(),
-    })?;
-    Ok(store)
-}
-
-// How many keys of so many bits their master hasn't got, how many are ready, and the first of these.
-fn ready(alloc: Global, bits: u16) -> Result<(usize, usize, Option<KeyName>), Memory> {
-    let store = confirmed(alloc)?;
-    let pool = PoolNo {
+fn bits(bits: u16) -> Result<PoolNo, Memory> {
+    Ok(PoolNo {
         master: sae(0)?,
         slave: sae(1)?,
         bits,
-    };
-    let names = store.ready_keys(alloc, &pool, 5)?;
-    let unhanded = store.unhanded_count(&pool, 5);
-    Ok((
-        unhanded,
-        store.ready_count(&pool, 5),
-        names.first().copied(),
-    ))
+    })
+}
+
+// How many keys of so many bits are ready, and how many their master hasn't got.
+fn counts(store: &EndStore, size: u16) -> Result<(usize, usize), Memory> {
+    let pool = bits(size)?;
+    Ok((store.ready_count(&pool, 5), store.unhanded_count(&pool, 5)))
+}
+
+// The first ready key.
+fn first_ready(alloc: Global, store: &EndStore) -> Result<Option<KeyName>, Memory> {
+    let names = store.ready_keys(alloc, &bits(64)?, 5)?;
+    Ok(names.first().copied())
 }
 
 #[test]
-fn confirmed_keys_are_ready(rt: HostRuntime) -> Result<(), Fail> {
-    assert_eq!(rt; ready(rt.alloc(), 64)?, (2, 1, Some(key_name(3)?)));
-    assert_eq!(rt; ready(rt.alloc(), 65)?, (0, 0, None));
+fn keys_wait_until_they_are_handed(rt: HostRuntime) -> Result<(), Fail> {
+    let mut store = filled(rt.alloc())?;
+    assert_eq!(rt; first_key(&store, 1)?, Some(1));
+    assert_eq!(rt; first_key(&store, 2)?, Some(3));
+    assert_eq!(rt; counts(&store, 64)?, (1, 2));
+    assert_eq!(rt; counts(&store, 65)?, (0, 0));
+    assert_eq!(rt; first_ready(rt.alloc(), &store)?, Some(key_name(3)?));
+    hand(&mut store, 3)?;
+    assert_eq!(rt; first_key(&store, 2)?, None);
+    assert_eq!(rt; counts(&store, 64)?, (0, 1));
     Ok(())
 }
