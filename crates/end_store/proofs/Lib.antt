@@ -1,0 +1,4 @@
+pub mod Pairs
+pub mod Lines
+pub mod Gathered
+pub mod Counted

@@ -1,0 +1,19 @@
+-- Pairs of a name and an application, and how they are found.
+use Rattle.std.specs.Prelude.{◌≡◌, ℕ, ◌≤◌, true, List, [], ◌∷◌, length, take}
+use Rattle.qkd_base.specs.Name.{Name, kind_number}
+use Rattle.net_model.specs.Table.{was_handed}
+use Rattle.ordered_entries.specs.Entries.{has_entry}
+
+-- pairs in order, and for how many more there is room
+pub record Marked : Type 0 where
+  pub pairs : List (Name × ℕ)
+  pub spare : ℕ
+
+abbrev pub mark_entry : Name → ℕ → List ℕ
+mark_entry n sae = n.node ∷ kind_number n.kind ∷ n.count ∷ sae ∷ 0 ∷ 0 ∷ 0 ∷ 0 ∷ []
+
+-- each of the first pairs has an entry, and every entry is that of a pair
+pub record AreMarked (pairs : List (Name × ℕ)) (entries : List (List ℕ)) (count : ℕ) : Type 0 where
+  pub within : count ≤ length pairs
+  pub sound : (n : Name) (sae : ℕ) → has_entry entries (mark_entry n sae) ≡ true → was_handed pairs n sae ≡ true
+  pub complete : (n : Name) (sae : ℕ) → was_handed (take count pairs) n sae ≡ true → has_entry entries (mark_entry n sae) ≡ true

@@ -1,0 +1,33 @@
+-- Pools as a manager's view has them.
+use Rattle.std.specs.Prelude.{ℕ, ◌/◌, ◌%◌, ◌==◌, ◌&&◌, Bool, List, [], Option, Some, None, if◌then◌else◌}
+use Rattle.std.specs.List.{list_any}
+use Rattle.qkd_base.specs.Name.{Name}
+use Rattle.qkd_base.specs.declared.pool_no.PoolNo.{PoolNo}
+use Rattle.net_model.specs.declared.fact.Fact.{Fact}
+use Rattle.net_model.specs.Table.{is_stored_about}
+use Rattle.net_model.specs.World.{no_volatile}
+use Rattle.net_model.specs.View.{View}
+use Rattle.end_store.specs.declared.pool.Pool.{Pool}
+use Rattle.end_store.specs.declared.pool.Line.TheVariants.{Keys}
+use Rattle.end_store.specs.Waiting.{Ends, is_waiting}
+
+-- what is kept, as a view without lanes and without what one life keeps
+abbrev pub ends_view : Ends → View
+ends_view e =
+    record {
+      me = e.known.me;
+      facts = e.known.facts;
+      acked = e.known.acked;
+      handed = e.handed;
+      closed = [];
+      ports = [];
+      volatile = no_volatile;
+    }
+
+-- the pool by its size in octets, if it has whole ones
+abbrev pub octets_pool : PoolNo → Option Pool
+octets_pool p = if p.bits % 8 == 0 then Some (record { master = p.master; slave = p.slave; octets = p.bits / 8 }) else None
+
+-- the key of a count waits, and is confirmed
+abbrev pub is_ready : ℕ → List Fact → List (Name × ℕ) → Pool → Name → Bool
+is_ready me facts handed p n = is_waiting me facts handed (Keys p) n.count && list_any (is_stored_about n) facts

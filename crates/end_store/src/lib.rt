@@ -1,0 +1,15 @@
+//! Keys that wait for their applications, and which application has got which.
+#![tactic(auto)]
+
+mod listing;
+mod marks;
+mod pool;
+mod pools;
+mod store;
+#[cfg(test)]
+mod tests;
+mod waiting;
+
+pub use marks::Marks;
+pub use pool::{Line, Pool};
+pub use store::EndStore;

@@ -1,0 +1,194 @@
+// How what waits is put into an index and taken out of it. The index may lag behind the facts where memory was wanting.
+ghost use Rattle.std.specs.Prelude.{◌≡◌, ◌+◌, IsTrue, false};
+ghost use Rattle.end_store.specs.Waiting.{is_own, is_taken, pool_of, place_entry, count_entry, GrowsBy, ShrinksBy, AreWaiting};
+
+use crate::{Line, Marks, Pool};
+use net_model::Fact;
+use ordered_entries::{Entries, Entry};
+use qkd_base::{KeyName, NameKind, NodeNo, Octets, SaeNo};
+use relay_core::Known;
+
+// Whether the master of a key or a group key has got it.
+fn is_taken(fact: &Fact, handed: &Marks) -> bool
+    ensures { result ≡ is_taken handed.now.pairs fact.now }
+{
+    match fact {
+        Fact::Key { name, master, .. } => handed.has(*name, *master),
+        Fact::Part { key, master, .. } => handed.has(*key, *master),
+        _ => false,
+    }
+}
+
+// The pool of a key or part of these bytes.
+fn pool_of(master: SaeNo, slave: SaeNo, bytes: &Octets) -> Pool
+    ensures { result ≡ pool_of master slave bytes.now }
+{
+    Pool {
+        master,
+        slave,
+        octets: bytes.len() as u64,
+    }
+}
+
+// Whether this node gave the name of a key.
+fn is_own(name: KeyName, me: NodeNo) -> bool
+    ensures { result ≡ is_own me name }
+{
+    name.node() == me && name.kind() == NameKind::Key
+}
+
+// The entry of a fact by its place.
+fn place_entry(fact: &Fact, place: usize) -> Option<Entry>
+    ensures { result ≡ place_entry place fact.now }
+{
+    match fact {
+        Fact::Key {
+            master,
+            slave,
+            bytes,
+            ..
+        } => Some(Line::Stock(pool_of(*master, *slave, bytes)).entry(place as u64)),
+        _ => None,
+    }
+}
+
+// The entry of a fact by the count of the name under which it is handed out.
+fn count_entry(fact: &Fact, me: NodeNo) -> Option<Entry>
+    ensures { result ≡ count_entry me fact.now }
+{
+    match fact {
+        Fact::Key {
+            name,
+            master,
+            slave,
+            bytes,
+            ..
+        } => {
+            if is_own(*name, me) {
+                Some(Line::Keys(pool_of(*master, *slave, bytes)).entry(name.count()))
+            } else {
+                None
+            }
+        }
+        Fact::Part {
+            key,
+            master,
+            slave,
+            bytes,
+            ..
+        } => {
+            if is_own(*key, me) {
+                Some(Line::Parts(pool_of(*master, *slave, bytes)).entry(key.count()))
+            } else {
+                None
+            }
+        }
+        _ => None,
+    }
+}
+
+// Puts an entry into the index, if there is one. False where memory is wanting.
+fn add(index: &mut Entries, entry: Option<Entry>) -> bool
+    ensures done { IsTrue result → GrowsBy index.old index.new entry }
+    ensures not_done { result ≡ false → index.new ≡ index.old }
+{
+    match entry {
+        None => true,
+        Some(entry) => match index.insert(entry) {
+            Ok(()) => true,
+            Err(_) => false,
+        },
+    }
+}
+
+// Takes an entry out of the index, if there is one.
+fn drop_entry(index: &mut Entries, entry: Option<Entry>)
+    ensures { ShrinksBy index.old index.new entry }
+{
+    match entry {
+        None => {}
+        Some(entry) => index.remove(entry),
+    }
+}
+
+// Puts the fact at a place into the index, unless its master has got it. False where memory is wanting.
+fn list_one(index: &mut Entries, known: &Known, handed: &Marks, place: usize) -> bool
+    requires waiting { AreWaiting known.now.me known.now.facts handed.now.pairs index.old place }
+    ensures done { IsTrue result → AreWaiting known.now.me known.now.facts handed.now.pairs index.new (place + 1) }
+    ensures not_done { result ≡ false → AreWaiting known.now.me known.now.facts handed.now.pairs index.new place }
+{
+    match known.at(place) {
+        None => false,
+        Some(fact) => {
+            if is_taken(fact, handed) {
+                return true;
+            }
+            if !add(index, place_entry(fact, place)) {
+                return false;
+            }
+            add(index, count_entry(fact, known.me()))
+        }
+    }
+}
+
+/// Puts the facts from a place on into the index, as far as memory reaches, and answers how many are listed then.
+pub fn list_more(index: &mut Entries, known: &Known, handed: &Marks, from: usize) -> usize
+    requires { AreWaiting known.now.me known.now.facts handed.now.pairs index.old from }
+    ensures { AreWaiting known.now.me known.now.facts handed.now.pairs index.new result }
+{
+    let mut place = from;
+    while place < known.len() {
+        if !list_one(index, known, handed, place) {
+            return place;
+        }
+        place += 1;
+    }
+    place
+}
+
+// Takes the fact at a place out of the index, if its master has got it.
+fn release(index: &mut Entries, known: &Known, handed: &Marks, count: usize, place: usize)
+    requires { AreWaiting known.now.me known.now.facts handed.now.pairs index.old count }
+    ensures { AreWaiting known.now.me known.now.facts handed.now.pairs index.new count }
+{
+    match known.at(place) {
+        None => {}
+        Some(fact) => {
+            if is_taken(fact, handed) {
+                drop_entry(index, place_entry(fact, place));
+                drop_entry(index, count_entry(fact, known.me()));
+            }
+        }
+    }
+}
+
+// Takes the parts of a group key out of the index whose master has got it.
+fn release_parts(index: &mut Entries, known: &Known, handed: &Marks, count: usize, key: KeyName)
+    requires { AreWaiting known.now.me known.now.facts handed.now.pairs index.old count }
+    ensures { AreWaiting known.now.me known.now.facts handed.now.pairs index.new count }
+{
+    let mut from = 0;
+    while from < known.len() {
+        match known.next_part(key, from) {
+            None => return,
+            Some(place) => {
+                release(index, known, handed, count, place);
+                from = place + 1;
+            }
+        }
+    }
+}
+
+/// Takes what was handed out under a name out of the index.
+pub fn release_name(index: &mut Entries, known: &Known, handed: &Marks, count: usize, name: KeyName)
+    requires { AreWaiting known.now.me known.now.facts handed.now.pairs index.old count }
+    ensures { AreWaiting known.now.me known.now.facts handed.now.pairs index.new count }
+{
+    match known.place(name) {
+        None => release_parts(index, known, handed, count, name),
+        Some(place) => {
+            release(index, known, handed, count, place);
+            release_parts(index, known, handed, count, name);
+        }
+    }
+}

@@ -1,0 +1,142 @@
+// The keys of pools in order of name (ETSI GS QKD 014, Get key and Get status).
+ghost use Rattle.std.specs.Prelude.{◌≡◌, ◌*◌, ◌/◌, ◌%◌, ◌==◌, IfOk, length, take};
+ghost use Rattle.std.specs.List.{list_any};
+ghost use Rattle.net_model.specs.Decision.{last_count};
+ghost use Rattle.net_model.specs.Pools.{pool as pool_names, names_up_to, unhanded};
+ghost use Rattle.qkd_base.specs.declared.key_name.NameKind.TheVariants.{Key};
+ghost use Rattle.end_store.specs.Waiting.{is_free_key};
+ghost use Rattle.end_store.specs.Pooled.{ends_view, octets_pool, is_ready};
+ghost use Rattle.std.specs.Prelude.{filter, min, count_by};
+
+use crate::{EndStore, Line, Pool};
+use qkd_base::{KeyName, Memory, NameKind, PoolNo};
+use std::alloc::Global;
+
+// The pool by its size in octets, if it has whole ones.
+fn octets_pool(pool: &PoolNo) -> Option<Pool>
+    ensures { result ≡ octets_pool pool.now }
+{
+    if pool.bits % 8 == 0 {
+        Some(Pool {
+            master: pool.master,
+            slave: pool.slave,
+            octets: (pool.bits / 8) as u64,
+        })
+    } else {
+        None
+    }
+}
+
+// How many keys of a pool are ready, counted up to a number.
+fn count_ready(store: &EndStore, pool: &Pool, number: usize) -> usize
+    ensures { result ≡ length (take number (filter (is_ready store.now.known.me store.now.known.facts store.now.handed pool.now)
+        (names_up_to store.now.known.me Key (last_count store.now.known.me store.now.known.facts)))) }
+{
+    let me = store.known().me();
+    // That no name of this node has a greater count is what it says.
+    let _last = store.known().last_count();
+    let mut ready = 0;
+    let mut after = 0;
+    while ready < number {
+        match store.next(&Line::Keys(*pool), after + 1) {
+            None => return ready,
+            Some(count) => {
+                after = count;
+                if let Some(name) = KeyName::new(me, NameKind::Key, count) {
+                    if store.known().is_confirmed(name) {
+                        ready += 1;
+                    }
+                }
+            }
+        }
+    }
+    ready
+}
+
+// The first ready keys of a pool in order of name, at most so many.
+fn first_ready(
+    alloc: Global,
+    store: &EndStore,
+    pool: &Pool,
+    number: usize,
+) -> Result<Vec<KeyName>, Memory>
+    ensures { IfOk result (λ names. names.items ≡ take number (filter (is_ready store.now.known.me store.now.known.facts store.now.handed pool.now)
+        (names_up_to store.now.known.me Key (last_count store.now.known.me store.now.known.facts)))) }
+{
+    let me = store.known().me();
+    // That no name of this node has a greater count is what it says.
+    let _last = store.known().last_count();
+    let mut names = Vec::new(alloc);
+    let mut after = 0;
+    'names: while names.len() < number {
+        match store.next(&Line::Keys(*pool), after + 1) {
+            None => return Ok(names),
+            Some(count) => {
+                after = count;
+                if let Some(name) = KeyName::new(me, NameKind::Key, count) {
+                    if store.known().is_confirmed(name) {
+                        names.push(name)?;
+                    }
+                }
+            }
+        }
+    }
+    Ok(names)
+}
+
+// How many keys of a pool their master hasn't got, counted up to a number.
+fn count_stock(store: &EndStore, pool: &Pool, number: usize) -> usize
+    ensures { result ≡ min number (count_by (is_free_key store.now.handed pool.now) store.now.known.facts) }
+{
+    // How many places there are is what it says.
+    let _places = store.known().len();
+    let mut count = 0;
+    let mut from = 0;
+    while count < number {
+        match store.next(&Line::Stock(*pool), from) {
+            None => return count,
+            Some(place) => {
+                count += 1;
+                from = place + 1;
+            }
+        }
+    }
+    count
+}
+
+impl EndStore {
+    /// How many keys of a pool their master hasn't got, ready or not, counted up to a number. It takes no memory.
+    pub fn unhanded_count(&self, pool: &PoolNo, number: usize) -> usize
+        ensures { result ≡ min number (unhanded (ends_view self.now) pool.now.master pool.now.slave pool.now.bits) }
+    {
+        match octets_pool(pool) {
+            None => 0,
+            Some(keys) => count_stock(self, &keys, number),
+        }
+    }
+
+    /// How many keys of a pool are ready and not handed to their master, counted up to a number. It takes no memory.
+    pub fn ready_count(&self, pool: &PoolNo, number: usize) -> usize
+        ensures { result ≡ length (take number (pool_names (ends_view self.now) pool.now.master pool.now.slave pool.now.bits)) }
+    {
+        match octets_pool(pool) {
+            None => 0,
+            Some(keys) => count_ready(self, &keys, number),
+        }
+    }
+
+    /// The first ready keys of a pool that are not handed to their master, in order of name, at most so many.
+    pub fn ready_keys(
+        &self,
+        alloc: Global,
+        pool: &PoolNo,
+        number: usize,
+    ) -> Result<Vec<KeyName>, Memory>
+        ensures { IfOk result (λ names. names.items ≡ take number (pool_names (ends_view self.now) pool.now.master pool.now.slave pool.now.bits)) }
+    {
+        match octets_pool(pool) {
+            None => Ok(Vec::new(alloc)),
+            Some(keys) => first_ready(alloc, self, &keys, number),
+        }
+    }
+}

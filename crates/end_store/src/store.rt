@@ -1,0 +1,165 @@
+// What an end of keys keeps.
+ghost use Rattle.std.specs.Prelude.{◌≡◌, ◌+◌, ◌<◌, ◌≤◌, [], IfSome, IfNone, IfOk, IsOk, OnOk, OnErr, not};
+ghost use Rattle.net_model.specs.Table.{name_of, has_fact, learned, was_handed};
+ghost use Rattle.net_model.specs.Fold.{marked};
+ghost use Rattle.relay_core.specs.Knowledge.{acked_with};
+ghost use Rattle.end_store.specs.Waiting.{IsNextWaiting, IsLastWaiting};
+
+use crate::listing::{list_more, release_name};
+use crate::waiting::next;
+use crate::{Line, Marks};
+use net_model::Fact;
+use ordered_entries::Entries;
+use qkd_base::{KeyName, Memory, NodeNo, SaeNo};
+use relay_core::Known;
+use std::alloc::Global;
+use std::marker::Model;
+
+/// What a node knows, and which application has got which key: an end of the keys of which it is the first or the last node
+/// (ETSI GS QKD 014).
+#[derive(Drop)]
+pub struct EndStore {
+    known: Known,
+    handed: Marks,
+    waiting: Entries,
+    // So many of the first facts are in `waiting`, where they wait for their masters.
+    listed: usize,
+}
+
+impl Model for EndStore {
+    ghost use Rattle.end_store.specs.Waiting.{Ends, AreWaiting};
+
+    ghost Value = { Ends };
+
+    ghost view = { λ e. record { known = e.known; handed = e.handed.pairs; handed_spare = e.handed.spare } };
+
+    ghost invariant = { λ e. AreWaiting e.known.me e.known.facts e.handed.pairs e.waiting e.listed };
+}
+
+impl EndStore {
+    /// A node that knows nothing. It takes no memory.
+    pub fn new(alloc: Global, me: NodeNo) -> Self
+        ensures known { (result.known.me ≡ me) × (result.known.facts ≡ []) × (result.known.acked ≡ []) }
+        ensures handed { result.handed ≡ [] }
+    {
+        EndStore {
+            known: Known::new(alloc, me),
+            handed: Marks::new(alloc),
+            waiting: Entries::new(alloc),
+            listed: 0,
+        }
+    }
+
+    /// What is known.
+    pub fn known(&self) -> &Known
+        ensures { result.now ≡ self.now.known }
+    {
+        &self.known
+    }
+
+    /// The pairs of a key and an application that has got it, in order of handing.
+    pub fn handed(&self) -> &[(KeyName, SaeNo)]
+        ensures { result.now ≡ self.now.handed }
+    {
+        self.handed.as_slice()
+    }
+
+    /// Whether an application has got a key.
+    pub fn was_handed(&self, name: KeyName, sae: SaeNo) -> bool
+        ensures { result ≡ was_handed self.now.handed name sae }
+    {
+        self.handed.has(name, sae)
+    }
+
+    /// The first count of a line from a count on at which something waits for its master.
+    pub fn next(&self, line: &Line, from: u64) -> Option<u64>
+        ensures next { IfSome result (λ count. IsNextWaiting self.now.known.me self.now.known.facts self.now.handed line.now from count) }
+        ensures last { IfNone result (IsLastWaiting self.now.known.me self.now.known.facts self.now.handed line.now from) }
+    {
+        next(
+            &self.waiting,
+            self.listed,
+            &self.known,
+            &self.handed,
+            line,
+            from,
+        )
+    }
+
+    /// Makes room for so many more facts. An `Err` changes nothing.
+    pub fn room(&mut self, more: u32) -> Result<(), Memory>
+        ensures kept { (self.new.known.me ≡ self.old.known.me) × (self.new.known.facts ≡ self.old.known.facts) × (self.new.known.acked ≡ self.old.known.acked)
+            × (self.new.known.acked_spare ≡ self.old.known.acked_spare) × (self.new.handed ≡ self.old.handed) × (self.new.handed_spare ≡ self.old.handed_spare) }
+        ensures ok { OnOk result (more ≤ self.new.known.facts_spare) }
+        ensures err { OnErr result (self.new ≡ self.old) }
+    {
+        self.known.room(more)?;
+        Ok(())
+    }
+
+    /// Makes room for so many more acknowledgements. An `Err` changes nothing.
+    pub fn room_acked(&mut self, more: u32) -> Result<(), Memory>
+        ensures kept { (self.new.known.me ≡ self.old.known.me) × (self.new.known.facts ≡ self.old.known.facts) × (self.new.known.acked ≡ self.old.known.acked)
+            × (self.new.known.facts_spare ≡ self.old.known.facts_spare) × (self.new.handed ≡ self.old.handed) × (self.new.handed_spare ≡ self.old.handed_spare) }
+        ensures ok { OnOk result (more ≤ self.new.known.acked_spare) }
+        ensures err { OnErr result (self.new ≡ self.old) }
+    {
+        self.known.room_acked(more)?;
+        Ok(())
+    }
+
+    /// Makes room for so many more handings. An `Err` changes nothing.
+    pub fn room_handed(&mut self, more: u32) -> Result<(), Memory>
+        ensures kept { (self.new.known ≡ self.old.known) × (self.new.handed ≡ self.old.handed) }
+        ensures ok { OnOk result (more ≤ self.new.handed_spare) }
+        ensures err { OnErr result (self.new ≡ self.old) }
+    {
+        self.handed.room(more)?;
+        Ok(())
+    }
+
+    /// Learns a fact, unless its name is known, and answers whether it was new. Where there is room for it, it takes no
+    /// memory. An `Err` changes nothing.
+    pub fn learn(&mut self, fact: Fact) -> Result<bool, Memory>
+        ensures new { IfOk result (λ new. new ≡ not (has_fact self.old.known.facts (name_of fact))) }
+        ensures facts { OnOk result (self.new.known.facts ≡ learned self.old.known.facts fact) }
+        ensures kept { (self.new.known.me ≡ self.old.known.me) × (self.new.known.acked ≡ self.old.known.acked) × (self.new.known.acked_spare ≡ self.old.known.acked_spare)
+            × (self.new.handed ≡ self.old.handed) × (self.new.handed_spare ≡ self.old.handed_spare) }
+        ensures spare { OnOk result (self.old.known.facts_spare ≤ self.new.known.facts_spare + 1) }
+        ensures room { 0 < self.old.known.facts_spare → IsOk result }
+        ensures err { OnErr result (self.new ≡ self.old) }
+    {
+        let new = self.known.learn(fact)?;
+        self.listed = list_more(&mut self.waiting, &self.known, &self.handed, self.listed);
+        Ok(new)
+    }
+
+    /// Notes that the next node on its route has acknowledged the fact of a name, where it is owed to it. It takes no
+    /// memory.
+    pub fn acknowledge(&mut self, name: KeyName)
+        requires room { 0 < self.old.known.acked_spare }
+        ensures acked { self.new.known.acked ≡ acked_with self.old.known.me self.old.known.acked self.old.known.facts name }
+        ensures kept { (self.new.known.me ≡ self.old.known.me) × (self.new.known.facts ≡ self.old.known.facts) × (self.new.known.facts_spare ≡ self.old.known.facts_spare)
+            × (self.new.handed ≡ self.old.handed) × (self.new.handed_spare ≡ self.old.handed_spare) }
+        ensures spare { self.old.known.acked_spare ≤ self.new.known.acked_spare + 1 }
+    {
+        self.known.acknowledge(name);
+    }
+
+    /// Notes that an application has got a key, unless that is noted. It takes no memory.
+    pub fn mark(&mut self, name: KeyName, sae: SaeNo)
+        requires room { 0 < self.old.handed_spare }
+        ensures handed { self.new.handed ≡ marked self.old.handed name sae }
+        ensures known { self.new.known ≡ self.old.known }
+        ensures spare { self.old.handed_spare ≤ self.new.handed_spare + 1 }
+    {
+        self.handed.mark(name, sae);
+        release_name(
+            &mut self.waiting,
+            &self.known,
+            &self.handed,
+            self.listed,
+            name,
+        );
+    }
+}

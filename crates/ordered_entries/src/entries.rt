@@ -1,0 +1,89 @@
+// Entries in order.
+ghost use Rattle.std.specs.Prelude.{◌≡◌, ◌||◌, ℕ, List, [], false, IfSome, IfNone, OnOk, OnErr, if◌then◌else◌};
+ghost use Rattle.std.specs.Str.{bytes_eq};
+ghost use Rattle.std.specs.Ordering.{nat_cmp, is_gt};
+ghost use Rattle.std.specs.Cmp.Lexicographic.{slice_cmp};
+ghost use Rattle.ordered_entries.specs.Entries.{has_entry, IsNext, IsLast, IsFirstIn, IsNoneIn};
+
+use qkd_base::Memory;
+use std::alloc::Global;
+use std::collections::BTreeSet;
+use std::marker::Model;
+
+/// Eight numbers. The first seven name a group, the last one is a place in it.
+pub type Entry = [u64; 8];
+
+/// Entries in order: by group, and in a group by place.
+#[derive(Drop)]
+pub struct Entries {
+    entries: BTreeSet<Entry>,
+}
+
+impl Model for Entries {
+    ghost use Rattle.std.specs.Prelude.{List, ℕ};
+
+    ghost Value = { List (List ℕ) };
+
+    ghost view = { λ e. e.entries.keys };
+}
+
+// The last number of the first entry from one up to another.
+fn first_in(entries: &BTreeSet<Entry>, from: Entry, to: Entry) -> Option<u64>
+    requires { is_gt (slice_cmp nat_cmp from to) ≡ false }
+    ensures some { IfSome result (IsFirstIn entries.now from to) }
+    ensures none { IfNone result (IsNoneIn entries.now from to) }
+{
+    match entries.range(from..=to).next() {
+        Some(entry) => Some(entry[7]),
+        None => None,
+    }
+}
+
+impl Entries {
+    /// No entries. It takes no memory.
+    pub fn new(alloc: Global) -> Self
+        ensures { result ≡ [] }
+    {
+        Entries {
+            entries: BTreeSet::new(alloc),
+        }
+    }
+
+    /// Puts an entry in, if it isn't there. An `Err` changes nothing.
+    pub fn insert(&mut self, entry: Entry) -> Result<(), Memory>
+        ensures ok { OnOk result ((e : List ℕ) → has_entry self.new e ≡ (bytes_eq entry e || has_entry self.old e)) }
+        ensures err { OnErr result (self.new ≡ self.old) }
+    {
+        self.entries.insert(entry)?;
+        Ok(())
+    }
+
+    /// Takes an entry out, if it is there. It takes no memory.
+    pub fn remove(&mut self, entry: Entry)
+        ensures { (e : List ℕ) → has_entry self.new e ≡ (if bytes_eq entry e then false else has_entry self.old e) }
+    {
+        self.entries.remove(&entry);
+    }
+
+    /// Whether an entry is there.
+    pub fn has(&self, entry: Entry) -> bool
+        ensures { result ≡ has_entry self.now entry }
+    {
+        self.entries.contains(&entry)
+    }
+
+    /// The first place of an entry's group, from its own place on.
+    pub fn next(&self, entry: Entry) -> Option<u64>
+        ensures next { IfSome result (IsNext self.now entry) }
+        ensures last { IfNone result (IsLast self.now entry) }
+    {
+        // Reading it shows a proof that it is at most the greatest number.
+        let _place = entry[7];
+        let mut to = entry;
+        to[7] = u64::MAX;
+        match first_in(&self.entries, entry, to) {
+            Some(place) => Some(place),
+            None => None,
+        }
+    }
+}

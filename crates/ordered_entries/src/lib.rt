@@ -1,0 +1,8 @@
+//! Entries of a few numbers, kept in order: what indexes are made of.
+#![tactic(auto)]
+
+mod entries;
+#[cfg(test)]
+mod tests;
+
+pub use entries::{Entries, Entry};

@@ -1,0 +1,5 @@
+pub mod Firsts
+pub mod Names
+pub mod Entered
+pub mod Searched
+pub mod Kept

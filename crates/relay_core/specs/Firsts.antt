@@ -1,0 +1,13 @@
+-- The first of a list's items that passes a test, from a place on.
+use Rattle.std.specs.Prelude.{◌≡◌, ℕ, ◌<◌, ◌≤◌, Bool, true, false, List, slice_get, Some}
+
+pub record IsFirstFrom {A : Type 0} (test : A → Bool) (xs : List A) (from place : ℕ) : Type 0 where
+  pub behind : from ≤ place
+  pub item : A
+  pub there : slice_get xs place ≡ Some item
+  pub passes : test item ≡ true
+  pub before : (p : ℕ) (x : A) → from ≤ p → p < place → slice_get xs p ≡ Some x → test x ≡ false
+
+-- none passes from a place on
+pub record IsNoneFrom {A : Type 0} (test : A → Bool) (xs : List A) (from : ℕ) : Type 0 where
+  pub none : (p : ℕ) (x : A) → from ≤ p → slice_get xs p ≡ Some x → test x ≡ false

@@ -1,0 +1,56 @@
+-- What a node knows: its facts, and what its neighbours have acknowledged.
+use Rattle.std.specs.Prelude.{◌≡◌, ℕ, ◌<◌, ◌^◌, ◌&&◌, not, is_some, Bool, true, List, [], ◌∷◌, ◌++◌, map, filter, slice_get, Option, Some, if◌then◌else◌}
+use Rattle.std.specs.List.{position_from, list_any}
+use Rattle.qkd_base.specs.Name.{Name, IsName, name_eq, has}
+use Rattle.qkd_base.specs.Route.{next_after}
+use Rattle.net_model.specs.declared.fact.Fact.{Fact}
+use Rattle.net_model.specs.Table.{name_of, route_of, has_fact}
+use Rattle.net_model.specs.Decision.{last_count}
+use Rattle.relay_core.specs.Index.{IsIndex, is_owed_to}
+
+-- facts are in order of learning, acknowledged names in order of acknowledgement; and for how many more of each there is room
+pub record Knowledge : Type 0 where
+  pub me : ℕ
+  pub facts : List Fact
+  pub acked : List Name
+  pub facts_spare : ℕ
+  pub acked_spare : ℕ
+
+-- the place of a name
+abbrev pub place_of : List Fact → Name → Option ℕ
+place_of facts n = position_from (λ f. name_eq (name_of f) n) 0 facts
+
+-- the fact is to be told to a neighbour that hasn't acknowledged it
+abbrev pub is_owed_by : ℕ → List Name → Fact → Bool
+is_owed_by me acked f = is_some (next_after (route_of f) me) && not (has acked (name_of f))
+
+-- the fact of this name is
+abbrev pub owes_fact : ℕ → List Name → List Fact → Name → Bool
+owes_fact me acked facts n = list_any (λ f. name_eq (name_of f) n && is_owed_by me acked f) facts
+
+-- the names of the facts that a neighbour is to be told and hasn't acknowledged, in order of learning
+abbrev pub owed_names : ℕ → List Name → List Fact → ℕ → List Name
+owed_names me acked facts to = map name_of (filter (is_owed_to me acked to) facts)
+
+-- the list with one more acknowledged name, where its fact was owed
+abbrev pub acked_with : ℕ → List Name → List Fact → Name → List Name
+acked_with me acked facts n = if owes_fact me acked facts n then acked ++ n ∷ [] else acked
+
+-- the fact at this place has this name
+pub record IsNamedAt (facts : List Fact) (i : ℕ) (n : Name) : Type 0 where
+  pub fact : Fact
+  pub there : slice_get facts i ≡ Some fact
+  pub named : name_of fact ≡ n
+
+-- names are names, and no two facts have one
+pub record AreDistinct (facts : List Fact) : Type 0 where
+  pub names : (i : ℕ) (n : Name) → IsNamedAt facts i n → IsName n
+  pub apart : (i j : ℕ) (n : Name) → IsNamedAt facts i n → IsNamedAt facts j n → i ≡ j
+
+-- what a node knows is in order, and its index is one
+pub record IsKnown (me : ℕ) (facts : List Fact) (acked : List Name) (entries : List (List ℕ)) (catalogued last : ℕ) : Type 0 where
+  pub distinct : AreDistinct facts
+  pub index : IsIndex me acked facts entries catalogued
+  pub known : (n : Name) → has acked n ≡ true → has_fact facts n ≡ true
+  pub last_is : last ≡ last_count me facts
+  pub bound : last < 2 ^ 48

@@ -1,0 +1,4 @@
+pub mod Firsts
+pub mod Index
+pub mod Listed
+pub mod Knowledge

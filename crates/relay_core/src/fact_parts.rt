@@ -1,0 +1,98 @@
+// The parts of a fact.
+ghost use Rattle.std.specs.Prelude.{◌≡◌, ◌<◌, ◌^◌, max};
+ghost use Rattle.qkd_base.specs.Name.{IsName};
+ghost use Rattle.net_model.specs.Table.{name_of, route_of, part_of, is_secret, kind_of};
+ghost use Rattle.net_model.specs.Decision.{count_if, group_count};
+
+use net_model::Fact;
+use qkd_base::{KeyName, NodeNo, Route};
+
+/// A fact's name.
+pub fn fact_name(fact: &Fact) -> KeyName
+    ensures name { result ≡ name_of fact.now }
+    ensures named { IsName result }
+{
+    let name = match fact {
+        Fact::Key { name, .. } => *name,
+        Fact::Chunk { name, .. } => *name,
+        Fact::Stored { note, .. } => *note,
+        Fact::Open { stream, .. } => *stream,
+        Fact::Joined { note, .. } => *note,
+        Fact::Part { name, .. } => *name,
+    };
+    let _count = name.count();
+    name
+}
+
+/// The route along which a fact is told.
+pub fn fact_route(fact: &Fact) -> Route
+    ensures { result ≡ route_of fact.now }
+{
+    match fact {
+        Fact::Key { route, .. } => *route,
+        Fact::Chunk { route, .. } => *route,
+        Fact::Stored { route, .. } => *route,
+        Fact::Open { route, .. } => *route,
+        Fact::Joined { route, .. } => *route,
+        Fact::Part { route, .. } => *route,
+    }
+}
+
+/// Whether a fact has bytes that are handed out: keys, chunks and parts have.
+pub fn is_secret(fact: &Fact) -> bool
+    ensures { result ≡ is_secret fact.now }
+{
+    matches!(
+        fact,
+        Fact::Key { .. } | Fact::Chunk { .. } | Fact::Part { .. }
+    )
+}
+
+/// The kind octet in which a fact is spelled.
+pub fn kind_octet(fact: &Fact) -> u8
+    ensures { result ≡ kind_of fact.now }
+{
+    match fact {
+        Fact::Key { .. } => 1,
+        Fact::Stored { .. } => 2,
+        Fact::Open { .. } => 4,
+        Fact::Joined { .. } => 5,
+        Fact::Chunk { .. } => 6,
+        Fact::Part { .. } => 7,
+    }
+}
+
+// The count of a name that this node gave, else 0.
+fn count_here(name: KeyName, me: NodeNo) -> u64
+    ensures count { result ≡ count_if me name }
+    ensures bound { result < 2 ^ 48 }
+{
+    if name.node() == me { name.count() } else { 0 }
+}
+
+// The count of the group key that a part is of, where this node gave its name, else 0.
+fn group_count_here(fact: &Fact, me: NodeNo) -> u64
+    ensures count { result ≡ group_count me (part_of fact.now) }
+    ensures bound { result < 2 ^ 48 }
+{
+    match fact {
+        Fact::Part { key, .. } => count_here(*key, me),
+        _ => 0,
+    }
+}
+
+// The greater of two counts.
+fn greater(a: u64, b: u64) -> u64
+    ensures { result ≡ max a b }
+{
+    if a < b { b } else { a }
+}
+
+/// The greatest count of this node's names, those of one more fact included.
+pub fn later_count(last: u64, fact: &Fact, me: NodeNo) -> u64
+    ensures bound { last < 2 ^ 48 → result < 2 ^ 48 }
+    ensures count { result ≡ max last (max (count_if me (name_of fact.now)) (group_count me (part_of fact.now))) }
+{
+    let own = greater(count_here(fact_name(fact), me), group_count_here(fact, me));
+    greater(last, own)
+}

@@ -1,0 +1,142 @@
+// What facts have in common.
+ghost use Rattle.std.specs.Prelude.{◌≡◌};
+ghost use Rattle.qkd_base.specs.Name.{has, kind_number, name_eq};
+ghost use Rattle.net_model.specs.Table.{is_stored_about, is_joined_about, is_part_of};
+ghost use Rattle.net_model.specs.Streams.{is_chunk_at};
+ghost use Rattle.relay_core.specs.Index.{belongs, entry_of, name_entry, is_owed_to};
+
+use crate::fact_parts::{fact_name, fact_route};
+use net_model::Fact;
+use ordered_entries::Entry;
+use qkd_base::{KeyName, NameKind, NodeNo};
+
+/// Facts that are looked for together.
+#[derive(Clone, Copy)]
+pub enum Group {
+    /// The fact of a name.
+    Named(KeyName),
+    /// The Stored notes about a key, chunk or part.
+    StoredAbout(KeyName),
+    /// The Joined notes about a stream.
+    JoinedAbout(KeyName),
+    /// The parts of a group key.
+    PartsOf(KeyName),
+    /// The chunks of a stream at an index.
+    ChunksAt(KeyName, u32),
+    /// The facts that a neighbour is to be told and hasn't acknowledged.
+    OwedTo(NodeNo),
+}
+
+// The number of a kind of names.
+fn kind_number(kind: NameKind) -> u64
+    ensures { result ≡ kind_number kind }
+{
+    match kind {
+        NameKind::Key => 0,
+        NameKind::Stream => 1,
+        NameKind::Note => 2,
+    }
+}
+
+// The entry of a group that a name and an index tell.
+fn name_entry(tag: u64, name: KeyName, index: u32, place: usize) -> Entry
+    ensures { result ≡ name_entry tag name index place }
+{
+    [
+        tag,
+        name.node().get() as u64,
+        kind_number(name.kind()),
+        name.count(),
+        index as u64,
+        0,
+        0,
+        place as u64,
+    ]
+}
+
+// Whether a fact is a Stored note about a name.
+fn is_stored_about(fact: &Fact, name: KeyName) -> bool
+    ensures { result ≡ is_stored_about name fact.now }
+{
+    match fact {
+        Fact::Stored { about, .. } => *about == name,
+        _ => false,
+    }
+}
+
+// Whether a fact is a Joined note about a stream.
+fn is_joined_about(fact: &Fact, stream: KeyName) -> bool
+    ensures { result ≡ is_joined_about stream fact.now }
+{
+    match fact {
+        Fact::Joined { about, .. } => *about == stream,
+        _ => false,
+    }
+}
+
+// Whether a fact is a part of a group key.
+fn is_part_of(fact: &Fact, name: KeyName) -> bool
+    ensures { result ≡ is_part_of name fact.now }
+{
+    match fact {
+        Fact::Part { key, .. } => *key == name,
+        _ => false,
+    }
+}
+
+// Whether a fact is the chunk of a stream at an index.
+fn is_chunk_at(fact: &Fact, of: KeyName, at: u32) -> bool
+    ensures { result ≡ is_chunk_at of at fact.now }
+{
+    match fact {
+        Fact::Chunk { stream, index, .. } => *stream == of && *index == at,
+        _ => false,
+    }
+}
+
+/// Whether a list has a name.
+pub fn has_name(names: &[KeyName], name: KeyName) -> bool
+    ensures { result ≡ has names.now name }
+{
+    names.iter().any(|n| *n == name)
+}
+
+// Whether a fact is to be told to a neighbour that hasn't acknowledged it.
+fn is_owed_to(fact: &Fact, me: NodeNo, acked: &[KeyName], to: NodeNo) -> bool
+    ensures { result ≡ is_owed_to me acked.now to fact.now }
+{
+    match fact_route(fact).next_after(me) {
+        None => false,
+        Some(next) => next == to && !has_name(acked, fact_name(fact)),
+    }
+}
+
+impl Group {
+    /// Whether a fact belongs to the group at a node that has heard these acknowledgements.
+    pub fn contains(&self, fact: &Fact, me: NodeNo, acked: &[KeyName]) -> bool
+        ensures { result ≡ belongs me acked.now self.now fact.now }
+    {
+        match *self {
+            Group::Named(name) => fact_name(fact) == name,
+            Group::StoredAbout(name) => is_stored_about(fact, name),
+            Group::JoinedAbout(stream) => is_joined_about(fact, stream),
+            Group::PartsOf(name) => is_part_of(fact, name),
+            Group::ChunksAt(stream, index) => is_chunk_at(fact, stream, index),
+            Group::OwedTo(to) => is_owed_to(fact, me, acked, to),
+        }
+    }
+
+    /// The entry of the fact at a place.
+    pub fn entry(&self, place: usize) -> Entry
+        ensures { result ≡ entry_of self.now place }
+    {
+        match *self {
+            Group::Named(name) => name_entry(0, name, 0, place),
+            Group::StoredAbout(name) => name_entry(1, name, 0, place),
+            Group::JoinedAbout(stream) => name_entry(2, stream, 0, place),
+            Group::PartsOf(name) => name_entry(3, name, 0, place),
+            Group::ChunksAt(stream, index) => name_entry(4, stream, index, place),
+            Group::OwedTo(to) => [5, to.get() as u64, 0, 0, 0, 0, 0, place as u64],
+        }
+    }
+}

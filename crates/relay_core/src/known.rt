@@ -1,0 +1,335 @@
+// The facts that a node knows.
+ghost use Rattle.std.specs.Prelude.{◌≡◌, ◌+◌, ◌<◌, ◌^◌, ◌≤◌, ◌&&◌, ℕ, true, [], ◌∷◌, ◌++◌, OnOk, OnErr, IfOk, IsOk, is_some, IfSome, IfNone, not, false, length, slice_get, find, Some};
+ghost use Rattle.std.specs.Option.{option_copied};
+ghost use Rattle.std.specs.List.{list_any};
+ghost use Rattle.net_model.specs.Table.{name_of, fact_at, has_fact, learned, is_stored_about, is_joined_about, is_part_of};
+ghost use Rattle.net_model.specs.Streams.{is_chunk_at};
+ghost use Rattle.net_model.specs.Decision.{last_count};
+ghost use Rattle.qkd_base.specs.Name.{Name, IsName, name_eq, has};
+ghost use Rattle.net_model.specs.Relay.{is_some_of};
+ghost use Rattle.relay_core.specs.Firsts.{IsFirstFrom, IsNoneFrom};
+ghost use Rattle.relay_core.specs.Index.{belongs, is_owed_to, creditor, creditor_of};
+ghost use Rattle.relay_core.specs.Knowledge.{place_of, AreDistinct, owes_fact, owed_names, acked_with};
+
+use crate::Group;
+use crate::fact_parts::{fact_name, fact_route, later_count};
+use crate::listing::{list_new, next_in};
+use net_model::Fact;
+use ordered_entries::Entries;
+use qkd_base::{KeyName, Memory, NodeNo};
+use std::alloc::Global;
+use std::marker::Model;
+
+/// What a node knows: facts in order of learning, and the names that the next nodes on their routes have acknowledged, in
+/// order of acknowledgement (SECOQC trusted repeaters).
+#[derive(Drop)]
+pub struct Known {
+    me: NodeNo,
+    facts: Vec<Fact>,
+    acked: Vec<KeyName>,
+    index: Entries,
+    // So many of the first facts are in the index.
+    listed: usize,
+    last: u64,
+}
+
+impl Model for Known {
+    ghost use Rattle.std.specs.Prelude.{◌-◌, vec_capacity, vec_len};
+    ghost use Rattle.relay_core.specs.Knowledge.{Knowledge, IsKnown};
+
+    ghost Value = { Knowledge };
+
+    ghost view = { λ k. record { me = k.me; facts = k.facts.items; acked = k.acked.items; facts_spare = vec_capacity k.facts - vec_len k.facts; acked_spare = vec_capacity k.acked - vec_len k.acked } };
+
+    ghost invariant = { λ k. IsKnown k.me k.facts.items k.acked.items k.index k.listed k.last };
+}
+
+// The fact at a place, if there is one.
+fn fact_in(facts: &[Fact], place: usize) -> Option<&Fact>
+    ensures { option_copied result ≡ slice_get facts.now place }
+{
+    facts.get(place)
+}
+
+impl Known {
+    /// A node that knows nothing. It takes no memory.
+    pub fn new(alloc: Global, me: NodeNo) -> Self
+        ensures me { result.me ≡ me }
+        ensures facts { result.facts ≡ [] }
+        ensures acked { result.acked ≡ [] }
+    {
+        Known {
+            me,
+            facts: Vec::new(alloc),
+            acked: Vec::new(alloc),
+            index: Entries::new(alloc),
+            listed: 0,
+            last: 0,
+        }
+    }
+
+    /// The node.
+    pub fn me(&self) -> NodeNo
+        ensures { result ≡ self.now.me }
+    {
+        self.me
+    }
+
+    /// How many facts are known.
+    pub fn len(&self) -> usize
+        ensures length { result ≡ length self.now.facts }
+
+        // What holds of the facts at any time.
+        ensures distinct { AreDistinct self.now.facts }
+    {
+        self.facts.len()
+    }
+
+    /// The fact at a place.
+    pub fn at(&self, place: usize) -> Option<&Fact>
+        ensures { option_copied result ≡ slice_get self.now.facts place }
+    {
+        fact_in(&self.facts, place)
+    }
+
+    /// The names acknowledged, in order of acknowledgement.
+    pub fn acked(&self) -> &[KeyName]
+        ensures { result.now ≡ self.now.acked }
+    {
+        &self.acked
+    }
+
+    /// The greatest count of this node's names, 0 where it gave none.
+    pub fn last_count(&self) -> u64
+        ensures count { result ≡ last_count self.now.me self.now.facts }
+
+        // What holds of the facts at any time.
+        ensures bound { result < 2 ^ 48 }
+        ensures named { (n : Name) → has_fact self.now.facts n ≡ true → IsName n }
+    {
+        self.last
+    }
+
+    /// The place of the first fact of a group from a place on.
+    pub fn next(&self, group: &Group, from: usize) -> Option<usize>
+        ensures first { IfSome result (λ place. IsFirstFrom (belongs self.now.me self.now.acked group.now) self.now.facts from place) }
+        ensures none { IfNone result (IsNoneFrom (belongs self.now.me self.now.acked group.now) self.now.facts from) }
+    {
+        next_in(
+            &self.index,
+            self.listed,
+            &self.facts,
+            self.me,
+            &self.acked,
+            group,
+            from,
+        )
+    }
+
+    /// The place of a name.
+    pub fn place(&self, name: KeyName) -> Option<usize>
+        ensures { result ≡ place_of self.now.facts name }
+    {
+        match self.next(&Group::Named(name), 0) {
+            Some(place) => Some(place),
+            None => None,
+        }
+    }
+
+    // The first fact of a group.
+    fn first(&self, group: &Group) -> Option<&Fact>
+        ensures { option_copied result ≡ find (belongs self.now.me self.now.acked group.now) self.now.facts }
+    {
+        match self.next(group, 0) {
+            Some(place) => fact_in(&self.facts, place),
+            None => None,
+        }
+    }
+
+    // Whether a group has a fact.
+    fn has(&self, group: &Group) -> bool
+        ensures { result ≡ list_any (belongs self.now.me self.now.acked group.now) self.now.facts }
+    {
+        match self.next(group, 0) {
+            Some(_) => true,
+            None => false,
+        }
+    }
+
+    /// The fact of a name.
+    pub fn fact(&self, name: KeyName) -> Option<&Fact>
+        ensures { option_copied result ≡ fact_at self.now.facts name }
+    {
+        self.first(&Group::Named(name))
+    }
+
+    /// Whether the fact of a name is known.
+    pub fn knows(&self, name: KeyName) -> bool
+        ensures { result ≡ has_fact self.now.facts name }
+    {
+        self.fact(name).is_some()
+    }
+
+    /// The chunk of a stream at an index (ETSI GS QKD 004, GET_KEY).
+    pub fn chunk(&self, stream: KeyName, index: u32) -> Option<&Fact>
+        ensures { option_copied result ≡ find (is_chunk_at stream index) self.now.facts }
+    {
+        self.first(&Group::ChunksAt(stream, index))
+    }
+
+    /// Whether a Stored note about a key, chunk or part is known: at its origin it is confirmed then.
+    pub fn is_confirmed(&self, name: KeyName) -> bool
+        ensures { result ≡ list_any (is_stored_about name) self.now.facts }
+    {
+        self.has(&Group::StoredAbout(name))
+    }
+
+    /// Whether a Joined note about a stream is known.
+    pub fn has_joined(&self, stream: KeyName) -> bool
+        ensures { result ≡ list_any (is_joined_about stream) self.now.facts }
+    {
+        self.has(&Group::JoinedAbout(stream))
+    }
+
+    /// The place of the first part of a group key from a place on.
+    pub fn next_part(&self, key: KeyName, from: usize) -> Option<usize>
+        ensures first { IfSome result (λ place. IsFirstFrom (is_part_of key) self.now.facts from place) }
+        ensures none { IfNone result (IsNoneFrom (is_part_of key) self.now.facts from) }
+    {
+        self.next(&Group::PartsOf(key), from)
+    }
+
+    /// The place of the first fact from a place on that a neighbour is to be told and hasn't acknowledged.
+    pub fn next_owed(&self, to: NodeNo, from: usize) -> Option<usize>
+        ensures first { IfSome result (λ place. IsFirstFrom (is_owed_to self.now.me self.now.acked to) self.now.facts from place) }
+        ensures none { IfNone result (IsNoneFrom (is_owed_to self.now.me self.now.acked to) self.now.facts from) }
+    {
+        self.next(&Group::OwedTo(to), from)
+    }
+
+    // The neighbour to whom the fact at a place is owed.
+    fn creditor_at(&self, place: usize) -> Option<NodeNo>
+        ensures { result ≡ creditor_of self.now.me self.now.acked (slice_get self.now.facts place) }
+    {
+        match self.at(place) {
+            None => None,
+            Some(fact) => match fact_route(fact).next_after(self.me) {
+                None => None,
+                Some(to) => {
+                    if self.next_owed(to, place) == Some(place) {
+                        Some(to)
+                    } else {
+                        None
+                    }
+                }
+            },
+        }
+    }
+
+    /// The neighbour that is to be told the fact of a name, and hasn't acknowledged it.
+    pub fn creditor(&self, name: KeyName) -> Option<NodeNo>
+        ensures creditor { result ≡ creditor_of self.now.me self.now.acked (fact_at self.now.facts name) }
+        ensures owes { owes_fact self.now.me self.now.acked self.now.facts name ≡ is_some result }
+        ensures owed { (to : ℕ) → has (owed_names self.now.me self.now.acked self.now.facts to) name ≡ is_some_of result to }
+    {
+        // That names differ is what it says.
+        let _count = self.len();
+        match self.next(&Group::Named(name), 0) {
+            None => None,
+            Some(place) => self.creditor_at(place),
+        }
+    }
+
+    /// Makes room for so many more facts. An `Err` changes nothing.
+    pub fn room(&mut self, more: u32) -> Result<(), Memory>
+        ensures kept { (self.new.me ≡ self.old.me) × (self.new.facts ≡ self.old.facts) × (self.new.acked ≡ self.old.acked) × (self.new.acked_spare ≡ self.old.acked_spare) }
+        ensures ok { OnOk result (more ≤ self.new.facts_spare) }
+        ensures err { OnErr result (self.new ≡ self.old) }
+    {
+        self.facts.reserve(more as usize)?;
+        Ok(())
+    }
+
+    /// Makes room for so many more acknowledgements. An `Err` changes nothing.
+    pub fn room_acked(&mut self, more: u32) -> Result<(), Memory>
+        ensures kept { (self.new.me ≡ self.old.me) × (self.new.facts ≡ self.old.facts) × (self.new.acked ≡ self.old.acked) × (self.new.facts_spare ≡ self.old.facts_spare) }
+        ensures ok { OnOk result (more ≤ self.new.acked_spare) }
+        ensures err { OnErr result (self.new ≡ self.old) }
+    {
+        self.acked.reserve(more as usize)?;
+        Ok(())
+    }
+
+    /// Learns a fact, unless its name is known, and answers whether it was new. Where there is room for it, it takes no
+    /// memory. An `Err` changes nothing.
+    pub fn learn(&mut self, fact: Fact) -> Result<bool, Memory>
+        ensures new { IfOk result (λ new. new ≡ not (has_fact self.old.facts (name_of fact))) }
+        ensures facts { OnOk result (self.new.facts ≡ learned self.old.facts fact) }
+        ensures kept { (self.new.me ≡ self.old.me) × (self.new.acked ≡ self.old.acked) × (self.new.acked_spare ≡ self.old.acked_spare) }
+        ensures spare { OnOk result (self.old.facts_spare ≤ self.new.facts_spare + 1) }
+        ensures room { 0 < self.old.facts_spare → IsOk result }
+        ensures err { OnErr result (self.new ≡ self.old) }
+    {
+        if self.knows(fact_name(&fact)) {
+            return Ok(false);
+        }
+        self.facts.reserve(1)?;
+        self.push(fact);
+        Ok(true)
+    }
+
+    // One more fact, whose name is new.
+    fn push(&mut self, fact: Fact)
+        requires room { 0 < self.old.facts_spare }
+        requires new { has_fact self.old.facts (name_of fact) ≡ false }
+        ensures facts { self.new.facts ≡ learned self.old.facts fact }
+        ensures kept { (self.new.me ≡ self.old.me) × (self.new.acked ≡ self.old.acked) × (self.new.acked_spare ≡ self.old.acked_spare) }
+        ensures spare { self.old.facts_spare ≡ self.new.facts_spare + 1 }
+    {
+        let _name = fact_name(&fact);
+        self.last = later_count(self.last, &fact, self.me);
+        let to = fact_route(&fact).next_after(self.me);
+        self.facts.push_reserved(fact);
+        self.listed = list_new(
+            &mut self.index,
+            self.listed,
+            &self.facts,
+            self.me,
+            &self.acked,
+            to,
+        );
+    }
+
+    // The same of the first fact of that name.
+    fn acknowledge_at(&mut self, name: KeyName, place: usize)
+        requires room { 0 < self.old.acked_spare }
+        requires first { IsFirstFrom (λ f. name_eq (name_of f) name) self.old.facts 0 place }
+        ensures acked { self.new.acked ≡ acked_with self.old.me self.old.acked self.old.facts name }
+        ensures kept { (self.new.me ≡ self.old.me) × (self.new.facts ≡ self.old.facts) × (self.new.facts_spare ≡ self.old.facts_spare) }
+        ensures spare { self.old.acked_spare ≤ self.new.acked_spare + 1 }
+    {
+        match self.creditor_at(place) {
+            None => {}
+            Some(to) => {
+                self.acked.push_reserved(name);
+                self.index.remove(Group::OwedTo(to).entry(place));
+            }
+        }
+    }
+
+    /// Notes that the next node on its route has acknowledged the fact of a name, where it is owed to it. It takes no
+    /// memory.
+    pub fn acknowledge(&mut self, name: KeyName)
+        requires room { 0 < self.old.acked_spare }
+        ensures acked { self.new.acked ≡ acked_with self.old.me self.old.acked self.old.facts name }
+        ensures kept { (self.new.me ≡ self.old.me) × (self.new.facts ≡ self.old.facts) × (self.new.facts_spare ≡ self.old.facts_spare) }
+        ensures spare { self.old.acked_spare ≤ self.new.acked_spare + 1 }
+    {
+        // That names differ is what it says.
+        let _count = self.len();
+        match self.next(&Group::Named(name), 0) {
+            None => {}
+            Some(place) => self.acknowledge_at(name, place),
+        }
+    }
+}

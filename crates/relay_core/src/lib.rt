@@ -1,0 +1,13 @@
+//! What a node knows and to whom it owes it, found by name, by what it is about and by neighbour.
+#![tactic(auto)]
+
+mod fact_parts;
+mod group;
+mod known;
+mod listing;
+#[cfg(test)]
+mod tests;
+
+pub use fact_parts::{fact_name, fact_route, is_secret, kind_octet};
+pub use group::Group;
+pub use known::Known;

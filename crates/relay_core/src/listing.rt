@@ -1,0 +1,204 @@
+// How facts are put into the index. It may lag behind the list where memory was wanting; what it lacks is looked for in the list.
+ghost use Rattle.std.specs.Prelude.{◌≡◌, ◌+◌, ◌<◌, ◌≤◌, ◌||◌, ℕ, List, false, Some, IfSome, IfNone, IsTrue, OnOk, max, length, slice_get};
+ghost use Rattle.std.specs.Str.{bytes_eq};
+ghost use Rattle.qkd_base.specs.Name.{has};
+ghost use Rattle.net_model.specs.Table.{name_of};
+ghost use Rattle.ordered_entries.specs.Entries.{has_entry};
+ghost use Rattle.relay_core.specs.Firsts.{IsFirstFrom, IsNoneFrom};
+ghost use Rattle.relay_core.specs.Index.{belongs, entry_of, IsIndex, second_of, owed_group, creditor};
+ghost use Rattle.relay_core.specs.Listed.{Grows, GrowsBy, IsListed, IsPartlyListed};
+
+use crate::Group;
+use crate::fact_parts::{fact_name, fact_route};
+use crate::group::has_name;
+use net_model::Fact;
+use ordered_entries::Entries;
+use qkd_base::{KeyName, NodeNo};
+
+// The group of what a fact says about something else.
+fn second_group(fact: &Fact) -> Option<Group>
+    ensures { result ≡ second_of fact.now }
+{
+    match fact {
+        Fact::Stored { about, .. } => Some(Group::StoredAbout(*about)),
+        Fact::Joined { about, .. } => Some(Group::JoinedAbout(*about)),
+        Fact::Part { key, .. } => Some(Group::PartsOf(*key)),
+        Fact::Chunk { stream, index, .. } => Some(Group::ChunksAt(*stream, *index)),
+        _ => None,
+    }
+}
+
+// The group of a neighbour.
+fn owed_group(to: Option<NodeNo>) -> Option<Group>
+    ensures { result ≡ owed_group to }
+{
+    match to {
+        None => None,
+        Some(to) => Some(Group::OwedTo(to)),
+    }
+}
+
+// Puts the fact at a place into a group. False where memory is wanting.
+fn add(index: &mut Entries, group: Group, place: usize) -> bool
+    ensures done { IsTrue result → Grows index.old index.new group place }
+    ensures not_done { result ≡ false → index.new ≡ index.old }
+{
+    match index.insert(group.entry(place)) {
+        Ok(()) => true,
+        Err(_) => false,
+    }
+}
+
+// Puts the fact at a place into a group, if there is one. False where memory is wanting.
+fn add_some(index: &mut Entries, group: Option<Group>, place: usize) -> bool
+    ensures done { IsTrue result → GrowsBy index.old index.new group place }
+    ensures not_done { result ≡ false → index.new ≡ index.old }
+{
+    match group {
+        None => true,
+        Some(group) => add(index, group, place),
+    }
+}
+
+// Puts the fact at a place into each of its groups. False where memory is wanting.
+fn list_fact(index: &mut Entries, fact: &Fact, to: Option<NodeNo>, place: usize) -> bool
+    ensures done { IsTrue result → IsListed index.old index.new fact.now to place }
+    ensures not_done { result ≡ false → IsPartlyListed index.old index.new fact.now to place }
+{
+    if !add(index, Group::Named(fact_name(fact)), place) {
+        return false;
+    }
+    if !add_some(index, second_group(fact), place) {
+        return false;
+    }
+    add_some(index, owed_group(to), place)
+}
+
+// The first fact of a group from a place on, by the list alone.
+fn walk(facts: &[Fact], me: NodeNo, acked: &[KeyName], group: &Group, from: usize) -> Option<usize>
+    ensures first { IfSome result (λ place. IsFirstFrom (belongs me acked.now group.now) facts.now from place) }
+    ensures none { IfNone result (IsNoneFrom (belongs me acked.now group.now) facts.now from) }
+{
+    for place in from..facts.len() {
+        if group.contains(&facts[place], me, acked) {
+            return Some(place);
+        }
+    }
+    None
+}
+
+// The later of two places.
+fn later(a: usize, b: usize) -> usize
+    ensures { result ≡ max a b }
+{
+    if a < b { b } else { a }
+}
+
+/// The first fact of a group from a place on, where so many of the first facts are in the index.
+pub fn next_in(
+    index: &Entries,
+    count: usize,
+    facts: &[Fact],
+    me: NodeNo,
+    acked: &[KeyName],
+    group: &Group,
+    from: usize,
+) -> Option<usize>
+    requires { IsIndex me acked.now facts.now index.now count }
+    ensures first { IfSome result (λ place. IsFirstFrom (belongs me acked.now group.now) facts.now from place) }
+    ensures none { IfNone result (IsNoneFrom (belongs me acked.now group.now) facts.now from) }
+{
+    match index.next(group.entry(from)) {
+        None => walk(facts, me, acked, group, later(from, count)),
+        Some(place) => {
+            if place < count as u64 {
+                Some(place as usize)
+            } else {
+                walk(facts, me, acked, group, later(from, count))
+            }
+        }
+    }
+}
+
+// The neighbour to whom a fact is owed.
+fn creditor(fact: &Fact, me: NodeNo, acked: &[KeyName]) -> Option<NodeNo>
+    ensures { result ≡ creditor me acked.now fact.now }
+{
+    if has_name(acked, fact_name(fact)) {
+        None
+    } else {
+        fact_route(fact).next_after(me)
+    }
+}
+
+// Puts the fact behind the listed ones, owed to `to`, into the index, and answers how many are listed then.
+fn list_next(
+    index: &mut Entries,
+    count: usize,
+    facts: &[Fact],
+    me: NodeNo,
+    acked: &[KeyName],
+    to: Option<NodeNo>,
+) -> usize
+    requires within { count < length facts.now }
+    requires index { IsIndex me acked.now facts.now index.old count }
+    requires owed { IfSome (slice_get facts.now count) (λ f. to ≡ creditor me acked.now f) }
+    ensures index { IsIndex me acked.now facts.now index.new result }
+    ensures more { count ≤ result }
+{
+    if list_fact(index, &facts[count], to, count) {
+        count + 1
+    } else {
+        count
+    }
+}
+
+// Puts the facts behind the listed ones into the index, as far as memory reaches, and answers how many are listed then.
+fn list_rest(
+    index: &mut Entries,
+    count: usize,
+    facts: &[Fact],
+    me: NodeNo,
+    acked: &[KeyName],
+) -> usize
+    requires { IsIndex me acked.now facts.now index.old count }
+    ensures { IsIndex me acked.now facts.now index.new result }
+{
+    let mut listed = count;
+    while listed < facts.len() {
+        let next = list_next(
+            index,
+            listed,
+            facts,
+            me,
+            acked,
+            creditor(&facts[listed], me, acked),
+        );
+        if next == listed {
+            return listed;
+        }
+        listed = next;
+    }
+    listed
+}
+
+/// Puts what was learned last into the index, as far as memory reaches, and answers how many are listed then. It is owed to
+/// `to`.
+pub fn list_new(
+    index: &mut Entries,
+    count: usize,
+    facts: &[Fact],
+    me: NodeNo,
+    acked: &[KeyName],
+    to: Option<NodeNo>,
+) -> usize
+    requires index { IsIndex me acked.now facts.now index.old count }
+    requires owed { count + 1 ≡ length facts.now → IfSome (slice_get facts.now count) (λ f. to ≡ creditor me acked.now f) }
+    ensures { IsIndex me acked.now facts.now index.new result }
+{
+    if facts.len() == count + 1 {
+        list_next(index, count, facts, me, acked, to)
+    } else {
+        list_rest(index, count, facts, me, acked)
+    }
+}
