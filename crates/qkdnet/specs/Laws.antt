@@ -12,8 +12,8 @@ use Rattle.net_model.specs.Invariant.{Conserved}
 use Rattle.net_world.specs.World.{World, first_world}
 use Rattle.net_world.specs.Wire.{wire_octets}
 use Rattle.net_world.specs.Run.{given, Entry, Runs}
-use Rattle.line_laws.specs.Scenario.{network_of}
-use Rattle.script_laws.specs.AbstractRun.{RunsOnNetwork}
+use Rattle.law_lines.specs.Scenario.{network_of}
+use Rattle.law_scripts.specs.AbstractRun.{RunsOnNetwork}
 
 -- The runs of whole scenarios and of their first lines are runs of the abstract network, and all is conserved after each.
 pub record Laws : Type 0 where

@@ -1,10 +1,10 @@
 // What the laws of runs say of scenarios.
 ghost use Rattle.qkdnet.specs.Laws.{Laws};
 
-use line_laws::law_network_of_a_scenario;
-use net_laws::law_run_keeps;
-use run_laws::{law_first_lines_run_on_the_network, law_runs_on_the_network};
-use script_laws::law_run_is_one_list;
+use law_lines::law_network_of_a_scenario;
+use law_steps::law_run_keeps;
+use law_runs::{law_first_lines_run_on_the_network, law_runs_on_the_network};
+use law_scripts::law_run_is_one_list;
 
 /// A scenario's run is one of the abstract network, and all is conserved after it.
 pub fn laws_of_runs()

@@ -1,5 +1,0 @@
-use Rattle.fold_laws.proofs.Asked.{event_fits}
-use Rattle.fold_laws.proofs.law_events_fit.Goals as goal
-
-pub returns : goal.returns
-returns c = λ net w v event e good conserved asked is. event_fits net w v good conserved event e asked is

@@ -1,5 +1,0 @@
-use Rattle.fold_laws.proofs.Empty.{first_empty}
-use Rattle.fold_laws.proofs.law_first_view_is_empty.Goals as goal
-
-pub returns : goal.returns
-returns c = first_empty

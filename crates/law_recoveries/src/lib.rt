@@ -1,0 +1,55 @@
+//! Laws of what a start gives back in a run: each step leaves a node's journal or adds one batch to it, what is in doubt fits, and a
+//! start goes on from there.
+#![tactic(auto)]
+
+ghost use Rattle.std.specs.Prelude.{◌≡◌, ℕ, Bool, false, true, List, if◌then◌else◌};
+ghost use Rattle.net_model.specs.declared.record.Record.{Record};
+ghost use Rattle.net_model.specs.World.{Network, World, first};
+ghost use Rattle.net_model.specs.Invariant.{Conserved};
+ghost use Rattle.net_model.specs.Premises.{IsNetwork};
+ghost use Rattle.net_model.specs.Action.{Action, Start, Recovers};
+ghost use Rattle.net_model.specs.Step.{step, is_enabled, run, IsRun};
+ghost use Rattle.net_model.specs.Needed.{view_of};
+ghost use Rattle.net_model.specs.Journal.{checkpoint_batches, checkpoint_need};
+ghost use Rattle.net_model.specs.Start.{need_at, resolved};
+ghost use Rattle.net_model.specs.Fold.{view_batch, view_restarted};
+ghost use Rattle.law_journals.specs.GivesBack.{GivesBack};
+ghost use Rattle.law_recoveries.specs.Saved.{Moves, DoubtsFit};
+
+/// In a step what a node's journal gives back stays; or it stays and another batch is in doubt, which fits, or none is any more;
+/// or one batch is added to it, and nothing is in doubt then.
+pub fn law_step_moves_journals()
+    ensures { (net : Network) (w : World) (a : Action) → IsNetwork net → Conserved net w → DoubtsFit net w → is_enabled net w a ≡ true →
+        (v : ℕ) → Moves net w (step net w a).0 v }
+{}
+
+/// So each batch in doubt fits, in every run.
+pub fn law_doubts_fit()
+    ensures first { (net : Network) → DoubtsFit net first }
+    ensures step { (net : Network) (w : World) (a : Action) → IsNetwork net → Conserved net w → DoubtsFit net w → is_enabled net w a ≡ true → DoubtsFit net (step net w a).0 }
+    ensures run { (net : Network) (actions : List Action) → IsNetwork net → IsRun net first actions → DoubtsFit net (run net first actions) }
+{}
+
+/// Behind a start in a run each lane goes on at its leased end, and what one life keeps is gone; all else that the manager sees is
+/// what it saw before, with the batch in doubt where that was committed.
+pub fn law_start_goes_on_in_a_run()
+    ensures { (net : Network) (actions : List Action) (v : ℕ) (committed : Bool) → IsNetwork net → IsRun net first actions → (run net first actions).up v ≡ false →
+        is_enabled net (run net first actions) (Start v (Recovers committed)) ≡ true →
+        view_of net (step net (run net first actions) (Start v (Recovers committed))).0 v ≡
+        view_restarted (if committed then view_batch (view_of net (run net first actions) v) ((run net first actions).in_doubt v).batch
+        else view_of net (run net first actions) v) }
+{}
+
+/// In every run there is for each manager a journal that gives it back; and a checkpoint of what it sees is one.
+pub fn law_run_is_given_back()
+    ensures journal { (net : Network) (actions : List Action) (v : ℕ) → IsNetwork net → IsRun net first actions →
+        (batches : List (List Record)) × GivesBack net.site v batches (view_of net (run net first actions) v) }
+    ensures checkpoint { (net : Network) (actions : List Action) (v : ℕ) → IsNetwork net → IsRun net first actions →
+        GivesBack net.site v (checkpoint_batches (view_of net (run net first actions) v)) (view_of net (run net first actions) v) }
+{}
+
+/// The octets of the checkpoint that a start may make are those that the manager which it makes needs for one.
+pub fn law_start_checkpoints_what_it_gives_back()
+    ensures { (net : Network) (w : World) (v : ℕ) (committed : Bool) → Conserved net w → w.up v ≡ false → is_enabled net w (Start v (Recovers committed)) ≡ true →
+        need_at net (resolved net.site w v committed) v ≡ checkpoint_need (view_of net (step net w (Start v (Recovers committed))).0 v) }
+{}

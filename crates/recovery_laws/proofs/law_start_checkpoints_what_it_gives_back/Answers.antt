@@ -1,5 +1,0 @@
-use Rattle.recovery_laws.proofs.Runs.{start_needs}
-use Rattle.recovery_laws.proofs.law_start_checkpoints_what_it_gives_back.Goals as goal
-
-pub returns : goal.returns
-returns c = λ net w v committed conserved down enabled. start_needs net w v committed conserved down enabled

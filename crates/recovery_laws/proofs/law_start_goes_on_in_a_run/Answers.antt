@@ -1,5 +1,0 @@
-use Rattle.recovery_laws.proofs.Runs.{run_starts}
-use Rattle.recovery_laws.proofs.law_start_goes_on_in_a_run.Goals as goal
-
-pub returns : goal.returns
-returns c = λ net actions v committed network r down enabled. run_starts net actions v committed network r down enabled

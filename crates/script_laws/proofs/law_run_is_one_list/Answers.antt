@@ -1,5 +1,0 @@
-use Rattle.script_laws.proofs.Joining.{all_lead}
-use Rattle.script_laws.proofs.law_run_is_one_list.Goals as goal
-
-pub returns : goal.returns
-returns c = all_lead
