@@ -1,5 +1,6 @@
 // The links of the network, and the least walks over those that are up.
-ghost use Rattle.std.specs.Prelude.{◌≡◌, ◌≢◌, ℕ, ◌+◌, ◌<◌, ◌≤◌, ◌==◌, ◌&&◌, ◌||◌, ◌↔◌, IfOk, IfSome, IfNone, Some, None, true, false, take};
+ghost use Rattle.std.specs.Prelude.{◌≡◌, ◌≢◌, ℕ, ◌+◌, ◌<◌, ◌≤◌, ◌==◌, ◌&&◌, ◌||◌, ◌↔◌, IfOk, IfSome, IfNone, Some, None, is_none, true, false, take};
+ghost use Rattle.std.specs.List.{position_from};
 ghost use Rattle.route_table.specs.Table.{no_links, ends_of, lower_then_higher, with_link, AreApart, IsTable};
 ghost use Rattle.route_table.specs.Walk.{links_of, IsLeastWalk, HasRoute};
 ghost use Rattle.route_table.specs.Layer.{has_node, leads, is_reached, IsNextTo, AreNextTo, AreLayers, IsFirstStep, IsFirstWalk};
@@ -63,6 +64,19 @@ impl RouteTable {
         let (low, high) = in_order(a, b);
         for (number, ends) in self.links.iter().enumerate() {
             if *ends == Some((low, high)) {
+                return LinkNo::new(number as u8);
+            }
+        }
+        None
+    }
+
+    /// The first number of which there is no link yet, where there are fewer than 32.
+    pub fn free_link(&self) -> Option<LinkNo>
+        ensures link { result ≡ position_from is_none 0 self.now }
+        ensures free { IfSome result (λ link. ends_of self.now link ≡ None) }
+    {
+        for (number, ends) in self.links.iter().enumerate() {
+            if ends.is_none() {
                 return LinkNo::new(number as u8);
             }
         }
