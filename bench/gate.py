@@ -3,11 +3,10 @@
 
     python3 bench/gate.py [CRATE ..]
 
-Works in a copy of the repository as it was last committed, lowest crates first, as many side by side as there are
-processors (JOBS sets another number). Prints a row for each crate as it ends, and last the sum. Its status is 1 where
-something wasn't proved, failed, or wasn't refused. It is no gate: `.ci/run` is.
+Works in a copy of the repository as it was last committed, crate after crate, lowest first: checks of one repository
+wait for each other. Prints a row for each crate as it ends, and last the sum. Its status is 1 where something wasn't
+proved, failed, or wasn't refused. It is no gate: `.ci/run` is.
 """
-import concurrent.futures
 import os
 import pathlib
 import subprocess
@@ -15,17 +14,12 @@ import sys
 import tempfile
 
 ROOT = pathlib.Path(__file__).resolve().parent.parent
-JOBS = int(os.environ.get("JOBS", os.cpu_count()))
 
 
 def crates_of(root):
-    """Each crate with the crates of the repository that it stands on, lowest first."""
-    found = {}
-    for line in (root / "crates.txt").read_text().splitlines():
-        name, colon, below = line.partition(":")
-        if colon and not line.startswith("#"):
-            found[name.split()[0]] = below.split()
-    return {name: [it for it in below if it in found] for name, below in found.items()}
+    """The crates of the repository, lowest first."""
+    lines = (root / "crates.txt").read_text().splitlines()
+    return [line.split()[0].rstrip(":") for line in lines if line and not line.startswith("#")]
 
 
 def minutes(root, folder, *words):
@@ -64,24 +58,14 @@ def main():
         root = pathlib.Path(made) / "repository"
         subprocess.run(["git", "clone", "-q", str(ROOT), str(root)], check=True)
         crates = crates_of(root)
-        asked = sys.argv[1:] or list(crates)
-        ended, running, rows = set(), {}, []
-        left = [it for it in crates if it in asked]
+        rows = []
         print("| Crate | Proof | Tests | Edits | Number of edits |\n|---|---|---|---|---|", flush=True)
-        with concurrent.futures.ThreadPoolExecutor(JOBS) as pool:
-            while left or running:
-                for name in [it for it in left if all(below in ended or below not in asked for below in crates[it])]:
-                    if len(running) < JOBS:
-                        left.remove(name)
-                        running[pool.submit(measured, root, name)] = name
-                done, _ = concurrent.futures.wait(running, return_when=concurrent.futures.FIRST_COMPLETED)
-                for it in done:
-                    name, proof, tests, edits, count, wrong = row = it.result()
-                    ended.add(running.pop(it))
-                    rows.append(row)
-                    print(f"| `{name}` | {proof:.1f} | {tests:.1f} | {edits:.1f} | {count} |", flush=True)
-                    for what in wrong:
-                        print(f"{name}: {what}", file=sys.stderr, flush=True)
+        for name in sys.argv[1:] or crates:
+            name, proof, tests, edits, count, wrong = row = measured(root, name)
+            rows.append(row)
+            print(f"| `{name}` | {proof:.1f} | {tests:.1f} | {edits:.1f} | {count} |", flush=True)
+            for what in wrong:
+                print(f"{name}: {what}", file=sys.stderr, flush=True)
         proof, tests, edits, count = (sum(row[at] for row in rows) for at in range(1, 5))
         print(f"| all {len(rows)} | {proof:.1f} | {tests:.1f} | {edits:.1f} | {count} |")
         return 1 if any(row[5] for row in rows) else 0
