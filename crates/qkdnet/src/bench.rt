@@ -1,4 +1,7 @@
 // The outside of a run.
+ghost use Rattle.std.specs.Prelude.{IfOk};
+ghost use Rattle.qkdnet.specs.Generated.{IsGenerated};
+
 use crate::generator::octets;
 use qkd_base::{Items, Lists, Memory};
 use std::alloc::Global;
@@ -16,7 +19,9 @@ pub struct Bench {
 }
 
 /// The bench of the program: 1,048,576 octets for the link and 65,536 for the lower node, from a generator.
-pub fn generated(alloc: Global) -> Result<Bench, Memory> {
+pub fn generated(alloc: Global) -> Result<Bench, Memory>
+    ensures { IfOk result IsGenerated }
+{
     let mut devices: Lists = Items::new(alloc);
     let bits = octets(alloc, b'L', 0, 1048576)?;
     devices.push(bits)?;
