@@ -57,6 +57,13 @@ pub fn seal(
     let mut clear = FrameOctets::new();
     spell(payload, &mut clear, 0);
     let clear = prefix(&clear.octets, size);
-    put_frame(&mut into.octets[..24 + size], &lane, offset, key, pads, clear);
+    put_frame(
+        &mut into.octets[..24 + size],
+        &lane,
+        offset,
+        key,
+        pads,
+        clear,
+    );
     24 + size
 }
