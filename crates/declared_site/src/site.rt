@@ -1,5 +1,5 @@
 // The declared site.
-use qkd_base::Texts;
+use qkd_base::{Memory, Replica, Texts};
 use route_table::RouteTable;
 use sae_entitlements::Entitlements;
 
@@ -10,4 +10,14 @@ pub struct Site {
     pub nodes: Texts,
     pub routes: RouteTable,
     pub entitlements: Entitlements,
+}
+
+impl Replica for Site {
+    fn copy(&self) -> Result<Self, Memory> {
+        Ok(Site {
+            nodes: self.nodes.copy()?,
+            routes: self.routes.copy()?,
+            entitlements: self.entitlements.copy()?,
+        })
+    }
 }

@@ -180,10 +180,10 @@ used_marked Lost size (Sync ∷ calls) log = ap (λ (l : List Used). Synced ∷ 
 used_marked Kept size (Sync ∷ calls) log = ap (λ (l : List Used). Synced ∷ l) (used_marked Kept size calls log)
 used_marked Filled size (Sync ∷ calls) log = ap (λ (l : List Used). Synced ∷ l) (used_marked Filled size calls log)
 
-abbrev pub behind : Image → ℕ → ℕ → List UsedCall → List UsedCall
-behind mark size n calls = take n calls ++ map (marked_call mark size) (drop n calls)
+abbrev pub after : Image → ℕ → ℕ → List UsedCall → List UsedCall
+after mark size n calls = take n calls ++ map (marked_call mark size) (drop n calls)
 
-used_behind : (mark : Image) (size n : ℕ) (calls : List UsedCall) (log : List ℕ) → with_octets (behind mark size n calls) log ≡ revived mark size n (with_octets calls log)
+used_behind : (mark : Image) (size n : ℕ) (calls : List UsedCall) (log : List ℕ) → with_octets (after mark size n calls) log ≡ revived mark size n (with_octets calls log)
 used_behind mark size zero calls log = used_marked mark size calls log
 used_behind mark size (suc n) [] log = refl
 used_behind mark size (suc n) (Write w ∷ calls) log = ap (λ (l : List Used). Wrote w.at (take w.len log) w.inside w.state ∷ l) (used_behind mark size n calls (drop w.len log))
@@ -198,7 +198,7 @@ octets_marked Lost size (Sync ∷ calls) = octets_marked Lost size calls
 octets_marked Kept size (Sync ∷ calls) = octets_marked Kept size calls
 octets_marked Filled size (Sync ∷ calls) = octets_marked Filled size calls
 
-pub octets_behind : (mark : Image) (size n : ℕ) (calls : List UsedCall) → octets_of (behind mark size n calls) ≡ octets_of calls
+pub octets_behind : (mark : Image) (size n : ℕ) (calls : List UsedCall) → octets_of (after mark size n calls) ≡ octets_of calls
 octets_behind mark size zero calls = octets_marked mark size calls
 octets_behind mark size (suc n) [] = refl
 octets_behind mark size (suc n) (Write w ∷ calls) = ap (λ k. w.len + k) (octets_behind mark size n calls)
@@ -213,7 +213,7 @@ ends_marked end Lost size (Sync ∷ calls) e = ends_marked end Lost size calls e
 ends_marked end Kept size (Sync ∷ calls) e = ends_marked end Kept size calls e
 ends_marked end Filled size (Sync ∷ calls) e = ends_marked end Filled size calls e
 
-pub ends_behind : (end : ℕ) (mark : Image) (size n : ℕ) (calls : List UsedCall) → EndWithin end calls → EndWithin end (behind mark size n calls)
+pub ends_behind : (end : ℕ) (mark : Image) (size n : ℕ) (calls : List UsedCall) → EndWithin end calls → EndWithin end (after mark size n calls)
 ends_behind end mark size zero calls e = ends_marked end mark size calls e
 ends_behind end mark size (suc n) [] e = tt
 ends_behind end mark size (suc n) (Write w ∷ calls) e = (e.0, e.1, ends_behind end mark size n calls e.2)
@@ -260,7 +260,7 @@ pub torn_behind : (one other n : ℕ) (used : List Used) → revived Filled one 
 torn_behind one other n used = ap (λ (l : List Used). take n used ++ l) (torn_all one other (drop n used))
 
 module _ (old new : History) (is : IsHistory old) (first : new.first ≡ old.first) (grows : vec_capacity old.content ≤ vec_capacity new.content) (mark : Image) (size : ℕ)
-    (log : new.log.items ≡ old.log.items) (calls : new.calls.items ≡ behind mark size old.synced old.calls.items) (synced : new.synced ≡ old.synced) where
+    (log : new.log.items ≡ old.log.items) (calls : new.calls.items ≡ after mark size old.synced old.calls.items) (synced : new.synced ≡ old.synced) where
   pub revived_used : used_of new ≡ revived mark size old.synced (used_of old)
   revived_used =
       ap (λ (l : List ℕ). with_octets new.calls.items l) log ∙ ap (λ (k : List UsedCall). with_octets k old.log.items) calls ∙ used_behind mark size old.synced old.calls.items old.log.items
@@ -302,10 +302,10 @@ module _ (calls : List UsedCall) (i : ℕ) (d : UsedCall) (lt : i < length calls
   pub ends_step : (end : ℕ) → EndWithin end (drop i calls) → EndWithin end (get_or calls i d ∷ []) × EndWithin end (drop (i + 1) calls)
   ends_step end e = ends_first end (get_or calls i d) (drop (i + 1) calls) (subst (λ (k : List UsedCall). EndWithin end k) next e)
 
-  pub replay_step : (content later rest behind : List ℕ) → later ≡ held content (used_in (get_or calls i d) rest) → behind ≡ drop (octets_in (get_or calls i d)) rest
-      → replayed later (with_octets (drop (i + 1) calls) behind) ≡ replayed content (with_octets (drop i calls) rest)
-  replay_step content later rest behind is at =
-      ap (λ (c : List ℕ). replayed c (with_octets (drop (i + 1) calls) behind)) is
+  pub replay_step : (content later rest after : List ℕ) → later ≡ held content (used_in (get_or calls i d) rest) → after ≡ drop (octets_in (get_or calls i d)) rest
+      → replayed later (with_octets (drop (i + 1) calls) after) ≡ replayed content (with_octets (drop i calls) rest)
+  replay_step content later rest after is at =
+      ap (λ (c : List ℕ). replayed c (with_octets (drop (i + 1) calls) after)) is
       ∙ ap (λ (l : List ℕ). replayed (held content (used_in (get_or calls i d) rest)) (with_octets (drop (i + 1) calls) l)) at
       ∙ ap (λ (u : List Used). replayed content u) (sym (used_first (get_or calls i d) (drop (i + 1) calls) rest))
       ∙ ap (λ (k : List UsedCall). replayed content (with_octets k rest)) (sym next)
@@ -313,8 +313,8 @@ module _ (calls : List UsedCall) (i : ℕ) (d : UsedCall) (lt : i < length calls
   pub log_step : (n : ℕ) → octets_of (drop i calls) ≤ n → octets_in (get_or calls i d) ≤ n
   log_step n le = omega (arith, le, octets_step)
 
-  pub rest_step : (rest behind : List ℕ) → behind ≡ drop (octets_in (get_or calls i d)) rest → octets_of (drop i calls) ≤ length rest → octets_of (drop (i + 1) calls) ≤ length behind
-  rest_step rest behind is le = omega (arith, le, octets_step, ap length is, length-drop (octets_in (get_or calls i d)) rest)
+  pub rest_step : (rest after : List ℕ) → after ≡ drop (octets_in (get_or calls i d)) rest → octets_of (drop i calls) ≤ length rest → octets_of (drop (i + 1) calls) ≤ length after
+  rest_step rest after is le = omega (arith, le, octets_step, ap length is, length-drop (octets_in (get_or calls i d)) rest)
 
 pub ends_behind_step : (calls : List UsedCall) (i : ℕ) → i < length calls → (end more : ℕ) → end ≤ more → EndWithin end (drop i calls) → EndWithin more (drop (i + 1) calls)
 ends_behind_step calls i lt end more le e = ends_more end more (drop (i + 1) calls) le (ends_step calls i Sync lt end e).1

@@ -67,10 +67,10 @@ unmark Filled n left content other (Wrote a b s t ∷ used) c none =
     unmark Filled n (λ new. (old : List ℕ) × left old × Torn a (length b) old new) (held content (marked Filled n (Wrote a b s t))) (held other (Wrote a b s t)) used c none
 unmark mark n left content other (Synced ∷ used) c none = absurd none
 
-behind : (mark : Image) (n : ℕ) (left : List ℕ → Type 0) (content : List ℕ) (front used : List Used) (c : List ℕ) → AreUnsynced used → images left content (front ++ map (marked mark n) used) c ↔ images left content (front ++ used) c
-behind mark n left content [] used c none = unmark mark n left content content used c none
-behind mark n left content (Wrote a b s t ∷ front) used c none = behind mark n (λ new. (old : List ℕ) × left old × Torn a (length b) old new) (held content (Wrote a b s t)) front used c none
-behind mark n left content (Synced ∷ front) used c none = behind mark n (λ only. only ≡ content) content front used c none
+after : (mark : Image) (n : ℕ) (left : List ℕ → Type 0) (content : List ℕ) (prefix used : List Used) (c : List ℕ) → AreUnsynced used → images left content (prefix ++ map (marked mark n) used) c ↔ images left content (prefix ++ used) c
+after mark n left content [] used c none = unmark mark n left content content used c none
+after mark n left content (Wrote a b s t ∷ prefix) used c none = after mark n (λ new. (old : List ℕ) × left old × Torn a (length b) old new) (held content (Wrote a b s t)) prefix used c none
+after mark n left content (Synced ∷ prefix) used c none = after mark n (λ only. only ≡ content) content prefix used c none
 
 unsynced_front : (k : ℕ) (used : List Used) → AreUnsynced used → AreUnsynced (take k used)
 unsynced_front zero used none = tt
@@ -84,25 +84,25 @@ take_beyond k xs ys le =
     ap (λ (n : ℕ). take n (xs ++ ys)) sum ∙ take-append-add xs ys (k - length xs)
 
 module _ (first : List ℕ) (mark : Image) (n synced : ℕ) (used : List Used) (none : AreUnsynced (drop synced used)) where
-  abbrev front : List Used
-  front = take synced used
+  abbrev prefix : List Used
+  prefix = take synced used
 
   abbrev back : List Used
   back = drop synced used
 
-  same_images : (t : ℕ) (c : List ℕ) → images (λ only. only ≡ first) first (take t (front ++ map (marked mark n) back)) c ↔ images (λ only. only ≡ first) first (take t (front ++ back)) c
-  same_images t c = elim (cases_lt t (length front)) [
+  same_images : (t : ℕ) (c : List ℕ) → images (λ only. only ≡ first) first (take t (prefix ++ map (marked mark n) back)) c ↔ images (λ only. only ≡ first) first (take t (prefix ++ back)) c
+  same_images t c = elim (cases_lt t (length prefix)) [
     | inl within ↦
-        let a = take-append-le t front (map (marked mark n) back) (omega (arith, within)) in
-        let b = take-append-le t front back (omega (arith, within)) in (
+        let a = take-append-le t prefix (map (marked mark n) back) (omega (arith, within)) in
+        let b = take-append-le t prefix back (omega (arith, within)) in (
           λ i. subst (λ (l : List Used). images (λ only. only ≡ first) first l c) (a ∙ sym b) i,
           λ i. subst (λ (l : List Used). images (λ only. only ≡ first) first l c) (b ∙ sym a) i,
         )
     | inr beyond ↦
-        let k = t - length front in
-        let a = take_beyond t front (map (marked mark n) back) beyond ∙ ap (λ (l : List Used). front ++ l) (take-map (marked mark n) k back) in
-        let b = take_beyond t front back beyond in
-        let both = behind mark n (λ only. only ≡ first) first front (take k back) c (unsynced_front k back none) in (
+        let k = t - length prefix in
+        let a = take_beyond t prefix (map (marked mark n) back) beyond ∙ ap (λ (l : List Used). prefix ++ l) (take-map (marked mark n) k back) in
+        let b = take_beyond t prefix back beyond in
+        let both = after mark n (λ only. only ≡ first) first prefix (take k back) c (unsynced_front k back none) in (
           λ i. subst (λ (l : List Used). images (λ only. only ≡ first) first l c) (sym b) (both.0 (subst (λ (l : List Used). images (λ only. only ≡ first) first l c) a i)),
           λ i. subst (λ (l : List Used). images (λ only. only ≡ first) first l c) (sym a) (both.1 (subst (λ (l : List Used). images (λ only. only ≡ first) first l c) b i)),
         )
@@ -110,7 +110,7 @@ module _ (first : List ℕ) (mark : Image) (n synced : ℕ) (used : List Used) (
 
   pub revived_long : length (revived mark n synced used) ≡ length used
   revived_long =
-      omega (arith, length-append front (map (marked mark n) back), length-map back (marked mark n), length-append front back, ap length (take-append-drop synced used))
+      omega (arith, length-append prefix (map (marked mark n) back), length-map back (marked mark n), length-append prefix back, ap length (take-append-drop synced used))
 
   pub revived_stays : (t : ℕ) (c : List ℕ) → image_of first (revived mark n synced used) t c ↔ image_of first used t c
   revived_stays t c =

@@ -27,15 +27,15 @@ torn_overlaid at n bytes old few = elim (cases_lt (length old) at) [
   where
     torn : at ≤ length old → Torn at n old (take at old ++ bytes ++ drop (at + length bytes) old)
     torn inside =
-        let front : length (take at old) ≡ at = length-take-le at old inside in
+        let prefix : length (take at old) ≡ at = length-take-le at old inside in
         let split : take at old ++ bytes ++ drop (at + length bytes) old ≡ take at old ++ (bytes ++ drop (at + length bytes) old) = append_assoc (take at old) bytes (drop (at + length bytes) old) in
-        let head : length (take at old ++ bytes) ≡ at + length bytes = omega (arith, front, length-append (take at old) bytes) in
+        let head : length (take at old ++ bytes) ≡ at + length bytes = omega (arith, prefix, length-append (take at old) bytes) in
         let long = length-append (take at old ++ bytes) (drop (at + length bytes) old) in
         let back = length-drop (at + length bytes) old in
         let drops : drop (at + length bytes) (take at old ++ bytes ++ drop (at + length bytes) old) ≡ drop (at + length bytes) old = drop_at (take at old ++ bytes) (drop (at + length bytes) old) (at + length bytes) head in
         let sum : at + n ≡ at + length bytes + (n - length bytes) = omega (arith, few) in
         record {
-          before = ap (λ (c : List ℕ). take at c) split ∙ take_at (take at old) (bytes ++ drop (at + length bytes) old) at front;
+          before = ap (λ (c : List ℕ). take at c) split ∙ take_at (take at old) (bytes ++ drop (at + length bytes) old) at prefix;
           after =
               ap (λ (k : ℕ). drop k (take at old ++ bytes ++ drop (at + length bytes) old)) sum
               ∙ sym (drop-drop (n - length bytes) (at + length bytes) (take at old ++ bytes ++ drop (at + length bytes) old))

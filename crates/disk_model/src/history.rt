@@ -102,7 +102,7 @@ fn mark(calls: &mut [UsedCall], image: Image, size: usize)
     }
 }
 
-// Marks the calls behind so many.
+// Marks the calls after so many.
 fn mark_behind(calls: &mut Vec<UsedCall>, synced: usize, image: Image, size: usize)
     requires { synced ≤ length calls.old.items }
     ensures items { calls.new.items ≡ take synced calls.old.items ++ map (marked_call image size) (drop synced calls.old.items) }
@@ -126,7 +126,7 @@ fn hold(content: &mut Vec<u8>, range: Range, bytes: &[u8])
     }
 }
 
-// Replays one call, and answers the log behind its octets.
+// Replays one call, and answers the log after its octets.
 fn step<'a>(content: &mut Vec<u8>, call: UsedCall, log: &'a [u8]) -> &'a [u8]
     requires log { octets_in call ≤ length log.now }
     requires ends { EndWithin (vec_capacity content.old) (call ∷ []) }

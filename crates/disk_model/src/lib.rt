@@ -11,8 +11,6 @@ mod history;
 mod laws;
 mod mem_disk;
 mod passage;
-#[cfg(test)]
-mod tests;
 
 pub use allowance::Allowance;
 pub use arm::{Arm, Armings, Image};

@@ -20,8 +20,6 @@ mod sink;
 mod source;
 mod tcp_door;
 mod tcp_ports;
-#[cfg(test)]
-mod tests;
 mod write_sink;
 
 pub use ended::Ended;

@@ -1,5 +1,5 @@
 -- Pools as a manager's view has them.
-use Rattle.std.specs.Prelude.{ℕ, ◌/◌, ◌%◌, ◌==◌, ◌&&◌, Bool, List, [], Option, Some, None, if◌then◌else◌}
+use Rattle.std.specs.Prelude.{◌≡◌, ℕ, ◌/◌, ◌%◌, ◌==◌, ◌&&◌, Bool, List, [], Option, Some, None, if◌then◌else◌}
 use Rattle.std.specs.List.{list_any}
 use Rattle.qkd_base.specs.Name.{Name}
 use Rattle.qkd_base.specs.declared.pool_no.PoolNo.{PoolNo}
@@ -23,6 +23,13 @@ ends_view e =
       ports = [];
       volatile = no_volatile;
     }
+
+-- a view has what is kept here
+pub record Sees (v : View) (e : Ends) : Type 0 where
+  pub me : v.me ≡ e.known.me
+  pub facts : v.facts ≡ e.known.facts
+  pub acked : v.acked ≡ e.known.acked
+  pub handed : v.handed ≡ e.handed
 
 -- the pool by its size in octets, if it has whole ones
 abbrev pub octets_pool : PoolNo → Option Pool

@@ -6,8 +6,6 @@ mod marks;
 mod pool;
 mod pools;
 mod store;
-#[cfg(test)]
-mod tests;
 mod waiting;
 
 pub use marks::Marks;

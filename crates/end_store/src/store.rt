@@ -2,7 +2,7 @@
 ghost use Rattle.std.specs.Prelude.{◌≡◌, ◌+◌, ◌<◌, ◌≤◌, [], IfSome, IfNone, IfOk, IsOk, OnOk, OnErr, not};
 ghost use Rattle.net_model.specs.Table.{name_of, has_fact, learned, was_handed};
 ghost use Rattle.net_model.specs.Fold.{marked};
-ghost use Rattle.relay_core.specs.Knowledge.{acked_with};
+ghost use Rattle.relay_core.specs.Knowledge.{acked_with, forgotten};
 ghost use Rattle.end_store.specs.Waiting.{IsNextWaiting, IsLastWaiting};
 
 use crate::listing::{list_more, release_name};
@@ -161,5 +161,14 @@ impl EndStore {
             self.listed,
             name,
         );
+    }
+
+    /// Overwrites the bytes of the fact at a place with zeros, if it has some. It takes no memory.
+    pub fn forget(&mut self, place: usize)
+        ensures facts { self.new.known.facts ≡ forgotten self.old.known.facts place }
+        ensures kept { (self.new.known.me ≡ self.old.known.me) × (self.new.known.acked ≡ self.old.known.acked) × (self.new.known.facts_spare ≡ self.old.known.facts_spare)
+            × (self.new.known.acked_spare ≡ self.old.known.acked_spare) × (self.new.handed ≡ self.old.handed) × (self.new.handed_spare ≡ self.old.handed_spare) }
+    {
+        self.known.forget(place);
     }
 }

@@ -10,8 +10,9 @@ use Rattle.qkd_base.specs.declared.key_name.NameKind.{NameKind}
 use Rattle.qkd_base.specs.declared.key_name.NameKind.TheVariants.{Key, Stream, Note}
 use Rattle.qkd_base.specs.Name.{Name, IsName, is_name, octets_of, kind_number, kind_of_octet, kind_eq, candidate, name_at}
 use Rattle.qkd_base.specs.Route.{is_route, are_nodes}
+use Rattle.qkd_base.proofs.Names.{candidate_back, is_name-true, IsName-of}
 use Rattle.net_model.specs.Facts.{IsSize}
-use Rattle.frame_codec.specs.Payload.{IsNameOf, IsSae, IsWay, AreOctets, short, long, way}
+use Rattle.frame_codec.specs.Payload.{IsNameOf, IsSae, AreRouteNodes, AreOctets, short, long, spelled_route}
 use Rattle.frame_codec.specs.Reading.{◌>>=◌, passing, before, prefix, named, of_kind, any_kind, number_at, sae, size, index, route, last}
 
 -- ---- answers
@@ -87,25 +88,6 @@ prefix_again n value test text rest a len is passes =
     ∙ ap (before rest) (passing_again test (length (text ++ rest)) a passes)
 
 -- ---- names
-
-kind_back : (k : NameKind) → kind_of_octet (kind_number k) ≡ k
-kind_back Key = refl
-kind_back Stream = refl
-kind_back Note = refl
-
-count_back : (n : ℕ) → n < 2 ^ 48 → from_be_bytes w64 (replicate 2 0 ++ drop 2 (to_be_bytes w64 n)) ≡ n
-count_back n h = omega arith
-
-candidate_back : (n : Name) → IsName n → candidate (octets_of n) ≡ n
-candidate_back n h =
-    ap (λ (k : NameKind). record { node = n.node; kind = k; count = from_be_bytes w64 (replicate 2 0 ++ drop 2 (to_be_bytes w64 n.count)) }) (kind_back n.kind)
-    ∙ ap (λ (c : ℕ). record { node = n.node; kind = n.kind; count = c }) (count_back n.count h.count)
-
-is_name-true : (n : Name) → IsName n → is_name n ≡ true
-is_name-true n h = let a = h.node in let b = h.positive in let c = h.count in grind arith
-
-IsName-of : (n : Name) → is_name n ≡ true → IsName n
-IsName-of n h = record { node = grind arith; positive = grind arith; count = grind arith }
 
 -- the candidate, if it has these octets
 abbrev checked : List ℕ → Name → Option Name
@@ -232,7 +214,7 @@ fits_way nodes = is_route nodes && are_nodes nodes
 lists_are : (x y : List ℕ) → Some x ≡ Some y → x ≡ y
 lists_are x y e = cc
 
-pub route_takes : (octets : List ℕ) (x : List ℕ × List ℕ) → AreOctets octets → route octets ≡ Ok x → Takes octets (way x.0) x.1 × IsWay x.0
+pub route_takes : (octets : List ℕ) (x : List ℕ × List ℕ) → AreOctets octets → route octets ≡ Ok x → Takes octets (spelled_route x.0) x.1 × AreRouteNodes x.0
 unfolding route
 route_takes [] x fits e = absurd cc
 route_takes (n ∷ os) x fits e =
@@ -242,10 +224,10 @@ route_takes (n ∷ os) x fits e =
     let p = passing_ok fits_way (1 + length os) (Some (take n os)) b.0 b.1 in
     let nodes : take n os ≡ b.0 = lists_are (take n os) b.0 p.0 in
     let len : length b.0 ≡ n = omega (arith, sym (ap length nodes), length-take n os, long_enough) in
-    let whole : n ∷ os ≡ way b.0 ++ drop n os = ap (λ (l : List ℕ). n ∷ l) (sym (take-append-drop n os) ∙ ap (λ (l : List ℕ). l ++ drop n os) nodes) ∙ ap (λ (k : ℕ). k ∷ (b.0 ++ drop n os)) (sym len) in
-    subst (λ y. Takes (n ∷ os) (way y.0) y.1 × IsWay y.0) (ok_is (b.0, drop n os) x b.2) (record { parts = whole; rest_fits = AreOctets-drop (suc n) (n ∷ os) fits }, and_parts (is_route b.0) (are_nodes b.0) p.1)
+    let whole : n ∷ os ≡ spelled_route b.0 ++ drop n os = ap (λ (l : List ℕ). n ∷ l) (sym (take-append-drop n os) ∙ ap (λ (l : List ℕ). l ++ drop n os) nodes) ∙ ap (λ (k : ℕ). k ∷ (b.0 ++ drop n os)) (sym len) in
+    subst (λ y. Takes (n ∷ os) (spelled_route y.0) y.1 × AreRouteNodes y.0) (ok_is (b.0, drop n os) x b.2) (record { parts = whole; rest_fits = AreOctets-drop (suc n) (n ∷ os) fits }, and_parts (is_route b.0) (are_nodes b.0) p.1)
 
-pub route_again : (nodes rest : List ℕ) → IsWay nodes → route (way nodes ++ rest) ≡ Ok (nodes, rest)
+pub route_again : (nodes rest : List ℕ) → AreRouteNodes nodes → route (spelled_route nodes ++ rest) ≡ Ok (nodes, rest)
 unfolding route
 route_again nodes rest h =
     let room : ltb (length (nodes ++ rest)) (length nodes) ≡ false = le-ltb _ _ (omega (arith, length-append nodes rest)) in

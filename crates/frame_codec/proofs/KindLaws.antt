@@ -10,7 +10,7 @@ use Rattle.net_model.specs.declared.fact.Fact.TheVariants.{Key, Chunk, Stored, O
 use Rattle.net_model.specs.declared.payload.Payload.{Payload}
 use Rattle.net_model.specs.declared.payload.Payload.TheVariants.{Data, Ack}
 use Rattle.net_model.specs.Facts.{IsSize}
-use Rattle.frame_codec.specs.Payload.{IsNameOf, IsSae, IsWay, IsSecret, IsFact, IsPayload, AreOctets, fields, short, long, way, fact_octets, payload_octets}
+use Rattle.frame_codec.specs.Payload.{IsNameOf, IsSae, AreRouteNodes, IsSecret, IsFact, IsPayload, AreOctets, fields, short, long, spelled_route, fact_octets, payload_octets}
 use Rattle.frame_codec.specs.Reading.{◌>>=◌, named, of_kind, any_kind, sae, size, index, route, last, key_of, note_of, stored_of, joined_of, open_of, chunk_of, part_of, ack_of, as_data, acked, payload_left, place_in, payload_of}
 use Rattle.frame_codec.proofs.FieldLaws.{bind_ok, ok_is, named_takes, named_again, any_takes, any_again, sae_takes, sae_again, size_takes, size_again, index_takes, index_again, route_takes, route_again, last_takes, last_again}
 
@@ -20,7 +20,7 @@ size_of {n} {m} h e = subst IsSize (sym e) h
 octets_are : {xs ys : List ℕ} → xs ≡ ys → AreOctets xs → AreOctets ys
 octets_are {xs} {ys} e h = subst AreOctets e h
 
--- The fields of a key, and of a part behind its name: what was read, and that the rest goes on from them.
+-- The fields of a key, and of a part after its name: what was read, and that the rest goes on from them.
 record KeyParts (octets : List ℕ) (g : Name → ℕ → ℕ → List ℕ → List ℕ → Result Fact ℕ) (f : Fact) : Type 0 where
   name : Name
   master : ℕ
@@ -30,23 +30,23 @@ record KeyParts (octets : List ℕ) (g : Name → ℕ → ℕ → List ℕ → L
   is_name : IsNameOf KeyKind name
   is_master : IsSae master
   is_slave : IsSae slave
-  is_way : IsWay nodes
+  is_way : AreRouteNodes nodes
   is_secret : IsSecret bytes
-  parts : octets ≡ fields (octets_of name ∷ short master ∷ short slave ∷ short (length bytes) ∷ way nodes ∷ bytes ∷ [])
+  parts : octets ≡ fields (octets_of name ∷ short master ∷ short slave ∷ short (length bytes) ∷ spelled_route nodes ∷ bytes ∷ [])
   gives : g name master slave nodes bytes ≡ Ok f
 
 key_parts : (octets : List ℕ) (g : Name → ℕ → ℕ → List ℕ → List ℕ → Result Fact ℕ) (f : Fact) → AreOctets octets
-    → (named (of_kind KeyKind) octets >>= λ name. sae name.1 >>= λ master. sae master.1 >>= λ slave. size slave.1 >>= λ n. route n.1 >>= λ way. last n.0 way.1 >>= λ bytes. g name.0 master.0 slave.0 way.0 bytes) ≡ Ok f → KeyParts octets g f
+    → (named (of_kind KeyKind) octets >>= λ name. sae name.1 >>= λ master. sae master.1 >>= λ slave. size slave.1 >>= λ n. route n.1 >>= λ nodes. last n.0 nodes.1 >>= λ bytes. g name.0 master.0 slave.0 nodes.0 bytes) ≡ Ok f → KeyParts octets g f
 key_parts octets g f fits e =
-    let b0 = bind_ok (named (of_kind KeyKind) octets) (λ name. sae name.1 >>= λ master. sae master.1 >>= λ slave. size slave.1 >>= λ n. route n.1 >>= λ way. last n.0 way.1 >>= λ bytes. g name.0 master.0 slave.0 way.0 bytes) f e in
+    let b0 = bind_ok (named (of_kind KeyKind) octets) (λ name. sae name.1 >>= λ master. sae master.1 >>= λ slave. size slave.1 >>= λ n. route n.1 >>= λ nodes. last n.0 nodes.1 >>= λ bytes. g name.0 master.0 slave.0 nodes.0 bytes) f e in
     let t0 = named_takes KeyKind octets b0.0 fits b0.1 in
-    let b1 = bind_ok (sae b0.0.1) (λ master. sae master.1 >>= λ slave. size slave.1 >>= λ n. route n.1 >>= λ way. last n.0 way.1 >>= λ bytes. g b0.0.0 master.0 slave.0 way.0 bytes) f b0.2 in
+    let b1 = bind_ok (sae b0.0.1) (λ master. sae master.1 >>= λ slave. size slave.1 >>= λ n. route n.1 >>= λ nodes. last n.0 nodes.1 >>= λ bytes. g b0.0.0 master.0 slave.0 nodes.0 bytes) f b0.2 in
     let t1 = sae_takes b0.0.1 b1.0 t0.0.rest_fits b1.1 in
-    let b2 = bind_ok (sae b1.0.1) (λ slave. size slave.1 >>= λ n. route n.1 >>= λ way. last n.0 way.1 >>= λ bytes. g b0.0.0 b1.0.0 slave.0 way.0 bytes) f b1.2 in
+    let b2 = bind_ok (sae b1.0.1) (λ slave. size slave.1 >>= λ n. route n.1 >>= λ nodes. last n.0 nodes.1 >>= λ bytes. g b0.0.0 b1.0.0 slave.0 nodes.0 bytes) f b1.2 in
     let t2 = sae_takes b1.0.1 b2.0 t1.0.rest_fits b2.1 in
-    let b3 = bind_ok (size b2.0.1) (λ n. route n.1 >>= λ way. last n.0 way.1 >>= λ bytes. g b0.0.0 b1.0.0 b2.0.0 way.0 bytes) f b2.2 in
+    let b3 = bind_ok (size b2.0.1) (λ n. route n.1 >>= λ nodes. last n.0 nodes.1 >>= λ bytes. g b0.0.0 b1.0.0 b2.0.0 nodes.0 bytes) f b2.2 in
     let t3 = size_takes b2.0.1 b3.0 t2.0.rest_fits b3.1 in
-    let b4 = bind_ok (route b3.0.1) (λ way. last b3.0.0 way.1 >>= λ bytes. g b0.0.0 b1.0.0 b2.0.0 way.0 bytes) f b3.2 in
+    let b4 = bind_ok (route b3.0.1) (λ nodes. last b3.0.0 nodes.1 >>= λ bytes. g b0.0.0 b1.0.0 b2.0.0 nodes.0 bytes) f b3.2 in
     let t4 = route_takes b3.0.1 b4.0 t3.0.rest_fits b4.1 in
     let b5 = bind_ok (last b3.0.0 b4.0.1) (λ bytes. g b0.0.0 b1.0.0 b2.0.0 b4.0.0 bytes) f b4.2 in
     let t5 = last_takes b3.0.0 b4.0.1 b5.0 b5.1 in
@@ -61,7 +61,7 @@ key_parts octets g f fits e =
       is_slave = t2.1;
       is_way = t4.1;
       is_secret = (size_of t3.1 t5.1, octets_are t5.0 t4.0.rest_fits);
-      parts = t0.0.parts ∙ ap (λ (l : List ℕ). octets_of b0.0.0 ++ l) (t1.0.parts ∙ ap (λ (l : List ℕ). short b1.0.0 ++ l) (t2.0.parts ∙ ap (λ (l : List ℕ). short b2.0.0 ++ l) (t3.0.parts ∙ ap (λ (l : List ℕ). short b3.0.0 ++ l) (t4.0.parts ∙ ap (λ (l : List ℕ). way b4.0.0 ++ l) (t5.0)) ∙ ap (λ (m : ℕ). short m ++ (way b4.0.0 ++ b5.0)) (sym t5.1))));
+      parts = t0.0.parts ∙ ap (λ (l : List ℕ). octets_of b0.0.0 ++ l) (t1.0.parts ∙ ap (λ (l : List ℕ). short b1.0.0 ++ l) (t2.0.parts ∙ ap (λ (l : List ℕ). short b2.0.0 ++ l) (t3.0.parts ∙ ap (λ (l : List ℕ). short b3.0.0 ++ l) (t4.0.parts ∙ ap (λ (l : List ℕ). spelled_route b4.0.0 ++ l) (t5.0)) ∙ ap (λ (m : ℕ). short m ++ (spelled_route b4.0.0 ++ b5.0)) (sym t5.1))));
       gives = b5.2;
     }
 
@@ -75,7 +75,7 @@ key_takes octets f fits e =
 part_takes : (octets : List ℕ) (f : Fact) → AreOctets octets → part_of octets ≡ Ok f → IsFact f × (7 ∷ octets ≡ fact_octets f)
 unfolding part_of
 part_takes octets f fits e =
-    let b = bind_ok (named (of_kind KeyKind) octets) (λ name. named (of_kind KeyKind) name.1 >>= λ key. sae key.1 >>= λ master. sae master.1 >>= λ slave. size slave.1 >>= λ n. route n.1 >>= λ way. last n.0 way.1 >>= λ bytes. Ok (Part name.0 key.0 master.0 slave.0 way.0 bytes)) f e in
+    let b = bind_ok (named (of_kind KeyKind) octets) (λ name. named (of_kind KeyKind) name.1 >>= λ key. sae key.1 >>= λ master. sae master.1 >>= λ slave. size slave.1 >>= λ n. route n.1 >>= λ nodes. last n.0 nodes.1 >>= λ bytes. Ok (Part name.0 key.0 master.0 slave.0 nodes.0 bytes)) f e in
     let t = named_takes KeyKind octets b.0 fits b.1 in
     let k = key_parts b.0.1 (λ key master slave nodes bytes. Ok (Part b.0.0 key master slave nodes bytes)) f t.0.rest_fits b.2 in
     subst (λ y. IsFact y × (7 ∷ octets ≡ fact_octets y)) (ok_is (Part b.0.0 k.name k.master k.slave k.nodes k.bytes) f k.gives)
@@ -84,94 +84,94 @@ part_takes octets f fits e =
 open_takes : (octets : List ℕ) (f : Fact) → AreOctets octets → open_of octets ≡ Ok f → IsFact f × (4 ∷ octets ≡ fact_octets f)
 unfolding open_of
 open_takes octets f fits e =
-    let b0 = bind_ok (named (of_kind StreamKind) octets) (λ stream. sae stream.1 >>= λ source. sae source.1 >>= λ peer. size peer.1 >>= λ n. route n.1 >>= λ way. last 0 way.1 >>= λ end. Ok (Open stream.0 source.0 peer.0 n.0 way.0)) f e in
+    let b0 = bind_ok (named (of_kind StreamKind) octets) (λ stream. sae stream.1 >>= λ source. sae source.1 >>= λ peer. size peer.1 >>= λ n. route n.1 >>= λ nodes. last 0 nodes.1 >>= λ end. Ok (Open stream.0 source.0 peer.0 n.0 nodes.0)) f e in
     let t0 = named_takes StreamKind octets b0.0 fits b0.1 in
-    let b1 = bind_ok (sae b0.0.1) (λ source. sae source.1 >>= λ peer. size peer.1 >>= λ n. route n.1 >>= λ way. last 0 way.1 >>= λ end. Ok (Open b0.0.0 source.0 peer.0 n.0 way.0)) f b0.2 in
+    let b1 = bind_ok (sae b0.0.1) (λ source. sae source.1 >>= λ peer. size peer.1 >>= λ n. route n.1 >>= λ nodes. last 0 nodes.1 >>= λ end. Ok (Open b0.0.0 source.0 peer.0 n.0 nodes.0)) f b0.2 in
     let t1 = sae_takes b0.0.1 b1.0 t0.0.rest_fits b1.1 in
-    let b2 = bind_ok (sae b1.0.1) (λ peer. size peer.1 >>= λ n. route n.1 >>= λ way. last 0 way.1 >>= λ end. Ok (Open b0.0.0 b1.0.0 peer.0 n.0 way.0)) f b1.2 in
+    let b2 = bind_ok (sae b1.0.1) (λ peer. size peer.1 >>= λ n. route n.1 >>= λ nodes. last 0 nodes.1 >>= λ end. Ok (Open b0.0.0 b1.0.0 peer.0 n.0 nodes.0)) f b1.2 in
     let t2 = sae_takes b1.0.1 b2.0 t1.0.rest_fits b2.1 in
-    let b3 = bind_ok (size b2.0.1) (λ n. route n.1 >>= λ way. last 0 way.1 >>= λ end. Ok (Open b0.0.0 b1.0.0 b2.0.0 n.0 way.0)) f b2.2 in
+    let b3 = bind_ok (size b2.0.1) (λ n. route n.1 >>= λ nodes. last 0 nodes.1 >>= λ end. Ok (Open b0.0.0 b1.0.0 b2.0.0 n.0 nodes.0)) f b2.2 in
     let t3 = size_takes b2.0.1 b3.0 t2.0.rest_fits b3.1 in
-    let b4 = bind_ok (route b3.0.1) (λ way. last 0 way.1 >>= λ end. Ok (Open b0.0.0 b1.0.0 b2.0.0 b3.0.0 way.0)) f b3.2 in
+    let b4 = bind_ok (route b3.0.1) (λ nodes. last 0 nodes.1 >>= λ end. Ok (Open b0.0.0 b1.0.0 b2.0.0 b3.0.0 nodes.0)) f b3.2 in
     let t4 = route_takes b3.0.1 b4.0 t3.0.rest_fits b4.1 in
     let b5 = bind_ok (last 0 b4.0.1) (λ end. Ok (Open b0.0.0 b1.0.0 b2.0.0 b3.0.0 b4.0.0)) f b4.2 in
     let t5 = last_takes 0 b4.0.1 b5.0 b5.1 in
-    subst (λ y. IsFact y × (4 ∷ octets ≡ fact_octets y)) (ok_is (Open b0.0.0 b1.0.0 b2.0.0 b3.0.0 b4.0.0) f b5.2) ((t0.1, t1.1, t2.1, t3.1, t4.1), ap (λ (l : List ℕ). 4 ∷ l) (t0.0.parts ∙ ap (λ (l : List ℕ). octets_of b0.0.0 ++ l) (t1.0.parts ∙ ap (λ (l : List ℕ). short b1.0.0 ++ l) (t2.0.parts ∙ ap (λ (l : List ℕ). short b2.0.0 ++ l) (t3.0.parts ∙ ap (λ (l : List ℕ). short b3.0.0 ++ l) (t4.0.parts ∙ ap (λ (l : List ℕ). way b4.0.0 ++ l) (nil_from_length b4.0.1 (ap length t5.0 ∙ t5.1)) ∙ append-nil (way b4.0.0)))))))
+    subst (λ y. IsFact y × (4 ∷ octets ≡ fact_octets y)) (ok_is (Open b0.0.0 b1.0.0 b2.0.0 b3.0.0 b4.0.0) f b5.2) ((t0.1, t1.1, t2.1, t3.1, t4.1), ap (λ (l : List ℕ). 4 ∷ l) (t0.0.parts ∙ ap (λ (l : List ℕ). octets_of b0.0.0 ++ l) (t1.0.parts ∙ ap (λ (l : List ℕ). short b1.0.0 ++ l) (t2.0.parts ∙ ap (λ (l : List ℕ). short b2.0.0 ++ l) (t3.0.parts ∙ ap (λ (l : List ℕ). short b3.0.0 ++ l) (t4.0.parts ∙ ap (λ (l : List ℕ). spelled_route b4.0.0 ++ l) (nil_from_length b4.0.1 (ap length t5.0 ∙ t5.1)) ∙ append-nil (spelled_route b4.0.0)))))))
 
 chunk_takes : (octets : List ℕ) (f : Fact) → AreOctets octets → chunk_of octets ≡ Ok f → IsFact f × (6 ∷ octets ≡ fact_octets f)
 unfolding chunk_of
 chunk_takes octets f fits e =
-    let b0 = bind_ok (named (of_kind KeyKind) octets) (λ name. named (of_kind StreamKind) name.1 >>= λ stream. index stream.1 >>= λ at. size at.1 >>= λ n. route n.1 >>= λ way. last n.0 way.1 >>= λ bytes. Ok (Chunk name.0 stream.0 at.0 way.0 bytes)) f e in
+    let b0 = bind_ok (named (of_kind KeyKind) octets) (λ name. named (of_kind StreamKind) name.1 >>= λ stream. index stream.1 >>= λ at. size at.1 >>= λ n. route n.1 >>= λ nodes. last n.0 nodes.1 >>= λ bytes. Ok (Chunk name.0 stream.0 at.0 nodes.0 bytes)) f e in
     let t0 = named_takes KeyKind octets b0.0 fits b0.1 in
-    let b1 = bind_ok (named (of_kind StreamKind) b0.0.1) (λ stream. index stream.1 >>= λ at. size at.1 >>= λ n. route n.1 >>= λ way. last n.0 way.1 >>= λ bytes. Ok (Chunk b0.0.0 stream.0 at.0 way.0 bytes)) f b0.2 in
+    let b1 = bind_ok (named (of_kind StreamKind) b0.0.1) (λ stream. index stream.1 >>= λ at. size at.1 >>= λ n. route n.1 >>= λ nodes. last n.0 nodes.1 >>= λ bytes. Ok (Chunk b0.0.0 stream.0 at.0 nodes.0 bytes)) f b0.2 in
     let t1 = named_takes StreamKind b0.0.1 b1.0 t0.0.rest_fits b1.1 in
-    let b2 = bind_ok (index b1.0.1) (λ at. size at.1 >>= λ n. route n.1 >>= λ way. last n.0 way.1 >>= λ bytes. Ok (Chunk b0.0.0 b1.0.0 at.0 way.0 bytes)) f b1.2 in
+    let b2 = bind_ok (index b1.0.1) (λ at. size at.1 >>= λ n. route n.1 >>= λ nodes. last n.0 nodes.1 >>= λ bytes. Ok (Chunk b0.0.0 b1.0.0 at.0 nodes.0 bytes)) f b1.2 in
     let t2 = index_takes b1.0.1 b2.0 t1.0.rest_fits b2.1 in
-    let b3 = bind_ok (size b2.0.1) (λ n. route n.1 >>= λ way. last n.0 way.1 >>= λ bytes. Ok (Chunk b0.0.0 b1.0.0 b2.0.0 way.0 bytes)) f b2.2 in
+    let b3 = bind_ok (size b2.0.1) (λ n. route n.1 >>= λ nodes. last n.0 nodes.1 >>= λ bytes. Ok (Chunk b0.0.0 b1.0.0 b2.0.0 nodes.0 bytes)) f b2.2 in
     let t3 = size_takes b2.0.1 b3.0 t2.0.rest_fits b3.1 in
-    let b4 = bind_ok (route b3.0.1) (λ way. last b3.0.0 way.1 >>= λ bytes. Ok (Chunk b0.0.0 b1.0.0 b2.0.0 way.0 bytes)) f b3.2 in
+    let b4 = bind_ok (route b3.0.1) (λ nodes. last b3.0.0 nodes.1 >>= λ bytes. Ok (Chunk b0.0.0 b1.0.0 b2.0.0 nodes.0 bytes)) f b3.2 in
     let t4 = route_takes b3.0.1 b4.0 t3.0.rest_fits b4.1 in
     let b5 = bind_ok (last b3.0.0 b4.0.1) (λ bytes. Ok (Chunk b0.0.0 b1.0.0 b2.0.0 b4.0.0 bytes)) f b4.2 in
     let t5 = last_takes b3.0.0 b4.0.1 b5.0 b5.1 in
-    subst (λ y. IsFact y × (6 ∷ octets ≡ fact_octets y)) (ok_is (Chunk b0.0.0 b1.0.0 b2.0.0 b4.0.0 b5.0) f b5.2) ((t0.1, t1.1, t2.1, t4.1, (size_of t3.1 t5.1, octets_are t5.0 t4.0.rest_fits)), ap (λ (l : List ℕ). 6 ∷ l) (t0.0.parts ∙ ap (λ (l : List ℕ). octets_of b0.0.0 ++ l) (t1.0.parts ∙ ap (λ (l : List ℕ). octets_of b1.0.0 ++ l) (t2.0.parts ∙ ap (λ (l : List ℕ). long b2.0.0 ++ l) (t3.0.parts ∙ ap (λ (l : List ℕ). short b3.0.0 ++ l) (t4.0.parts ∙ ap (λ (l : List ℕ). way b4.0.0 ++ l) (t5.0)) ∙ ap (λ (m : ℕ). short m ++ (way b4.0.0 ++ b5.0)) (sym t5.1))))))
+    subst (λ y. IsFact y × (6 ∷ octets ≡ fact_octets y)) (ok_is (Chunk b0.0.0 b1.0.0 b2.0.0 b4.0.0 b5.0) f b5.2) ((t0.1, t1.1, t2.1, t4.1, (size_of t3.1 t5.1, octets_are t5.0 t4.0.rest_fits)), ap (λ (l : List ℕ). 6 ∷ l) (t0.0.parts ∙ ap (λ (l : List ℕ). octets_of b0.0.0 ++ l) (t1.0.parts ∙ ap (λ (l : List ℕ). octets_of b1.0.0 ++ l) (t2.0.parts ∙ ap (λ (l : List ℕ). long b2.0.0 ++ l) (t3.0.parts ∙ ap (λ (l : List ℕ). short b3.0.0 ++ l) (t4.0.parts ∙ ap (λ (l : List ℕ). spelled_route b4.0.0 ++ l) (t5.0)) ∙ ap (λ (m : ℕ). short m ++ (spelled_route b4.0.0 ++ b5.0)) (sym t5.1))))))
 
-note_takes : (kind : NameKind) (octets : List ℕ) (f : Name × Name × List ℕ) → AreOctets octets → note_of kind octets ≡ Ok f → (IsNameOf NoteKind f.0 × IsNameOf kind f.1 × IsWay f.2) × (octets ≡ fields (octets_of f.0 ∷ octets_of f.1 ∷ way f.2 ∷ []))
+note_takes : (kind : NameKind) (octets : List ℕ) (f : Name × Name × List ℕ) → AreOctets octets → note_of kind octets ≡ Ok f → (IsNameOf NoteKind f.0 × IsNameOf kind f.1 × AreRouteNodes f.2) × (octets ≡ fields (octets_of f.0 ∷ octets_of f.1 ∷ spelled_route f.2 ∷ []))
 unfolding note_of
 note_takes kind octets f fits e =
-    let b0 = bind_ok (named (of_kind NoteKind) octets) (λ note. named (of_kind kind) note.1 >>= λ about. route about.1 >>= λ way. last 0 way.1 >>= λ end. Ok (note.0, about.0, way.0)) f e in
+    let b0 = bind_ok (named (of_kind NoteKind) octets) (λ note. named (of_kind kind) note.1 >>= λ about. route about.1 >>= λ nodes. last 0 nodes.1 >>= λ end. Ok (note.0, about.0, nodes.0)) f e in
     let t0 = named_takes NoteKind octets b0.0 fits b0.1 in
-    let b1 = bind_ok (named (of_kind kind) b0.0.1) (λ about. route about.1 >>= λ way. last 0 way.1 >>= λ end. Ok (b0.0.0, about.0, way.0)) f b0.2 in
+    let b1 = bind_ok (named (of_kind kind) b0.0.1) (λ about. route about.1 >>= λ nodes. last 0 nodes.1 >>= λ end. Ok (b0.0.0, about.0, nodes.0)) f b0.2 in
     let t1 = named_takes kind b0.0.1 b1.0 t0.0.rest_fits b1.1 in
-    let b2 = bind_ok (route b1.0.1) (λ way. last 0 way.1 >>= λ end. Ok (b0.0.0, b1.0.0, way.0)) f b1.2 in
+    let b2 = bind_ok (route b1.0.1) (λ nodes. last 0 nodes.1 >>= λ end. Ok (b0.0.0, b1.0.0, nodes.0)) f b1.2 in
     let t2 = route_takes b1.0.1 b2.0 t1.0.rest_fits b2.1 in
     let b3 = bind_ok (last 0 b2.0.1) (λ end. Ok (b0.0.0, b1.0.0, b2.0.0)) f b2.2 in
     let t3 = last_takes 0 b2.0.1 b3.0 b3.1 in
-    subst (λ y. (IsNameOf NoteKind y.0 × IsNameOf kind y.1 × IsWay y.2) × (octets ≡ fields (octets_of y.0 ∷ octets_of y.1 ∷ way y.2 ∷ []))) (ok_is (b0.0.0, b1.0.0, b2.0.0) f b3.2) ((t0.1, t1.1, t2.1), t0.0.parts ∙ ap (λ (l : List ℕ). octets_of b0.0.0 ++ l) (t1.0.parts ∙ ap (λ (l : List ℕ). octets_of b1.0.0 ++ l) (t2.0.parts ∙ ap (λ (l : List ℕ). way b2.0.0 ++ l) (nil_from_length b2.0.1 (ap length t3.0 ∙ t3.1)) ∙ append-nil (way b2.0.0))))
+    subst (λ y. (IsNameOf NoteKind y.0 × IsNameOf kind y.1 × AreRouteNodes y.2) × (octets ≡ fields (octets_of y.0 ∷ octets_of y.1 ∷ spelled_route y.2 ∷ []))) (ok_is (b0.0.0, b1.0.0, b2.0.0) f b3.2) ((t0.1, t1.1, t2.1), t0.0.parts ∙ ap (λ (l : List ℕ). octets_of b0.0.0 ++ l) (t1.0.parts ∙ ap (λ (l : List ℕ). octets_of b1.0.0 ++ l) (t2.0.parts ∙ ap (λ (l : List ℕ). spelled_route b2.0.0 ++ l) (nil_from_length b2.0.1 (ap length t3.0 ∙ t3.1)) ∙ append-nil (spelled_route b2.0.0))))
 
-note_again : (kind : NameKind) (note about : Name) (route : List ℕ) → IsNameOf NoteKind note → IsNameOf kind about → IsWay route → note_of kind (fields (octets_of note ∷ octets_of about ∷ way route ∷ [])) ≡ Ok (note, about, route)
+note_again : (kind : NameKind) (note about : Name) (route : List ℕ) → IsNameOf NoteKind note → IsNameOf kind about → AreRouteNodes route → note_of kind (fields (octets_of note ∷ octets_of about ∷ spelled_route route ∷ [])) ≡ Ok (note, about, route)
 unfolding note_of
 note_again kind note about nodes a b w =
-    let last_field : route (way nodes) ≡ Ok (nodes, []) = ap route (sym (append-nil (way nodes))) ∙ route_again nodes [] w in
-    rw (named_again NoteKind note (octets_of about ++ way nodes) a, named_again kind about (way nodes) b, last_field, last_again []) refl
+    let last_field : route (spelled_route nodes) ≡ Ok (nodes, []) = ap route (sym (append-nil (spelled_route nodes))) ∙ route_again nodes [] w in
+    rw (named_again NoteKind note (octets_of about ++ spelled_route nodes) a, named_again kind about (spelled_route nodes) b, last_field, last_again []) refl
 
-key_again : (name : Name) (master slave : ℕ) (nodes bytes : List ℕ) → IsNameOf KeyKind name → IsSae master → IsSae slave → IsWay nodes → IsSecret bytes
-    → key_of (fields (octets_of name ∷ short master ∷ short slave ∷ short (length bytes) ∷ way nodes ∷ bytes ∷ [])) ≡ Ok (Key name master slave nodes bytes)
+key_again : (name : Name) (master slave : ℕ) (nodes bytes : List ℕ) → IsNameOf KeyKind name → IsSae master → IsSae slave → AreRouteNodes nodes → IsSecret bytes
+    → key_of (fields (octets_of name ∷ short master ∷ short slave ∷ short (length bytes) ∷ spelled_route nodes ∷ bytes ∷ [])) ≡ Ok (Key name master slave nodes bytes)
 unfolding key_of
 key_again name master slave nodes bytes a m s w b =
-    let r4 = way nodes ++ bytes in
+    let r4 = spelled_route nodes ++ bytes in
     let r3 = short (length bytes) ++ r4 in
     let r2 = short slave ++ r3 in
     let r1 = short master ++ r2 in
     rw (named_again KeyKind name r1 a, sae_again master r2 m, sae_again slave r3 s, size_again (length bytes) r4 b.0, route_again nodes bytes w, last_again bytes) refl
 
-part_again : (name key : Name) (master slave : ℕ) (nodes bytes : List ℕ) → IsNameOf KeyKind name → IsNameOf KeyKind key → IsSae master → IsSae slave → IsWay nodes → IsSecret bytes
-    → part_of (fields (octets_of name ∷ octets_of key ∷ short master ∷ short slave ∷ short (length bytes) ∷ way nodes ∷ bytes ∷ [])) ≡ Ok (Part name key master slave nodes bytes)
+part_again : (name key : Name) (master slave : ℕ) (nodes bytes : List ℕ) → IsNameOf KeyKind name → IsNameOf KeyKind key → IsSae master → IsSae slave → AreRouteNodes nodes → IsSecret bytes
+    → part_of (fields (octets_of name ∷ octets_of key ∷ short master ∷ short slave ∷ short (length bytes) ∷ spelled_route nodes ∷ bytes ∷ [])) ≡ Ok (Part name key master slave nodes bytes)
 unfolding part_of
 part_again name key master slave nodes bytes a k m s w b =
-    let r4 = way nodes ++ bytes in
+    let r4 = spelled_route nodes ++ bytes in
     let r3 = short (length bytes) ++ r4 in
     let r2 = short slave ++ r3 in
     let r1 = short master ++ r2 in
     rw (named_again KeyKind name (octets_of key ++ r1) a, named_again KeyKind key r1 k, sae_again master r2 m, sae_again slave r3 s, size_again (length bytes) r4 b.0, route_again nodes bytes w, last_again bytes) refl
 
-chunk_again : (name stream : Name) (at : ℕ) (nodes bytes : List ℕ) → IsNameOf KeyKind name → IsNameOf StreamKind stream → at < 2 ^ 32 → IsWay nodes → IsSecret bytes
-    → chunk_of (fields (octets_of name ∷ octets_of stream ∷ long at ∷ short (length bytes) ∷ way nodes ∷ bytes ∷ [])) ≡ Ok (Chunk name stream at nodes bytes)
+chunk_again : (name stream : Name) (at : ℕ) (nodes bytes : List ℕ) → IsNameOf KeyKind name → IsNameOf StreamKind stream → at < 2 ^ 32 → AreRouteNodes nodes → IsSecret bytes
+    → chunk_of (fields (octets_of name ∷ octets_of stream ∷ long at ∷ short (length bytes) ∷ spelled_route nodes ∷ bytes ∷ [])) ≡ Ok (Chunk name stream at nodes bytes)
 unfolding chunk_of
 chunk_again name stream at nodes bytes a k i w b =
-    let r3 = way nodes ++ bytes in
+    let r3 = spelled_route nodes ++ bytes in
     let r2 = short (length bytes) ++ r3 in
     let r1 = long at ++ r2 in
     rw (named_again KeyKind name (octets_of stream ++ r1) a, named_again StreamKind stream r1 k, index_again at r2 i, size_again (length bytes) r3 b.0, route_again nodes bytes w, last_again bytes) refl
 
-open_again : (stream : Name) (source peer n : ℕ) (nodes : List ℕ) → IsNameOf StreamKind stream → IsSae source → IsSae peer → IsSize n → IsWay nodes
-    → open_of (fields (octets_of stream ∷ short source ∷ short peer ∷ short n ∷ way nodes ∷ [])) ≡ Ok (Open stream source peer n nodes)
+open_again : (stream : Name) (source peer n : ℕ) (nodes : List ℕ) → IsNameOf StreamKind stream → IsSae source → IsSae peer → IsSize n → AreRouteNodes nodes
+    → open_of (fields (octets_of stream ∷ short source ∷ short peer ∷ short n ∷ spelled_route nodes ∷ [])) ≡ Ok (Open stream source peer n nodes)
 unfolding open_of
 open_again stream source peer n nodes a m s b w =
-    let r3 = short n ++ way nodes in
+    let r3 = short n ++ spelled_route nodes in
     let r2 = short peer ++ r3 in
     let r1 = short source ++ r2 in
-    let last_field : route (way nodes) ≡ Ok (nodes, []) = ap route (sym (append-nil (way nodes))) ∙ route_again nodes [] w in
-    rw (named_again StreamKind stream r1 a, sae_again source r2 m, sae_again peer r3 s, size_again n (way nodes) b, last_field, last_again []) refl
+    let last_field : route (spelled_route nodes) ≡ Ok (nodes, []) = ap route (sym (append-nil (spelled_route nodes))) ∙ route_again nodes [] w in
+    rw (named_again StreamKind stream r1 a, sae_again source r2 m, sae_again peer r3 s, size_again n (spelled_route nodes) b, last_field, last_again []) refl
 
 ack_takes : (octets : List ℕ) (n : Name) → AreOctets octets → ack_of octets ≡ Ok n → IsName n × (3 ∷ octets ≡ 3 ∷ octets_of n)
 unfolding ack_of
@@ -194,7 +194,7 @@ pub chosen : {A : Type 0} (b : Bool) (x y z : A) → cond b x y ≡ z → ((b �
 chosen true x y z e = inl (refl, e)
 chosen false x y z e = inr (refl, e)
 
--- of a payload behind its kind
+-- of a payload after its kind
 abbrev Spelled_by : ℕ → List ℕ → Payload → Type 0
 Spelled_by kind octets p = IsPayload p × (kind ∷ octets ≡ payload_octets p)
 

@@ -1,6 +1,7 @@
--- Octets written one behind another, and how many they are.
+-- Octets written one after another, and how many they are.
 use Rattle.std.proofs.Common.{◌≡◌, ℕ, ◌≤◌, true, List, ◌++◌, length, take, ap, ◌∙◌, append_assoc, length-append, arith, refl}
 use Rattle.qkd_base.specs.Route.{is_route}
+use Rattle.qkd_base.proofs.Routes.{nine_of}
 use Rattle.net_model.specs.declared.fact.Fact.{Fact}
 use Rattle.net_model.specs.declared.fact.Fact.TheVariants.{Key, Chunk, Stored, Open, Joined, Part}
 use Rattle.net_model.specs.declared.payload.Payload.{Payload}
@@ -27,9 +28,6 @@ pub payload_length : (p : Payload) → length (payload_octets p) ≡ payload_len
 unfolding payload_octets
 payload_length (Data f) = fact_length f
 payload_length (Ack n) = refl
-
-pub nine_of : (ns : List ℕ) → is_route ns ≡ true → length ns ≤ 9
-nine_of ns h = grind arith
 
 pub payload_range : (p : Payload) → IsPayload p → (17 ≤ payload_len p) × (payload_len p ≤ 561)
 payload_range (Data (Key name master slave route bytes)) h = let n = nine_of route h.3.0 in (omega arith, omega (arith, n, h.4.0.1))

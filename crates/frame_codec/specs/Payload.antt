@@ -21,8 +21,8 @@ abbrev pub IsSae : ℕ → Type 0
 IsSae n = n < 256
 
 -- 2 to 9 different nodes
-abbrev pub IsWay : List ℕ → Type 0
-IsWay nodes = (is_route nodes ≡ true) × (are_nodes nodes ≡ true)
+abbrev pub AreRouteNodes : List ℕ → Type 0
+AreRouteNodes nodes = (is_route nodes ≡ true) × (are_nodes nodes ≡ true)
 
 abbrev pub AreOctets : List ℕ → Type 0
 AreOctets octets = (i : ℕ) → slice_index octets i < 256
@@ -32,12 +32,12 @@ abbrev pub IsSecret : List ℕ → Type 0
 IsSecret octets = IsSize (length octets) × AreOctets octets
 
 abbrev pub IsFact : Fact → Type 0
-IsFact (Key name master slave route bytes) = IsNameOf KeyKind name × IsSae master × IsSae slave × IsWay route × IsSecret bytes
-IsFact (Stored note about route) = IsNameOf NoteKind note × IsNameOf KeyKind about × IsWay route
-IsFact (Open stream source peer size route) = IsNameOf StreamKind stream × IsSae source × IsSae peer × IsSize size × IsWay route
-IsFact (Joined note about route) = IsNameOf NoteKind note × IsNameOf StreamKind about × IsWay route
-IsFact (Chunk name stream index route bytes) = IsNameOf KeyKind name × IsNameOf StreamKind stream × (index < 2 ^ 32) × IsWay route × IsSecret bytes
-IsFact (Part name key master slave route bytes) = IsNameOf KeyKind name × IsNameOf KeyKind key × IsSae master × IsSae slave × IsWay route × IsSecret bytes
+IsFact (Key name master slave route bytes) = IsNameOf KeyKind name × IsSae master × IsSae slave × AreRouteNodes route × IsSecret bytes
+IsFact (Stored note about route) = IsNameOf NoteKind note × IsNameOf KeyKind about × AreRouteNodes route
+IsFact (Open stream source peer size route) = IsNameOf StreamKind stream × IsSae source × IsSae peer × IsSize size × AreRouteNodes route
+IsFact (Joined note about route) = IsNameOf NoteKind note × IsNameOf StreamKind about × AreRouteNodes route
+IsFact (Chunk name stream index route bytes) = IsNameOf KeyKind name × IsNameOf StreamKind stream × (index < 2 ^ 32) × AreRouteNodes route × IsSecret bytes
+IsFact (Part name key master slave route bytes) = IsNameOf KeyKind name × IsNameOf KeyKind key × IsSae master × IsSae slave × AreRouteNodes route × IsSecret bytes
 
 abbrev pub IsPayload : Payload → Type 0
 IsPayload (Data fact) = IsFact fact
@@ -58,16 +58,16 @@ abbrev pub long : ℕ → List ℕ
 long n = to_be_bytes w32 n
 
 -- how many nodes, and an octet for each
-abbrev pub way : List ℕ → List ℕ
-way nodes = length nodes ∷ nodes
+abbrev pub spelled_route : List ℕ → List ℕ
+spelled_route nodes = length nodes ∷ nodes
 
 abbrev pub fact_octets : Fact → List ℕ
-fact_octets (Key name master slave route bytes) = 1 ∷ fields (octets_of name ∷ short master ∷ short slave ∷ short (length bytes) ∷ way route ∷ bytes ∷ [])
-fact_octets (Stored note about route) = 2 ∷ fields (octets_of note ∷ octets_of about ∷ way route ∷ [])
-fact_octets (Open stream source peer size route) = 4 ∷ fields (octets_of stream ∷ short source ∷ short peer ∷ short size ∷ way route ∷ [])
-fact_octets (Joined note about route) = 5 ∷ fields (octets_of note ∷ octets_of about ∷ way route ∷ [])
-fact_octets (Chunk name stream index route bytes) = 6 ∷ fields (octets_of name ∷ octets_of stream ∷ long index ∷ short (length bytes) ∷ way route ∷ bytes ∷ [])
-fact_octets (Part name key master slave route bytes) = 7 ∷ fields (octets_of name ∷ octets_of key ∷ short master ∷ short slave ∷ short (length bytes) ∷ way route ∷ bytes ∷ [])
+fact_octets (Key name master slave route bytes) = 1 ∷ fields (octets_of name ∷ short master ∷ short slave ∷ short (length bytes) ∷ spelled_route route ∷ bytes ∷ [])
+fact_octets (Stored note about route) = 2 ∷ fields (octets_of note ∷ octets_of about ∷ spelled_route route ∷ [])
+fact_octets (Open stream source peer size route) = 4 ∷ fields (octets_of stream ∷ short source ∷ short peer ∷ short size ∷ spelled_route route ∷ [])
+fact_octets (Joined note about route) = 5 ∷ fields (octets_of note ∷ octets_of about ∷ spelled_route route ∷ [])
+fact_octets (Chunk name stream index route bytes) = 6 ∷ fields (octets_of name ∷ octets_of stream ∷ long index ∷ short (length bytes) ∷ spelled_route route ∷ bytes ∷ [])
+fact_octets (Part name key master slave route bytes) = 7 ∷ fields (octets_of name ∷ octets_of key ∷ short master ∷ short slave ∷ short (length bytes) ∷ spelled_route route ∷ bytes ∷ [])
 
 unfoldable pub payload_octets : Payload → List ℕ
 payload_octets (Data fact) = fact_octets fact

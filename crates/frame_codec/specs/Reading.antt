@@ -73,18 +73,18 @@ key_of octets = do
   master ← sae name.1
   slave ← sae master.1
   n ← size slave.1
-  way ← route n.1
-  bytes ← last n.0 way.1
-  Ok (Key name.0 master.0 slave.0 way.0 bytes)
+  nodes ← route n.1
+  bytes ← last n.0 nodes.1
+  Ok (Key name.0 master.0 slave.0 nodes.0 bytes)
 
 -- a note about a name of this kind
 unfoldable pub note_of : NameKind → List ℕ → Result (Name × Name × List ℕ) ℕ
 note_of kind octets = do
   note ← named (of_kind NoteKind) octets
   about ← named (of_kind kind) note.1
-  way ← route about.1
-  end ← last 0 way.1
-  Ok (note.0, about.0, way.0)
+  nodes ← route about.1
+  end ← last 0 nodes.1
+  Ok (note.0, about.0, nodes.0)
 
 abbrev pub stored_of : List ℕ → Result Fact ℕ
 stored_of octets = do
@@ -102,9 +102,9 @@ open_of octets = do
   source ← sae stream.1
   peer ← sae source.1
   n ← size peer.1
-  way ← route n.1
-  end ← last 0 way.1
-  Ok (Open stream.0 source.0 peer.0 n.0 way.0)
+  nodes ← route n.1
+  end ← last 0 nodes.1
+  Ok (Open stream.0 source.0 peer.0 n.0 nodes.0)
 
 unfoldable pub chunk_of : List ℕ → Result Fact ℕ
 chunk_of octets = do
@@ -112,9 +112,9 @@ chunk_of octets = do
   stream ← named (of_kind StreamKind) name.1
   at ← index stream.1
   n ← size at.1
-  way ← route n.1
-  bytes ← last n.0 way.1
-  Ok (Chunk name.0 stream.0 at.0 way.0 bytes)
+  nodes ← route n.1
+  bytes ← last n.0 nodes.1
+  Ok (Chunk name.0 stream.0 at.0 nodes.0 bytes)
 
 unfoldable pub part_of : List ℕ → Result Fact ℕ
 part_of octets = do
@@ -123,9 +123,9 @@ part_of octets = do
   master ← sae key.1
   slave ← sae master.1
   n ← size slave.1
-  way ← route n.1
-  bytes ← last n.0 way.1
-  Ok (Part name.0 key.0 master.0 slave.0 way.0 bytes)
+  nodes ← route n.1
+  bytes ← last n.0 nodes.1
+  Ok (Part name.0 key.0 master.0 slave.0 nodes.0 bytes)
 
 unfoldable pub ack_of : List ℕ → Result Name ℕ
 ack_of octets = do

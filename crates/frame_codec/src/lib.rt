@@ -7,8 +7,6 @@ mod laws;
 mod payload_refusal;
 mod reading;
 pub mod spelling;
-#[cfg(test)]
-mod tests;
 
 pub use laws::{read_is_spelled, spelled_is_read};
 pub use net_model;

@@ -2,7 +2,7 @@
 ghost use Rattle.std.specs.Prelude.{◌≡◌, ◌+◌, ◌≤◌, ◌<◌, [], ◌∷◌, ◌++◌, length, take, drop};
 ghost use Rattle.qkd_base.specs.Name.{IsName, octets_of};
 ghost use Rattle.net_model.specs.Facts.{fact_len, payload_len, IsWellFormed, IsWellFormedFact};
-ghost use Rattle.frame_codec.specs.Payload.{IsPayload, IsFact, IsSae, IsWay, AreOctets, payload_octets, fact_octets, fields, short, long, way};
+ghost use Rattle.frame_codec.specs.Payload.{IsPayload, IsFact, IsSae, AreRouteNodes, AreOctets, payload_octets, fact_octets, fields, short, long, spelled_route};
 ghost use Rattle.frame_codec.specs.Writing.{Puts};
 
 use net_model::{Fact, Payload, spelled_len};
@@ -56,8 +56,8 @@ pub fn put_sae(into: &mut [u8], at: usize, sae: SaeNo) -> usize
 // Writes how many nodes a route has, and then they.
 fn put_route(into: &mut [u8], at: usize, route: &Route) -> usize
     requires { at + 1 + length route.now ≤ length into.old }
-    ensures octets { Puts into.old into.new at result (way route.now) }
-    ensures is_way { IsWay route.now }
+    ensures octets { Puts into.old into.new at result (spelled_route route.now) }
+    ensures is_way { AreRouteNodes route.now }
 {
     let nodes = route.as_slice();
     let begin = put(into, at, &[nodes.len() as u8]);
@@ -71,8 +71,8 @@ fn put_route(into: &mut [u8], at: usize, route: &Route) -> usize
 fn put_secret(into: &mut [u8], at: usize, route: &Route, bytes: &Octets) -> usize
     requires size { length bytes.now ≤ 512 }
     requires fits { at + 3 + length route.now + length bytes.now ≤ length into.old }
-    ensures octets { Puts into.old into.new at result (fields (short (length bytes.now) ∷ way route.now ∷ bytes.now ∷ [])) }
-    ensures is_way { IsWay route.now }
+    ensures octets { Puts into.old into.new at result (fields (short (length bytes.now) ∷ spelled_route route.now ∷ bytes.now ∷ [])) }
+    ensures is_way { AreRouteNodes route.now }
     ensures are_octets { AreOctets bytes.now }
 {
     let at = put_short(into, at, bytes.len() as u16);
@@ -91,10 +91,10 @@ fn put_key(
 ) -> usize
     requires size { length bytes.now ≤ 512 }
     requires fits { at + 23 + length route.now + length bytes.now ≤ length into.old }
-    ensures octets { Puts into.old into.new at result (fields (octets_of name ∷ short ends.0 ∷ short ends.1 ∷ short (length bytes.now) ∷ way route.now ∷ bytes.now ∷ [])) }
+    ensures octets { Puts into.old into.new at result (fields (octets_of name ∷ short ends.0 ∷ short ends.1 ∷ short (length bytes.now) ∷ spelled_route route.now ∷ bytes.now ∷ [])) }
     ensures named { IsName name }
     ensures below { IsSae ends.0 × IsSae ends.1 }
-    ensures is_way { IsWay route.now }
+    ensures is_way { AreRouteNodes route.now }
     ensures are_octets { AreOctets bytes.now }
 {
     let at = put_name(into, at, name);
@@ -106,9 +106,9 @@ fn put_key(
 // Writes a note about a name, after its kind.
 fn put_note(into: &mut [u8], at: usize, note: KeyName, about: KeyName, route: &Route) -> usize
     requires { at + 33 + length route.now ≤ length into.old }
-    ensures octets { Puts into.old into.new at result (fields (octets_of note ∷ octets_of about ∷ way route.now ∷ [])) }
+    ensures octets { Puts into.old into.new at result (fields (octets_of note ∷ octets_of about ∷ spelled_route route.now ∷ [])) }
     ensures named { IsName note × IsName about }
-    ensures is_way { IsWay route.now }
+    ensures is_way { AreRouteNodes route.now }
 {
     let at = put_name(into, at, note);
     let at = put_name(into, at, about);
@@ -125,10 +125,10 @@ fn put_open(
     route: &Route,
 ) -> usize
     requires { at + 23 + length route.now ≤ length into.old }
-    ensures octets { Puts into.old into.new at result (fields (octets_of stream ∷ short ends.0 ∷ short ends.1 ∷ short size ∷ way route.now ∷ [])) }
+    ensures octets { Puts into.old into.new at result (fields (octets_of stream ∷ short ends.0 ∷ short ends.1 ∷ short size ∷ spelled_route route.now ∷ [])) }
     ensures named { IsName stream }
     ensures below { IsSae ends.0 × IsSae ends.1 }
-    ensures is_way { IsWay route.now }
+    ensures is_way { AreRouteNodes route.now }
 {
     let at = put_name(into, at, stream);
     let at = put_sae(into, at, ends.0);
@@ -148,9 +148,9 @@ fn put_chunk(
 ) -> usize
     requires size { length bytes.now ≤ 512 }
     requires fits { at + 39 + length route.now + length bytes.now ≤ length into.old }
-    ensures octets { Puts into.old into.new at result (fields (octets_of names.0 ∷ octets_of names.1 ∷ long index ∷ short (length bytes.now) ∷ way route.now ∷ bytes.now ∷ [])) }
+    ensures octets { Puts into.old into.new at result (fields (octets_of names.0 ∷ octets_of names.1 ∷ long index ∷ short (length bytes.now) ∷ spelled_route route.now ∷ bytes.now ∷ [])) }
     ensures named { IsName names.0 × IsName names.1 }
-    ensures is_way { IsWay route.now }
+    ensures is_way { AreRouteNodes route.now }
     ensures are_octets { AreOctets bytes.now }
 {
     let at = put_name(into, at, names.0);

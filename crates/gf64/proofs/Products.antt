@@ -62,7 +62,7 @@ first_pair p first rest e zero lt = sym (first_two p).0
 first_pair p first rest e (suc zero) lt = e ∙ sym (first_two p).1
 first_pair p first rest e (suc (suc q)) lt = absurd (omega (arith, lt))
 
--- a pair is written behind those that are there
+-- a pair is written after those that are there
 pub pair_more : (p i even_one odd_one : ℕ) (products : List ℕ) → length products ≡ 16 → i < 8 → even_one ≡ poly_times 4 p (2 * i) → odd_one ≡ poly_times 4 p (2 * i + 1)
     → AreMultiples p (2 * i) products → AreMultiples p (2 * (i + 1)) (set (set products (2 * i) even_one) (2 * i + 1) odd_one)
 pair_more p i even_one odd_one products room li e o filled q lt =

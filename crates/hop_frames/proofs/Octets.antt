@@ -20,7 +20,7 @@ use Rattle.net_model.specs.declared.payload.Payload.{Payload}
 use Rattle.net_model.specs.declared.payload.Payload.TheVariants.{Data, Ack}
 use Rattle.net_model.specs.Facts.{IsWellFormed}
 use Rattle.net_model.specs.Ranges.{IsOctets, IsRoute, IsRangedFact, IsRanged}
-use Rattle.frame_codec.specs.Payload.{IsPayload, AreOctets, way, fact_octets, payload_octets}
+use Rattle.frame_codec.specs.Payload.{IsPayload, AreOctets, spelled_route, fact_octets, payload_octets}
 use Rattle.hop_frames.specs.Frame.{header, masked, number_of, hash_key, text_of, tag_octets, framed, spell}
 
 both : (a b : Bool) → a ≡ true → b ≡ true → (a && b) ≡ true
@@ -91,8 +91,8 @@ nodes_below (n ∷ ns) h =
     let low : n < 16 = grind (arith, nat_tests) in
     cons n (omega (arith, low)) (nodes_below ns (right (nat_lt n 16) (list_all (λ x. nat_lt x 16) ns) h))
 
-way_below : (ns : List ℕ) → IsRoute ns → Below (way ns)
-way_below ns h =
+route_below : (ns : List ℕ) → IsRoute ns → Below (spelled_route ns)
+route_below ns h =
     let e : nat_le (length ns) 9 ≡ true = right (nat_le 2 (length ns)) (nat_le (length ns) 9) (left (nat_le 2 (length ns) && nat_le (length ns) 9) (is_distinct ns) h.0) in
     let most : length ns ≤ 9 = grind (arith, nat_tests) in
     cons (length ns) (omega (arith, most)) (nodes_below ns h.1)
@@ -104,15 +104,15 @@ secret xs h = record { octets = h }
 
 fact_below : (f : Fact) → IsRangedFact f → Below (fact_octets f)
 fact_below (Key name master slave route bytes) h =
-    cons 1 (omega arith) (append (name_below name h.0) (append (bytes_below 2 master) (append (bytes_below 2 slave) (append (bytes_below 2 (length bytes)) (append (way_below route h.3) (secret bytes h.4))))))
+    cons 1 (omega arith) (append (name_below name h.0) (append (bytes_below 2 master) (append (bytes_below 2 slave) (append (bytes_below 2 (length bytes)) (append (route_below route h.3) (secret bytes h.4))))))
 fact_below (Chunk name stream index route bytes) h =
-    cons 6 (omega arith) (append (name_below name h.0) (append (name_below stream h.1) (append (bytes_below 4 index) (append (bytes_below 2 (length bytes)) (append (way_below route h.3) (secret bytes h.4))))))
-fact_below (Stored note about route) h = cons 2 (omega arith) (append (name_below note h.0) (append (name_below about h.1) (way_below route h.2)))
+    cons 6 (omega arith) (append (name_below name h.0) (append (name_below stream h.1) (append (bytes_below 4 index) (append (bytes_below 2 (length bytes)) (append (route_below route h.3) (secret bytes h.4))))))
+fact_below (Stored note about route) h = cons 2 (omega arith) (append (name_below note h.0) (append (name_below about h.1) (route_below route h.2)))
 fact_below (Open stream source peer size route) h =
-    cons 4 (omega arith) (append (name_below stream h.0) (append (bytes_below 2 source) (append (bytes_below 2 peer) (append (bytes_below 2 size) (way_below route h.3)))))
-fact_below (Joined note about route) h = cons 5 (omega arith) (append (name_below note h.0) (append (name_below about h.1) (way_below route h.2)))
+    cons 4 (omega arith) (append (name_below stream h.0) (append (bytes_below 2 source) (append (bytes_below 2 peer) (append (bytes_below 2 size) (route_below route h.3)))))
+fact_below (Joined note about route) h = cons 5 (omega arith) (append (name_below note h.0) (append (name_below about h.1) (route_below route h.2)))
 fact_below (Part name key master slave route bytes) h =
-    cons 7 (omega arith) (append (name_below name h.0) (append (name_below key h.1) (append (bytes_below 2 master) (append (bytes_below 2 slave) (append (bytes_below 2 (length bytes)) (append (way_below route h.4) (secret bytes h.5)))))))
+    cons 7 (omega arith) (append (name_below name h.0) (append (name_below key h.1) (append (bytes_below 2 master) (append (bytes_below 2 slave) (append (bytes_below 2 (length bytes)) (append (route_below route h.4) (secret bytes h.5)))))))
 
 payload_below : (p : Payload) → IsRanged p → Below (payload_octets p)
 unfolding payload_octets

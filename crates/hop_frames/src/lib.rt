@@ -10,8 +10,6 @@ mod opened;
 mod opening;
 mod parts;
 mod sealing;
-#[cfg(test)]
-mod tests;
 
 pub use frame_codec;
 pub use laws::{frames_of_a_network, prefix_of_a_lane, sealed_is_opened};

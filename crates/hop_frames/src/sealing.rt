@@ -31,7 +31,7 @@ fn put_frame(into: &mut [u8], lane: &Lane, offset: u64, key: u64, pads: &[u8], p
 
 /// Writes the frame of a payload on a lane and says its length, 41 to 585. It uses up the range: `pads` are the lane's
 /// bytes from the range's start on, which mask the payload and then its tag, and no other frame gets them (one-time
-/// pad). `key` is the number of the lane's first 8 bytes. The room behind the frame stays as it was, so no octet of the
+/// pad). `key` is the number of the lane's first 8 bytes. The room after the frame stays as it was, so no octet of the
 /// clear payload is left there.
 pub fn seal(
     range: PadRange,

@@ -8,6 +8,7 @@ use Rattle.qkd_base.specs.declared.key_name.NameKind.TheVariants.{Key, Stream, N
 use Rattle.qkd_base.specs.declared.lane.Way.{Way}
 use Rattle.qkd_base.specs.declared.lane.Way.TheVariants.{Up, Down}
 use Rattle.qkd_base.specs.Name.{Name, IsName, kind_number, kind_of_octet, kind_eq}
+use Rattle.qkd_base.proofs.Names.{kind_back, count_back}
 use Rattle.frame_codec.specs.Payload.{IsNameOf, AreOctets, fields, short}
 use Rattle.frame_codec.specs.Reading.{prefix, number_at, named, of_kind, any_kind}
 use Rattle.frame_codec.proofs.FieldLaws.{Takes, prefix_takes, prefix_again, two_octets, short_back, named_takes, named_again, any_takes, any_again}
@@ -144,11 +145,6 @@ plain_again n os rest len = prefix_again n as_they_are (λ l. true) os rest os l
 
 -- ---- names
 
-kind_back : (k : NameKind) → kind_of_octet (kind_number k) ≡ k
-kind_back Key = refl
-kind_back Stream = refl
-kind_back Note = refl
-
 kind_forth : (k : ℕ) → k < 3 → kind_number (kind_of_octet k) ≡ k
 kind_forth zero lt = refl
 kind_forth (suc zero) lt = refl
@@ -201,9 +197,6 @@ seven_octets (a ∷ os) n len ok e =
 
     some_low : (k : ℕ) → leb 1 k ≡ true → 1 ≤ k
     some_low k h = grind arith
-
-count_back : (n : ℕ) → n < 2 ^ 48 → from_be_bytes w64 (replicate 2 0 ++ drop 2 (to_be_bytes w64 n)) ≡ n
-count_back n h = omega arith
 
 seven_again : (n : Name) → IsName n → short_name_at (short_name n) ≡ Some n
 seven_again n h =

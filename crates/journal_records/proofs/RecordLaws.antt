@@ -16,7 +16,8 @@ use Rattle.frame_codec.specs.Payload.{IsSae, IsFact, IsPayload, AreOctets, field
 use Rattle.frame_codec.specs.Reading.{◌>>=◌, of_kind, any_kind, sae, size, index}
 use Rattle.frame_codec.proofs.FieldLaws.{Takes, bind_ok, ok_is, sae_takes, sae_again, size_takes, size_again, index_takes, index_again}
 use Rattle.frame_codec.proofs.KindLaws.{chosen}
-use Rattle.frame_codec.proofs.Writes.{fact_length, nine_of}
+use Rattle.qkd_base.proofs.Routes.{nine_of}
+use Rattle.frame_codec.proofs.Writes.{fact_length}
 use Rattle.journal_records.specs.declared.version.Version.{Version}
 use Rattle.journal_records.specs.declared.version.Version.TheVariants.{First, Second}
 use Rattle.journal_records.specs.Grammar.{IsRecord, name_octets, name_size, way_number, bare_octets, record_kind, record_fields, record_octets}

@@ -12,7 +12,7 @@ use Rattle.net_model.specs.declared.record.Record.{Record}
 use Rattle.net_model.specs.declared.record.Record.TheVariants.{Block, Lease, Learned, Acked, Handed, Closed, Bare}
 use Rattle.net_model.specs.Formed.{IsBareFact}
 use Rattle.net_model.specs.Table.{bytes_of}
-use Rattle.frame_codec.specs.Payload.{IsNameOf, IsSae, IsFact, AreOctets, fields, short, long, way, fact_octets}
+use Rattle.frame_codec.specs.Payload.{IsNameOf, IsSae, IsFact, AreOctets, fields, short, long, spelled_route, fact_octets}
 use Rattle.journal_records.specs.declared.version.Version.{Version}
 use Rattle.journal_records.specs.declared.version.Version.TheVariants.{First, Second}
 
@@ -57,9 +57,9 @@ way_number Down = 1
 
 -- a fact without its bytes, which are its last octets
 abbrev pub bare_octets : Fact → List ℕ
-bare_octets (Key name master slave route bytes) = 1 ∷ fields (octets_of name ∷ short master ∷ short slave ∷ short (length bytes) ∷ way route ∷ [])
-bare_octets (Chunk name stream index route bytes) = 6 ∷ fields (octets_of name ∷ octets_of stream ∷ long index ∷ short (length bytes) ∷ way route ∷ [])
-bare_octets (Part name key master slave route bytes) = 7 ∷ fields (octets_of name ∷ octets_of key ∷ short master ∷ short slave ∷ short (length bytes) ∷ way route ∷ [])
+bare_octets (Key name master slave route bytes) = 1 ∷ fields (octets_of name ∷ short master ∷ short slave ∷ short (length bytes) ∷ spelled_route route ∷ [])
+bare_octets (Chunk name stream index route bytes) = 6 ∷ fields (octets_of name ∷ octets_of stream ∷ long index ∷ short (length bytes) ∷ spelled_route route ∷ [])
+bare_octets (Part name key master slave route bytes) = 7 ∷ fields (octets_of name ∷ octets_of key ∷ short master ∷ short slave ∷ short (length bytes) ∷ spelled_route route ∷ [])
 bare_octets (Stored note about route) = fact_octets (Stored note about route)
 bare_octets (Open stream source peer size route) = fact_octets (Open stream source peer size route)
 bare_octets (Joined note about route) = fact_octets (Joined note about route)

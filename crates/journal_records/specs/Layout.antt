@@ -83,8 +83,8 @@ bare_key n octets = do
   master ← sae name.1
   slave ← sae master.1
   same ← within n n slave.1
-  way ← route same.1
-  Ok (Key name.0 master.0 slave.0 way.0 (replicate n 0), way.1)
+  nodes ← route same.1
+  Ok (Key name.0 master.0 slave.0 nodes.0 (replicate n 0), nodes.1)
 
 unfoldable pub bare_chunk : ℕ → List ℕ → Result (Fact × List ℕ) ℕ
 bare_chunk n octets = do
@@ -92,8 +92,8 @@ bare_chunk n octets = do
   stream ← named (of_kind StreamKind) name.1
   at ← index stream.1
   same ← within n n at.1
-  way ← route same.1
-  Ok (Chunk name.0 stream.0 at.0 way.0 (replicate n 0), way.1)
+  nodes ← route same.1
+  Ok (Chunk name.0 stream.0 at.0 nodes.0 (replicate n 0), nodes.1)
 
 unfoldable pub bare_part : ℕ → List ℕ → Result (Fact × List ℕ) ℕ
 bare_part n octets = do
@@ -102,8 +102,8 @@ bare_part n octets = do
   master ← sae key.1
   slave ← sae master.1
   same ← within n n slave.1
-  way ← route same.1
-  Ok (Part name.0 key.0 master.0 slave.0 way.0 (replicate n 0), way.1)
+  nodes ← route same.1
+  Ok (Part name.0 key.0 master.0 slave.0 nodes.0 (replicate n 0), nodes.1)
 
 abbrev pub bare_of_kind : ℕ → ℕ → ℕ → List ℕ → Result (Fact × List ℕ) ℕ
 bare_of_kind n left kind octets =

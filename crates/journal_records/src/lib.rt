@@ -8,8 +8,6 @@ mod laws;
 mod reading;
 mod record_refusal;
 mod spelling;
-#[cfg(test)]
-mod tests;
 mod version;
 mod writing;
 

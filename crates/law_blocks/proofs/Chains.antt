@@ -1,4 +1,4 @@
--- Managers' histories, each made by itself, are one run when they stand one behind another.
+-- Managers' histories, each made by itself, are one run when they stand one after another.
 use Rattle.std.proofs.Common.{◌≡◌, ◌≢◌, ℕ, ◌+◌, ◌≤◌, true, List, [], ◌∷◌, ◌++◌, append_assoc, refl, sym, ◌∙◌, ap, subst, arith}
 use Rattle.std.specs.List.{list_all, flat_map}
 use Rattle.net_model.specs.Premises.{IsNetwork}
@@ -72,7 +72,7 @@ module _ (net : Network) (network : IsNetwork net) where
       apart : (k v : ℕ) → v + 1 ≤ k → k ≡ v → ⊥
       apart k v more e = omega (arith, more, e)
 
--- behind the histories the claims, behind these the puts, behind these the completions
+-- after the histories the claims, after these the puts, after these the completions
 rest_runs : (net : Network) (w : World) (p : Parts) → IsBlock net w p → IsRun net (run net w (all_histories p)) (p.claims ++ p.puts ++ completions net)
 rest_runs net w p block =
     let after : World = run net w (all_histories p) in

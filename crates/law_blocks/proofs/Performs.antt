@@ -19,7 +19,7 @@ use Rattle.law_records.proofs.Base.{number_set_same, eq_from, not_false, not_tru
 use Rattle.law_blocks.proofs.Durables.{both_replay, other_replay, same_durable}
 use Rattle.law_blocks.proofs.Views.{SameFor, same_for}
 
--- the outcome is the same, and so is what the node sees of the worlds behind
+-- the outcome is the same, and so is what the node sees of the worlds after
 pub record SameResult (net : Network) (v : ℕ) (x y : World × Outcome) : Type 0 where
   pub outcome : y.1 ≡ x.1
   pub world : SameFor net v x.0 y.0

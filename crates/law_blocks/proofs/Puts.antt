@@ -1,4 +1,4 @@
--- All frames that may be put behind a block's claims, each put once, are a run that leaves none.
+-- All frames that may be put after a block's claims, each put once, are a run that leaves none.
 use Rattle.std.proofs.Common.{◌≡◌, ℕ, ◌+◌, Bool, true, false, ◌&&◌, ◌||◌, List, [], ◌∷◌, refl, sym, ◌∙◌, ap, subst, arith, Option, Some, None}
 use Rattle.std.specs.Prelude.{◌==◌, count_by, is_some, if◌then◌else◌}
 use Rattle.std.specs.List.{list_all, list_any}

@@ -1,4 +1,4 @@
--- Runs, one behind another.
+-- Runs, one after another.
 use Rattle.std.proofs.Common.{◌≡◌, List, [], ◌∷◌, ◌++◌, refl, sym, ◌∙◌, ap, subst}
 use Rattle.net_model.specs.World.{Network, World}
 use Rattle.net_model.specs.Action.{Action}

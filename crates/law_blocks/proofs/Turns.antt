@@ -193,8 +193,8 @@ pub asked_turn : (net : Network) (w : World) → IsNetwork net → Conserved net
     IsTurnDecision net w v (decided net w v event)
 unfolding is_enabled
 asked_turn net w network c v event environment may =
-    let front = and_left (is_node net v && is_asked event) (is_valid_event net.site v event) may in
-    event_turn net w c v network event (ltb-true v net.site.nodes (and_left (is_node net v) (is_asked event) front)) (and_right (is_node net v) (is_asked event) front)
+    let prefix = and_left (is_node net v && is_asked event) (is_valid_event net.site v event) may in
+    event_turn net w c v network event (ltb-true v net.site.nodes (and_left (is_node net v) (is_asked event) prefix)) (and_right (is_node net v) (is_asked event) prefix)
     (and_right (is_node net v && is_asked event) (is_valid_event net.site v event) may)
 
 pub turn_same : (net : Network) → IsNetwork net → (v : ℕ) (a b : World) → Conserved net a → Conserved net b → SameFor net v a b → (x : Action) → is_turn_of net.site v x ≡ true →

@@ -2,13 +2,12 @@
 use Rattle.std.proofs.Common.{◌≡◌, ℕ, ◌+◌, true, List, [], ◌∷◌, length, refl, sym, ◌∙◌, ap}
 use Rattle.std.specs.Prelude.{map, filter}
 use Rattle.qkd_base.specs.declared.lane.Lane.{Lane}
-use Rattle.qkd_base.specs.declared.lane.Way.{Way}
-use Rattle.qkd_base.specs.declared.lane.Way.TheVariants.{Up, Down}
 use Rattle.net_model.specs.OctetSequence.{first_blocks}
-use Rattle.net_model.specs.Site.{sender, receiver, lane_of, of_way, outgoing_lanes}
+use Rattle.net_model.specs.Site.{sender, receiver, outgoing_lanes}
 use Rattle.net_model.specs.World.{Network, World, Owner, needs, planned}
-use Rattle.net_model.specs.View.{Port}
+use Rattle.net_model.specs.View.{Port, handed_at}
 use Rattle.net_model.specs.Needed.{masked, view_of, port_at}
+use Rattle.net_model.specs.Doubt.{Extends}
 use Rattle.net_model.specs.Invariant.{Conserved}
 use Rattle.law_records.proofs.Grow.{needs_grows}
 use Rattle.law_views.proofs.Seen.{bare_view}
@@ -62,27 +61,18 @@ all_pass : {A : Type 0} (xs : List A) → filter (λ x. true) xs ≡ xs
 all_pass [] = refl
 all_pass (x ∷ xs) = ap (λ ys. x ∷ ys) (all_pass xs)
 
-module _ (net : Network) (v : ℕ) (a b : World) (c : Conserved net a) (h : SameFor net v a b) where
-  needs_same : (l : Lane) → sender net.site l ≡ v → needs b.durable.facts (b.unclaimed l) ≡ needs a.durable.facts (a.unclaimed l)
-  needs_same l at =
-      ap (needs b.durable.facts) (h.unclaimed l at) ∙
-      needs_grows a.durable.facts b.durable.facts a.durable.known b.durable.known h.durable.extends.grows h.durable.extends.more (sender net.site l) (receiver net.site l) (a.unclaimed l)
-      (c.now.carried l).wanted
-
-  planned_same : (l : Lane) → sender net.site l ≡ v → planned b l ≡ planned a l
-  planned_same l at =
-      ap (λ (os : List Owner). length os + needs b.durable.facts (b.unclaimed l)) (h.durable.own l at) ∙
-      ap (λ (n : ℕ). length (a.durable.own l) + n) (needs_same l at)
-
+-- it sees the same where its own facts and marks, the ends of its lanes and what it keeps are the same
+module _ (net : Network) (v : ℕ) (a b : World) (x : Extends net.site v a.durable b.durable) (ends : (l : Lane) → sender net.site l ≡ v → planned b l ≡ planned a l)
+    (leases : (l : Lane) → sender net.site l ≡ v → b.recovered l ≡ a.recovered l) where
   abbrev port_with : Lane → ℕ → ℕ → ℕ → ℕ → Port
   port_with l blocks lease end again = record { lane = l; blocks = first_blocks (net.device l.link) blocks; lease = lease; planned = end; recovered = again }
 
   port_same : (l : Lane) → sender net.site l ≡ v → port_at net b l ≡ port_at net a l
   port_same l at =
-      let blocks = h.durable.extends.taken l at in
-      let lease = h.durable.extends.leases l at in
-      let end = planned_same l at in
-      let again = ap (λ (f : Lane → ℕ). f l) h.recovered in
+      let blocks = x.taken l at in
+      let lease = x.leases l at in
+      let end = ends l at in
+      let again = leases l at in
       λ i. port_with l (blocks i) (lease i) (end i) (again i)
 
   ports_same : (ls : List Lane) → AreOutgoing net.site v ls → map (port_at net b) ls ≡ map (port_at net a) ls
@@ -95,16 +85,33 @@ module _ (net : Network) (v : ℕ) (a b : World) (c : Conserved net a) (h : Same
       ports_same (filter (λ l. true) (outgoing_lanes net.site v)) (outgoing_each net.site v (λ l. true)) ∙
       ap (map (port_at net a)) (all_pass (outgoing_lanes net.site v))
 
-  bare_same : bare_view net b v ≡ bare_view net a v
-  bare_same =
-      let seen = h.durable.extends.seen in
-      let acked = h.durable.acked in
-      let handed = h.durable.handed in
-      let closed = h.durable.closed in
+  bare_same : b.durable.acked v ≡ a.durable.acked v → b.durable.closed v ≡ a.durable.closed v → handed_at net.site v b.durable.handed ≡ handed_at net.site v a.durable.handed →
+      b.volatile v ≡ a.volatile v → bare_view net b v ≡ bare_view net a v
+  bare_same acked closed handed volatile =
+      let seen = x.seen in
       let ports = outgoing_same in
-      let volatile = h.volatile in
       λ i. record { me = v; facts = seen i; acked = acked i; handed = handed i; closed = closed i; ports = ports i; volatile = volatile i }
 
-  pub view_same : view_of net b v ≡ view_of net a v
+  pub view_like : b.durable.acked v ≡ a.durable.acked v → b.durable.closed v ≡ a.durable.closed v → handed_at net.site v b.durable.handed ≡ handed_at net.site v a.durable.handed →
+      b.volatile v ≡ a.volatile v → view_of net b v ≡ view_of net a v
   unfolding view_of
-  view_same = ap masked bare_same
+  view_like acked closed handed volatile = ap masked (bare_same acked closed handed volatile)
+
+-- a lane's planned end is the same where its owners and orders are, though the table has grown
+module _ (net : Network) (v : ℕ) (a b : World) (c : Conserved net a) (d : SameDurable net.site v a.durable b.durable)
+    (orders : (l : Lane) → sender net.site l ≡ v → b.unclaimed l ≡ a.unclaimed l) where
+  needs_same : (l : Lane) → sender net.site l ≡ v → needs b.durable.facts (b.unclaimed l) ≡ needs a.durable.facts (a.unclaimed l)
+  needs_same l at =
+      ap (needs b.durable.facts) (orders l at) ∙
+      needs_grows a.durable.facts b.durable.facts a.durable.known b.durable.known d.extends.grows d.extends.more (sender net.site l) (receiver net.site l) (a.unclaimed l)
+      (c.now.carried l).wanted
+
+  pub planned_same : (l : Lane) → sender net.site l ≡ v → planned b l ≡ planned a l
+  planned_same l at =
+      ap (λ (os : List Owner). length os + needs b.durable.facts (b.unclaimed l)) (d.own l at) ∙
+      ap (λ (n : ℕ). length (a.durable.own l) + n) (needs_same l at)
+
+pub view_same : (net : Network) (v : ℕ) (a b : World) → Conserved net a → SameFor net v a b → view_of net b v ≡ view_of net a v
+view_same net v a b c h =
+    view_like net v a b h.durable.extends (planned_same net v a b c h.durable h.unclaimed) (λ l at. ap (λ (f : Lane → ℕ). f l) h.recovered)
+    h.durable.acked h.durable.closed h.durable.handed h.volatile

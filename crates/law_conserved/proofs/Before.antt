@@ -24,7 +24,7 @@ first_apart a rest d h = not_both (list_any (λ x. x == a) rest) h (was_not _ (a
 others_differ : (a : ℕ) (rest : List ℕ) → is_distinct (a ∷ rest) ≡ true → is_distinct rest ≡ true
 others_differ a rest d = and_right (not (list_any (λ x. x == a) rest)) (is_distinct rest) d
 
--- both ends of a step are on the route, the second one behind its first node
+-- both ends of a step are on the route, the second one after its first node
 step_from : (rest : List ℕ) (u v : ℕ) → next_after rest u ≡ Some v → IsIn u rest
 step_from [] u v h = cc
 step_from (a ∷ []) u v h = cc

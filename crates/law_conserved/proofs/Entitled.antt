@@ -27,16 +27,16 @@ record Pair (s : Site) (T : List Fact) (f : Fact) : Type 0 where
 
 chunk_pair : (s : Site) (T : List Fact) (known : ℕ → List Name) → IsTable s T known → (name stream : Name) (index : ℕ) (route bytes : List ℕ) (o : Option Fact) →
     fact_at T stream ≡ o → IsOpenBetween route o → Pair s T (Chunk name stream index route bytes)
-chunk_pair s T known t name stream index route bytes (Some (Open other source peer size way)) e h =
-    let x : IsEntitled s T (Open other source peer size way) = (t stream (Open other source peer size way) e).entitled in
+chunk_pair s T known t name stream index route bytes (Some (Open other source peer size nodes)) e h =
+    let x : IsEntitled s T (Open other source peer size nodes) = (t stream (Open other source peer size nodes) e).entitled in
     record {
       first = source;
       last = peer;
       allowed = x.allowed;
       from = h.0 ∙ x.from;
       to = h.1 ∙ x.to;
-      at_first = λ sae k. let y : stream_end true (Some (Open other source peer size way)) ≡ Some sae = sym (ap (stream_end true) e) ∙ k in cc;
-      at_last = λ sae k. let y : stream_end false (Some (Open other source peer size way)) ≡ Some sae = sym (ap (stream_end false) e) ∙ k in cc;
+      at_first = λ sae k. let y : stream_end true (Some (Open other source peer size nodes)) ≡ Some sae = sym (ap (stream_end true) e) ∙ k in cc;
+      at_last = λ sae k. let y : stream_end false (Some (Open other source peer size nodes)) ≡ Some sae = sym (ap (stream_end false) e) ∙ k in cc;
     }
 chunk_pair s T known t name stream index route bytes _ e h = absurd h
 

@@ -43,8 +43,8 @@ use Rattle.law_decisions.proofs.Receives.{received_may}
 
 pub slaves_are : (slaves : List ℕ) → are_slaves slaves ≡ true → (0 < length slaves) × (is_rising slaves ≡ true)
 slaves_are slaves h =
-    let front = and_left (nat_le 2 (length slaves) && nat_le (length slaves) 5) (is_rising slaves) h in
-    let two = and_left (nat_le 2 (length slaves)) (nat_le (length slaves) 5) front in
+    let prefix = and_left (nat_le 2 (length slaves) && nat_le (length slaves) 5) (is_rising slaves) h in
+    let two = and_left (nat_le 2 (length slaves)) (nat_le (length slaves) 5) prefix in
     (some (length slaves) two, and_right (nat_le 2 (length slaves) && nat_le (length slaves) 5) (is_rising slaves) h)
   where
     some : (n : ℕ) → nat_le 2 n ≡ true → 0 < n
@@ -74,14 +74,14 @@ module _ (s : Site) (d : Durable) (frames : Lane → List Allocation) (unclaimed
   asked_may sealing up octet place (Show name) small asked other valid = only_answers s d see (show see name)
   asked_may sealing up octet place (Ledger lane) small asked other valid = only_answers s d see (counted_of (port_of see lane.link))
   asked_may sealing up octet place (FillGroup m slaves bits count) small asked other valid =
-      let front = and_left (are_slaves slaves && is_size bits) (is_count count) valid in
-      let big = and_right (are_slaves slaves) (is_size bits) front in
-      let slaves' = slaves_are slaves (and_left (are_slaves slaves) (is_size bits) front) in
+      let prefix = and_left (are_slaves slaves && is_size bits) (is_count count) valid in
+      let big = and_right (are_slaves slaves) (is_size bits) prefix in
+      let slaves' = slaves_are slaves (and_left (are_slaves slaves) (is_size bits) prefix) in
       fill_group_may s d frames unclaimed inv see bare h site here up octet place m slaves bits count (octets_from octet place ((bits / 8) * count)) big slaves'.0 slaves'.1 small
       (enough octet place (bits / 8) count)
   asked_may sealing up octet place (EncGroup m slaves n bits) small asked other valid =
-      let front = and_left (are_slaves slaves && is_count n) (is_size bits) valid in
-      enc_group_may s d frames unclaimed inv see bare h m slaves n bits (slaves_are slaves (and_left (are_slaves slaves) (is_count n) front)).0
+      let prefix = and_left (are_slaves slaves && is_count n) (is_size bits) valid in
+      enc_group_may s d frames unclaimed inv see bare h m slaves n bits (slaves_are slaves (and_left (are_slaves slaves) (is_count n) prefix)).0
   asked_may sealing up octet place Plan small asked other valid = cc
   asked_may sealing up octet place (Block link number bytes) small asked other valid = cc
   asked_may sealing up octet place (Heard lane bytes) small asked other valid = cc

@@ -32,7 +32,7 @@ use Rattle.law_pools.proofs.Supply.{Supply, bytes_len, bytes_octets, size_is}
 use Rattle.law_pools.proofs.Made.{IsBelow, is_below, below_weaker}
 use Rattle.law_pools.specs.Only.{Only}
 use Rattle.law_pools.proofs.Only.{only_makes, only_either, replay_append, fresh_is}
-use Rattle.law_decisions.proofs.Parts.{AllWays, Ascends, IsBegun, new_parts_may, below_parts, handed_parts}
+use Rattle.law_decisions.proofs.Parts.{AllRoutes, Ascends, IsBegun, new_parts_may, below_parts, handed_parts}
 
 -- no key of this node with a greater count was handed out here
 abbrev pub IsFreshAbove : Site → Durable → ℕ → ℕ → Type 0
@@ -72,9 +72,9 @@ begun_new s d v c m key bytes at above b fresh =
 
 -- the slaves have routes
 
-pub record AreWays (s : Site) (me m from : ℕ) (ways : List (ℕ × List ℕ)) : Type 0 where
-  pub all : AllWays s me m ways
-  pub order : Ascends from ways
+pub record AreRoutes (s : Site) (me m from : ℕ) (routes : List (ℕ × List ℕ)) : Type 0 where
+  pub all : AllRoutes s me m routes
+  pub order : Ascends from routes
 
 abbrev pub rises_from : ℕ → List ℕ → Type 0
 rises_from from [] = Unit {0}
@@ -94,32 +94,32 @@ pub rises : (ts : List ℕ) → is_rising ts ≡ true → rises_from 0 ts
 rises [] h = tt
 rises (t ∷ ts) h = rising 0 t ts (omega arith) h
 
-ways_are : (s : Site) (up : ℕ → Bool) (me m from : ℕ) (slaves : List ℕ) (ways : List (ℕ × List ℕ)) → IsSite s → me < s.nodes → routes_to s up me slaves ≡ Some ways →
-    list_all (λ t. s.allowed m t) slaves ≡ true → rises_from from slaves → AreWays s me m from ways
-ways_are s up me m from [] ways site here h k r = let is : [] ≡ ways = cc in subst (AreWays s me m from) is (record { all = tt; order = tt })
-ways_are s up me m from (t ∷ ts) ways site here h k r =
-    elim (route s up me (s.home t)) as (λ o. route s up me (s.home t) ≡ o → with_route t o (routes_to s up me ts) ≡ Some ways → AreWays s me m from ways) [
+ways_are : (s : Site) (up : ℕ → Bool) (me m from : ℕ) (slaves : List ℕ) (routes : List (ℕ × List ℕ)) → IsSite s → me < s.nodes → routes_to s up me slaves ≡ Some routes →
+    list_all (λ t. s.allowed m t) slaves ≡ true → rises_from from slaves → AreRoutes s me m from routes
+ways_are s up me m from [] routes site here h k r = let is : [] ≡ routes = cc in subst (AreRoutes s me m from) is (record { all = tt; order = tt })
+ways_are s up me m from (t ∷ ts) routes site here h k r =
+    elim (route s up me (s.home t)) as (λ o. route s up me (s.home t) ≡ o → with_route t o (routes_to s up me ts) ≡ Some routes → AreRoutes s me m from routes) [
       | None ↦ λ e x. cc
-      | Some way ↦ λ e. elim (routes_to s up me ts) as (λ p. routes_to s up me ts ≡ p → with_route t (Some way) p ≡ Some ways → AreWays s me m from ways) [
+      | Some nodes ↦ λ e. elim (routes_to s up me ts) as (λ p. routes_to s up me ts ≡ p → with_route t (Some nodes) p ≡ Some routes → AreRoutes s me m from routes) [
         | None ↦ λ e2 x. cc
         | Some rest ↦ λ e2 x.
-            let is : ((t, way) ∷ rest) ≡ ways = cc in
+            let is : ((t, nodes) ∷ rest) ≡ routes = cc in
             let later = ways_are s up me m (t + 1) ts rest site here e2 (and_right (s.allowed m t) (list_all (λ u. s.allowed m u) ts) k) r.1 in
-            subst (AreWays s me m from) is (record {
-              all = (and_left (s.allowed m t) (list_all (λ u. s.allowed m u) ts) k, route_is s up me (s.home t) way site.nodes here e, later.all);
+            subst (AreRoutes s me m from) is (record {
+              all = (and_left (s.allowed m t) (list_all (λ u. s.allowed m u) ts) k, route_is s up me (s.home t) nodes site.nodes here e, later.all);
               order = (r.0, later.order);
             })
       ] refl
     ] refl h
 
-ways_len : (s : Site) (up : ℕ → Bool) (me : ℕ) (slaves : List ℕ) (ways : List (ℕ × List ℕ)) → routes_to s up me slaves ≡ Some ways → length ways ≡ length slaves
-ways_len s up me [] ways h = let is : [] ≡ ways = cc in ap length (sym is)
-ways_len s up me (t ∷ ts) ways h =
-    elim (route s up me (s.home t)) as (λ o. with_route t o (routes_to s up me ts) ≡ Some ways → length ways ≡ suc (length ts)) [
+ways_len : (s : Site) (up : ℕ → Bool) (me : ℕ) (slaves : List ℕ) (routes : List (ℕ × List ℕ)) → routes_to s up me slaves ≡ Some routes → length routes ≡ length slaves
+ways_len s up me [] routes h = let is : [] ≡ routes = cc in ap length (sym is)
+ways_len s up me (t ∷ ts) routes h =
+    elim (route s up me (s.home t)) as (λ o. with_route t o (routes_to s up me ts) ≡ Some routes → length routes ≡ suc (length ts)) [
       | None ↦ λ x. cc
-      | Some way ↦ λ x. elim (routes_to s up me ts) as (λ p. routes_to s up me ts ≡ p → with_route t (Some way) p ≡ Some ways → length ways ≡ suc (length ts)) [
+      | Some nodes ↦ λ x. elim (routes_to s up me ts) as (λ p. routes_to s up me ts ≡ p → with_route t (Some nodes) p ≡ Some routes → length routes ≡ suc (length ts)) [
         | None ↦ λ e2 y. cc
-        | Some rest ↦ λ e2 y. let is : ((t, way) ∷ rest) ≡ ways = cc in sym (ap length is) ∙ ap suc (ways_len s up me ts rest e2)
+        | Some rest ↦ λ e2 y. let is : ((t, nodes) ∷ rest) ≡ routes = cc in sym (ap length is) ∙ ap suc (ways_len s up me ts rest e2)
       ] refl x
     ] h
 
@@ -130,37 +130,37 @@ numbered_append (x ∷ xs) ys h =
     (and_both (is_numbered x) (list_all is_numbered xs) (and_left (is_numbered x) (list_all is_numbered (xs ++ ys)) h) r.0, r.1)
 
 -- the first part's name is in range, so the key's is
-key_named : (see : View) (key : Name) (m more : ℕ) (ways : List (ℕ × List ℕ)) (bytes : List ℕ) → 0 < length ways →
-    list_all is_numbered (new_parts see key m ways bytes more) ≡ true → nat_lt (fresh_name see KeyKind more).count (2 ^ 48) ≡ true
+key_named : (see : View) (key : Name) (m more : ℕ) (routes : List (ℕ × List ℕ)) (bytes : List ℕ) → 0 < length routes →
+    list_all is_numbered (new_parts see key m routes bytes more) ≡ true → nat_lt (fresh_name see KeyKind more).count (2 ^ 48) ≡ true
 key_named see key m more [] bytes some h = absurd (omega arith)
 key_named see key m more (x ∷ xs) bytes some h = and_left (nat_lt (fresh_name see KeyKind more).count (2 ^ 48)) (list_all is_numbered (new_parts see key m xs bytes (more + 1))) h
 
-new_groups_may : (s : Site) (d : Durable) (see : View) (octet : ℕ → ℕ) (place m : ℕ) (ways : List (ℕ × List ℕ)) (size more n : ℕ) (random : List ℕ) → IsSite s → see.me < 16 →
-    s.home m ≡ see.me → IsSize size → 0 < length ways → AreWays s see.me m 0 ways → ((i : ℕ) → octet i < 256) → Supply octet place size n random →
+new_groups_may : (s : Site) (d : Durable) (see : View) (octet : ℕ → ℕ) (place m : ℕ) (routes : List (ℕ × List ℕ)) (size more n : ℕ) (random : List ℕ) → IsSite s → see.me < 16 →
+    s.home m ≡ see.me → IsSize size → 0 < length routes → AreRoutes s see.me m 0 routes → ((i : ℕ) → octet i < 256) → Supply octet place size n random →
     IsFreshAbove s d see.me (last_count see.me see.facts + more) → IsBelow d see.me (last_count see.me see.facts + more) →
-    list_all is_numbered (new_groups see m ways size random more n) ≡ true → MayReplay s d see.me (new_groups see m ways size random more n)
-new_groups_may s d see octet place m ways size more zero random site low home big some r small from fresh b numbered = tt
-new_groups_may s d see octet place m ways size more (suc n) random site low home big some r small from fresh b numbered =
+    list_all is_numbered (new_groups see m routes size random more n) ≡ true → MayReplay s d see.me (new_groups see m routes size random more n)
+new_groups_may s d see octet place m routes size more zero random site low home big some r small from fresh b numbered = tt
+new_groups_may s d see octet place m routes size more (suc n) random site low home big some r small from fresh b numbered =
     let base : ℕ = last_count see.me see.facts in
     let key : Name = fresh_name see KeyKind more in
     let bytes : List ℕ = take size random in
-    let batch : List Record = new_parts see key m ways bytes (more + 1) in
+    let batch : List Record = new_parts see key m routes bytes (more + 1) in
     let d' : Durable = replay s see.me batch d in
     let above : base + more < (fresh_name see KeyKind more).count = omega arith in
     let count : (fresh_name see KeyKind more).count ≤ base + (more + 1) = omega arith in
     let le : base + more ≤ base + (more + 1) = omega arith in
-    let further : base + more ≤ base + (more + 1 + length ways) = omega arith in
-    let both = numbered_append batch (new_groups see m ways size (drop size random) (more + 1 + length ways) n) numbered in
-    let part_ok = key_named see key m (more + 1) ways bytes some both.0 in
+    let further : base + more ≤ base + (more + 1 + length routes) = omega arith in
+    let both = numbered_append batch (new_groups see m routes size (drop size random) (more + 1 + length routes) n) numbered in
+    let part_ok = key_named see key m (more + 1) routes bytes some both.0 in
     let key_ok : nat_lt (fresh_name see KeyKind more).count (2 ^ 48) ≡ true = lower see more part_ok in
     let b1 : IsBelow d see.me (base + (more + 1)) = below_weaker d see.me (base + more) (base + (more + 1)) le b in
     replay_append s d see.me batch _
-    (new_parts_may s d see key m 0 ways bytes (more + 1) site low home refl refl (fresh_is see KeyKind more low key_ok) count
+    (new_parts_may s d see key m 0 routes bytes (more + 1) site low home refl refl (fresh_is see KeyKind more low key_ok) count
     (subst IsSize (sym (bytes_len octet place size bytes from.0)) big) (bytes_octets octet small place size bytes from.0) r.all r.order
     (begun_new s d see.me (base + more) m key bytes refl above b fresh) b1 both.0)
-    (new_groups_may s d' see octet (place + size) m ways size (more + 1 + length ways) n (drop size random) site low home big some r small from.1
-    (λ x node over sae at. ap (λ (hs : List (Name × ℕ)). was_handed hs x sae) (handed_parts s d see key m ways bytes (more + 1)) ∙ fresh x node (omega (arith, over, further)) sae at)
-    (below_parts s d see key m ways bytes (more + 1) count b1) both.1)
+    (new_groups_may s d' see octet (place + size) m routes size (more + 1 + length routes) n (drop size random) site low home big some r small from.1
+    (λ x node over sae at. ap (λ (hs : List (Name × ℕ)). was_handed hs x sae) (handed_parts s d see key m routes bytes (more + 1)) ∙ fresh x node (omega (arith, over, further)) sae at)
+    (below_parts s d see key m routes bytes (more + 1) count b1) both.1)
   where
     lower : (see : View) (more : ℕ) → nat_lt (fresh_name see KeyKind (more + 1)).count (2 ^ 48) ≡ true → nat_lt (fresh_name see KeyKind more).count (2 ^ 48) ≡ true
     lower see more h = grind (arith, nat_tests)
@@ -169,15 +169,15 @@ module _ (s : Site) (d : Durable) (frames : Lane → List Allocation) (unclaimed
     (h : Sees s d see bare) (site : IsSite s) (here : see.me < s.nodes) where
   filled_group_may : (octet : ℕ → ℕ) (place m : ℕ) (slaves : List ℕ) (bits count : ℕ) (random : List ℕ) (o : Option (List (ℕ × List ℕ))) → is_size bits ≡ true →
       s.home m ≡ see.me → ((i : ℕ) → octet i < 256) → Supply octet place (bits / 8) count random →
-      ((ways : List (ℕ × List ℕ)) → o ≡ Some ways → AreWays s see.me m 0 ways × (0 < length ways)) → Only s d see (filled_group see m slaves bits count random o)
+      ((routes : List (ℕ × List ℕ)) → o ≡ Some routes → AreRoutes s see.me m 0 routes × (0 < length routes)) → Only s d see (filled_group see m slaves bits count random o)
   filled_group_may octet place m slaves bits count random None big home small from r = tt
-  filled_group_may octet place m slaves bits count random (Some ways) big home small from r =
+  filled_group_may octet place m slaves bits count random (Some routes) big home small from r =
       only_either s d see (nat_lt 4096 (unhanded_group see m slaves bits + count)) _ _ (λ e. tt) (λ e.
-      only_makes s d see (new_groups see m ways (bits / 8) random 0 count) (MadeKeys count (fresh_name see KeyKind 0)) (λ numbered.
+      only_makes s d see (new_groups see m routes (bits / 8) random 0 count) (MadeKeys count (fresh_name see KeyKind 0)) (λ numbered.
       let zero' : last_count see.me see.facts ≡ last_count see.me see.facts + 0 = omega arith in
       let b = subst (λ (y : ℕ). IsBelow d see.me y) zero' (is_below s d frames unclaimed inv see bare h) in
-      let x = r ways refl in
-      new_groups_may s d see octet place m ways (bits / 8) 0 count random site (omega (arith, here, site.nodes)) home (size_is bits big) x.1 x.0 small from
+      let x = r routes refl in
+      new_groups_may s d see octet place m routes (bits / 8) 0 count random site (omega (arith, here, site.nodes)) home (size_is bits big) x.1 x.0 small from
       (fresh_here s d frames unclaimed inv see.me (last_count see.me see.facts + 0) b) b numbered))
 
   pub fill_group_may : (up : ℕ → Bool) (octet : ℕ → ℕ) (place m : ℕ) (slaves : List ℕ) (bits count : ℕ) (random : List ℕ) → is_size bits ≡ true → 0 < length slaves →
@@ -188,7 +188,7 @@ module _ (s : Site) (d : Durable) (frames : Lane → List Allocation) (unclaimed
       let ok = not_true (is_entitled_group s see m slaves) e in
       let home : s.home m ≡ see.me = eq_from (s.home m) see.me (and_left (s.home m == see.me) (list_all (λ t. s.allowed m t) slaves) ok) in
       let allowed = and_right (s.home m == see.me) (list_all (λ t. s.allowed m t) slaves) ok in
-      filled_group_may octet place m slaves bits count random (routes_to s up see.me slaves) big home small from (λ ways y. (
-        ways_are s up see.me m 0 slaves ways site here y allowed (rises slaves rise),
-        omega (arith, ways_len s up see.me slaves ways y, some),
+      filled_group_may octet place m slaves bits count random (routes_to s up see.me slaves) big home small from (λ routes y. (
+        ways_are s up see.me m 0 slaves routes site here y allowed (rises slaves rise),
+        omega (arith, ways_len s up see.me slaves routes y, some),
       )))

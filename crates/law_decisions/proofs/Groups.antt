@@ -75,10 +75,10 @@ module _ (s : Site) (d : Durable) (frames : Lane → List Allocation) (unclaimed
   pub pooled_group : (m bits : ℕ) (slaves : List ℕ) (n : Name) → 0 < length slaves → is_unhanded_group see m slaves bits n ≡ true → IsPooledGroup m bits n
   pooled_group m bits slaves n some e =
       let parts : List Fact = parts_of see.facts n in
-      let front = and_left (same_slaves parts slaves && list_all (λ f. is_part_from m bits (part_of f)) parts) (not (was_handed see.handed n m)) e in
+      let prefix = and_left (same_slaves parts slaves && list_all (λ f. is_part_from m bits (part_of f)) parts) (not (was_handed see.handed n m)) e in
       let free = and_right (same_slaves parts slaves && list_all (λ f. is_part_from m bits (part_of f)) parts) (not (was_handed see.handed n m)) e in
-      let all = and_right (same_slaves parts slaves) (list_all (λ f. is_part_from m bits (part_of f)) parts) front in
-      let first = slaves_some parts slaves (and_left (same_slaves parts slaves) (list_all (λ f. is_part_from m bits (part_of f)) parts) front) some in
+      let all = and_right (same_slaves parts slaves) (list_all (λ f. is_part_from m bits (part_of f)) parts) prefix in
+      let first = slaves_some parts slaves (and_left (same_slaves parts slaves) (list_all (λ f. is_part_from m bits (part_of f)) parts) prefix) some in
       let found = find_filter (is_part_of n) see.facts first.0 first.1 first.2 in
       let seen = seen_found s d see bare h (is_part_of n) first.0 found in
       let from = and_left (is_part_from m bits (part_of first.0)) (list_all (λ f. is_part_from m bits (part_of f)) first.1)

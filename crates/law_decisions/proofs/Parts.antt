@@ -20,14 +20,14 @@ use Rattle.net_model.specs.View.{View}
 use Rattle.net_model.specs.Handle.{is_numbered}
 use Rattle.law_records.proofs.Base.{and_left, and_right}
 use Rattle.law_records.proofs.Tables.{is_some_of_none, learned_cases}
-use Rattle.law_views.proofs.Shortest.{IsWay}
+use Rattle.law_views.specs.Shown.{IsRouteBetween}
 use Rattle.law_pools.proofs.Made.{IsBelow, below_more, made_may}
 use Rattle.law_pools.proofs.Only.{fresh_is}
 
 -- the slaves are allowed, and have routes
-abbrev pub AllWays : Site → ℕ → ℕ → List (ℕ × List ℕ) → Type 0
-AllWays s me m [] = Unit {0}
-AllWays s me m (x ∷ xs) = (s.allowed m x.0 ≡ true) × IsWay me (s.home x.0) x.1 × AllWays s me m xs
+abbrev pub AllRoutes : Site → ℕ → ℕ → List (ℕ × List ℕ) → Type 0
+AllRoutes s me m [] = Unit {0}
+AllRoutes s me m (x ∷ xs) = (s.allowed m x.0 ≡ true) × IsRouteBetween me (s.home x.0) x.1 × AllRoutes s me m xs
 
 -- and come in order from a number on
 abbrev pub Ascends : ℕ → List (ℕ × List ℕ) → Type 0
@@ -50,10 +50,10 @@ abbrev key_or : Name → Option PartOf → Name
 key_or n None = n
 key_or n (Some p) = p.key
 
-part_among : (s : Site) (d : Durable) (see : View) (key name : Name) (m bound slave : ℕ) (way bytes : List ℕ) (p : PartOf) → key.node ≡ see.me → IsName key → key ≢ name →
-    bound ≤ slave → IsBegun s d see.me key m bound bytes → part_of (Part name key m slave way bytes) ≡ Some p → IsPartAmong d.facts see.me (Part name key m slave way bytes) p
-part_among s d see key name m bound slave way bytes p node named apart le begun is =
-    subst (λ (x : PartOf). IsPartAmong d.facts see.me (Part name key m slave way bytes) x) (some_same (record { key = key; master = m; slave = slave; bytes = bytes }) p is)
+part_among : (s : Site) (d : Durable) (see : View) (key name : Name) (m bound slave : ℕ) (nodes bytes : List ℕ) (p : PartOf) → key.node ≡ see.me → IsName key → key ≢ name →
+    bound ≤ slave → IsBegun s d see.me key m bound bytes → part_of (Part name key m slave nodes bytes) ≡ Some p → IsPartAmong d.facts see.me (Part name key m slave nodes bytes) p
+part_among s d see key name m bound slave nodes bytes p node named apart le begun is =
+    subst (λ (x : PartOf). IsPartAmong d.facts see.me (Part name key m slave nodes bytes) x) (some_same (record { key = key; master = m; slave = slave; bytes = bytes }) p is)
     (record {
       mine = node;
       name = named;
@@ -67,10 +67,10 @@ part_among s d see key name m bound slave way bytes p node named apart le begun 
     some_same : (a b : PartOf) → Some a ≡ Some b → a ≡ b
     some_same a b e = cc
 
-begun_more : (s : Site) (d : Durable) (v : ℕ) (key name : Name) (m bound slave : ℕ) (way bytes : List ℕ) → key ≢ name → bound ≤ slave → IsBegun s d v key m bound bytes →
-    IsBegun s (apply_record s v (Learned (Part name key m slave way bytes)) d) v key m (slave + 1) bytes
+begun_more : (s : Site) (d : Durable) (v : ℕ) (key name : Name) (m bound slave : ℕ) (nodes bytes : List ℕ) → key ≢ name → bound ≤ slave → IsBegun s d v key m bound bytes →
+    IsBegun s (apply_record s v (Learned (Part name key m slave nodes bytes)) d) v key m (slave + 1) bytes
 unfolding apply_record
-begun_more s d v key name m bound slave way bytes apart le begun =
+begun_more s d v key name m bound slave nodes bytes apart le begun =
     record {
       free = none (fact_at (learned d.facts f) key) refl;
       earlier = λ n g q at there part k. elim (learned_cases d.facts f n g there) [
@@ -84,7 +84,7 @@ begun_more s d v key name m bound slave way bytes apart le begun =
     }
   where
     f : Fact
-    f = Part name key m slave way bytes
+    f = Part name key m slave nodes bytes
 
     some_same : (a b : PartOf) → Some a ≡ Some b → a ≡ b
     some_same a b e = cc
@@ -99,12 +99,12 @@ begun_more s d v key name m bound slave way bytes apart le begun =
       | inr (is, same) ↦ absurd (apart is)
     ]
 
-pub new_parts_may : (s : Site) (d : Durable) (see : View) (key : Name) (m bound : ℕ) (ways : List (ℕ × List ℕ)) (bytes : List ℕ) (more : ℕ) → IsSite s → see.me < 16 →
+pub new_parts_may : (s : Site) (d : Durable) (see : View) (key : Name) (m bound : ℕ) (routes : List (ℕ × List ℕ)) (bytes : List ℕ) (more : ℕ) → IsSite s → see.me < 16 →
     s.home m ≡ see.me → key.node ≡ see.me → key.kind ≡ KeyKind → IsName key → key.count ≤ last_count see.me see.facts + more → IsSize (length bytes) → IsOctets bytes →
-    AllWays s see.me m ways → Ascends bound ways → IsBegun s d see.me key m bound bytes → IsBelow d see.me (last_count see.me see.facts + more) →
-    list_all is_numbered (new_parts see key m ways bytes more) ≡ true → MayReplay s d see.me (new_parts see key m ways bytes more)
-new_parts_may s d see key m bound [] bytes more site low home node kind named le big small ways up begun b numbered = tt
-new_parts_may s d see key m bound (x ∷ xs) bytes more site low home node kind named le big small ways up begun b numbered =
+    AllRoutes s see.me m routes → Ascends bound routes → IsBegun s d see.me key m bound bytes → IsBelow d see.me (last_count see.me see.facts + more) →
+    list_all is_numbered (new_parts see key m routes bytes more) ≡ true → MayReplay s d see.me (new_parts see key m routes bytes more)
+new_parts_may s d see key m bound [] bytes more site low home node kind named le big small routes up begun b numbered = tt
+new_parts_may s d see key m bound (x ∷ xs) bytes more site low home node kind named le big small routes up begun b numbered =
     let name : Name = fresh_name see KeyKind more in
     let f : Fact = Part name key m x.0 x.1 bytes in
     let d' : Durable = apply_record s see.me (Learned f) d in
@@ -113,28 +113,28 @@ new_parts_may s d see key m bound (x ∷ xs) bytes more site low home node kind 
     let above : c < (fresh_name see KeyKind more).count = omega arith in
     let again : c + 1 ≡ last_count see.me see.facts + (more + 1) = omega arith in
     let apart : key ≢ name = λ e. let y = ap (λ (n : Name). n.count) e in absurd (omega arith) in
-    let may : IsAllowed s m x.0 = site.pairs m x.0 ways.0 in
+    let may : IsAllowed s m x.0 = site.pairs m x.0 routes.0 in
     let count_ok = and_left (is_numbered (Learned f)) (list_all is_numbered (new_parts see key m xs bytes (more + 1))) numbered in
     let rest = and_right (is_numbered (Learned f)) (list_all is_numbered (new_parts see key m xs bytes (more + 1))) numbered in
     let key_of : (p : PartOf) → part_of f ≡ Some p → key ≡ p.key = λ p e. ap (key_or key) e in (
       made_may s d see.me c f refl above b (record {
         formed = (refl, kind, big);
-        ranged = (fresh_is see KeyKind more low count_ok, named, may.first_number, may.last_number, ways.1.route, small);
-        starts = ways.1.starts;
-        entitled = record { allowed = ways.0; from = ways.1.starts ∙ sym home; to = ways.1.ends };
+        ranged = (fresh_is see KeyKind more low count_ok, named, may.first_number, may.last_number, routes.1.route, small);
+        starts = routes.1.starts;
+        entitled = record { allowed = routes.0; from = routes.1.starts ∙ sym home; to = routes.1.ends };
         note = tt;
         next = λ stream index e. cc;
         part = λ p e. part_among s d see key name m bound x.0 x.1 bytes p node named apart up.0 begun e;
         unhanded = λ p e sae at. ap (λ (n : Name). was_handed d.handed n sae) (sym (key_of p e)) ∙ begun.unhanded sae at;
       }),
-      new_parts_may s d' see key m (x.0 + 1) xs bytes (more + 1) site low home node kind named (omega (arith, le)) big small ways.2 up.1
+      new_parts_may s d' see key m (x.0 + 1) xs bytes (more + 1) site low home node kind named (omega (arith, le)) big small routes.2 up.1
           (begun_more s d see.me key name m bound x.0 x.1 bytes apart up.0 begun)
           (subst (λ (y : ℕ). IsBelow d' see.me y) again (below_more s d see.me c f next (λ p e. let y = ap (λ (n : Name). n.count) (key_of p e) in omega (arith, le, y)) b)) rest,
     )
 
-pub below_parts : (s : Site) (d : Durable) (see : View) (key : Name) (m : ℕ) (ways : List (ℕ × List ℕ)) (bytes : List ℕ) (more : ℕ) →
+pub below_parts : (s : Site) (d : Durable) (see : View) (key : Name) (m : ℕ) (routes : List (ℕ × List ℕ)) (bytes : List ℕ) (more : ℕ) →
     key.count ≤ last_count see.me see.facts + more → IsBelow d see.me (last_count see.me see.facts + more) →
-    IsBelow (replay s see.me (new_parts see key m ways bytes more) d) see.me (last_count see.me see.facts + (more + length ways))
+    IsBelow (replay s see.me (new_parts see key m routes bytes more) d) see.me (last_count see.me see.facts + (more + length routes))
 unfolding replay
 below_parts s d see key m [] bytes more le b =
     let e : last_count see.me see.facts + more ≡ last_count see.me see.facts + (more + 0) = omega arith in subst (λ (y : ℕ). IsBelow d see.me y) e b
@@ -154,8 +154,8 @@ handed_stays : (s : Site) (d : Durable) (v : ℕ) (f : Fact) → (apply_record s
 unfolding apply_record
 handed_stays s d v f = refl
 
-pub handed_parts : (s : Site) (d : Durable) (see : View) (key : Name) (m : ℕ) (ways : List (ℕ × List ℕ)) (bytes : List ℕ) (more : ℕ) →
-    (replay s see.me (new_parts see key m ways bytes more) d).handed ≡ d.handed
+pub handed_parts : (s : Site) (d : Durable) (see : View) (key : Name) (m : ℕ) (routes : List (ℕ × List ℕ)) (bytes : List ℕ) (more : ℕ) →
+    (replay s see.me (new_parts see key m routes bytes more) d).handed ≡ d.handed
 unfolding replay
 handed_parts s d see key m [] bytes more = refl
 handed_parts s d see key m (x ∷ xs) bytes more =

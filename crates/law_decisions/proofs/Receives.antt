@@ -30,12 +30,12 @@ use Rattle.law_records.proofs.Tables.{found_name, has-push, has_last, is_some_of
 use Rattle.law_views.proofs.Seen.{Sees, seen_there}
 use Rattle.law_pools.proofs.Made.{IsBelow, is_below, ranged_route, made_may}
 use Rattle.law_pools.proofs.Only.{fresh_is}
-use Rattle.law_pools.proofs.Streams.{first_of-reverse, way_back}
+use Rattle.law_pools.proofs.Streams.{first_of-reverse, route_back}
 
 pub some_data : (f : Fact) (p : Payload) → Some (Data f) ≡ Some p → Data f ≡ p
 some_data f p e = cc
 
-pub on_next : (way : List ℕ) (u v : ℕ) → next_after way u ≡ Some v → IsOn way v
+pub on_next : (nodes : List ℕ) (u v : ℕ) → next_after nodes u ≡ Some v → IsOn nodes v
 on_next [] u v h = cc
 on_next (a ∷ []) u v h = cc
 on_next (a ∷ b ∷ rest) u v h =
@@ -45,11 +45,11 @@ on_next (a ∷ b ∷ rest) u v h =
       | false ↦ λ e. or_right (a == v) (list_any (λ x. x == v) (b ∷ rest)) (on_next (b ∷ rest) u v e)
     ] h
 
-on_low : (way : List ℕ) (v : ℕ) → are_nodes way ≡ true → IsOn way v → v < 16
+on_low : (nodes : List ℕ) (v : ℕ) → are_nodes nodes ≡ true → IsOn nodes v → v < 16
 on_low [] v all h = cc
-on_low (x ∷ way) v all h = elim (or_cases (x == v) (list_any (λ u. u == v) way) h) [
-  | inl is ↦ let same = eq_from x v is in let low = and_left (nat_lt x 16) (are_nodes way) all in below x v same low
-  | inr later ↦ on_low way v (and_right (nat_lt x 16) (are_nodes way) all) later
+on_low (x ∷ nodes) v all h = elim (or_cases (x == v) (list_any (λ u. u == v) nodes) h) [
+  | inl is ↦ let same = eq_from x v is in let low = and_left (nat_lt x 16) (are_nodes nodes) all in below x v same low
+  | inr later ↦ on_low nodes v (and_right (nat_lt x 16) (are_nodes nodes) all) later
 ]
   where
     below : (x v : ℕ) → x ≡ v → nat_lt x 16 ≡ true → v < 16
@@ -104,7 +104,7 @@ module _ (s : Site) (d : Durable) (frames : Lane → List Allocation) (unclaimed
               made_may s d' see.me (last_count see.me see.facts) note refl (omega arith) (below_received s d see.me (last_count see.me see.facts) f there (is_below s d frames unclaimed inv see bare h))
                   (record {
                     formed = (refl, secret_name f secret fact.formed);
-                    ranged = (fresh_is see NoteKind 0 low (and_left (is_numbered (Learned note)) true numbered), ranged_name f fact.ranged, way_back (route_of f) (ranged_route f fact.ranged));
+                    ranged = (fresh_is see NoteKind 0 low (and_left (is_numbered (Learned note)) true numbered), ranged_name f fact.ranged, route_back (route_of f) (ranged_route f fact.ranged));
                     starts = first_of-reverse (route_of f) ∙ ends;
                     entitled = tt;
                     note = (subst (IsTargetOf see.me) (sym there') (secret, ends), knows_more s d see.me f, no_other);

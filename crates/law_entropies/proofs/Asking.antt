@@ -96,9 +96,9 @@ module _ (net : Network) (w : World) (network : IsNetwork net) (c : Conserved ne
   pub ask_lays : AreLaid net w → (event : Event) (environment : Environment) → is_enabled net w (Ask v event environment) ≡ true → AreLaid net (handle net w v event environment).0
   unfolding is_enabled
   ask_lays laid event environment may =
-      let front = and_left (is_node net v && is_asked event) (is_valid_event net.site v event) may in
-      let asked = and_right (is_node net v) (is_asked event) front in
+      let prefix = and_left (is_node net v && is_asked event) (is_valid_event net.site v event) may in
+      let asked = and_right (is_node net v) (is_asked event) prefix in
       handle_lays net w c v laid event environment (λ up.
       event_resolves event asked
-      (event_replays event (ltb-true v net.site.nodes (and_left (is_node net v) (is_asked event) front)) asked
+      (event_replays event (ltb-true v net.site.nodes (and_left (is_node net v) (is_asked event) prefix)) asked
       (and_right (is_node net v && is_asked event) (is_valid_event net.site v event) may)))

@@ -1,4 +1,4 @@
--- Places of the facts of a set: they stay while nothing new comes, and new names get places behind all that was drawn.
+-- Places of the facts of a set: they stay while nothing new comes, and new names get places after all that was drawn.
 use Rattle.std.proofs.Common.{◌≡◌, ◌≢◌, ℕ, ◌+◌, ◌<◌, ◌≤◌, Bool, true, ◌&&◌, length, sym, ◌∙◌, ap, arith, ◌⊎◌, inl, inr}
 use Rattle.std.specs.Prelude.{◌==◌, nat_lt, if◌then◌else◌}
 use Rattle.std.proofs.lemmas.Bool.Decides.{nat_tests}
@@ -68,10 +68,10 @@ module _ (net : Network) (T T' N : Fact → Type 0) (drawn drawn' : ℕ → ℕ)
         apart = λ f g t u secret secret' same ne. elim (cases f t secret) [
           | inl old ↦ elim (cases g u secret') [
             | inl old' ↦ apart_as h.place place' f g (place_old f (older f old secret)) (place_old g (older g old' secret')) (h.apart f g old old' secret secret' same ne)
-            | inr new' ↦ inl (behind f g old secret new' secret' same)
+            | inr new' ↦ inl (after f g old secret new' secret' same)
           ]
           | inr new ↦ elim (cases g u secret') [
-            | inl old' ↦ inr (behind g f old' secret' new secret (sym same))
+            | inl old' ↦ inr (after g f old' secret' new secret (sym same))
             | inr new' ↦ apart_as at place' f g (place_new f (cut f new secret).1) (place_new g (cut g new' secret').1) (differ f g new new' secret secret' ne)
           ]
         ];
@@ -99,10 +99,10 @@ module _ (net : Network) (T T' N : Fact → Type 0) (drawn drawn' : ℕ → ℕ)
             within = omega (arith, x.within, e, end2, end');
           }
 
-      -- what is new stands behind what was drawn
-      behind : (f g : Fact) → T f → is_secret f ≡ true → N g → is_secret g ≡ true → origin f ≡ origin g →
+      -- what is new stands after what was drawn
+      after : (f g : Fact) → T f → is_secret f ≡ true → N g → is_secret g ≡ true → origin f ≡ origin g →
           place' (handed_name f) + length (bytes_of f) ≤ place' (handed_name g)
-      behind f g t secret n secret' same =
+      after f g t secret n secret' same =
           let x = h.each f t secret in
           let y = (cut g n secret').1 in
           let e = place_old f (older f t secret) in

@@ -1,13 +1,14 @@
 -- Every action keeps places, so every run from the first world does.
-use Rattle.std.proofs.Common.{◌≡◌, ℕ, Bool, true, false, ◌&&◌, ◌||◌, List, [], ◌∷◌, refl, arith, Option, Some, None, inl, inr}
+use Rattle.std.proofs.Common.{◌≡◌, ℕ, Bool, true, false, ◌&&◌, ◌||◌, List, [], ◌∷◌, refl, sym, ◌∙◌, ap, arith, Option, Some, None, inl, inr}
 use Rattle.std.specs.Prelude.{slice_get, if◌then◌else◌}
 use Rattle.qkd_base.specs.Family.{number_set}
 use Rattle.net_model.specs.declared.fact.Fact.{Fact}
 use Rattle.net_model.specs.declared.record.Record.TheVariants.{Learned}
 use Rattle.net_model.specs.Premises.{IsNetwork}
+use Rattle.net_model.specs.Table.{fact_at}
 use Rattle.net_model.specs.Site.{is_incident}
-use Rattle.net_model.specs.World.{Network, World, Transmission, Outgoing, no_doubt, first}
-use Rattle.net_model.specs.Action.{Environment, Action, Start, Crash, Arm, SetLink, TakeBlock, Ask, Allocate, Transmit, Complete, Deliver, Flip, Forge, WantMemory, Recovery, Recovers, Interrupted, NoMemory, Foreign, Outcome, is_no_memory, is_io_fault, is_shown, environment_of}
+use Rattle.net_model.specs.World.{Network, World, Durable, InDoubt, Transmission, Outgoing, no_doubt, first}
+use Rattle.net_model.specs.Action.{Environment, Action, Start, Crash, Arm, SetLink, TakeBlock, Ask, Allocate, Transmit, Complete, Deliver, Flip, Forge, WantMemory, Recovery, Recovers, Resumes, Interrupted, NoMemory, Foreign, Outcome, is_no_memory, is_io_fault, is_shown, environment_of}
 use Rattle.net_model.specs.Invariant.{Conserved}
 use Rattle.net_model.specs.Frames.{allocate, transmit_one, transmit, outgoing_of}
 use Rattle.net_model.specs.Start.{resolved, restarted, interrupted_start, recovers, start}
@@ -15,6 +16,7 @@ use Rattle.net_model.specs.Step.{crash, step, is_node, is_link, is_enabled, is_s
 use Rattle.qkd_base.specs.declared.lane.Lane.{Lane}
 use Rattle.law_records.proofs.Base.{by_number, by_test, and_left, and_right}
 use Rattle.law_records.proofs.Growing.{replay_cases}
+use Rattle.law_records.proofs.Resuming.{resumed_durable}
 use Rattle.law_steps.proofs.Steps.{first_keeps, step_keeps}
 use Rattle.law_entropies.specs.Places.{ArePlaced}
 use Rattle.law_entropies.proofs.Laid.{laid_stays}
@@ -56,6 +58,24 @@ module _ (net : Network) (w : World) (network : IsNetwork net) (c : Conserved ne
   unfolding restarted
   restarted_lays v committed = nothing_new net w (restarted net (resolved net.site w v committed) v) (restarted_back v committed) (λ u. refl) laid
 
+  -- a start that finds a checkpoint settles no more
+  resumed_doubt : (v : ℕ) (d : InDoubt) (k : ℕ) (f : Fact) (u : ℕ) → slice_get (number_set (number_set w.in_doubt v d) v no_doubt u).batch k ≡ Some (Learned f) → IsThere w f
+  resumed_doubt v d k f =
+      by_number (λ u t. slice_get (if t then no_doubt else if t then d else w.in_doubt u).batch k ≡ Some (Learned f) → IsThere w f) v
+      (λ at. absurd (cc)) (λ u ne at. inr (u, k, at))
+
+  resumed_back : (v : ℕ) (committed : Bool) (f : Fact) →
+      IsThere (restarted net (resolved net.site (interrupted_start net w v (Some committed)) v committed) v) f → IsThere w f
+  unfolding restarted
+  resumed_back v committed f (inl (n, there)) =
+      resolved_back v committed f (inl (n, ap (λ (d : Durable). fact_at d.facts n) (sym (resumed_durable net w v committed)) ∙ there))
+  resumed_back v committed f (inr (u, k, at)) = resumed_doubt v (record (w.in_doubt v) { checkpointed = Some committed }) k f u at
+
+  resumed_lays : (v : ℕ) (committed : Bool) → AreLaid net (restarted net (resolved net.site (interrupted_start net w v (Some committed)) v committed) v)
+  unfolding restarted
+  resumed_lays v committed =
+      nothing_new net w (restarted net (resolved net.site (interrupted_start net w v (Some committed)) v committed) v) (resumed_back v committed) (λ u. refl) laid
+
   moved_back : (v : ℕ) (committed : Bool) (k : ℕ) (f : Fact) (u : ℕ) →
       slice_get (number_set w.in_doubt v (record (w.in_doubt v) { checkpointed = Some committed }) u).batch k ≡ Some (Learned f) → IsThere w f
   moved_back v committed k f =
@@ -73,6 +93,7 @@ module _ (net : Network) (w : World) (network : IsNetwork net) (c : Conserved ne
 
   recovers_lays : (v : ℕ) (recovery : Recovery) → Kept (recovers net w v recovery)
   recovers_lays v (Recovers committed) = restarted_lays v committed
+  recovers_lays v (Resumes committed) = resumed_lays v committed
   recovers_lays v (Interrupted made) = nothing_new net w (interrupted_start net w v made) (interrupted_back v made) (interrupted_same v made) laid
   recovers_lays v NoMemory = laid
   recovers_lays v Foreign = laid

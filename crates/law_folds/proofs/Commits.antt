@@ -1,4 +1,4 @@
--- What a node sees behind an effect is what the effect makes of what it saw before.
+-- What a node sees after an effect is what the effect makes of what it saw before.
 use Rattle.std.proofs.Common.{◌≡◌, ℕ, ◌+◌, List, [], ◌∷◌, length, refl, sym, ◌∙◌, ap, arith, map}
 use Rattle.qkd_base.specs.declared.lane.Lane.{Lane}
 use Rattle.net_model.specs.Site.{outgoing_lanes}

@@ -47,13 +47,13 @@ hand_fit : (sae : ℕ) (ns : List Name) (a : View) → AllFitHere a (hand_to sae
 hand_fit sae [] a = tt
 hand_fit sae (n ∷ ns) a = (tt, hand_fit sae ns (view_record (Handed n sae) a))
 
-keys_learned : (v : View) (m s : ℕ) (way : List ℕ) (size : ℕ) (random : List ℕ) (more k : ℕ) → AreLearned (new_keys v m s way size random more k)
-keys_learned v m s way size random more zero = tt
-keys_learned v m s way size random more (suc k) = (tt, keys_learned v m s way size (drop size random) (more + 1) k)
+keys_learned : (v : View) (m s : ℕ) (nodes : List ℕ) (size : ℕ) (random : List ℕ) (more k : ℕ) → AreLearned (new_keys v m s nodes size random more k)
+keys_learned v m s nodes size random more zero = tt
+keys_learned v m s nodes size random more (suc k) = (tt, keys_learned v m s nodes size (drop size random) (more + 1) k)
 
-chunks_learned : (v : View) (stream : Name) (way : List ℕ) (size next : ℕ) (random : List ℕ) (more k : ℕ) → AreLearned (new_chunks v stream way size next random more k)
-chunks_learned v stream way size next random more zero = tt
-chunks_learned v stream way size next random more (suc k) = (tt, chunks_learned v stream way size next (drop size random) (more + 1) k)
+chunks_learned : (v : View) (stream : Name) (nodes : List ℕ) (size next : ℕ) (random : List ℕ) (more k : ℕ) → AreLearned (new_chunks v stream nodes size next random more k)
+chunks_learned v stream nodes size next random more zero = tt
+chunks_learned v stream nodes size next random more (suc k) = (tt, chunks_learned v stream nodes size next (drop size random) (more + 1) k)
 
 parts_learned : (v : View) (key : Name) (m : ℕ) (slaves : List (ℕ × List ℕ)) (bytes : List ℕ) (more : ℕ) → AreLearned (new_parts v key m slaves bytes more)
 parts_learned v key m [] bytes more = tt
@@ -73,9 +73,9 @@ test_fits v false x y h k = k
 
 filled_fits : (v : View) (m s bits count : ℕ) (random : List ℕ) (o : Option (List ℕ)) → DecisionFits v (filled v m s bits count random o)
 filled_fits v m s bits count random None = tt
-filled_fits v m s bits count random (Some way) =
-    test_fits v (nat_lt 4096 (unhanded v m s bits + count)) (Refuses PoolFull) (makes v (new_keys v m s way (bits / 8) random 0 count) (MadeKeys count (fresh_name v KeyKind 0))) tt
-    (learned_fit (new_keys v m s way (bits / 8) random 0 count) (keys_learned v m s way (bits / 8) random 0 count) v)
+filled_fits v m s bits count random (Some nodes) =
+    test_fits v (nat_lt 4096 (unhanded v m s bits + count)) (Refuses PoolFull) (makes v (new_keys v m s nodes (bits / 8) random 0 count) (MadeKeys count (fresh_name v KeyKind 0))) tt
+    (learned_fit (new_keys v m s nodes (bits / 8) random 0 count) (keys_learned v m s nodes (bits / 8) random 0 count) v)
 
 pub fill_fits : (site : Site) (up : ℕ → Bool) (v : View) (m s bits count : ℕ) (random : List ℕ) → DecisionFits v (fill site up v m s bits count random)
 unfolding fill
@@ -111,7 +111,7 @@ status_fits site v m s =
 
 opened_fits : (v : View) (source peer bits : ℕ) (o : Option (List ℕ)) → DecisionFits v (opened v source peer bits o)
 opened_fits v source peer bits None = tt
-opened_fits v source peer bits (Some way) = (tt, tt)
+opened_fits v source peer bits (Some nodes) = (tt, tt)
 
 pub open_fits : (site : Site) (up : ℕ → Bool) (v : View) (source peer bits : ℕ) → DecisionFits v (open_stream site up v source peer bits)
 unfolding open_stream
@@ -122,8 +122,8 @@ open_fits site up v source peer bits =
     (test_fits v (not (is_size bits)) (answers v (only_status 7)) (opened v source peer bits (route site up v.me (site.home peer))) tt last)
 
 joins_fits : (site : Site) (v : View) (caller other bits : ℕ) (o : Option Fact) → DecisionFits v (joins site v caller other bits o)
-joins_fits site v caller other bits (Some (Open stream source peer size way)) =
-    let last : Decision = makes v (Learned (Joined (fresh_name v NoteKind 0) stream (reverse way)) ∷ []) (Stream 0 (Some stream) 0 []) in
+joins_fits site v caller other bits (Some (Open stream source peer size nodes)) =
+    let last : Decision = makes v (Learned (Joined (fresh_name v NoteKind 0) stream (reverse nodes)) ∷ []) (Stream 0 (Some stream) 0 []) in
     let third : Decision = if not (8 * size == bits) then answers v (only_status 7) else last in
     let second : Decision = if not ((caller == peer) && (other == source) && (site.home peer == v.me)) then answers v (only_status 8) else third in
     test_fits v ((caller == source) || ((caller == peer) && has_joined v stream)) (answers v (only_status 5)) second tt
@@ -144,7 +144,7 @@ gives_fits v caller index at_source (Some f) =
 
 end_fits : (site : Site) (v : View) (caller : ℕ) (o : Option Fact) (then' : Name → ℕ → Decision) → ((s : Name) (source : ℕ) → DecisionFits v (then' s source)) →
     DecisionFits v (at_end site v caller o then')
-end_fits site v caller (Some (Open stream source peer size way)) then' h =
+end_fits site v caller (Some (Open stream source peer size nodes)) then' h =
     let here : Bool = ((caller == source) && (site.home source == v.me)) || ((caller == peer) && (site.home peer == v.me)) in
     test_fits v ((site.home peer == v.me) && not (has_joined v stream)) (answers v (only_status 9)) (if not here then answers v (only_status 8) else then' stream source) tt
     (test_fits v (not here) (answers v (only_status 8)) (then' stream source) tt (h stream source))
@@ -160,14 +160,14 @@ get_fits site v caller stream index =
 
 fed_fits : (v : View) (stream : Name) (source size count : ℕ) (random : List ℕ) (o : Option (List ℕ)) → DecisionFits v (fed v stream source size count random o)
 fed_fits v stream source size count random None = tt
-fed_fits v stream source size count random (Some way) =
+fed_fits v stream source size count random (Some nodes) =
     let next : ℕ = count_by (is_chunk_of stream) v.facts in
     test_fits v (nat_lt 4096 (waiting v stream source + count)) (Refuses PoolFull)
-    (makes v (new_chunks v stream way size next random 0 count) (MadeKeys count (fresh_name v KeyKind 0))) tt
-    (learned_fit (new_chunks v stream way size next random 0 count) (chunks_learned v stream way size next random 0 count) v)
+    (makes v (new_chunks v stream nodes size next random 0 count) (MadeKeys count (fresh_name v KeyKind 0))) tt
+    (learned_fit (new_chunks v stream nodes size next random 0 count) (chunks_learned v stream nodes size next random 0 count) v)
 
 fed_stream_fits : (site : Site) (up : ℕ → Bool) (v : View) (count : ℕ) (random : List ℕ) (o : Option Fact) → DecisionFits v (fed_stream site up v count random o)
-fed_stream_fits site up v count random (Some (Open stream source peer size way)) =
+fed_stream_fits site up v count random (Some (Open stream source peer size nodes)) =
     test_fits v (has_end site v stream source) (fed v stream source size count random (route site up v.me (site.home peer))) (Refuses UnknownStream)
     (fed_fits v stream source size count random (route site up v.me (site.home peer))) tt
 fed_stream_fits site up v count random _ = tt

@@ -33,15 +33,15 @@ abbrev pub is_here : ℕ → Fact → Bool
 is_here me f = (origin f == me) || (target f == me)
 
 module _ (s : Site) (T : List Fact) (known : ℕ → List Name) (table : IsTable s T known) where
-  chunk_first : (way : List ℕ) (stream : Name) (sae : ℕ) (o : Option Fact) → fact_at T stream ≡ o → IsOpenBetween way o → stream_end true o ≡ Some sae → first_of way ≡ s.home sae
-  chunk_first way stream sae (Some (Open n source peer size route)) e h is =
+  chunk_first : (nodes : List ℕ) (stream : Name) (sae : ℕ) (o : Option Fact) → fact_at T stream ≡ o → IsOpenBetween nodes o → stream_end true o ≡ Some sae → first_of nodes ≡ s.home sae
+  chunk_first nodes stream sae (Some (Open n source peer size route)) e h is =
       let same : source ≡ sae = cc in h.0 ∙ (table stream (Open n source peer size route) e).entitled.from ∙ ap s.home same
-  chunk_first way stream sae _ e h is = absurd h
+  chunk_first nodes stream sae _ e h is = absurd h
 
-  chunk_last : (way : List ℕ) (stream : Name) (sae : ℕ) (o : Option Fact) → fact_at T stream ≡ o → IsOpenBetween way o → stream_end false o ≡ Some sae → last_of way ≡ s.home sae
-  chunk_last way stream sae (Some (Open n source peer size route)) e h is =
+  chunk_last : (nodes : List ℕ) (stream : Name) (sae : ℕ) (o : Option Fact) → fact_at T stream ≡ o → IsOpenBetween nodes o → stream_end false o ≡ Some sae → last_of nodes ≡ s.home sae
+  chunk_last nodes stream sae (Some (Open n source peer size route)) e h is =
       let same : peer ≡ sae = cc in h.1 ∙ (table stream (Open n source peer size route) e).entitled.to ∙ ap s.home same
-  chunk_last way stream sae _ e h is = absurd h
+  chunk_last nodes stream sae _ e h is = absurd h
 
   -- the application at the first node is at home there, and the one at the last
   pub at_first : (f : Fact) (sae : ℕ) → IsEntitled s T f → sae_at T true f ≡ Some sae → origin f ≡ s.home sae

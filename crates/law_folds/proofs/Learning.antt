@@ -1,4 +1,4 @@
--- A fact that a node learns comes behind those that its view has.
+-- A fact that a node learns comes after those that its view has.
 use Rattle.std.proofs.Common.{◌≡◌, ℕ, ◌+◌, true, false, List, [], ◌∷◌, ◌++◌, length, refl, sym, ◌∙◌, ap, subst, ◌⊎◌, inl, inr, Some, map}
 use Rattle.std.proofs.lemmas.List.{map-append}
 use Rattle.qkd_base.specs.Name.{Name, has}
@@ -66,14 +66,14 @@ module _ (net : Network) (w : World) (v : ℕ) (d : Durable) (inv : Invariant ne
             not_both (was_handed d.handed p.key p.master) got (ap (λ (n : Name). was_handed d.handed n p.master) (sym r.2) ∙ m.unhanded r.0 r.1 p.master home)
       ])
 
-  front : Grows known (known ++ f ∷ [])
-  front n g h = at_prefix known (f ∷ []) n g h
+  prefix : Grows known (known ++ f ∷ [])
+  prefix n g h = at_prefix known (f ∷ []) n g h
 
   stays : (g : Fact) → fact_at d.facts (name_of g) ≡ Some g → is_needed (seen net w v d) g ≡ false →
       is_needed (knowing v (known ++ f ∷ []) (d.acked v) (handed_at net.site v d.handed)) g ≡ false
   unfolding is_needed
   stays g at =
-      needed_stays v known (known ++ f ∷ []) (d.acked v) (d.acked v) (handed_at net.site v d.handed) (handed_at net.site v d.handed) front (λ n k. k) (λ n sae k. k) g
+      needed_stays v known (known ++ f ∷ []) (d.acked v) (d.acked v) (handed_at net.site v d.handed) (handed_at net.site v d.handed) prefix (λ n k. k) (λ n sae k. k) g
       (λ p is mine handed none. parts_push v known f (d.acked v) (handed_at net.site v d.handed) p.key (no_part g p at is mine handed) none)
 
   planned_stays : (l : Lane) → needs (learned d.facts f) (w.unclaimed l) ≡ needs d.facts (w.unclaimed l)
@@ -89,7 +89,7 @@ module _ (net : Network) (w : World) (v : ℕ) (d : Durable) (inv : Invariant ne
       let rest = ports_stay ls in
       λ i. record (port_at net (record w { durable = d }) l) { planned = length (d.own l) + one i } ∷ rest i
 
-  -- once the new one is behind the others
+  -- once the new one is after the others
   pushed : (a : View) → Follows a (seen net w v d) → (facts : List Fact) → facts ≡ known ++ f ∷ [] →
       map (masked_fact (knowing v facts (d.acked v) (handed_at net.site v d.handed))) (a.facts ++ f ∷ []) ≡
       map (masked_fact (knowing v facts (d.acked v) (handed_at net.site v d.handed))) facts

@@ -1,4 +1,4 @@
--- A plan: its leases and the planned ends behind its orders are what the view makes of them.
+-- A plan: its leases and the planned ends after its orders are what the view makes of them.
 use Rattle.std.proofs.Common.{◌≡◌, ℕ, ◌+◌, Bool, true, false, List, [], ◌∷◌, ◌++◌, refl, sym, ◌∙◌, ap, subst, arith, Some}
 use Rattle.std.specs.Prelude.{nat_lt, filter, slice_get, if◌then◌else◌}
 use Rattle.std.specs.List.{flat_map}

@@ -1,5 +1,5 @@
--- Behind a start a manager sees what it saw, with each lane at its leased end, and the batch in doubt where that was committed.
-use Rattle.std.proofs.Common.{◌≡◌, ℕ, zero, suc, ◌+◌, ◌-◌, ◌<◌, ◌≤◌, Bool, true, false, cond, ◌&&◌, List, [], ◌∷◌, ◌++◌, length, length-append, replicate, refl, sym, ◌∙◌, ap, subst, arith, map}
+-- After a start a manager sees what it saw, with each lane at its leased end, and the batch in doubt where that was committed.
+use Rattle.std.proofs.Common.{◌≡◌, ℕ, zero, suc, ◌+◌, ◌-◌, ◌<◌, ◌≤◌, Bool, true, false, cond, ◌&&◌, List, [], ◌∷◌, ◌++◌, length, length-append, replicate, refl, sym, ◌∙◌, ap, subst, arith, map, Some}
 use Rattle.std.specs.Prelude.{◌==◌, nat_lt, filter, if◌then◌else◌}
 use Rattle.std.specs.List.{list_all}
 use Rattle.std.proofs.lemmas.List.{map-append, length-replicate}
@@ -16,14 +16,15 @@ use Rattle.net_model.specs.Events.{is_lane}
 use Rattle.net_model.specs.Invariant.{Invariant, Conserved}
 use Rattle.net_model.specs.View.{View, Port}
 use Rattle.net_model.specs.Needed.{is_needed, masked, view_of, port_at}
-use Rattle.net_model.specs.Start.{resolved, burnt_to, leaves, restarted, start, may_recover, is_plain}
-use Rattle.net_model.specs.Action.{Start, Recovers, Started, WasUp, Outcome}
+use Rattle.net_model.specs.Start.{resolved, burnt_to, leaves, restarted, interrupted_start, recovers, start, may_recover, is_plain}
+use Rattle.net_model.specs.Action.{Recovery, Start, Recovers, Resumes, Started, WasUp, Outcome}
 use Rattle.net_model.specs.Step.{step, is_sent, is_quiet, is_node, is_enabled}
 use Rattle.net_model.specs.Fold.{view_records, view_batch, view_restarted}
 use Rattle.law_records.proofs.Base.{eq_same, and_left, and_right, and_both, number_set_same, when_false}
 use Rattle.law_lanes.proofs.Lists.{burnt_length}
 use Rattle.law_records.proofs.Extending.{end_of}
 use Rattle.law_records.proofs.Keeping.{replay_keeps}
+use Rattle.law_records.proofs.Resuming.{resumed_view}
 use Rattle.law_folds.specs.Fitting.{AllFit}
 use Rattle.law_folds.proofs.Shapes.{masked_like}
 use Rattle.law_folds.proofs.Following.{Follows, follows_like, seen}
@@ -131,15 +132,17 @@ module _ (net : Network) (w : World) (v : ℕ) (c : Conserved net w) (sent : is_
       let h = batch_follows net w v (w.in_doubt v).batch w.durable c.now (view_of net w v) may (fits refl) (view_follows net w v) in
       resolved_restarts true ∙ sym (restart_same (view_records (w.in_doubt v).batch (view_of net w v)) (seen net w v (replay net.site v (w.in_doubt v).batch w.durable)) h)
 
-module _ (net : Network) (w : World) (v : ℕ) (committed : Bool) (down : w.up v ≡ false) (enabled : is_enabled net w (Start v (Recovers committed)) ≡ true) where
+-- a start finds all orders of its node put
+module _ (net : Network) (w : World) (v : ℕ) (recovery : Recovery) (down : w.up v ≡ false) (enabled : is_enabled net w (Start v recovery) ≡ true) where
   sent_before : is_sent net w v ≡ true
   unfolding is_enabled
   sent_before =
-      let asked : Bool = is_quiet net w v && may_recover net w v (Recovers committed) in
+      let asked : Bool = is_quiet net w v && may_recover net w v recovery in
       let may : asked ≡ true =
-      sym (when_false (w.up v) (is_plain (Recovers committed)) asked down) ∙ and_right (is_node net v) (if w.up v then is_plain (Recovers committed) else asked) enabled in
-      and_left (is_sent net w v) (is_nil (w.placings v)) (and_left (is_quiet net w v) (may_recover net w v (Recovers committed)) may)
+      sym (when_false (w.up v) (is_plain recovery) asked down) ∙ and_right (is_node net v) (if w.up v then is_plain recovery else asked) enabled in
+      and_left (is_sent net w v) (is_nil (w.placings v)) (and_left (is_quiet net w v) (may_recover net w v recovery) may)
 
+module _ (net : Network) (w : World) (v : ℕ) (committed : Bool) (down : w.up v ≡ false) (enabled : is_enabled net w (Start v (Recovers committed)) ≡ true) where
   pub started_is : (step net w (Start v (Recovers committed))).0 ≡ restarted net (resolved net.site w v committed) v
   unfolding step start
   started_is = ap (λ (r : World × Outcome). r.0) (when_false (w.up v) (w, WasUp) (restarted net (resolved net.site w v committed) v, Started) down)
@@ -147,8 +150,25 @@ module _ (net : Network) (w : World) (v : ℕ) (committed : Bool) (down : w.up v
   pub start_goes : Conserved net w → (committed ≡ true → AllFit net (view_of net w v) (w.in_doubt v).batch) →
       view_of net (step net w (Start v (Recovers committed))).0 v ≡
       view_restarted (if committed then view_batch (view_of net w v) (w.in_doubt v).batch else view_of net w v)
-  start_goes c fits = ap (λ (x : World). view_of net x v) started_is ∙ resolved_goes net w v c sent_before committed fits
+  start_goes c fits = ap (λ (x : World). view_of net x v) started_is ∙ resolved_goes net w v c (sent_before net w v (Recovers committed) down enabled) committed fits
 
-  -- what is settled is seen behind the start as before it
+  -- what is settled is seen after the start as before it
   pub start_restarts : Conserved net w → view_of net (step net w (Start v (Recovers committed))).0 v ≡ view_restarted (view_of net (resolved net.site w v committed) v)
-  start_restarts c = ap (λ (x : World). view_of net x v) started_is ∙ resolved_restarts net w v c sent_before committed
+  start_restarts c = ap (λ (x : World). view_of net x v) started_is ∙ resolved_restarts net w v c (sent_before net w v (Recovers committed) down enabled) committed
+
+-- so does a start that finds the checkpoint of a stopped one
+module _ (net : Network) (w : World) (v : ℕ) (committed : Bool) (down : w.up v ≡ false) (enabled : is_enabled net w (Start v (Resumes committed)) ≡ true) where
+  pub resumed_is : (step net w (Start v (Resumes committed))).0 ≡ restarted net (resolved net.site (interrupted_start net w v (Some committed)) v committed) v
+  unfolding step start
+  resumed_is = ap (λ (r : World × Outcome). r.0) (when_false (w.up v) (w, WasUp) (recovers net w v (Resumes committed)) down)
+
+  seen_as : view_of net (step net w (Start v (Resumes committed))).0 v ≡ view_of net (restarted net (resolved net.site w v committed) v) v
+  seen_as = ap (λ (x : World). view_of net x v) resumed_is ∙ resumed_view net w v committed v
+
+  pub resume_goes : Conserved net w → (committed ≡ true → AllFit net (view_of net w v) (w.in_doubt v).batch) →
+      view_of net (step net w (Start v (Resumes committed))).0 v ≡
+      view_restarted (if committed then view_batch (view_of net w v) (w.in_doubt v).batch else view_of net w v)
+  resume_goes c fits = seen_as ∙ resolved_goes net w v c (sent_before net w v (Resumes committed) down enabled) committed fits
+
+  pub resume_restarts : Conserved net w → view_of net (step net w (Start v (Resumes committed))).0 v ≡ view_restarted (view_of net (resolved net.site w v committed) v)
+  resume_restarts c = seen_as ∙ resolved_restarts net w v c (sent_before net w v (Resumes committed) down enabled) committed

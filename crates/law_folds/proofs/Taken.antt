@@ -1,4 +1,4 @@
--- A block taken at a node's end of a link comes behind those that its port has.
+-- A block taken at a node's end of a link comes after those that its port has.
 use Rattle.std.proofs.Common.{◌≡◌, ℕ, ◌+◌, ◌<◌, ◌≤◌, true, false, ◌&&◌, List, [], ◌∷◌, ◌++◌, length, suc, replicate, refl, sym, ◌∙◌, ap, subst, arith, map}
 use Rattle.std.specs.Prelude.{◌==◌, nat_lt, if◌then◌else◌, filter}
 use Rattle.std.proofs.lemmas.Bool.Decides.{nat_tests}
@@ -73,7 +73,7 @@ module _ (net : Network) (w : World) (v : ℕ) (d : Durable) (inv : Invariant ne
       (keyed_lease (lane_len way (count i)) (lane_len way (is i + 1)) (length own + more))) ∙
       (λ i. port_with l (first_blocks t (n + 1)) (keyed_lease (lane_len way n) (lane_len way (n + 1)) (d.lease l)) (sym end i))
 
-  -- what the world has of the port behind the block
+  -- what the world has of the port after the block
   taken_port : (way : Way) (n : ℕ) → d.blocks (lane_of link way) ≡ n → at (block_taken (lane_of link way) d) (lane_of link way) ≡
       port_with (lane_of link way) (first_blocks (net.device link) (n + 1)) (keyed_lease (lane_len way n) (lane_len way (n + 1)) (d.lease (lane_of link way)))
       (length (keyed_own (lane_len way n) (lane_len way (n + 1)) (d.own (lane_of link way))) + needs d.facts (w.unclaimed (lane_of link way)))

@@ -1,4 +1,4 @@
-//! Laws of a manager's view: what it sees behind an effect is what the effect makes of what it saw before.
+//! Laws of a manager's view: what it sees after an effect is what the effect makes of what it saw before.
 #![tactic(auto)]
 
 ghost use Rattle.std.specs.Prelude.{◌≡◌, ◌<◌, ◌==◌, ℕ, Bool, true, false, List, [], slice_get, Some, if◌then◌else◌};
@@ -28,7 +28,7 @@ ghost use Rattle.law_folds.specs.Fitting.{AllFit};
 ghost use Rattle.law_folds.specs.Turns.{GoesBy};
 ghost use Rattle.law_decisions.specs.May.{decided};
 
-/// A manager is asked an event: what it sees of the world behind the effect that it decides is what that effect makes of
+/// A manager is asked an event: what it sees of the world after the effect that it decides is what that effect makes of
 /// what it saw before.
 pub fn law_view_goes_on()
     ensures { (net : Network) (w : World) (v : ℕ) (event : EventValue) (e : Effect) (octets : ℕ) → IsNetwork net → Conserved net w → v < net.site.nodes →
@@ -64,7 +64,7 @@ pub fn law_view_goes_on_receiving()
         view_after (view_of net w (receiver net.site l)) (receive net.site (view_of net w (receiver net.site l)) l offset p) }
 {}
 
-/// Behind a start each lane goes on at its leased end, and what one life keeps is gone; all else that a manager sees is what it
+/// After a start each lane goes on at its leased end, and what one life keeps is gone; all else that a manager sees is what it
 /// saw before, with the batch in doubt, where that fits and was committed.
 pub fn law_start_goes_on()
     ensures { (net : Network) (w : World) (v : ℕ) (committed : Bool) → Conserved net w → w.up v ≡ false → is_enabled net w (Start v (Recovers committed)) ≡ true →

@@ -84,10 +84,10 @@ true_step : (net : Network) (w : World) (action : Action) → IsNetwork net → 
     IsTrueStep w (step net w action).0 (of_step net w action (step net w action).1)
 unfolding step is_enabled
 true_step net w (Ask v event environment) good c after enabled =
-    let front = and_left (is_node net v && is_asked event) (is_valid_event net.site v event) enabled in
-    let node : v < net.site.nodes = below v net.site.nodes (and_left (is_node net v) (is_asked event) front) in
+    let prefix = and_left (is_node net v && is_asked event) (is_valid_event net.site v event) enabled in
+    let node : v < net.site.nodes = below v net.site.nodes (and_left (is_node net v) (is_asked event) prefix) in
     told_step net w (handle net w v event environment).0 v _ after.now.groups (grows_step net w (Ask v event environment))
-    (handled_true net w v event environment good c node (and_right (is_node net v) (is_asked event) front)
+    (handled_true net w v event environment good c node (and_right (is_node net v) (is_asked event) prefix)
     (and_right (is_node net v && is_asked event) (is_valid_event net.site v event) enabled))
   where
     below : (a b : ℕ) → nat_lt a b ≡ true → a < b

@@ -39,6 +39,7 @@ module _ (P : List Fact → List (Name × ℕ) → Type 0)
         puts = λ l o. h;
         notes = λ x v k. k;
         starts = λ v committed. keeps_resolved net w v committed h;
+        resumes = λ v committed. keeps_resolved net (interrupted_start net w v (Some committed)) v committed (keeps_interrupted net w v (Some committed) h);
         interrupts = λ v made. keeps_interrupted net w v made h;
         crashes = λ v. h;
         links = λ link up. h;

@@ -82,8 +82,8 @@ enabled_group : (net : Network) (w : World) (v m n bits : â„•) (slaves : List â„
 unfolding is_enabled is_valid_event
 enabled_group net w v m n bits slaves environment h =
     let valid = and_right (is_node net v && true) (are_slaves slaves && is_count n && is_size bits) h in
-    let front = and_left (are_slaves slaves && is_count n) (is_size bits) valid in
-    let slaved = and_left (are_slaves slaves) (is_count n) front in
+    let prefix = and_left (are_slaves slaves && is_count n) (is_size bits) valid in
+    let slaved = and_left (are_slaves slaves) (is_count n) prefix in
     let sizes = and_left (nat_le 2 (length slaves) && nat_le (length slaves) 5) (is_rising slaves) slaved in
     two_or_more (length slaves) (and_left (nat_le 2 (length slaves)) (nat_le (length slaves) 5) sizes)
 

@@ -85,10 +85,10 @@ block_port link number bytes p h =
     ((p.lane.link == link) && (number == length p.blocks) && nat_lt number 1024) ≡ t → IsPort (if t then block_added number bytes p else p)) [
       | false ↦ λ e. h
       | true ↦ λ e.
-          let front = and_left ((p.lane.link == link) && (number == length p.blocks)) (nat_lt number 1024) e in
+          let prefix = and_left ((p.lane.link == link) && (number == length p.blocks)) (nat_lt number 1024) e in
           let last = and_right ((p.lane.link == link) && (number == length p.blocks)) (nat_lt number 1024) e in
           let low : number < 1024 = grind (arith, nat_tests) in
-          added_port number bytes p (eq_from number (length p.blocks) (and_right (p.lane.link == link) (number == length p.blocks) front)) low h
+          added_port number bytes p (eq_from number (length p.blocks) (and_right (p.lane.link == link) (number == length p.blocks) prefix)) low h
     ] refl
 
 lease_port : (l : Lane) (end : ℕ) (p : Port) → IsPort p → IsPort (with_lease l end p)
@@ -97,7 +97,7 @@ lease_port l end p h =
     (lane_eq p.lane l && nat_le p.lease end && nat_le end (received_of p)) ≡ t → IsPort (if t then record p { lease = end } else p)) [
       | false ↦ λ e. h
       | true ↦ λ e.
-          let front = and_right (lane_eq p.lane l) (nat_le p.lease end) (and_left (lane_eq p.lane l && nat_le p.lease end) (nat_le end (received_of p)) e) in
+          let prefix = and_right (lane_eq p.lane l) (nat_le p.lease end) (and_left (lane_eq p.lane l && nat_le p.lease end) (nat_le end (received_of p)) e) in
           let last = and_right (lane_eq p.lane l && nat_le p.lease end) (nat_le end (received_of p)) e in
           let above : p.lease ≤ end = grind (arith, nat_tests) in
           let below : end ≤ received_of p = grind (arith, nat_tests) in

@@ -1,4 +1,4 @@
--- The bytes of a lane: as many as its blocks say, octets, and with more blocks more of them behind.
+-- The bytes of a lane: as many as its blocks say, octets, and with more blocks more of them after.
 use Rattle.std.proofs.Common.{◌≡◌, ℕ, zero, suc, ◌+◌, ◌-◌, ◌*◌, ◌<◌, ◌≤◌, List, [], ◌∷◌, ◌++◌, length, refl, sym, ◌∙◌, ap, arith, length-append, append-nil, append_assoc}
 use Rattle.std.specs.Prelude.{nat_lt}
 use Rattle.std.specs.List.{AllByRecursion, flat_map}

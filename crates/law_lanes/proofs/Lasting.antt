@@ -50,6 +50,13 @@ module _ (net : Network) (w : World) where
   interrupted_more v None = let m = same_more w in record { facts = m.facts; known = m.known; blocks = m.blocks; frames = m.frames; wire = m.wire }
   interrupted_more v (Some committed) = let m = same_more w in record { facts = m.facts; known = m.known; blocks = m.blocks; frames = m.frames; wire = m.wire }
 
+-- a stopped start, and then one that goes on from its checkpoint
+resumed_more : (net : Network) (w : World) (v : ℕ) (committed : Bool) → Outgrows w (resolved net.site (interrupted_start net w v (Some committed)) v committed)
+resumed_more net w v committed =
+    let halted : World = interrupted_start net w v (Some committed) in
+    then_more w halted (resolved net.site halted v committed) (interrupted_more net w v (Some committed)) (settled_more net halted v committed)
+
+module _ (net : Network) (w : World) where
   -- one lane's wire may get longer
   wire_more : (l : Lane) (wire : List ℕ) → ((k j : ℕ) → slice_get (w.wire l) k ≡ Some j → slice_get wire k ≡ Some j) →
       (k : Lane) (i j : ℕ) → slice_get (w.wire k) i ≡ Some j → slice_get (lane_set w.wire l wire k) i ≡ Some j
@@ -82,8 +89,9 @@ module _ (net : Network) (w : World) where
           wire = wire_more l (w.wire l ++ o.frame ∷ []) (λ k j h. get_prefix (w.wire l) (o.frame ∷ []) k j h);
         };
         notes = λ x v g. record { facts = g.facts; known = g.known; blocks = g.blocks; frames = g.frames; wire = g.wire };
-        starts = λ v committed. let x = settled_more v committed in record { facts = x.facts; known = x.known; blocks = x.blocks; frames = x.frames; wire = x.wire };
-        interrupts = interrupted_more;
+        starts = λ v committed. let x = settled_more net w v committed in record { facts = x.facts; known = x.known; blocks = x.blocks; frames = x.frames; wire = x.wire };
+        resumes = λ v committed. let x = resumed_more net w v committed in record { facts = x.facts; known = x.known; blocks = x.blocks; frames = x.frames; wire = x.wire };
+        interrupts = interrupted_more net w;
         crashes = λ v. record { facts = m.facts; known = m.known; blocks = m.blocks; frames = m.frames; wire = m.wire };
         links = λ link up. record { facts = m.facts; known = m.known; blocks = m.blocks; frames = m.frames; wire = m.wire };
       }

@@ -146,9 +146,9 @@ offset_same (Some a) = eq_same a
 
 pub transmission_from : (a b : Transmission) → transmission_eq a b ≡ true → a ≡ b
 transmission_from a b h =
-    let front = and_left (lane_eq a.lane b.lane && item_eq a.item b.item) (offset_eq a.received_offset b.received_offset) h in
-    let lane = lane_eq_from a.lane b.lane (and_left (lane_eq a.lane b.lane) (item_eq a.item b.item) front) in
-    let item = item_from a.item b.item (and_right (lane_eq a.lane b.lane) (item_eq a.item b.item) front) in
+    let prefix = and_left (lane_eq a.lane b.lane && item_eq a.item b.item) (offset_eq a.received_offset b.received_offset) h in
+    let lane = lane_eq_from a.lane b.lane (and_left (lane_eq a.lane b.lane) (item_eq a.item b.item) prefix) in
+    let item = item_from a.item b.item (and_right (lane_eq a.lane b.lane) (item_eq a.item b.item) prefix) in
     let offset = offset_from a.received_offset b.received_offset (and_right (lane_eq a.lane b.lane && item_eq a.item b.item) (offset_eq a.received_offset b.received_offset) h) in
     λ i. record { lane = lane i; item = item i; received_offset = offset i }
 

@@ -49,7 +49,7 @@ module _ (facts : List Fact) (own : List Owner) (frames : List Allocation) (got 
       let lt : pred < length own = slice_get_within own pred (Frame j) last in
       omega arith
 
-  -- and lie behind the hash key
+  -- and lie after the hash key
   pub after_key : (unclaimed : List Transmission) (lease : ℕ) → HasRoom facts own unclaimed lease got → (j : ℕ) (a : Allocation) → slice_get frames j ≡ Some a → 8 ≤ a.offset
   after_key unclaimed lease r j a at = elim (cases_lt a.offset 8) [
     | inl lt ↦

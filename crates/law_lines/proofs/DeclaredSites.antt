@@ -30,7 +30,7 @@ IsSiteAt phases.SecondSae nodes saes = (length nodes ≡ 2) × (length saes ≡ 
 IsSiteAt phases.Allow nodes saes = (length nodes ≡ 2) × (length saes ≡ 2)
 IsSiteAt phase nodes saes = IsPaired nodes saes
 
--- behind the declarations: the applications stay as they are
+-- after the declarations: the applications stay as they are
 abbrev pub IsWorking : Phase → Type 0
 IsWorking phases.Bits = Unit {0}
 IsWorking phases.Fill = Unit {0}

@@ -49,9 +49,9 @@ at_home id saes home m e =
 
 in_range : (n : Name) → is_name n ≡ true → IsName n
 in_range n h =
-    let front = and_left (nat_lt n.node 16 && nat_le 1 n.count) (nat_lt n.count (2 ^ 48)) h in
-    let node : nat_lt n.node 16 ≡ true = and_left (nat_lt n.node 16) (nat_le 1 n.count) front in
-    let positive : nat_le 1 n.count ≡ true = and_right (nat_lt n.node 16) (nat_le 1 n.count) front in
+    let prefix = and_left (nat_lt n.node 16 && nat_le 1 n.count) (nat_lt n.count (2 ^ 48)) h in
+    let node : nat_lt n.node 16 ≡ true = and_left (nat_lt n.node 16) (nat_le 1 n.count) prefix in
+    let positive : nat_le 1 n.count ≡ true = and_right (nat_lt n.node 16) (nat_le 1 n.count) prefix in
     let count : nat_lt n.count (2 ^ 48) ≡ true = and_right (nat_lt n.node 16 && nat_le 1 n.count) (nat_lt n.count (2 ^ 48)) h in
     record { node = ltb-true n.node 16 node; positive = leb-true 1 n.count positive; count = ltb-true n.count (2 ^ 48) count }
 
@@ -74,10 +74,10 @@ pub and_two : (a b : Bool) → (a && b) ≡ true → (a ≡ true) × (b ≡ true
 and_two a b h = (and_left a b h, and_right a b h)
 
 pub and_three : (a b c : Bool) → (a && b && c) ≡ true → (a ≡ true) × (b ≡ true) × (c ≡ true)
-and_three a b c h = let front = and_two a b (and_left (a && b) c h) in (front.0, front.1, and_right (a && b) c h)
+and_three a b c h = let prefix = and_two a b (and_left (a && b) c h) in (prefix.0, prefix.1, and_right (a && b) c h)
 
 pub and_four : (a b c d : Bool) → (a && b && c && d) ≡ true → (a ≡ true) × (b ≡ true) × (c ≡ true) × (d ≡ true)
-and_four a b c d h = let front = and_three a b c (and_left (a && b && c) d h) in (front.0, front.1, front.2, and_right (a && b && c) d h)
+and_four a b c d h = let prefix = and_three a b c (and_left (a && b && c) d h) in (prefix.0, prefix.1, prefix.2, and_right (a && b && c) d h)
 
 pub and_five : (a b c d e : Bool) → (a && b && c && d && e) ≡ true → (a ≡ true) × (b ≡ true) × (c ≡ true) × (d ≡ true) × (e ≡ true)
-and_five a b c d e h = let front = and_four a b c d (and_left (a && b && c && d) e h) in (front.0, front.1, front.2, front.3, and_right (a && b && c && d) e h)
+and_five a b c d e h = let prefix = and_four a b c d (and_left (a && b && c && d) e h) in (prefix.0, prefix.1, prefix.2, prefix.3, and_right (a && b && c && d) e h)

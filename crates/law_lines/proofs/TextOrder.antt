@@ -21,7 +21,7 @@ use Rattle.law_lines.proofs.CommandMeans.{DoesCommand, IsAsked}
 use Rattle.law_lines.proofs.DeclaredSites.{IsPaired, IsSiteAt, Ordered, goes, went, paired, staged, other_works, works}
 use Rattle.law_lines.proofs.LineMeans.{AllMean, line_means}
 
--- what the rest of a text is, behind these declarations
+-- what the rest of a text is, after these declarations
 pub record IsRest (s : DeclaredSite) (site : DeclaredSite) (lines : List Line) : Type 0 where
   pub order : Ordered s.phase s.saes site lines
   pub pair : IsPaired site.nodes site.saes

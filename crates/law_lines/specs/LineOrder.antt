@@ -1,4 +1,4 @@
--- What a scenario declares, and which lines it may have behind that, in which order.
+-- What a scenario declares, and which lines it may have after that, in which order.
 use Rattle.std.specs.Prelude.{◌≡◌, ℕ, ◌<◌, ◌≤◌, true, List, [], ◌∷◌, length, Option, Some}
 use Rattle.qkd_base.specs.Name.{IsName}
 use Rattle.qkd_base.specs.declared.lane.Way.TheVariants.{Up}
@@ -20,7 +20,7 @@ pub record IsDeclared (site : DeclaredSite) : Type 0 where
   pub slave : ℕ
   pub at_high : home_of site.saes slave ≡ 1
 
--- the phase behind a command's line, where that may stand in this phase
+-- the phase after a command's line, where that may stand in this phase
 abbrev pub after_command : Command → Phase → Option Phase
 after_command (Bits link ends count) phase = after_bits phase
 after_command (Fill master slave bits) phase = after_fill phase

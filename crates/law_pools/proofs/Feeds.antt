@@ -27,7 +27,8 @@ use Rattle.net_model.specs.View.{View}
 use Rattle.net_model.specs.Handle.{is_numbered}
 use Rattle.law_records.proofs.Base.{name_eq_from, name_eq_same, eq_from, and_left, and_right, or_first, or_second, not_false, not_both, number_set_same}
 use Rattle.law_records.proofs.Tables.{at_prefix, at_back, learned_new, learned_keeps, push_there, facts_of-push, facts_of_one}
-use Rattle.law_views.proofs.Shortest.{IsWay, route_is}
+use Rattle.law_views.specs.Shown.{IsRouteBetween}
+use Rattle.law_views.proofs.Shortest.{route_is}
 use Rattle.law_views.proofs.Masked.{count-cons}
 use Rattle.law_views.proofs.Seen.{Sees, chunks_seen}
 use Rattle.law_pools.proofs.Supply.{Supply, bytes_len, bytes_octets}
@@ -85,19 +86,19 @@ stream_stays s d v f n g h = learned_keeps d.facts f n g h
 pub record IsFed (s : Site) (d : Durable) (v peer : ℕ) (stream : Name) (next : ℕ) : Type 0 where
   pub source : ℕ
   pub size : ℕ
-  pub way : List ℕ
-  pub there : fact_at d.facts stream ≡ Some (Open stream source peer size way)
-  pub from : first_of way ≡ v
-  pub to : last_of way ≡ s.home peer
+  pub nodes : List ℕ
+  pub there : fact_at d.facts stream ≡ Some (Open stream source peer size nodes)
+  pub from : first_of nodes ≡ v
+  pub to : last_of nodes ≡ s.home peer
   pub known : chunks_known d.facts (d.known v) stream ≡ next
 
-new_chunks_may : (s : Site) (d : Durable) (see : View) (octet : ℕ → ℕ) (place : ℕ) (stream : Name) (peer size next more n : ℕ) (way random : List ℕ) → see.me < 16 →
-    IsName stream → stream.kind ≡ StreamKind → IsSize size → IsWay see.me (s.home peer) way → ((i : ℕ) → octet i < 256) → Supply octet place size n random →
+new_chunks_may : (s : Site) (d : Durable) (see : View) (octet : ℕ → ℕ) (place : ℕ) (stream : Name) (peer size next more n : ℕ) (nodes random : List ℕ) → see.me < 16 →
+    IsName stream → stream.kind ≡ StreamKind → IsSize size → IsRouteBetween see.me (s.home peer) nodes → ((i : ℕ) → octet i < 256) → Supply octet place size n random →
     IsFed s d see.me peer stream (next + more) → IsBelow d see.me (last_count see.me see.facts + more) →
-    list_all is_numbered (new_chunks see stream way size next random more n) ≡ true → MayReplay s d see.me (new_chunks see stream way size next random more n)
-new_chunks_may s d see octet place stream peer size next more zero way random node named kind big r small from fed' b numbered = tt
-new_chunks_may s d see octet place stream peer size next more (suc n) way random node named kind big r small from fed' b numbered =
-    let f : Fact = Chunk (fresh_name see KeyKind more) stream (next + more) way (take size random) in
+    list_all is_numbered (new_chunks see stream nodes size next random more n) ≡ true → MayReplay s d see.me (new_chunks see stream nodes size next random more n)
+new_chunks_may s d see octet place stream peer size next more zero nodes random node named kind big r small from fed' b numbered = tt
+new_chunks_may s d see octet place stream peer size next more (suc n) nodes random node named kind big r small from fed' b numbered =
+    let f : Fact = Chunk (fresh_name see KeyKind more) stream (next + more) nodes (take size random) in
     let d' : Durable = apply_record s see.me (Learned f) d in
     let c : ℕ = last_count see.me see.facts + more in
     let at : (fresh_name see KeyKind more).count ≡ c + 1 = omega arith in
@@ -105,8 +106,8 @@ new_chunks_may s d see octet place stream peer size next more (suc n) way random
     let again : c + 1 ≡ last_count see.me see.facts + (more + 1) = omega arith in
     let free = new_free d see.me c f refl above b in
     let new = new_unknown d see.me c f refl above b in
-    let both = and_left (is_numbered (Learned f)) (list_all is_numbered (new_chunks see stream way size next (drop size random) (more + 1) n)) numbered in
-    let rest = and_right (is_numbered (Learned f)) (list_all is_numbered (new_chunks see stream way size next (drop size random) (more + 1) n)) numbered in
+    let both = and_left (is_numbered (Learned f)) (list_all is_numbered (new_chunks see stream nodes size next (drop size random) (more + 1) n)) numbered in
+    let rest = and_right (is_numbered (Learned f)) (list_all is_numbered (new_chunks see stream nodes size next (drop size random) (more + 1) n)) numbered in
     let count_ok = and_left (nat_lt (fresh_name see KeyKind more).count (2 ^ 48)) (nat_lt (next + more) (2 ^ 32)) both in
     let index_test : nat_lt (next + more) (2 ^ 32) ≡ true = and_right (nat_lt (fresh_name see KeyKind more).count (2 ^ 48)) (nat_lt (next + more) (2 ^ 32)) both in
     let index_ok : next + more < 2 ^ 32 = below (next + more) index_test in
@@ -116,7 +117,7 @@ new_chunks_may s d see octet place stream peer size next more (suc n) way random
         formed = (refl, kind, subst IsSize (sym (bytes_len octet place size (take size random) from.0)) big);
         ranged = (fresh_is see KeyKind more node count_ok, named, index_ok, r.route, bytes_octets octet small place size (take size random) from.0);
         starts = r.starts;
-        entitled = subst (IsOpenBetween way) (sym fed'.there) (r.starts ∙ sym fed'.from, r.ends ∙ sym fed'.to);
+        entitled = subst (IsOpenBetween nodes) (sym fed'.there) (r.starts ∙ sym fed'.from, r.ends ∙ sym fed'.to);
         note = tt;
         next = λ other index e.
             let is : stream ≡ other = name_eq_from stream other (and_left (name_eq stream other) (next + more == index) e) in
@@ -124,12 +125,12 @@ new_chunks_may s d see octet place stream peer size next more (suc n) way random
         part = λ p e. cc;
         unhanded = λ p e. cc;
       }),
-      new_chunks_may s d' see octet (place + size) stream peer size next (more + 1) n way (drop size random) node named kind big r small from.1
+      new_chunks_may s d' see octet (place + size) stream peer size next (more + 1) n nodes (drop size random) node named kind big r small from.1
           (record {
             source = fed'.source;
             size = fed'.size;
-            way = fed'.way;
-            there = stream_stays s d see.me f stream (Open stream fed'.source peer fed'.size fed'.way) fed'.there;
+            nodes = fed'.nodes;
+            there = stream_stays s d see.me f stream (Open stream fed'.source peer fed'.size fed'.nodes) fed'.there;
             from = fed'.from;
             to = fed'.to;
             known = counted;
@@ -145,20 +146,20 @@ new_chunks_may s d see octet place stream peer size next more (suc n) way random
 
 module _ (s : Site) (d : Durable) (frames : Lane → List Allocation) (unclaimed : Lane → List Transmission) (inv : Invariant s d frames unclaimed) (see bare : View)
     (h : Sees s d see bare) (site : IsSite s) (here : see.me < s.nodes) where
-  fed_may : (octet : ℕ → ℕ) (place : ℕ) (stream : Name) (source peer size count : ℕ) (way' random : List ℕ) (o : Option (List ℕ)) →
-      IsStream s d see.me stream source peer size way' → s.home source ≡ see.me → ((i : ℕ) → octet i < 256) → Supply octet place size count random →
-      ((way : List ℕ) → o ≡ Some way → IsWay see.me (s.home peer) way) → Only s d see (fed see stream source size count random o)
-  fed_may octet place stream source peer size count way' random None x home small from r = tt
-  fed_may octet place stream source peer size count way' random (Some way) x home small from r =
+  fed_may : (octet : ℕ → ℕ) (place : ℕ) (stream : Name) (source peer size count : ℕ) (nodes' random : List ℕ) (o : Option (List ℕ)) →
+      IsStream s d see.me stream source peer size nodes' → s.home source ≡ see.me → ((i : ℕ) → octet i < 256) → Supply octet place size count random →
+      ((nodes : List ℕ) → o ≡ Some nodes → IsRouteBetween see.me (s.home peer) nodes) → Only s d see (fed see stream source size count random o)
+  fed_may octet place stream source peer size count nodes' random None x home small from r = tt
+  fed_may octet place stream source peer size count nodes' random (Some nodes) x home small from r =
       only_either s d see (nat_lt 4096 (waiting see stream source + count)) _ _ (λ e. tt) (λ e.
-      only_makes s d see (new_chunks see stream way size (count_by (is_chunk_of stream) see.facts) random 0 count) (MadeKeys count (fresh_name see KeyKind 0)) (λ numbered.
+      only_makes s d see (new_chunks see stream nodes size (count_by (is_chunk_of stream) see.facts) random 0 count) (MadeKeys count (fresh_name see KeyKind 0)) (λ numbered.
       let zero' : last_count see.me see.facts ≡ last_count see.me see.facts + 0 = omega arith in
-      new_chunks_may s d see octet place stream peer size (count_by (is_chunk_of stream) see.facts) 0 count way random (omega (arith, here, site.nodes))
-      x.fact.ranged.0 x.fact.formed.0 x.fact.formed.1 (r way refl) small from
+      new_chunks_may s d see octet place stream peer size (count_by (is_chunk_of stream) see.facts) 0 count nodes random (omega (arith, here, site.nodes))
+      x.fact.ranged.0 x.fact.formed.0 x.fact.formed.1 (r nodes refl) small from
       (record {
         source = source;
         size = size;
-        way = way';
+        nodes = nodes';
         there = x.there;
         from = x.fact.entitled.from ∙ home;
         to = x.fact.entitled.to;
@@ -172,11 +173,11 @@ module _ (s : Site) (d : Durable) (frames : Lane → List Allocation) (unclaimed
   fed_stream_may : (up : ℕ → Bool) (octet : ℕ → ℕ) (place : ℕ) (n : Name) (count : ℕ) (random : List ℕ) (o : Option Fact) → fact_at see.facts n ≡ o → ((i : ℕ) → octet i < 256) →
       Supply octet place (chunk_size o) count random → Only s d see (fed_stream s up see count random o)
   fed_stream_may up octet place n count random None e small from = tt
-  fed_stream_may up octet place n count random (Some (Open stream source peer size way)) e small from =
+  fed_stream_may up octet place n count random (Some (Open stream source peer size nodes)) e small from =
       only_either s d see (has_end s see stream source) _ _ (λ e1.
       let home : s.home source ≡ see.me = eq_from (s.home source) see.me (and_left (s.home source == see.me) _ e1) in
-      fed_may octet place stream source peer size count way random (route s up see.me (s.home peer))
-      (stream_seen s d frames unclaimed inv see bare h site here n stream source peer size way e) home small from
+      fed_may octet place stream source peer size count nodes random (route s up see.me (s.home peer))
+      (stream_seen s d frames unclaimed inv see bare h site here n stream source peer size nodes e) home small from
       (λ w y. route_is s up see.me (s.home peer) w site.nodes here y)) (λ e1. tt)
   fed_stream_may up octet place n count random (Some _) e small from = tt
 

@@ -25,22 +25,22 @@ use Rattle.law_pools.proofs.Only.{only_answers, only_makes, only_either, entitle
 -- a key of a pair and a size
 pub record IsKey (m t bits : ℕ) (o : Option Fact) : Type 0 where
   pub name : Name
-  pub way : List ℕ
+  pub nodes : List ℕ
   pub bytes : List ℕ
-  pub is : o ≡ Some (Key name m t way bytes)
+  pub is : o ≡ Some (Key name m t nodes bytes)
   pub size : 8 * length bytes ≡ bits
 
 pub key_is : (m t bits : ℕ) (o : Option Fact) → is_key_of m t bits o ≡ true → IsKey m t bits o
 key_is m t bits None h = cc
-key_is m t bits (Some (Key name master slave way bytes)) h =
-    let front = and_left ((master == m) && (slave == t)) (8 * length bytes == bits) h in
-    let a : master ≡ m = eq_from master m (and_left (master == m) (slave == t) front) in
-    let b : slave ≡ t = eq_from slave t (and_right (master == m) (slave == t) front) in
+key_is m t bits (Some (Key name master slave nodes bytes)) h =
+    let prefix = and_left ((master == m) && (slave == t)) (8 * length bytes == bits) h in
+    let a : master ≡ m = eq_from master m (and_left (master == m) (slave == t) prefix) in
+    let b : slave ≡ t = eq_from slave t (and_right (master == m) (slave == t) prefix) in
     record {
       name = name;
-      way = way;
+      nodes = nodes;
       bytes = bytes;
-      is = ap (λ (x : ℕ). Some (Key name x slave way bytes)) a ∙ ap (λ (x : ℕ). Some (Key name m x way bytes)) b;
+      is = ap (λ (x : ℕ). Some (Key name x slave nodes bytes)) a ∙ ap (λ (x : ℕ). Some (Key name m x nodes bytes)) b;
       size = eq_from (8 * length bytes) bits (and_right ((master == m) && (slave == t)) (8 * length bytes == bits) h);
     }
 key_is m t bits (Some _) h = cc
@@ -91,10 +91,10 @@ module _ (s : Site) (d : Durable) (see bare : View) (h : Sees s d see bare) wher
 
   pool_may : (m t bits : ℕ) (n : Name) → s.home m ≡ see.me → is_in_pool see m t bits n ≡ true → (was_handed d.handed n m ≡ false) × MayHave s d.facts d.known n m
   pool_may m t bits n home e =
-      let front = and_left (is_key_of m t bits (fact_at see.facts n) && is_confirmed see n) (not (was_handed see.handed n m)) e in
-      let key = key_is m t bits (fact_at see.facts n) (and_left (is_key_of m t bits (fact_at see.facts n)) (is_confirmed see n) front) in
-      let seen = seen_at s d see bare h n (Key key.name m t key.way key.bytes) key.is in
-      let stored = seen_stored s d see bare h n (and_right (is_key_of m t bits (fact_at see.facts n)) (is_confirmed see n) front) in (
+      let prefix = and_left (is_key_of m t bits (fact_at see.facts n) && is_confirmed see n) (not (was_handed see.handed n m)) e in
+      let key = key_is m t bits (fact_at see.facts n) (and_left (is_key_of m t bits (fact_at see.facts n)) (is_confirmed see n) prefix) in
+      let seen = seen_at s d see bare h n (Key key.name m t key.nodes key.bytes) key.is in
+      let stored = seen_stored s d see bare h n (and_right (is_key_of m t bits (fact_at see.facts n)) (is_confirmed see n) prefix) in (
         sym (handed_seen s d see bare h n m home) ∙ was_not (was_handed see.handed n m) (and_right (is_key_of m t bits (fact_at see.facts n) && is_confirmed see n) (not (was_handed see.handed n m)) e),
         inl (record {
           fact = seen.1.fact;
@@ -117,7 +117,7 @@ module _ (s : Site) (d : Durable) (see bare : View) (h : Sees s d see bare) wher
       (λ x k. pool_may m t bits x ok.home (has_filter (is_in_pool see m t bits) (own_names see) x (has_take (pool see m t bits) n x k)).1))))
 
   for_may : (m t : ℕ) (n : Name) (g : Fact) → is_for m t n g ≡ true → s.home t ≡ see.me → IsSeen d see.me bare g → MayHave s d.facts d.known n t
-  for_may m t n (Key name master slave way bytes) e home x =
+  for_may m t n (Key name master slave nodes bytes) e home x =
       let is : name ≡ n = name_eq_from name n (and_left (name_eq name n) (master == m) (and_left (name_eq name n && (master == m)) (slave == t) e)) in
       let to : slave ≡ t = eq_from slave t (and_right (name_eq name n && (master == m)) (slave == t) e) in
       inl (record {
@@ -127,7 +127,7 @@ module _ (s : Site) (d : Durable) (see bare : View) (h : Sees s d see bare) wher
         knows = at_home (λ u. has (d.known u) n ≡ true) t home (ap (has (d.known see.me)) (sym is) ∙ x.knows);
         is_end = inr (ap (sae_at d.facts false) x.shape ∙ ap Some to);
       })
-  for_may m t n (Part name key master slave way bytes) e home x =
+  for_may m t n (Part name key master slave nodes bytes) e home x =
       let to : slave ≡ t = eq_from slave t (and_right (name_eq key n && (master == m)) (slave == t) e) in
       inr (record {
         name = name;

@@ -23,17 +23,17 @@ record HasOpen (facts : List Fact) (stream : Name) (f : Fact) : Type 0 where
   there : fact_at facts stream ≡ Some open'
   origin' : origin f ≡ origin open'
 
-open_between : (facts : List Fact) (stream : Name) (f : Fact) (way : List ℕ) (o : Option Fact) → origin f ≡ first_of way → fact_at facts stream ≡ o →
-    IsOpenBetween way o → HasOpen facts stream f
-open_between facts stream f way (Some (Open n source peer size route)) at e h =
+open_between : (facts : List Fact) (stream : Name) (f : Fact) (nodes : List ℕ) (o : Option Fact) → origin f ≡ first_of nodes → fact_at facts stream ≡ o →
+    IsOpenBetween nodes o → HasOpen facts stream f
+open_between facts stream f nodes (Some (Open n source peer size route)) at e h =
     record { open' = Open n source peer size route; there = e; origin' = at ∙ h.0 }
-open_between facts stream f way _ at e h = absurd h
+open_between facts stream f nodes _ at e h = absurd h
 
 open_of : (s : Site) (facts : List Fact) (stream : Name) (index : ℕ) (f : Fact) → is_chunk_at stream index f ≡ true → IsEntitled s facts f →
     HasOpen facts stream f
-open_of s facts stream index (Chunk name of i way bytes) h e =
-    subst (λ (n : Name). HasOpen facts n (Chunk name of i way bytes)) (name_eq_from of stream (and_left (name_eq of stream) (i == index) h))
-    (open_between facts of (Chunk name of i way bytes) way (fact_at facts of) refl refl e)
+open_of s facts stream index (Chunk name of i nodes bytes) h e =
+    subst (λ (n : Name). HasOpen facts n (Chunk name of i nodes bytes)) (name_eq_from of stream (and_left (name_eq of stream) (i == index) h))
+    (open_between facts of (Chunk name of i nodes bytes) nodes (fact_at facts of) refl refl e)
 open_of s facts stream index _ h e = cc
 
 same_origin : (facts : List Fact) (stream : Name) (f g : Fact) → HasOpen facts stream f → HasOpen facts stream g → origin f ≡ origin g
@@ -42,7 +42,7 @@ same_origin facts stream f g x y =
     x.origin' ∙ ap origin same ∙ sym y.origin'
 
 is_of : (stream : Name) (index : ℕ) (f : Fact) → is_chunk_at stream index f ≡ true → is_chunk_of stream f ≡ true
-is_of stream index (Chunk name of i way bytes) h = and_left (name_eq of stream) (i == index) h
+is_of stream index (Chunk name of i nodes bytes) h = and_left (name_eq of stream) (i == index) h
 is_of stream index _ h = cc
 
 -- more names, more chunks

@@ -39,9 +39,9 @@ module _ (T T' : List Fact) (known known' : ℕ → List Name) (grows : Grows T 
   pub stored_grows : (v : ℕ) (n : Name) → KnowsStored T (known v) n → KnowsStored T' (known' v) n
   stored_grows v n h = record { note = h.note; fact = h.fact; there = grows h.note h.fact h.there; about = h.about; knows = more v h.note h.knows }
 
-  open_grows : (way : List ℕ) (s : Name) (o : Option Fact) → fact_at T s ≡ o → IsOpenBetween way o → IsOpenBetween way (fact_at T' s)
-  open_grows way s None e h = absurd h
-  open_grows way s (Some f) e h = rw (grows s f e) h
+  open_grows : (nodes : List ℕ) (s : Name) (o : Option Fact) → fact_at T s ≡ o → IsOpenBetween nodes o → IsOpenBetween nodes (fact_at T' s)
+  open_grows nodes s None e h = absurd h
+  open_grows nodes s (Some f) e h = rw (grows s f e) h
 
   pub entitled_grows : (s : Site) (f : Fact) → IsEntitled s T f → IsEntitled s T' f
   entitled_grows s (Chunk name stream index route bytes) h = open_grows route stream (fact_at T stream) refl h

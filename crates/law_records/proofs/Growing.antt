@@ -96,7 +96,7 @@ unfolding replay
 replay_few s v [] d m few = few
 replay_few s v (r ∷ rs) d m few = replay_few s v rs (apply_record s v r d) m.1 (apply_few s v r d m.0 few)
 
--- a fact of the table behind a batch was there, or the batch has it
+-- a fact of the table after a batch was there, or the batch has it
 
 pub taken_facts : (l : Lane) (d : Durable) → (block_taken l d).facts ≡ d.facts
 unfolding block_taken

@@ -11,5 +11,6 @@ pub mod Later
 pub mod Learning
 pub mod Octets
 pub mod Parts
+pub mod Resuming
 pub mod Tables
 pub mod Walks

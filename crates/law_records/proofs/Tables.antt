@@ -19,7 +19,7 @@ found_name (x ∷ xs) n f h =
       | false ↦ λ e h2. found_name xs n f h2
     ] refl h
 
--- more facts behind
+-- more facts after
 pub at_prefix : (facts more : List Fact) (n : Name) (f : Fact) → fact_at facts n ≡ Some f → fact_at (facts ++ more) n ≡ Some f
 at_prefix facts more n f h = rw (find-append, h) refl
 

@@ -17,7 +17,7 @@ use Rattle.net_model.specs.World.{Network, World, Allocation, Transmission, Outg
 use Rattle.net_model.specs.Needed.{view_of}
 use Rattle.net_model.specs.Decision.{Decision, Refuses, Does, Effect}
 use Rattle.net_model.specs.Decide.{decide, random_need}
-use Rattle.net_model.specs.Action.{Environment, Ok, Outcome, Action, Start, Crash, Arm, SetLink, TakeBlock, Ask, Allocate, Transmit, Complete, Deliver, Flip, Forge, WantMemory, Recovery, Recovers, Interrupted, NoMemory, Foreign, is_no_memory, is_entropy_fault, is_io_fault, is_device_fault}
+use Rattle.net_model.specs.Action.{Environment, Ok, Outcome, Action, Start, Crash, Arm, SetLink, TakeBlock, Ask, Allocate, Transmit, Complete, Deliver, Flip, Forge, WantMemory, Recovery, Recovers, Resumes, Interrupted, NoMemory, Foreign, is_no_memory, is_entropy_fault, is_io_fault, is_device_fault}
 use Rattle.net_model.specs.Handle.{is_numbered, commit, stopped, perform, resolve, handle, blocks_at, take_block}
 use Rattle.net_model.specs.Frames.{frame_octets, octets_received, octets_eq, with_flipped, allocate, put, transmit_one, transmit, outgoing_of, unmatched, receive_item, deliver_frame, deliver_number, deliver, tampered_or_put, tampered, flip_octets, flip_number, flip}
 use Rattle.net_model.specs.Start.{resolved, restarted, interrupted_start, recovers, start}
@@ -123,6 +123,7 @@ pub record IsPreserved (net : Network) (w : World) (P : World → Type 0) : Type
   pub puts : (l : Lane) (o : Outgoing) → P (put net w l o (w.wire l ++ o.frame ∷ []) (Some (length (w.wire l))))
   pub notes : (x : World) (v : ℕ) → P x → P (record x { placings = number_set w.placings v [] })
   pub starts : (v : ℕ) (committed : Bool) → P (restarted net (resolved net.site w v committed) v)
+  pub resumes : (v : ℕ) (committed : Bool) → P (restarted net (resolved net.site (interrupted_start net w v (Some committed)) v committed) v)
   pub interrupts : (v : ℕ) (made : Option Bool) → P (interrupted_start net w v made)
   pub crashes : (v : ℕ) → P (record w { up = number_set w.up v false; volatile = number_set w.volatile v no_volatile })
   pub links : (link : ℕ) (up : Bool) → P (record w { link_up = number_set w.link_up link up })
@@ -148,6 +149,7 @@ module _ (net : Network) (w : World) (P : World → Type 0) (k : IsPreserved net
 
   any_recovery : (v : ℕ) (recovery : Recovery) → P (recovers net w v recovery).0
   any_recovery v (Recovers committed) = k.starts v committed
+  any_recovery v (Resumes committed) = k.resumes v committed
   any_recovery v (Interrupted made) = k.interrupts v made
   any_recovery v NoMemory = k.same
   any_recovery v Foreign = k.same

@@ -1,5 +1,5 @@
 -- In every run what is in doubt fits, and each manager is given back by a journal.
-use Rattle.std.proofs.Common.{◌≡◌, ℕ, Bool, true, false, List, [], ◌∷◌, ◌++◌, sym, ◌∙◌, ap, subst, inl, inr}
+use Rattle.std.proofs.Common.{◌≡◌, ℕ, Bool, true, false, List, [], ◌∷◌, ◌++◌, sym, ◌∙◌, ap, subst, Some, inl, inr}
 use Rattle.std.specs.Prelude.{if◌then◌else◌}
 use Rattle.net_model.specs.declared.record.Record.{Record}
 use Rattle.net_model.specs.Premises.{IsNetwork}
@@ -8,14 +8,15 @@ use Rattle.net_model.specs.View.{View}
 use Rattle.net_model.specs.Needed.{view_of}
 use Rattle.net_model.specs.Invariant.{Conserved}
 use Rattle.net_model.specs.Journal.{checkpoint_batches, checkpoint_need}
-use Rattle.net_model.specs.Start.{need_at, resolved}
+use Rattle.net_model.specs.Start.{need_at, resolved, interrupted_start}
 use Rattle.net_model.specs.Fold.{view_batch, view_restarted}
-use Rattle.net_model.specs.Action.{Action, Start, Recovers, is_shown, environment_of}
+use Rattle.net_model.specs.Action.{Action, Start, Recovers, Resumes, is_shown, environment_of}
 use Rattle.net_model.specs.Step.{step, is_enabled, is_step, run, is_run, IsRun}
 use Rattle.law_records.proofs.Base.{and_left, and_right}
+use Rattle.law_records.proofs.Resuming.{resolved_view}
 use Rattle.law_folds.specs.Fitting.{AllFit}
 use Rattle.law_folds.proofs.Empty.{first_empty}
-use Rattle.law_folds.proofs.Starting.{start_goes, start_restarts}
+use Rattle.law_folds.proofs.Starting.{start_goes, start_restarts, resume_goes, resume_restarts}
 use Rattle.law_steps.proofs.Steps.{first_keeps, step_keeps}
 use Rattle.law_journals.specs.GivesBack.{GivesBack}
 use Rattle.law_journals.proofs.Restarting.{restarted_twice, recovered_next, nothing_given, recovered_restarts}
@@ -84,6 +85,14 @@ run_starts net actions v committed network r down enabled =
     let h = run_held net actions network r in
     start_goes net (run net first actions) v committed down enabled h.conserved (λ e. h.fits v)
 
+pub run_resumes : (net : Network) (actions : List Action) (v : ℕ) (committed : Bool) → IsNetwork net → IsRun net first actions → (run net first actions).up v ≡ false →
+    is_enabled net (run net first actions) (Start v (Resumes committed)) ≡ true →
+    view_of net (step net (run net first actions) (Start v (Resumes committed))).0 v ≡
+    view_restarted (if committed then view_batch (view_of net (run net first actions) v) ((run net first actions).in_doubt v).batch else view_of net (run net first actions) v)
+run_resumes net actions v committed network r down enabled =
+    let h = run_held net actions network r in
+    resume_goes net (run net first actions) v committed down enabled h.conserved (λ e. h.fits v)
+
 pub run_checkpoint : (net : Network) (actions : List Action) (v : ℕ) → IsNetwork net → IsRun net first actions →
     GivesBack net.site v (checkpoint_batches (view_of net (run net first actions) v)) (view_of net (run net first actions) v)
 run_checkpoint net actions v network r =
@@ -96,3 +105,15 @@ start_needs net w v committed c down enabled =
     let before : View = view_of net (resolved net.site w v committed) v in
     same_need before (view_of net (step net w (Start v (Recovers committed))).0 v)
     (sym (restarted_twice before) ∙ ap view_restarted (sym (start_restarts net w v committed down enabled c)))
+
+-- and so do both checkpoints where a start finds the one of a stopped start
+module _ (net : Network) (w : World) (v : ℕ) (committed : Bool) (c : Conserved net w) (down : w.up v ≡ false) (enabled : is_enabled net w (Start v (Resumes committed)) ≡ true) where
+  pub found_needs : need_at net (resolved net.site w v committed) v ≡ checkpoint_need (view_of net (step net w (Start v (Resumes committed))).0 v)
+  found_needs =
+      let before : View = view_of net (resolved net.site w v committed) v in
+      same_need before (view_of net (step net w (Start v (Resumes committed))).0 v)
+      (sym (restarted_twice before) ∙ ap view_restarted (sym (resume_restarts net w v committed down enabled c)))
+
+  pub resume_needs : need_at net (resolved net.site (interrupted_start net w v (Some committed)) v committed) v ≡
+      checkpoint_need (view_of net (step net w (Start v (Resumes committed))).0 v)
+  resume_needs = ap checkpoint_need (resolved_view net w v committed v) ∙ found_needs

@@ -14,7 +14,7 @@ use Rattle.net_model.specs.Premises.{IsNetwork}
 use Rattle.net_model.specs.OctetSequence.{block_at}
 use Rattle.net_model.specs.Site.{receiver, is_incident, outgoing_lane}
 use Rattle.net_model.specs.Item.{payload}
-use Rattle.net_model.specs.World.{Network, World, Allocation, Transmission, Outgoing, InDoubt, no_doubt}
+use Rattle.net_model.specs.World.{Network, World, Durable, Journal, Allocation, Transmission, Outgoing, InDoubt, no_doubt}
 use Rattle.net_model.specs.View.{View, port_of, blocks_of}
 use Rattle.net_model.specs.Needed.{view_of}
 use Rattle.net_model.specs.Relay.{receive}
@@ -23,13 +23,14 @@ use Rattle.net_model.specs.Decision.{Refuses, Does, Effect, makes}
 use Rattle.net_model.specs.Decide.{decide, random_need}
 use Rattle.net_model.specs.Events.{is_valid_event}
 use Rattle.net_model.specs.Invariant.{Conserved}
-use Rattle.net_model.specs.Action.{Environment, Ok, Action, Start, Crash, Arm, SetLink, TakeBlock, Ask, Allocate, Transmit, Complete, Deliver, Flip, Forge, WantMemory, Recovery, Recovers, Interrupted, NoMemory, Foreign, Outcome, WasUp, is_no_memory, is_io_fault}
+use Rattle.net_model.specs.Action.{Environment, Ok, Action, Start, Crash, Arm, SetLink, TakeBlock, Ask, Allocate, Transmit, Complete, Deliver, Flip, Forge, WantMemory, Recovery, Recovers, Resumes, Interrupted, NoMemory, Foreign, Outcome, WasUp, is_no_memory, is_io_fault}
 use Rattle.net_model.specs.Handle.{handle, blocks_at, take_block}
 use Rattle.net_model.specs.Frames.{receive_item, allocate, outgoing_of, put, transmit_one, transmit}
-use Rattle.net_model.specs.Start.{resolved, resolved_durable, restarted, recovers, start}
+use Rattle.net_model.specs.Start.{resolved, resolved_durable, restarted, interrupted_start, recovers, start}
 use Rattle.net_model.specs.Step.{step, crash, complete_node, is_node, is_link, is_asked, is_enabled}
 use Rattle.net_model.specs.Fold.{view_batch, view_restarted}
 use Rattle.law_records.proofs.Base.{below_from, number_set_same, and_left, and_right, by_test}
+use Rattle.law_records.proofs.Resuming.{same_batch, resumed_durable}
 use Rattle.law_records.proofs.Walks.{handle_walk, take_block_walk, deliver_walk, tampered_walk, flip_walk}
 use Rattle.law_records.proofs.Extending.{extends_same}
 use Rattle.law_decisions.specs.May.{decided}
@@ -37,7 +38,7 @@ use Rattle.law_folds.specs.Fitting.{AllFit}
 use Rattle.law_folds.proofs.Asked.{event_goes, event_fits}
 use Rattle.law_folds.proofs.Arriving.{receive_goes, receiving_fits}
 use Rattle.law_folds.proofs.Commits.{silent_goes}
-use Rattle.law_folds.proofs.Starting.{started_is, start_goes}
+use Rattle.law_folds.proofs.Starting.{started_is, start_goes, resumed_is, resume_goes}
 use Rattle.law_blocks.proofs.Durables.{SameDurable, same_durable, other_replay}
 use Rattle.law_blocks.proofs.Turns.{IsTurnDecision, asked_turn, receive_turn}
 use Rattle.law_journals.proofs.Restarting.{restarted_twice, batch_restarts}
@@ -54,14 +55,14 @@ module _ (net : Network) (w : World) (network : IsNetwork net) (c : Conserved ne
 
   -- events that are asked
 
-  asked_effect : (u : ℕ) (event : Event) (environment : Environment) → is_enabled net w (Ask u event environment) ≡ true → (e : Effect) → decided net w u event ≡ Does e →
+  pub asked_effect : (u : ℕ) (event : Event) (environment : Environment) → is_enabled net w (Ask u event environment) ≡ true → (e : Effect) → decided net w u event ≡ Does e →
       Goes net w u (random_need (view_of net w u) event) e
   unfolding is_enabled
   asked_effect u event environment enabled e is =
-      let front = and_left (is_node net u && is_asked event) (is_valid_event net.site u event) enabled in
+      let prefix = and_left (is_node net u && is_asked event) (is_valid_event net.site u event) enabled in
       let valid = and_right (is_node net u && is_asked event) (is_valid_event net.site u event) enabled in
-      let here = ltb-true u net.site.nodes (and_left (is_node net u) (is_asked event) front) in
-      let asked = and_right (is_node net u) (is_asked event) front in
+      let here = ltb-true u net.site.nodes (and_left (is_node net u) (is_asked event) prefix) in
+      let asked = and_right (is_node net u) (is_asked event) prefix in
       let turn = subst (IsTurnDecision net w u) is (asked_turn net w network c u event environment enabled) in
       record {
         may = turn.batch;
@@ -71,7 +72,7 @@ module _ (net : Network) (w : World) (network : IsNetwork net) (c : Conserved ne
 
   -- blocks
 
-  block_effect : (u link octets : ℕ) → is_incident net.site u link ≡ true → (blocks_at net w u link == 1024) ≡ false → (e : Effect) →
+  pub block_effect : (u link octets : ℕ) → is_incident net.site u link ≡ true → (blocks_at net w u link == 1024) ≡ false → (e : Effect) →
       decided net w u (Block link (blocks_at net w u link) (block_at (net.device link) (blocks_at net w u link))) ≡ Does e → Goes net w u octets e
   unfolding decide
   block_effect u link octets incident not_full e is =
@@ -99,7 +100,7 @@ module _ (net : Network) (w : World) (network : IsNetwork net) (c : Conserved ne
 
   -- notes
 
-  note_effect : (u octets : ℕ) (placings : List Placing) (e : Effect) → decided net w u (Note placings) ≡ Does e → Goes net w u octets e
+  pub note_effect : (u octets : ℕ) (placings : List Placing) (e : Effect) → decided net w u (Note placings) ≡ Does e → Goes net w u octets e
   unfolding decide
   note_effect u octets placings e is =
       let see : View = view_of net w u in
@@ -153,40 +154,68 @@ module _ (net : Network) (w : World) (network : IsNetwork net) (c : Conserved ne
   -- starts
 
   module _ (u : ℕ) (down : w.up u ≡ false) where
-    settled : (committed : Bool) → ((restarted net (resolved net.site w u committed) u).in_doubt u).batch ≡ []
+    settled : (before : World) → ((restarted net before u).in_doubt u).batch ≡ []
     unfolding restarted
-    settled committed = ap (λ (d : InDoubt). d.batch) (number_set_same w.in_doubt u no_doubt)
+    settled before = ap (λ (d : InDoubt). d.batch) (number_set_same before.in_doubt u no_doubt)
+
+    -- whichever start it was that goes on so
+    here : (after : World) (committed : Bool) →
+        view_of net after u ≡ view_restarted (if committed then view_batch (view_of net w u) (w.in_doubt u).batch else view_of net w u) → (after.in_doubt u).batch ≡ [] →
+        Moves net w after u
+    here after true view none = inr (inr (record {
+      batch = (w.in_doubt u).batch;
+      view = ap view_restarted view ∙ restarted_twice (view_batch (view_of net w u) (w.in_doubt u).batch) ∙ batch_restarts (view_of net w u) (w.in_doubt u).batch;
+      none = none;
+    }))
+    here after false view none = inr (inl (record {
+      view = ap view_restarted view ∙ restarted_twice (view_of net w u);
+      fits = subst (λ rs. AllFit net (saved net after u) rs) (sym none) tt;
+    }))
 
     started_here : (committed : Bool) → is_enabled net w (Start u (Recovers committed)) ≡ true → DoubtsFit net w → Moves net w (step net w (Start u (Recovers committed))).0 u
-    started_here true enabled fits = inr (inr (record {
-      batch = (w.in_doubt u).batch;
-      view = ap view_restarted (start_goes net w u true down enabled c (λ e. fits u)) ∙ restarted_twice (view_batch (view_of net w u) (w.in_doubt u).batch) ∙
-          batch_restarts (view_of net w u) (w.in_doubt u).batch;
-      none = ap (λ (x : World). (x.in_doubt u).batch) (started_is net w u true down enabled) ∙ settled true;
-    }))
-    started_here false enabled fits =
-        let after : World = (step net w (Start u (Recovers false))).0 in
-        let none : (after.in_doubt u).batch ≡ [] = ap (λ (x : World). (x.in_doubt u).batch) (started_is net w u false down enabled) ∙ settled false in
-        inr (inl (record {
-          view = ap view_restarted (start_goes net w u false down enabled c (λ e. cc)) ∙ restarted_twice (view_of net w u);
-          fits = subst (λ rs. AllFit net (saved net after u) rs) (sym none) tt;
-        }))
+    started_here committed enabled fits =
+        here (step net w (Start u (Recovers committed))).0 committed (start_goes net w u committed down enabled c (λ e. fits u))
+        (ap (λ (x : World). (x.in_doubt u).batch) (started_is net w u committed down enabled) ∙ settled (resolved net.site w u committed))
+
+    resumed_here : (committed : Bool) → is_enabled net w (Start u (Resumes committed)) ≡ true → DoubtsFit net w → Moves net w (step net w (Start u (Resumes committed))).0 u
+    resumed_here committed enabled fits =
+        here (step net w (Start u (Resumes committed))).0 committed (resume_goes net w u committed down enabled c (λ e. fits u))
+        (ap (λ (x : World). (x.in_doubt u).batch) (resumed_is net w u committed down enabled) ∙ settled (resolved net.site (interrupted_start net w u (Some committed)) u committed))
 
     other_durable : (committed : Bool) (v : ℕ) → v ≢ u → SameDurable net.site v w.durable (resolved_durable net.site w u committed)
     other_durable true v apart = other_replay net.site v u apart w.durable w.frames w.unclaimed c.now (w.in_doubt u).batch (c.doubts u)
     other_durable false v apart = same_durable net.site v w.durable
 
-    started_there : (committed : Bool) (v : ℕ) → v ≢ u → Moves net w (restarted net (resolved net.site w u committed) u) v
+    -- whatever it settled and however its journal was moved
+    there : (v : ℕ) → v ≢ u → (d : Durable) → SameDurable net.site v w.durable d → (journal : ℕ → Journal) (in_doubt : ℕ → InDoubt) → (in_doubt v).batch ≡ (w.in_doubt v).batch →
+        Moves net w (restarted net (record w { durable = d; journal = journal; in_doubt = in_doubt }) u) v
     unfolding restarted
+    there v apart d same journal in_doubt doubt =
+        durable_stays net w _ v (saved_same net v w _ same.extends same.acked same.closed same.handed)
+        (ap (λ (x : InDoubt). x.batch) (other_set in_doubt u v no_doubt apart) ∙ doubt)
+
+    started_there : (committed : Bool) (v : ℕ) → v ≢ u → Moves net w (restarted net (resolved net.site w u committed) u) v
     started_there committed v apart =
-        let d = other_durable committed v apart in
-        durable_stays net w _ v (saved_same net v w _ d.extends d.acked d.closed d.handed) (ap (λ (x : InDoubt). x.batch) (other_set w.in_doubt u v no_doubt apart))
+        let next : World = resolved net.site w u committed in
+        there v apart next.durable (other_durable committed v apart) next.journal next.in_doubt refl
+
+    resumed_there : (committed : Bool) (v : ℕ) → v ≢ u → Moves net w (restarted net (resolved net.site (interrupted_start net w u (Some committed)) u committed) u) v
+    resumed_there committed v apart =
+        let next : World = resolved net.site (interrupted_start net w u (Some committed)) u committed in
+        there v apart next.durable (subst (SameDurable net.site v w.durable) (sym (resumed_durable net w u committed)) (other_durable committed v apart)) next.journal next.in_doubt
+        (same_batch net w u committed v)
 
     recovers_moves : (committed : Bool) → is_enabled net w (Start u (Recovers committed)) ≡ true → DoubtsFit net w → (v : ℕ) →
         Moves net w (step net w (Start u (Recovers committed))).0 v
     recovers_moves committed enabled fits v =
         here_or_there (Moves net w (step net w (Start u (Recovers committed))).0) u v (started_here committed enabled fits)
         (λ apart. subst (λ (x : World). Moves net w x v) (sym (started_is net w u committed down enabled)) (started_there committed v apart))
+
+    resumes_moves : (committed : Bool) → is_enabled net w (Start u (Resumes committed)) ≡ true → DoubtsFit net w → (v : ℕ) →
+        Moves net w (step net w (Start u (Resumes committed))).0 v
+    resumes_moves committed enabled fits v =
+        here_or_there (Moves net w (step net w (Start u (Resumes committed))).0) u v (resumed_here committed enabled fits)
+        (λ apart. subst (λ (x : World). Moves net w x v) (sym (resumed_is net w u committed down enabled)) (resumed_there committed v apart))
 
   interrupted_moves : (u : ℕ) (made : Option Bool) (v : ℕ) → Moves net w (recovers net w u (Interrupted made)).0 v
   interrupted_moves u None v = durable_stays net w _ v (saved_same net v w _ (extends_same net.site v w.durable) refl refl refl) refl
@@ -206,11 +235,12 @@ module _ (net : Network) (w : World) (network : IsNetwork net) (c : Conserved ne
     where
       by_recovery : w.up u ≡ false → (r : Recovery) → is_enabled net w (Start u r) ≡ true → Moves net w (recovers net w u r).0 v
       by_recovery down (Recovers committed) may = subst (λ (x : World). Moves net w x v) (started_is net w u committed down may) (recovers_moves u down committed may fits v)
+      by_recovery down (Resumes committed) may = subst (λ (x : World). Moves net w x v) (resumed_is net w u committed down may) (resumes_moves u down committed may fits v)
       by_recovery down (Interrupted made) may = interrupted_moves u made v
       by_recovery down NoMemory may = stays net w v
       by_recovery down Foreign may = stays net w v
 
-  incident_is : (u link : ℕ) (environment : Environment) → is_enabled net w (TakeBlock u link environment) ≡ true → is_incident net.site u link ≡ true
+  pub incident_is : (u link : ℕ) (environment : Environment) → is_enabled net w (TakeBlock u link environment) ≡ true → is_incident net.site u link ≡ true
   unfolding is_enabled
   incident_is u link environment may = and_right (is_node net u && is_link net link) (is_incident net.site u link) may
 

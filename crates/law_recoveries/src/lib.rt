@@ -2,16 +2,16 @@
 //! start goes on from there.
 #![tactic(auto)]
 
-ghost use Rattle.std.specs.Prelude.{◌≡◌, ℕ, Bool, false, true, List, if◌then◌else◌};
+ghost use Rattle.std.specs.Prelude.{◌≡◌, ℕ, Bool, false, true, List, Some, if◌then◌else◌};
 ghost use Rattle.net_model.specs.declared.record.Record.{Record};
 ghost use Rattle.net_model.specs.World.{Network, World, first};
 ghost use Rattle.net_model.specs.Invariant.{Conserved};
 ghost use Rattle.net_model.specs.Premises.{IsNetwork};
-ghost use Rattle.net_model.specs.Action.{Action, Start, Recovers};
+ghost use Rattle.net_model.specs.Action.{Action, Start, Recovers, Resumes};
 ghost use Rattle.net_model.specs.Step.{step, is_enabled, run, IsRun};
 ghost use Rattle.net_model.specs.Needed.{view_of};
 ghost use Rattle.net_model.specs.Journal.{checkpoint_batches, checkpoint_need};
-ghost use Rattle.net_model.specs.Start.{need_at, resolved};
+ghost use Rattle.net_model.specs.Start.{need_at, resolved, interrupted_start};
 ghost use Rattle.net_model.specs.Fold.{view_batch, view_restarted};
 ghost use Rattle.law_journals.specs.GivesBack.{GivesBack};
 ghost use Rattle.law_recoveries.specs.Saved.{Moves, DoubtsFit};
@@ -30,12 +30,18 @@ pub fn law_doubts_fit()
     ensures run { (net : Network) (actions : List Action) → IsNetwork net → IsRun net first actions → DoubtsFit net (run net first actions) }
 {}
 
-/// Behind a start in a run each lane goes on at its leased end, and what one life keeps is gone; all else that the manager sees is
-/// what it saw before, with the batch in doubt where that was committed.
+/// After a start in a run each lane goes on at its leased end, and what one life keeps is gone; all else that the manager sees is
+/// what it saw before, with the batch in doubt where that was committed. So it is too where the start finds the checkpoint of a
+/// stopped one.
 pub fn law_start_goes_on_in_a_run()
-    ensures { (net : Network) (actions : List Action) (v : ℕ) (committed : Bool) → IsNetwork net → IsRun net first actions → (run net first actions).up v ≡ false →
+    ensures recovers { (net : Network) (actions : List Action) (v : ℕ) (committed : Bool) → IsNetwork net → IsRun net first actions → (run net first actions).up v ≡ false →
         is_enabled net (run net first actions) (Start v (Recovers committed)) ≡ true →
         view_of net (step net (run net first actions) (Start v (Recovers committed))).0 v ≡
+        view_restarted (if committed then view_batch (view_of net (run net first actions) v) ((run net first actions).in_doubt v).batch
+        else view_of net (run net first actions) v) }
+    ensures resumes { (net : Network) (actions : List Action) (v : ℕ) (committed : Bool) → IsNetwork net → IsRun net first actions → (run net first actions).up v ≡ false →
+        is_enabled net (run net first actions) (Start v (Resumes committed)) ≡ true →
+        view_of net (step net (run net first actions) (Start v (Resumes committed))).0 v ≡
         view_restarted (if committed then view_batch (view_of net (run net first actions) v) ((run net first actions).in_doubt v).batch
         else view_of net (run net first actions) v) }
 {}
@@ -48,8 +54,14 @@ pub fn law_run_is_given_back()
         GivesBack net.site v (checkpoint_batches (view_of net (run net first actions) v)) (view_of net (run net first actions) v) }
 {}
 
-/// The octets of the checkpoint that a start may make are those that the manager which it makes needs for one.
+/// The octets of the checkpoint that a start may make are those that the manager which it makes needs for one. So are those of
+/// the checkpoint of a stopped start that it finds.
 pub fn law_start_checkpoints_what_it_gives_back()
-    ensures { (net : Network) (w : World) (v : ℕ) (committed : Bool) → Conserved net w → w.up v ≡ false → is_enabled net w (Start v (Recovers committed)) ≡ true →
+    ensures recovers { (net : Network) (w : World) (v : ℕ) (committed : Bool) → Conserved net w → w.up v ≡ false → is_enabled net w (Start v (Recovers committed)) ≡ true →
         need_at net (resolved net.site w v committed) v ≡ checkpoint_need (view_of net (step net w (Start v (Recovers committed))).0 v) }
+    ensures found { (net : Network) (w : World) (v : ℕ) (committed : Bool) → Conserved net w → w.up v ≡ false → is_enabled net w (Start v (Resumes committed)) ≡ true →
+        need_at net (resolved net.site w v committed) v ≡ checkpoint_need (view_of net (step net w (Start v (Resumes committed))).0 v) }
+    ensures resumes { (net : Network) (w : World) (v : ℕ) (committed : Bool) → Conserved net w → w.up v ≡ false → is_enabled net w (Start v (Resumes committed)) ≡ true →
+        need_at net (resolved net.site (interrupted_start net w v (Some committed)) v committed) v ≡
+        checkpoint_need (view_of net (step net w (Start v (Resumes committed))).0 v) }
 {}

@@ -135,17 +135,17 @@ module _ (s : Site) (d : Durable) (frames : Lane → List Allocation) (unclaimed
   -- a key of the pool
   pub pool_bytes : (m t bits : ℕ) (n : Name) → s.home m ≡ see.me → is_in_pool see m t bits n ≡ true → HasTrueBytes d.facts n m (bytes_or_none (fact_at see.facts n))
   pool_bytes m t bits n home e =
-      let front = and_left (is_key_of m t bits (fact_at see.facts n) && is_confirmed see n) (not (was_handed see.handed n m)) e in
+      let prefix = and_left (is_key_of m t bits (fact_at see.facts n) && is_confirmed see n) (not (was_handed see.handed n m)) e in
       let free = was_not (was_handed see.handed n m) (and_right (is_key_of m t bits (fact_at see.facts n) && is_confirmed see n) (not (was_handed see.handed n m)) e) in
-      let key = key_is m t bits (fact_at see.facts n) (and_left (is_key_of m t bits (fact_at see.facts n)) (is_confirmed see n) front) in
-      let g : Fact = Key key.name m t key.way key.bytes in
+      let key = key_is m t bits (fact_at see.facts n) (and_left (is_key_of m t bits (fact_at see.facts n)) (is_confirmed see n) prefix) in
+      let g : Fact = Key key.name m t key.nodes key.bytes in
       let seen = seen_at s d see bare h n g key.is in
       let x = seen.1 in
-      let behind : Fact = Key key.name m t key.way (bytes_of x.fact) in
-      let there : fact_at d.facts key.name ≡ Some behind = x.there ∙ ap Some x.shape in
-      let pair = (inv.table key.name behind there).entitled in
+      let after : Fact = Key key.name m t key.nodes (bytes_of x.fact) in
+      let there : fact_at d.facts key.name ≡ Some after = x.there ∙ ap Some x.shape in
+      let pair = (inv.table key.name after there).entitled in
       let open' : not (was_handed bare.handed key.name m) ≡ true = ap (λ (y : Name). not (was_handed bare.handed y m)) seen.0 ∙ unhanded n m free in
-      let needs : is_needed bare x.fact ≡ true = ap (is_needed bare) x.shape ∙ needed_first behind (pair.from ∙ home) open' in
+      let needs : is_needed bare x.fact ≡ true = ap (is_needed bare) x.shape ∙ needed_first after (pair.from ∙ home) open' in
       subst (HasTrueBytes d.facts n m) (sym (ap bytes_or_none (key.is ∙ ap Some (seen_needed s d see bare h g x needs))))
       (one_true d.facts n m x.fact inv.groups (ap (fact_at d.facts) (sym seen.0) ∙ x.there) (ap is_single x.shape))
 
@@ -171,33 +171,33 @@ module _ (s : Site) (d : Durable) (frames : Lane → List Allocation) (unclaimed
 
   slave_true : IsSite s → (m t : ℕ) (n : Name) (g : Fact) → is_for m t n g ≡ true → s.allowed m t ≡ true → s.home t ≡ see.me →
       was_handed see.handed n t ≡ false → IsSeen d see.me bare g → HasTrueBytes d.facts n t (bytes_of g)
-  slave_true site m t n (Key name master slave way bytes) e allowed home free x =
-      let front = and_left (name_eq name n && (master == m)) (slave == t) e in
-      let is : name ≡ n = name_eq_from name n (and_left (name_eq name n) (master == m) front) in
-      let from : master ≡ m = eq_from master m (and_right (name_eq name n) (master == m) front) in
+  slave_true site m t n (Key name master slave nodes bytes) e allowed home free x =
+      let prefix = and_left (name_eq name n && (master == m)) (slave == t) e in
+      let is : name ≡ n = name_eq_from name n (and_left (name_eq name n) (master == m) prefix) in
+      let from : master ≡ m = eq_from master m (and_right (name_eq name n) (master == m) prefix) in
       let to : slave ≡ t = eq_from slave t (and_right (name_eq name n && (master == m)) (slave == t) e) in
-      let behind : Fact = Key name master slave way (bytes_of x.fact) in
-      let there : fact_at d.facts name ≡ Some behind = x.there ∙ ap Some x.shape in
-      let pair = (inv.table name behind there).entitled in
-      let away : first_of way ≢ see.me = λ y. apart site m t allowed home (sym (pair.from ∙ ap s.home from) ∙ y) in
+      let after : Fact = Key name master slave nodes (bytes_of x.fact) in
+      let there : fact_at d.facts name ≡ Some after = x.there ∙ ap Some x.shape in
+      let pair = (inv.table name after there).entitled in
+      let away : first_of nodes ≢ see.me = λ y. apart site m t allowed home (sym (pair.from ∙ ap s.home from) ∙ y) in
       let open' : not (was_handed bare.handed name slave) ≡ true =
       ap (λ (k : Name). not (was_handed bare.handed k slave)) is ∙ ap (λ (u : ℕ). not (was_handed bare.handed n u)) to ∙ unhanded n t free in
-      let needs : is_needed bare x.fact ≡ true = ap (is_needed bare) x.shape ∙ needed_last behind away (pair.to ∙ ap s.home to ∙ home) open' in
-      subst (HasTrueBytes d.facts n t) (sym (ap bytes_of (seen_needed s d see bare h (Key name master slave way bytes) x needs)))
+      let needs : is_needed bare x.fact ≡ true = ap (is_needed bare) x.shape ∙ needed_last after away (pair.to ∙ ap s.home to ∙ home) open' in
+      subst (HasTrueBytes d.facts n t) (sym (ap bytes_of (seen_needed s d see bare h (Key name master slave nodes bytes) x needs)))
       (one_true d.facts n t x.fact inv.groups (ap (fact_at d.facts) (sym is) ∙ x.there) (ap is_single x.shape))
-  slave_true site m t n (Part name key master slave way bytes) e allowed home free x =
-      let front = and_left (name_eq key n && (master == m)) (slave == t) e in
-      let is : key ≡ n = name_eq_from key n (and_left (name_eq key n) (master == m) front) in
-      let from : master ≡ m = eq_from master m (and_right (name_eq key n) (master == m) front) in
+  slave_true site m t n (Part name key master slave nodes bytes) e allowed home free x =
+      let prefix = and_left (name_eq key n && (master == m)) (slave == t) e in
+      let is : key ≡ n = name_eq_from key n (and_left (name_eq key n) (master == m) prefix) in
+      let from : master ≡ m = eq_from master m (and_right (name_eq key n) (master == m) prefix) in
       let to : slave ≡ t = eq_from slave t (and_right (name_eq key n && (master == m)) (slave == t) e) in
-      let behind : Fact = Part name key master slave way (bytes_of x.fact) in
-      let there : fact_at d.facts name ≡ Some behind = x.there ∙ ap Some x.shape in
-      let pair = (inv.table name behind there).entitled in
-      let away : first_of way ≢ see.me = λ y. apart site m t allowed home (sym (pair.from ∙ ap s.home from) ∙ y) in
+      let after : Fact = Part name key master slave nodes (bytes_of x.fact) in
+      let there : fact_at d.facts name ≡ Some after = x.there ∙ ap Some x.shape in
+      let pair = (inv.table name after there).entitled in
+      let away : first_of nodes ≢ see.me = λ y. apart site m t allowed home (sym (pair.from ∙ ap s.home from) ∙ y) in
       let open' : not (was_handed bare.handed key slave) ≡ true =
       ap (λ (k : Name). not (was_handed bare.handed k slave)) is ∙ ap (λ (u : ℕ). not (was_handed bare.handed n u)) to ∙ unhanded n t free in
-      let needs : is_needed bare x.fact ≡ true = ap (is_needed bare) x.shape ∙ needed_last behind away (pair.to ∙ ap s.home to ∙ home) open' in
-      subst (HasTrueBytes d.facts n t) (sym (ap bytes_of (seen_needed s d see bare h (Part name key master slave way bytes) x needs)))
+      let needs : is_needed bare x.fact ≡ true = ap (is_needed bare) x.shape ∙ needed_last after away (pair.to ∙ ap s.home to ∙ home) open' in
+      subst (HasTrueBytes d.facts n t) (sym (ap bytes_of (seen_needed s d see bare h (Part name key master slave nodes bytes) x needs)))
       (group_true d.facts name n t x.fact (record { key = key; master = master; slave = slave; bytes = bytes_of x.fact }) inv.groups x.there (ap part_of x.shape) is)
   slave_true site m t n _ e allowed home free x = cc
 

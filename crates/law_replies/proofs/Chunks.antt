@@ -27,25 +27,25 @@ use Rattle.law_replies.proofs.Bytes.{HasTrueBytes, one_true, needed_first, neede
 -- a chunk, by its parts
 pub record IsChunk (stream : Name) (index : ℕ) (f : Fact) : Type 0 where
   pub name : Name
-  pub way : List ℕ
+  pub nodes : List ℕ
   pub bytes : List ℕ
-  pub is : f ≡ Chunk name stream index way bytes
+  pub is : f ≡ Chunk name stream index nodes bytes
 
 pub chunk_is : (stream : Name) (index : ℕ) (f : Fact) → is_chunk_at stream index f ≡ true → IsChunk stream index f
-chunk_is stream index (Chunk name stream' index' way bytes) h =
+chunk_is stream index (Chunk name stream' index' nodes bytes) h =
     let a : stream' ≡ stream = name_eq_from stream' stream (and_left (name_eq stream' stream) (index' == index) h) in
     let b : index' ≡ index = eq_from index' index (and_right (name_eq stream' stream) (index' == index) h) in
-    record { name = name; way = way; bytes = bytes; is = ap (λ (x : Name). Chunk name x index' way bytes) a ∙ ap (λ (x : ℕ). Chunk name stream x way bytes) b }
+    record { name = name; nodes = nodes; bytes = bytes; is = ap (λ (x : Name). Chunk name x index' nodes bytes) a ∙ ap (λ (x : ℕ). Chunk name stream x nodes bytes) b }
 chunk_is stream index _ h = cc
 
 module _ (s : Site) (d : Durable) (frames : Lane → List Allocation) (unclaimed : Lane → List Transmission) (inv : Invariant s d frames unclaimed) (see bare : View)
     (h : Sees s d see bare) where
   -- the application at an end of it, and at home here, needs it until it has got it
-  chunk_needed : IsSite s → (stream : Name) (source peer size index caller : ℕ) (way : List ℕ) → IsStream s d see.me stream source peer size way → (g : Fact) →
+  chunk_needed : IsSite s → (stream : Name) (source peer size index caller : ℕ) (nodes : List ℕ) → IsStream s d see.me stream source peer size nodes → (g : Fact) →
       IsSeen d see.me bare g → (x : Fact) → fact_at d.facts (name_of x) ≡ Some x → IsChunk stream index x → s.home caller ≡ see.me →
       ((caller == source) ≡ false → caller ≡ peer) → was_handed see.handed (name_of x) caller ≡ false → is_needed bare x ≡ true
-  chunk_needed site stream source peer size index caller way st g seen x there c home other free =
-      subst (λ (y : Fact). is_needed bare y ≡ true) (sym c.is) (elim (caller == source) as (λ t. (caller == source) ≡ t → is_needed bare (Chunk c.name stream index c.way c.bytes) ≡ true) [
+  chunk_needed site stream source peer size index caller nodes st g seen x there c home other free =
+      subst (λ (y : Fact). is_needed bare y ≡ true) (sym c.is) (elim (caller == source) as (λ t. (caller == source) ≡ t → is_needed bare (Chunk c.name stream index c.nodes c.bytes) ≡ true) [
         | true ↦ λ e.
             let same : caller ≡ source = eq_from caller source e in
             needed_first s d frames unclaimed inv see bare h f (between.0 ∙ pair.from ∙ ap s.home (sym same) ∙ home)
@@ -53,25 +53,25 @@ module _ (s : Site) (d : Durable) (frames : Lane → List Allocation) (unclaimed
         | false ↦ λ e.
             let same : caller ≡ peer = other e in
             let at_peer : s.home peer ≡ see.me = ap s.home (sym same) ∙ home in
-            let away : first_of c.way ≢ see.me = λ y. (site.pairs source peer pair.allowed).apart (sym (between.0 ∙ pair.from) ∙ y ∙ sym at_peer) in
+            let away : first_of c.nodes ≢ see.me = λ y. (site.pairs source peer pair.allowed).apart (sym (between.0 ∙ pair.from) ∙ y ∙ sym at_peer) in
             needed_last s d frames unclaimed inv see bare h f away (between.1 ∙ pair.to ∙ at_peer)
             (ap (λ (o : Option ℕ). not (has_it bare c.name o)) (ends false) ∙ ap (λ (u : ℕ). not (was_handed bare.handed c.name u)) (sym same) ∙ open')
       ] refl)
     where
       f : Fact
-      f = Chunk c.name stream index c.way c.bytes
+      f = Chunk c.name stream index c.nodes c.bytes
 
-      pair : IsPair s source peer way
+      pair : IsPair s source peer nodes
       pair = st.fact.entitled
 
       named : name_of x ≡ c.name
       named = ap name_of c.is
 
-      between : (first_of c.way ≡ first_of way) × (last_of c.way ≡ last_of way)
-      between = subst (IsOpenBetween c.way) st.there (inv.table c.name f (sym (ap (fact_at d.facts) named) ∙ there ∙ ap Some c.is)).entitled
+      between : (first_of c.nodes ≡ first_of nodes) × (last_of c.nodes ≡ last_of nodes)
+      between = subst (IsOpenBetween c.nodes) st.there (inv.table c.name f (sym (ap (fact_at d.facts) named) ∙ there ∙ ap Some c.is)).entitled
 
       ends : (at_first : Bool) → stream_end at_first (fact_at bare.facts stream) ≡ Some (if at_first then source else peer)
-      ends at_first = ap (stream_end at_first) (bare_there s d see bare h stream (Open stream source peer size way) st.there st.knows)
+      ends at_first = ap (stream_end at_first) (bare_there s d see bare h stream (Open stream source peer size nodes) st.there st.knows)
 
       open' : not (was_handed bare.handed c.name caller) ≡ true
       open' = ap (λ (y : Name). not (was_handed bare.handed y caller)) (sym named) ∙ unhanded s d frames unclaimed inv see bare h (name_of x) caller free
@@ -81,16 +81,16 @@ module _ (s : Site) (d : Durable) (frames : Lane → List Allocation) (unclaimed
     pub true' : HasTrueBytes d.facts (name_of g) caller (bytes_of g)
     pub some : 0 < length (bytes_of g)
 
-  pub true_chunk : IsSite s → (stream : Name) (source peer size index caller : ℕ) (way : List ℕ) → IsStream s d see.me stream source peer size way →
+  pub true_chunk : IsSite s → (stream : Name) (source peer size index caller : ℕ) (nodes : List ℕ) → IsStream s d see.me stream source peer size nodes →
       (g : Fact) → is_chunk_at stream index g ≡ true → IsSeen d see.me bare g → s.home caller ≡ see.me → ((caller == source) ≡ false → caller ≡ peer) →
       was_handed see.handed (name_of g) caller ≡ false → IsTrueChunk g caller
-  true_chunk site stream source peer size index caller way st g at seen home other free =
+  true_chunk site stream source peer size index caller nodes st g at seen home other free =
       let x : Fact = seen.fact in
       let passes : is_chunk_at stream index x ≡ true = sym (masked_same (is_chunk_at stream index) (place_blind stream index) bare x) ∙ sym (ap (is_chunk_at stream index) seen.is) ∙ at in
       let named : name_of x ≡ name_of g = found_name d.facts (name_of g) x seen.there in
       let there : fact_at d.facts (name_of x) ≡ Some x = ap (fact_at d.facts) named ∙ seen.there in
       let c = chunk_is stream index x passes in
-      let needs = chunk_needed site stream source peer size index caller way st g seen x there c home other (ap (λ (n : Name). was_handed see.handed n caller) named ∙ free) in
+      let needs = chunk_needed site stream source peer size index caller nodes st g seen x there c home other (ap (λ (n : Name). was_handed see.handed n caller) named ∙ free) in
       let same : g ≡ x = seen_needed s d see bare h g seen needs in
       record {
         true' = one_true d.facts (name_of g) caller g inv.groups (seen.there ∙ ap Some (sym same)) (ap is_single (same ∙ c.is));

@@ -59,13 +59,13 @@ marks_hands sae (n ∷ ns) = ap (λ (hs : List (Name × ℕ)). (n, sae) ∷ hs) 
 
 -- what is made is not marked
 
-pub marks_keys : (v : View) (m t : ℕ) (way : List ℕ) (size : ℕ) (random : List ℕ) (more k : ℕ) → marks (new_keys v m t way size random more k) ≡ []
-marks_keys v m t way size random more zero = refl
-marks_keys v m t way size random more (suc k) = marks_keys v m t way size (drop size random) (more + 1) k
+pub marks_keys : (v : View) (m t : ℕ) (nodes : List ℕ) (size : ℕ) (random : List ℕ) (more k : ℕ) → marks (new_keys v m t nodes size random more k) ≡ []
+marks_keys v m t nodes size random more zero = refl
+marks_keys v m t nodes size random more (suc k) = marks_keys v m t nodes size (drop size random) (more + 1) k
 
-pub marks_chunks : (v : View) (stream : Name) (way : List ℕ) (size next : ℕ) (random : List ℕ) (more k : ℕ) → marks (new_chunks v stream way size next random more k) ≡ []
-marks_chunks v stream way size next random more zero = refl
-marks_chunks v stream way size next random more (suc k) = marks_chunks v stream way size next (drop size random) (more + 1) k
+pub marks_chunks : (v : View) (stream : Name) (nodes : List ℕ) (size next : ℕ) (random : List ℕ) (more k : ℕ) → marks (new_chunks v stream nodes size next random more k) ≡ []
+marks_chunks v stream nodes size next random more zero = refl
+marks_chunks v stream nodes size next random more (suc k) = marks_chunks v stream nodes size next (drop size random) (more + 1) k
 
 marks_parts : (v : View) (key : Name) (m : ℕ) (slaves : List (ℕ × List ℕ)) (bytes : List ℕ) (more : ℕ) → marks (new_parts v key m slaves bytes more) ≡ []
 marks_parts v key m [] bytes more = refl

@@ -48,8 +48,8 @@ module _ (s : Site) (d : Durable) (frames : Lane → List Allocation) (unclaimed
   asked_true sealing up random (Enc m t n bits) asked valid = enc_true s d frames unclaimed inv see bare h site here m t n bits
   asked_true sealing up random (Dec t m names) asked valid = dec_true s d frames unclaimed inv see bare h site here t m names
   asked_true sealing up random (EncGroup m slaves n bits) asked valid =
-      let front = and_left (are_slaves slaves && is_count n) (is_size bits) valid in
-      group_true s d frames unclaimed inv see bare h site here m slaves n bits (slaves_are slaves (and_left (are_slaves slaves) (is_count n) front)).0
+      let prefix = and_left (are_slaves slaves && is_count n) (is_size bits) valid in
+      group_true s d frames unclaimed inv see bare h site here m slaves n bits (slaves_are slaves (and_left (are_slaves slaves) (is_count n) prefix)).0
   asked_true sealing up random (Get caller stream index) asked valid = get_true s d frames unclaimed inv see bare h site here caller stream index
   asked_true sealing up random (Fill m t bits count) asked valid =
       silent s d.facts see.facts see.me (Fill m t bits count) _ (λ reply. refl) (fill_unmarked s up see m t bits count random)

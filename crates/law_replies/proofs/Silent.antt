@@ -25,7 +25,7 @@ either b x y h k = by_test Unmarked b x y (λ e. h) (λ e. k)
 module _ (s : Site) (up : ℕ → Bool) (v : View) where
   filled_unmarked : (m t bits count : ℕ) (random : List ℕ) (o : Option (List ℕ)) → Unmarked (filled v m t bits count random o)
   filled_unmarked m t bits count random None = tt
-  filled_unmarked m t bits count random (Some way) = either (nat_lt 4096 (unhanded v m t bits + count)) _ _ tt (marks_keys v m t way (bits / 8) random 0 count)
+  filled_unmarked m t bits count random (Some nodes) = either (nat_lt 4096 (unhanded v m t bits + count)) _ _ tt (marks_keys v m t nodes (bits / 8) random 0 count)
 
   pub fill_unmarked : (m t bits count : ℕ) (random : List ℕ) → Unmarked (fill s up v m t bits count random)
   unfolding fill
@@ -33,11 +33,11 @@ module _ (s : Site) (up : ℕ → Bool) (v : View) where
 
   fed_unmarked : (stream : Name) (source size count : ℕ) (random : List ℕ) (o : Option (List ℕ)) → Unmarked (fed v stream source size count random o)
   fed_unmarked stream source size count random None = tt
-  fed_unmarked stream source size count random (Some way) =
-      either (nat_lt 4096 (waiting v stream source + count)) _ _ tt (marks_chunks v stream way size (count_by (is_chunk_of stream) v.facts) random 0 count)
+  fed_unmarked stream source size count random (Some nodes) =
+      either (nat_lt 4096 (waiting v stream source + count)) _ _ tt (marks_chunks v stream nodes size (count_by (is_chunk_of stream) v.facts) random 0 count)
 
   fed_stream_unmarked : (count : ℕ) (random : List ℕ) (o : Option Fact) → Unmarked (fed_stream s up v count random o)
-  fed_stream_unmarked count random (Some (Open stream source peer size way)) =
+  fed_stream_unmarked count random (Some (Open stream source peer size nodes)) =
       either (has_end s v stream source) _ _ (fed_unmarked stream source size count random (route s up v.me (s.home peer))) tt
   fed_stream_unmarked count random _ = tt
 
@@ -57,7 +57,7 @@ module _ (s : Site) (up : ℕ → Bool) (v : View) where
 
   opened_unmarked : (source peer bits : ℕ) (o : Option (List ℕ)) → Unmarked (opened v source peer bits o)
   opened_unmarked source peer bits None = refl
-  opened_unmarked source peer bits (Some way) = refl
+  opened_unmarked source peer bits (Some nodes) = refl
 
   pub open_unmarked : (source peer bits : ℕ) → Unmarked (open_stream s up v source peer bits)
   unfolding open_stream
@@ -65,7 +65,7 @@ module _ (s : Site) (up : ℕ → Bool) (v : View) where
       either (not (is_entitled s v source source peer)) _ _ refl (either (not (is_size bits)) _ _ refl (opened_unmarked source peer bits (route s up v.me (s.home peer))))
 
   joins_unmarked : (caller other bits : ℕ) (o : Option Fact) → Unmarked (joins s v caller other bits o)
-  joins_unmarked caller other bits (Some (Open stream source peer size way)) =
+  joins_unmarked caller other bits (Some (Open stream source peer size nodes)) =
       either ((caller == source) || ((caller == peer) && has_joined v stream)) _ _ refl
       (either (not ((caller == peer) && (other == source) && (s.home peer == v.me))) _ _ refl (either (not (8 * size == bits)) _ _ refl refl))
   joins_unmarked caller other bits _ = refl
@@ -75,7 +75,7 @@ module _ (s : Site) (up : ℕ → Bool) (v : View) where
   join_unmarked caller other stream bits = joins_unmarked caller other bits (stream_here s v stream)
 
   end_unmarked : (caller : ℕ) (o : Option Fact) (next : Name → ℕ → Decision) → ((n : Name) (source : ℕ) → Unmarked (next n source)) → Unmarked (at_end s v caller o next)
-  end_unmarked caller (Some (Open stream source peer size way)) next h =
+  end_unmarked caller (Some (Open stream source peer size nodes)) next h =
       either ((s.home peer == v.me) && not (has_joined v stream)) _ _ refl
       (either (not (((caller == source) && (s.home source == v.me)) || ((caller == peer) && (s.home peer == v.me)))) _ _ refl (h stream source))
   end_unmarked caller _ next h = refl

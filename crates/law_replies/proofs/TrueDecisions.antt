@@ -140,15 +140,15 @@ module _ (s : Site) (d : Durable) (frames : Lane → List Allocation) (unclaimed
   quiet : (caller : ℕ) (stream : Name) (index n : ℕ) → IsTrueDecision s d.facts see.facts see.me (Get caller stream index) (answers see (only_status n))
   quiet caller stream index n = true_nothing s d.facts see (Get caller stream index) [] (only_status n) refl refl
 
-  gives_tell : (caller index : ℕ) (stream : Name) (source peer size : ℕ) (way : List ℕ) (o : Option Fact) → IsStream s d see.me stream source peer size way →
+  gives_tell : (caller index : ℕ) (stream : Name) (source peer size : ℕ) (nodes : List ℕ) (o : Option Fact) → IsStream s d see.me stream source peer size nodes →
       s.home caller ≡ see.me → ((caller == source) ≡ false → caller ≡ peer) → chunk_at see stream index ≡ o →
       IsTrueDecision s d.facts see.facts see.me (Get caller stream index) (gives_chunk see caller index (caller == source) o)
-  gives_tell caller index stream source peer size way None x home other e = quiet caller stream index 2
-  gives_tell caller index stream source peer size way (Some g) x home other e =
+  gives_tell caller index stream source peer size nodes None x home other e = quiet caller stream index 2
+  gives_tell caller index stream source peer size nodes (Some g) x home other e =
       let seen = seen_found s d see bare h (is_chunk_at stream index) g e in
       true_either s d.facts see.facts see.me (Get caller stream index) (was_handed see.handed (name_of g) caller) _ _ (λ e1. quiet caller stream index 10) (λ e1.
       true_either s d.facts see.facts see.me (Get caller stream index) ((caller == source) && not (is_confirmed see (name_of g))) _ _ (λ e2. quiet caller stream index 2) (λ e2.
-      let c = true_chunk s d frames unclaimed inv see bare h site stream source peer size index caller way x g seen.0 seen.1 home other e1 in
+      let c = true_chunk s d frames unclaimed inv see bare h site stream source peer size index caller nodes x g seen.0 seen.1 home other e1 in
       let is = one_chunk see.facts caller stream index g (bytes_of g) e c.some in
       record {
         marked = ap pairs_of (sym is);
@@ -156,24 +156,24 @@ module _ (s : Site) (d : Durable) (frames : Lane → List Allocation) (unclaimed
       }))
 
   end_true : (n : Name) (caller index : ℕ) (o : Option Fact) (next : Name → ℕ → Decision) → stream_here s see n ≡ o →
-      ((stream : Name) (source peer size : ℕ) (way : List ℕ) → n ≡ stream → IsStream s d see.me stream source peer size way →
+      ((stream : Name) (source peer size : ℕ) (nodes : List ℕ) → n ≡ stream → IsStream s d see.me stream source peer size nodes →
       (((caller == source) && (s.home source == see.me)) || ((caller == peer) && (s.home peer == see.me))) ≡ true →
       IsTrueDecision s d.facts see.facts see.me (Get caller n index) (next stream source)) → IsTrueDecision s d.facts see.facts see.me (Get caller n index) (at_end s see caller o next)
   end_true n caller index None next e k = quiet caller n index 9
-  end_true n caller index (Some (Open stream source peer size way)) next e k =
+  end_true n caller index (Some (Open stream source peer size nodes)) next e k =
       let event : Event = Get caller n index in
       true_either s d.facts see.facts see.me event ((s.home peer == see.me) && not (has_joined see stream)) _ _ (λ e1. quiet caller n index 9) (λ e1.
       true_either s d.facts see.facts see.me event (not (((caller == source) && (s.home source == see.me)) || ((caller == peer) && (s.home peer == see.me)))) _ _ (λ e2. quiet caller n index 8) (λ e2.
-      let named = seen_at s d see bare h n (Open stream source peer size way) (open_end_is s see (fact_at see.facts n) (Open stream source peer size way) e) in
-      k stream source peer size way (sym named.0) (stream_is s d frames unclaimed inv see bare h site here n stream source peer size way e)
+      let named = seen_at s d see bare h n (Open stream source peer size nodes) (open_end_is s see (fact_at see.facts n) (Open stream source peer size nodes) e) in
+      k stream source peer size nodes (sym named.0) (stream_is s d frames unclaimed inv see bare h site here n stream source peer size nodes e)
       (not_true (((caller == source) && (s.home source == see.me)) || ((caller == peer) && (s.home peer == see.me))) e2)))
   end_true n caller index (Some _) next e k = quiet caller n index 9
 
   pub get_true : (caller : ℕ) (stream : Name) (index : ℕ) → IsTrueDecision s d.facts see.facts see.me (Get caller stream index) (get_chunk s see caller stream index)
   unfolding get_chunk
   get_true caller stream index =
-      end_true stream caller index (stream_here s see stream) _ refl (λ st source peer size way is x ends.
+      end_true stream caller index (stream_here s see stream) _ refl (λ st source peer size nodes is x ends.
       true_either s d.facts see.facts see.me (Get caller stream index) ((caller == source) && not (has_joined see st)) _ _ (λ e. quiet caller stream index 3) (λ e.
       let home = caller_home s see.me caller source peer ends in
       subst (λ (n : Name). IsTrueDecision s d.facts see.facts see.me (Get caller n index) (gives_chunk see caller index (caller == source) (chunk_at see st index))) (sym is)
-      (gives_tell caller index st source peer size way (chunk_at see st index) x home.0 home.1 refl)))
+      (gives_tell caller index st source peer size nodes (chunk_at see st index) x home.0 home.1 refl)))

@@ -1,4 +1,4 @@
--- The world behind a plan: at most a lease is durable, and the orders wait for their bytes.
+-- The world after a plan: at most a lease is durable, and the orders wait for their bytes.
 use Rattle.std.proofs.Common.{◌≡◌, ℕ, ◌+◌, ◌≤◌, Bool, true, false, List, [], ◌∷◌, ◌++◌, refl, ◌∙◌, ap, arith, ◌⊎◌, inl, inr}
 use Rattle.std.specs.Prelude.{nat_lt, if◌then◌else◌}
 use Rattle.std.specs.List.{list_all}

@@ -43,7 +43,7 @@ module _ (site : DeclaredSite) (device entropy : List ℕ) (s : Small) (w : Worl
   abbrev fact : Fact
   fact = key m n bytes
 
-  -- behind the plan, the claim and the put
+  -- after the plan, the claim and the put
   abbrev pub w1 : World
   w1 = planned_world w lease octets (order ∷ [])
 

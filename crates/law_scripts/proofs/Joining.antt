@@ -1,4 +1,4 @@
--- The scripts of all lines, one behind another, are one run from the first world.
+-- The scripts of all lines, one after another, are one run from the first world.
 use Rattle.std.proofs.Common.{◌≡◌, ℕ, List, [], ◌∷◌, ◌++◌, refl, sym, ◌∙◌, ap, subst}
 use Rattle.scenario_text.specs.declared.scenario.Line.{Line}
 use Rattle.net_model.specs.World.{Network, World, first}

@@ -110,7 +110,7 @@ module _ (net : Network) (w : World) (network : IsNetwork net) (c : Conserved ne
   pub ask_keeps : (event : Event) (environment : Environment) → is_enabled net w (Ask v event environment) ≡ true → Conserved net (handle net w v event environment).0
   unfolding is_enabled
   ask_keeps event environment may =
-      let front = and_left (is_node net v && is_asked event) (is_valid_event net.site v event) may in
+      let prefix = and_left (is_node net v && is_asked event) (is_valid_event net.site v event) may in
       handle_keeps net w network c v event environment (λ up.
-      event_resolves event (ltb-true v net.site.nodes (and_left (is_node net v) (is_asked event) front)) (and_right (is_node net v) (is_asked event) front)
+      event_resolves event (ltb-true v net.site.nodes (and_left (is_node net v) (is_asked event) prefix)) (and_right (is_node net v) (is_asked event) prefix)
       (and_right (is_node net v && is_asked event) (is_valid_event net.site v event) may))

@@ -147,29 +147,29 @@ module _ (octet : ℕ → ℕ) (see : View) (to : ℕ) where
   abbrev given : ℕ → ℕ
   given more = last_count see.me see.facts + more
 
-  keys_cut : (place m t size more n : ℕ) (way random : List ℕ) → Supply octet place size n random → place + size * n ≤ to →
-      IsCutUp octet see.me (given more) place to (new_keys see m t way size random more n)
-  keys_cut place m t size more zero way random from within = nothing_cut octet see.me (given more) place to
-  keys_cut place m t size more (suc n) way random from within =
+  keys_cut : (place m t size more n : ℕ) (nodes random : List ℕ) → Supply octet place size n random → place + size * n ≤ to →
+      IsCutUp octet see.me (given more) place to (new_keys see m t nodes size random more n)
+  keys_cut place m t size more zero nodes random from within = nothing_cut octet see.me (given more) place to
+  keys_cut place m t size more (suc n) nodes random from within =
       let product : size * suc n ≡ size * n + size = omega arith in
       let name : Name = fresh_name see KeyKind more in
-      let f : Fact = Key name m t way (take size random) in
-      first_and_rest octet see.me (given more) (given (more + 1)) place size to name (Learned f ∷ []) (new_keys see m t way size (drop size random) (more + 1) n) refl
+      let f : Fact = Key name m t nodes (take size random) in
+      first_and_rest octet see.me (given more) (given (more + 1)) place size to name (Learned f ∷ []) (new_keys see m t nodes size (drop size random) (more + 1) n) refl
       (omega arith) (omega arith) (one_first octet see.me name place size f (cut_first octet see.me name place size f (take size random) refl refl from.0))
       (omega (arith, product, within))
-      (keys_cut (place + size) m t size (more + 1) n way (drop size random) from.1 (omega (arith, product, within)))
+      (keys_cut (place + size) m t size (more + 1) n nodes (drop size random) from.1 (omega (arith, product, within)))
 
-  chunks_cut : (stream : Name) (place size next more n : ℕ) (way random : List ℕ) → Supply octet place size n random → place + size * n ≤ to →
-      IsCutUp octet see.me (given more) place to (new_chunks see stream way size next random more n)
-  chunks_cut stream place size next more zero way random from within = nothing_cut octet see.me (given more) place to
-  chunks_cut stream place size next more (suc n) way random from within =
+  chunks_cut : (stream : Name) (place size next more n : ℕ) (nodes random : List ℕ) → Supply octet place size n random → place + size * n ≤ to →
+      IsCutUp octet see.me (given more) place to (new_chunks see stream nodes size next random more n)
+  chunks_cut stream place size next more zero nodes random from within = nothing_cut octet see.me (given more) place to
+  chunks_cut stream place size next more (suc n) nodes random from within =
       let product : size * suc n ≡ size * n + size = omega arith in
       let name : Name = fresh_name see KeyKind more in
-      let f : Fact = Chunk name stream (next + more) way (take size random) in
-      first_and_rest octet see.me (given more) (given (more + 1)) place size to name (Learned f ∷ []) (new_chunks see stream way size next (drop size random) (more + 1) n) refl
+      let f : Fact = Chunk name stream (next + more) nodes (take size random) in
+      first_and_rest octet see.me (given more) (given (more + 1)) place size to name (Learned f ∷ []) (new_chunks see stream nodes size next (drop size random) (more + 1) n) refl
       (omega arith) (omega arith) (one_first octet see.me name place size f (cut_first octet see.me name place size f (take size random) refl refl from.0))
       (omega (arith, product, within))
-      (chunks_cut stream (place + size) size next (more + 1) n way (drop size random) from.1 (omega (arith, product, within)))
+      (chunks_cut stream (place + size) size next (more + 1) n nodes (drop size random) from.1 (omega (arith, product, within)))
 
   -- the parts of one key share its bytes
   parts_first : (key : Name) (place size m more : ℕ) (ways : List (ℕ × List ℕ)) (bytes : List ℕ) → bytes ≡ octets_from octet place size → (n : ℕ) (f : Fact) →
@@ -205,8 +205,8 @@ module _ (octet : ℕ → ℕ) (see : View) (to : ℕ) where
     filled_cut : (place m t bits count : ℕ) (random : List ℕ) (o : Option (List ℕ)) → Supply octet place (bits / 8) count random → place + (bits / 8) * count ≤ to →
         Cuts place (filled see m t bits count random o)
     filled_cut place m t bits count random None from within = tt
-    filled_cut place m t bits count random (Some way) from within =
-        either place (nat_lt 4096 (unhanded see m t bits + count)) _ _ (λ e. tt) (λ e. keys_cut place m t (bits / 8) 0 count way random from within)
+    filled_cut place m t bits count random (Some nodes) from within =
+        either place (nat_lt 4096 (unhanded see m t bits + count)) _ _ (λ e. tt) (λ e. keys_cut place m t (bits / 8) 0 count nodes random from within)
 
     pub fill_cut : (place m t bits count : ℕ) (random : List ℕ) → Supply octet place (bits / 8) count random → place + (bits / 8) * count ≤ to →
         Cuts place (fill s up see m t bits count random)
@@ -217,13 +217,13 @@ module _ (octet : ℕ → ℕ) (see : View) (to : ℕ) where
     fed_cut : (place : ℕ) (stream : Name) (source size count : ℕ) (random : List ℕ) (o : Option (List ℕ)) → Supply octet place size count random → place + size * count ≤ to →
         Cuts place (fed see stream source size count random o)
     fed_cut place stream source size count random None from within = tt
-    fed_cut place stream source size count random (Some way) from within =
+    fed_cut place stream source size count random (Some nodes) from within =
         either place (nat_lt 4096 (waiting see stream source + count)) _ _ (λ e. tt)
-        (λ e. chunks_cut stream place size (count_by (is_chunk_of stream) see.facts) 0 count way random from within)
+        (λ e. chunks_cut stream place size (count_by (is_chunk_of stream) see.facts) 0 count nodes random from within)
 
     fed_stream_cut : (place count : ℕ) (random : List ℕ) (o : Option Fact) → Supply octet place (chunk_size o) count random → place + chunk_size o * count ≤ to →
         Cuts place (fed_stream s up see count random o)
-    fed_stream_cut place count random (Some (Open' stream source peer size way)) from within =
+    fed_stream_cut place count random (Some (Open' stream source peer size nodes)) from within =
         either place (has_end s see stream source) _ _ (λ e. fed_cut place stream source size count random (route s up see.me (s.home peer)) from within) (λ e. tt)
     fed_stream_cut place count random _ from within = tt
 

@@ -103,7 +103,7 @@ module _ (octet : ℕ → ℕ) (limit : ℕ) where
 
     opened_drawn : (source peer bits : ℕ) (o : Option (List ℕ)) → DecidesDrawn (opened see source peer bits o)
     opened_drawn source peer bits None = none_drawn
-    opened_drawn source peer bits (Some way) = fact_drawn (Open' (fresh_name see StreamKind 0) source peer (bits / 8) way) [] (λ secret. cc) none_drawn
+    opened_drawn source peer bits (Some nodes) = fact_drawn (Open' (fresh_name see StreamKind 0) source peer (bits / 8) nodes) [] (λ secret. cc) none_drawn
 
     open_drawn : (source peer bits : ℕ) → DecidesDrawn (open_stream s up see source peer bits)
     unfolding open_stream
@@ -112,11 +112,11 @@ module _ (octet : ℕ → ℕ) (limit : ℕ) where
         (λ e. either (not (is_size bits)) _ _ (λ e2. none_drawn) (λ e2. opened_drawn source peer bits (route s up see.me (s.home peer))))
 
     joins_drawn : (caller other bits : ℕ) (o : Option Fact) → DecidesDrawn (joins s see caller other bits o)
-    joins_drawn caller other bits (Some (Open' stream source peer size way)) =
+    joins_drawn caller other bits (Some (Open' stream source peer size nodes)) =
         either ((caller == source) || ((caller == peer) && has_joined see stream)) _ _ (λ e. none_drawn)
         (λ e. either (not ((caller == peer) && (other == source) && (s.home peer == see.me))) _ _ (λ e2. none_drawn)
         (λ e2. either (not (8 * size == bits)) _ _ (λ e3. none_drawn)
-        (λ e3. fact_drawn (Joined' (fresh_name see NoteKind 0) stream (reverse way)) [] (λ secret. cc) none_drawn)))
+        (λ e3. fact_drawn (Joined' (fresh_name see NoteKind 0) stream (reverse nodes)) [] (λ secret. cc) none_drawn)))
     joins_drawn caller other bits _ = none_drawn
 
     join_drawn : (caller other : ℕ) (stream : Name) (bits : ℕ) → DecidesDrawn (join_stream s see caller other stream bits)
@@ -124,7 +124,7 @@ module _ (octet : ℕ → ℕ) (limit : ℕ) where
     join_drawn caller other stream bits = joins_drawn caller other bits (stream_here s see stream)
 
     at_end_drawn : (caller : ℕ) (o : Option Fact) (then' : Name → ℕ → Decision) → ((n : Name) (source : ℕ) → DecidesDrawn (then' n source)) → DecidesDrawn (at_end s see caller o then')
-    at_end_drawn caller (Some (Open' stream source peer size way)) then' h =
+    at_end_drawn caller (Some (Open' stream source peer size nodes)) then' h =
         either ((s.home peer == see.me) && not (has_joined see stream)) _ _ (λ e. none_drawn)
         (λ e. either (not (((caller == source) && (s.home source == see.me)) || ((caller == peer) && (s.home peer == see.me)))) _ _ (λ e2. none_drawn) (λ e2. h stream source))
     at_end_drawn caller _ then' h = none_drawn

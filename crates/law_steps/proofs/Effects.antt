@@ -40,7 +40,7 @@ with_drawn w v octets = record w { drawn = number_set w.drawn v (w.drawn v + oct
 abbrev pub IsDrawnOrReceived : Network → World → ℕ → ℕ → Fact → Type 0
 IsDrawnOrReceived net w v octets f = (fact_at w.durable.facts (name_of f) ≡ Some f) ⊎ IsDrawn net (with_drawn w v octets) f
 
--- an effect whose batch may be made, whose orders have room and may be carried, and whose volatile part stands in the world behind it
+-- an effect whose batch may be made, whose orders have room and may be carried, and whose volatile part stands in the world after it
 pub record MayTake (net : Network) (w : World) (v octets : ℕ) (e : Effect) : Type 0 where
   pub batch : MayReplay net.site w.durable v e.batch
   pub orders : Invariant net.site (replay net.site v e.batch w.durable) w.frames w.unclaimed →

@@ -1,4 +1,4 @@
--- Crashes, links and starts that leave nothing behind keep all that is conserved.
+-- Crashes, links and starts that leave nothing after keep all that is conserved.
 use Rattle.std.proofs.Common.{◌≡◌, ℕ, Bool, true, false, refl, arith}
 use Rattle.std.specs.Prelude.{if◌then◌else◌}
 use Rattle.qkd_base.specs.Family.{number_set}

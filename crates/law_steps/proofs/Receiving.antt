@@ -59,7 +59,7 @@ module _ (net : Network) (w : World) (network : IsNetwork net) (c : Conserved ne
   abbrev see : View
   see = view_of net w v
 
-  -- what the node's life keeps stands in the world behind any effect
+  -- what the node's life keeps stands in the world after any effect
   kept_later : (e : Effect) → IsVolatile net (commit net.site w v 0 e) v see.volatile
   kept_later e =
       subst (λ (vol : Volatile). IsVolatile net (commit net.site w v 0 e) v vol) (sym (view_volatile net w v))

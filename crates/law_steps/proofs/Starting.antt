@@ -1,6 +1,6 @@
 -- Starts keep all that is conserved: what was in doubt is settled, each lane goes on at its leased end, and a checkpoint is made where one
 -- is due.
-use Rattle.std.proofs.Common.{◌≡◌, ◌≢◌, ℕ, zero, suc, ◌-◌, ◌≤◌, Bool, true, false, ◌&&◌, ◌||◌, not, List, [], ◌++◌, length, replicate, refl, sym, ◌∙◌, ap, subst, arith, Some, None, inl, inr, length-append}
+use Rattle.std.proofs.Common.{◌≡◌, ◌≢◌, ℕ, zero, suc, ◌-◌, ◌≤◌, Bool, true, false, ◌&&◌, not, List, [], ◌++◌, length, replicate, refl, sym, ◌∙◌, ap, subst, arith, Some, None, inl, inr, length-append}
 use Rattle.std.specs.Prelude.{nat_lt, slice_get, if◌then◌else◌}
 use Rattle.std.proofs.lemmas.List.{length-replicate}
 use Rattle.std.proofs.lemmas.Option.{slice_get_past}
@@ -35,7 +35,7 @@ use Rattle.law_steps.proofs.Volatiles.{nothing_kept}
 use Rattle.law_steps.proofs.Quiet.{quiet_lane}
 use Rattle.law_steps.proofs.Lives.{aside_keeps}
 use Rattle.net_model.specs.Step.{is_quiet, is_node, is_enabled}
-use Rattle.net_model.specs.Action.{Recovery, Recovers, Interrupted, NoMemory, Foreign, Outcome, Start, WasUp}
+use Rattle.net_model.specs.Action.{Recovery, Recovers, Resumes, Interrupted, NoMemory, Foreign, Outcome, Start, WasUp}
 
 -- bytes that are given up
 
@@ -210,7 +210,7 @@ module _ (net : Network) (w : World) (network : IsNetwork net) (c : Conserved ne
           recovered = λ l. burnt_recovered (leaves net.site v l) (d.lease l) (w.recovered l) (d.own l) ((settled committed).recovered l);
         }
 
-  -- a start that is stopped behind a checkpoint
+  -- a start that is stopped after a checkpoint
 
   module _ (down : w.up v ≡ false) (committed : Bool) (due : is_checkpoint_due ((next committed).journal v) (need_at net (next committed) v) ≡ true) where
     abbrev moved : Journal
@@ -219,49 +219,60 @@ module _ (net : Network) (w : World) (network : IsNetwork net) (c : Conserved ne
     abbrev doubt : InDoubt
     doubt = record (w.in_doubt v) { checkpointed = Some committed }
 
-    abbrev behind : World
-    behind = interrupted_start net w v (Some committed)
+    abbrev halted : World
+    halted = interrupted_start net w v (Some committed)
 
-    halted_more : Outgrows w behind
+    halted_more : Outgrows w halted
     halted_more =
         record { facts = λ n f h. h; known = λ u n h. h; blocks = λ l. omega arith; frames = λ l j a h. h; wire = λ l n j h. h }
 
     moved_kept : IsKept moved
     moved_kept = checkpointed_kept ((next committed).journal v) (view_of net (next committed) v) due
 
-    same_batch : (u : ℕ) → (behind.in_doubt u).batch ≡ (w.in_doubt u).batch
+    same_batch : (u : ℕ) → (halted.in_doubt u).batch ≡ (w.in_doubt u).batch
     same_batch = by_number (λ u t. (if t then doubt else w.in_doubt u).batch ≡ (w.in_doubt u).batch) v refl (λ u ne. refl)
 
-    halted_keeps : Conserved net behind
+    halted_keeps : Conserved net halted
     halted_keeps =
         record {
           now = c.now;
           doubts = λ u. subst (λ (rs : List Record). MayReplay net.site w.durable u rs) (sym (same_batch u)) (c.doubts u);
           doubtful = by_number (λ u t. w.up u ≡ true → (if t then doubt else w.in_doubt u) ≡ no_doubt) v (λ h. absurd (cc)) (λ u ne. c.doubtful u);
           resting = c.resting;
-          volatile = λ u. volatile_stays net w network c behind halted_more u (w.volatile u) (c.volatile u);
-          placed = λ u n p at. placed_stays net w network c behind halted_more u p (c.placed u n p at);
+          volatile = λ u. volatile_stays net w network c halted halted_more u (w.volatile u) (c.volatile u);
+          placed = λ u n p at. placed_stays net w network c halted halted_more u p (c.placed u n p at);
           posted = c.posted;
           wired = c.wired;
           journals = by_number (λ u t. IsJournal (if t then moved else w.journal u)) v (is_journal moved moved_kept) (λ u ne. c.journals u);
           started = by_number (λ u t. w.up u ≡ true → is_blank (if t then moved else w.journal u) ≡ false) v (λ h. kept_not_blank moved moved_kept) (λ u ne. c.started u);
           doubt_room = by_number (λ u t. HasRoomFor (if t then moved else w.journal u) (if t then doubt else w.in_doubt u)) v (λ h. cc) (λ u ne. c.doubt_room u);
           drawn = record {
-            table = λ n f there secret. drawn_later net w behind f (omega arith) (c.drawn.table n f there secret);
-            doubts = λ u n f at secret. drawn_later net w behind f (omega arith)
+            table = λ n f there secret. drawn_later net w halted f (omega arith) (c.drawn.table n f there secret);
+            doubts = λ u n f at secret. drawn_later net w halted f (omega arith)
                 (c.drawn.doubts u n f (ap (λ (rs : List Record). slice_get rs n) (sym (same_batch u)) ∙ at) secret);
           };
           few_blocks = c.few_blocks;
           recovered = c.recovered;
         }
 
+-- a start that finds the checkpoint of a stopped one, and each other start
+
+module _ (net : Network) (w : World) (network : IsNetwork net) (c : Conserved net w) (v : ℕ) where
+  resumed_keeps : w.up v ≡ false → is_quiet net w v ≡ true → (committed : Bool) →
+      is_checkpoint_due ((resolved net.site w v committed).journal v) (need_at net (resolved net.site w v committed) v) ≡ true → Conserved net (recovers net w v (Resumes committed)).0
+  resumed_keeps down quiet committed due =
+      restarted_keeps net (interrupted_start net w v (Some committed)) network (halted_keeps net w network c v down committed due) v committed quiet
+
   recovers_keeps : w.up v ≡ false → is_quiet net w v ≡ true → (recovery : Recovery) → may_recover net w v recovery ≡ true → Conserved net (recovers net w v recovery).0
   unfolding may_recover
-  recovers_keeps down quiet (Recovers committed) may = restarted_keeps committed quiet
-  recovers_keeps down quiet (Interrupted None) may = aside_keeps net w network c w.link_up (number_set w.interrupted v (w.interrupted v || is_blank (w.journal v)))
+  recovers_keeps down quiet (Recovers committed) may = restarted_keeps net w network c v committed quiet
+  recovers_keeps down quiet (Resumes committed) may =
+      let checkpoint = and_right (w.interrupted v && may_resolve (w.in_doubt v) committed) _ may in
+      resumed_keeps down quiet committed (and_right (not (is_blank (w.journal v))) _ checkpoint)
+  recovers_keeps down quiet (Interrupted None) may = aside_keeps net w network c w.link_up (number_set w.interrupted v true)
   recovers_keeps down quiet (Interrupted (Some committed)) may =
       let checkpoint = and_right (may_resolve (w.in_doubt v) committed) _ may in
-      halted_keeps down committed (and_right (not (is_blank (w.journal v))) _ checkpoint)
+      halted_keeps net w network c v down committed (and_right (not (is_blank (w.journal v))) _ checkpoint)
   recovers_keeps down quiet NoMemory may = c
   recovers_keeps down quiet Foreign may = c
 

@@ -15,7 +15,7 @@ use Rattle.net_model.specs.View.{View, handed_at}
 use Rattle.net_model.specs.Needed.{is_needed, masked_fact, masked, view_of, port_at}
 use Rattle.law_records.proofs.Base.{name_eq_from, name_eq_same, eq_from, eq_same, and_left, and_right, or_cases, or_left, or_right, not_false, not_both}
 use Rattle.law_records.proofs.Tables.{found_name}
-use Rattle.law_views.proofs.Masked.{IsBlind, with_other_bytes, masked_same, name_blind, stored_blind, chunk_blind, behind, find_masked, masked_found, any_masked, count_masked, last_masked, all_masked}
+use Rattle.law_views.proofs.Masked.{IsBlind, with_other_bytes, masked_same, name_blind, stored_blind, chunk_blind, after, find_masked, masked_found, any_masked, count_masked, last_masked, all_masked}
 
 or_later : (a b : Bool) → (a || b) ≡ true → a ≡ false → b ≡ true
 or_later true b h k = cc
@@ -187,7 +187,7 @@ module _ (s : Site) (d : Durable) (see bare : View) (h : Sees s d see bare) wher
           there = ap (fact_at d.facts) name ∙ x.there;
           knows = ap (has (d.known see.me)) name ∙ x.knows;
           is = r.1;
-          shape = subst (λ (y : Fact). r.0 ≡ with_other_bytes y (bytes_of r.0)) (sym r.1) (behind bare r.0);
+          shape = subst (λ (y : Fact). r.0 ≡ with_other_bytes y (bytes_of r.0)) (sym r.1) (after bare r.0);
         },
       )
 

@@ -5,6 +5,7 @@ use Rattle.std.specs.List.{find, list_any, flat_map}
 use Rattle.std.proofs.lemmas.Bool.Decides.{nat_tests}
 use Rattle.std.proofs.lemmas.List.Folds.{find-append, list_any-append}
 use Rattle.qkd_base.specs.Route.{first_of, last_of, is_distinct, are_nodes}
+use Rattle.law_views.specs.Shown.{IsRouteBetween}
 use Rattle.net_model.specs.Site.{Site, count_up}
 use Rattle.net_model.specs.Routes.{are_joined, walks, or_else, route_from, route}
 use Rattle.net_model.specs.Ranges.{IsRoute}
@@ -245,32 +246,26 @@ fewest_from s up a b k (suc more) w h =
           }
     ] refl h
 
--- a route has different nodes, and goes from its first node to its last
-pub record IsWay (a b : ℕ) (way : List ℕ) : Type 0 where
-  pub starts : first_of way ≡ a
-  pub ends : last_of way ≡ b
-  pub route : IsRoute way
-
-pub route_is : (s : Site) (up : ℕ → Bool) (a b : ℕ) (way : List ℕ) → s.nodes ≤ 16 → a < s.nodes → route s up a b ≡ Some way → IsWay a b way
+pub route_is : (s : Site) (up : ℕ → Bool) (a b : ℕ) (nodes : List ℕ) → s.nodes ≤ 16 → a < s.nodes → route s up a b ≡ Some nodes → IsRouteBetween a b nodes
 unfolding route
-route_is s up a b way few here h =
-    elim (a == b) as (λ t. (a == b) ≡ t → (if t then None else route_from s up a b 1 8) ≡ Some way → IsWay a b way) [
+route_is s up a b nodes few here h =
+    elim (a == b) as (λ t. (a == b) ≡ t → (if t then None else route_from s up a b 1 8) ≡ Some nodes → IsRouteBetween a b nodes) [
       | true ↦ λ e y. cc
       | false ↦ λ e y.
-          let r = fewest_from s up a b 1 8 way y in
-          let long = walk_len s up r.links a way r.walk in
+          let r = fewest_from s up a b 1 8 nodes y in
+          let long = walk_len s up r.links a nodes r.walk in
           let apart : a ≢ b = grind (arith, nat_tests) in
           let least : NoShorter s up r.links a b = λ j v less walk end. shorter j v r less walk end apart in
-          let distinct : is_distinct way ≡ true = distinct_walk s up r.links a b way r.walk r.last least in
-          let two : nat_le 2 (length way) ≡ true = grind (arith, nat_tests, long, r.from) in
-          let nine : nat_le (length way) 9 ≡ true = grind (arith, nat_tests, long, r.below) in
+          let distinct : is_distinct nodes ≡ true = distinct_walk s up r.links a b nodes r.walk r.last least in
+          let two : nat_le 2 (length nodes) ≡ true = grind (arith, nat_tests, long, r.from) in
+          let nine : nat_le (length nodes) 9 ≡ true = grind (arith, nat_tests, long, r.below) in
           record {
-            starts = walk_first s up r.links a way r.walk;
+            starts = walk_first s up r.links a nodes r.walk;
             ends = r.last;
-            route = (and_both (nat_le 2 (length way) && nat_le (length way) 9) (is_distinct way) (and_both (nat_le 2 (length way)) (nat_le (length way) 9) two nine) distinct, walk_nodes s up r.links a way few here r.walk);
+            route = (and_both (nat_le 2 (length nodes) && nat_le (length nodes) 9) (is_distinct nodes) (and_both (nat_le 2 (length nodes)) (nat_le (length nodes) 9) two nine) distinct, walk_nodes s up r.links a nodes few here r.walk);
           }
     ] refl h
   where
-    shorter : (j : ℕ) (v : List ℕ) → (r : IsFewest s up a b 1 8 way) → j < r.links → IsWalk s up j a v → last_of v ≡ b → (a ≢ b) → ⊥
+    shorter : (j : ℕ) (v : List ℕ) → (r : IsFewest s up a b 1 8 nodes) → j < r.links → IsWalk s up j a v → last_of v ≡ b → (a ≢ b) → ⊥
     shorter zero v r less walk end apart = apart (sym (ap last_of walk) ∙ end)
     shorter (suc j) v r less walk end apart = r.none (suc j) v (omega arith) less walk end

@@ -49,5 +49,5 @@ chunks_counted net w v stream =
     chunks_seen net.site w.durable (view_of net w v) (bare_view net w v) (view_sees net w v) stream ∙
     ap (λ (u : ℕ). chunks_known w.durable.facts (w.durable.known u) stream) (view_me net w v)
 
-pub routes_differ : (s : Site) (up : ℕ → Bool) (a b : ℕ) (way : List ℕ) → s.nodes ≤ 16 → a < s.nodes → route s up a b ≡ Some way → IsRouteBetween a b way
-routes_differ s up a b way few here h = let r = route_is s up a b way few here h in record { starts = r.starts; ends = r.ends; route = r.route }
+pub routes_differ : (s : Site) (up : ℕ → Bool) (a b : ℕ) (nodes : List ℕ) → s.nodes ≤ 16 → a < s.nodes → route s up a b ≡ Some nodes → IsRouteBetween a b nodes
+routes_differ s up a b nodes few here h = let r = route_is s up a b nodes few here h in record { starts = r.starts; ends = r.ends; route = r.route }

@@ -14,7 +14,7 @@ pub record IsShown (facts : List Fact) (known : List Name) (n : Name) (g : Fact)
   pub is : (g ≡ fact) ⊎ (g ≡ without_bytes fact)
 
 -- a route from one node to another
-pub record IsRouteBetween (a b : ℕ) (way : List ℕ) : Type 0 where
-  pub starts : first_of way ≡ a
-  pub ends : last_of way ≡ b
-  pub route : IsRoute way
+pub record IsRouteBetween (a b : ℕ) (nodes : List ℕ) : Type 0 where
+  pub starts : first_of nodes ≡ a
+  pub ends : last_of nodes ≡ b
+  pub route : IsRoute nodes

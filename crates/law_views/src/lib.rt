@@ -33,5 +33,5 @@ pub fn law_chunks_counted()
 
 /// A route that is found goes from the one node to the other, over 2 to 9 different nodes.
 pub fn law_routes_differ()
-    ensures { (s : Site) (up : ℕ → Bool) (a b : ℕ) (way : List ℕ) → s.nodes ≤ 16 → a < s.nodes → route s up a b ≡ Some way → IsRouteBetween a b way }
+    ensures { (s : Site) (up : ℕ → Bool) (a b : ℕ) (nodes : List ℕ) → s.nodes ≤ 16 → a < s.nodes → route s up a b ≡ Some nodes → IsRouteBetween a b nodes }
 {}

@@ -189,7 +189,7 @@ module _ (net : Network) (w : World) (v : ℕ) (c : Conserved net w) where
   pub plan_may : MayReplay net.site w.durable v planned_effect.batch
   plan_may = subst (MayReplay net.site w.durable v) (sym plan_batch) all.may
 
-  -- and its orders have room behind them, and may be carried
+  -- and its orders have room after them, and may be carried
   pub plan_fits : Invariant net.site (replay net.site v planned_effect.batch w.durable) w.frames w.unclaimed →
       Invariant net.site (replay net.site v planned_effect.batch w.durable) w.frames (with_orders planned_effect.orders w.unclaimed)
   plan_fits =

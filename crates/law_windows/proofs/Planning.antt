@@ -1,4 +1,4 @@
--- What a plan keeps of one life, and what it posts: its orders behind older ones, and repeats of frames of the window.
+-- What a plan keeps of one life, and what it posts: its orders after older ones, and repeats of frames of the window.
 use Rattle.std.proofs.Common.{◌≡◌, ℕ, zero, suc, true, false, ◌&&◌, List, [], ◌∷◌, ◌++◌, refl, sym, ◌∙◌, ap, subst, Some, ◌⊎◌, inl, inr, append-nil}
 use Rattle.std.specs.Prelude.{nat_lt, slice_get, map, filter, take, if◌then◌else◌}
 use Rattle.std.specs.List.{flat_map, AllByRecursion}
@@ -122,7 +122,7 @@ module _ (net : Network) (w : World) (v : ℕ) (c : Conserved net w) where
       let found : frame_at (w.frames l) e.offset ≡ h.number = frame_at_finds w.durable.facts (w.durable.own l) (w.frames l) _ (c.now.owned l) h.number a there in
       (a, ap (slice_get (w.frames l)) found ∙ there, refl)
 
-  -- what may be put behind it is a frame
+  -- what may be put after it is a frame
   pub plan_wired : (l : Lane) → IsWired (w.frames l) (w.wire l) (with_repeats (plan net.site w.link_up (view_of net w v)).repeats w.frames w.outgoing l)
   plan_wired l = record {
     wired = (c.wired l).wired;

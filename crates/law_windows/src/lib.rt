@@ -47,13 +47,13 @@ pub fn law_plan_volatile()
     ensures { (net : Network) (w : World) (v : ℕ) → Conserved net w → IsVolatile net w v (plan net.site w.link_up (view_of net w v)).volatile }
 {}
 
-/// What may be put behind a plan is a frame of its lane, with the item that it says.
+/// What may be put after a plan is a frame of its lane, with the item that it says.
 pub fn law_plan_wired()
     ensures { (net : Network) (w : World) (v : ℕ) → Conserved net w → (l : LaneValue) →
         IsWired (w.frames l) (w.wire l) (with_repeats (plan net.site w.link_up (view_of net w v)).repeats w.frames w.outgoing l) }
 {}
 
-/// What is ordered and may be put behind a plan is on its lane.
+/// What is ordered and may be put after a plan is on its lane.
 pub fn law_plan_posted()
     ensures { (net : Network) (w : World) (v : ℕ) → Conserved net w → (l : LaneValue) →
         IsPosted l (with_orders (plan net.site w.link_up (view_of net w v)).orders w.unclaimed l)

@@ -43,9 +43,9 @@ at_up (b ∷ []) q r w small lt =
     rw none (get_or_append_left b [] 0 (1024 * 0 + r) (omega (arith, w.0)) ∙ ap (λ (i : ℕ). get_or b i 0) (omega arith))
 at_up (b ∷ c ∷ bs) zero r w small lt = get_or_append_left b (lane_octets Up bs) 0 (1024 * 0 + r) (omega (arith, w.0)) ∙ ap (λ (i : ℕ). get_or b i 0) (omega arith)
 at_up (b ∷ c ∷ bs) (suc q) r w small lt =
-    let behind : 1024 * suc q + r - 1024 ≡ 1024 * q + r = omega arith in
+    let after : 1024 * suc q + r - 1024 ≡ 1024 * q + r = omega arith in
     let double : 2 * suc q ≡ suc (suc (2 * q)) = omega arith in
-    rw double (get_or-append_right b (lane_octets Up bs) 1024 (1024 * suc q + r) 0 w.0 (omega arith) ∙ ap (λ (i : ℕ). get_or (lane_octets Up bs) i 0) behind ∙ at_up bs q r w.1.1 small (omega arith))
+    rw double (get_or-append_right b (lane_octets Up bs) 1024 (1024 * suc q + r) 0 w.0 (omega arith) ∙ ap (λ (i : ℕ). get_or (lane_octets Up bs) i 0) after ∙ at_up bs q r w.1.1 small (omega arith))
 
 at_down : (bs : List (List ℕ)) (q r : ℕ) → Whole bs → r < 1024 → 2 * q + 1 < length bs → get_or (lane_octets Down bs) (1024 * q + r) 0 ≡ get_or (get_or bs (2 * q + 1) []) r 0
 unfolding lane_octets
@@ -54,9 +54,9 @@ at_down (b ∷ []) q r w small lt = absurd (omega arith)
 at_down (b ∷ c ∷ bs) zero r w small lt =
     get_or_append_left c (lane_octets Down bs) 0 (1024 * 0 + r) (omega (arith, w.1.0)) ∙ ap (λ (i : ℕ). get_or c i 0) (omega arith)
 at_down (b ∷ c ∷ bs) (suc q) r w small lt =
-    let behind : 1024 * suc q + r - 1024 ≡ 1024 * q + r = omega arith in
+    let after : 1024 * suc q + r - 1024 ≡ 1024 * q + r = omega arith in
     let double : 2 * suc q + 1 ≡ suc (suc (2 * q + 1)) = omega arith in
-    rw double (get_or-append_right c (lane_octets Down bs) 1024 (1024 * suc q + r) 0 w.1.0 (omega arith) ∙ ap (λ (i : ℕ). get_or (lane_octets Down bs) i 0) behind ∙ at_down bs q r w.1.1 small (omega arith))
+    rw double (get_or-append_right c (lane_octets Down bs) 1024 (1024 * suc q + r) 0 w.1.0 (omega arith) ∙ ap (λ (i : ℕ). get_or (lane_octets Down bs) i 0) after ∙ at_down bs q r w.1.1 small (omega arith))
 
 pub lane_at : (way : Way) (bs : List (List ℕ)) (q r : ℕ) → AreBlocks bs → r < 1024 → 2 * q + first_place way < length bs → get_or (lane_octets way bs) (1024 * q + r) 0 ≡ get_or (get_or bs (2 * q + first_place way) []) r 0
 lane_at Up bs q r w small lt =

@@ -89,6 +89,16 @@ impl Segments {
         Ok(())
     }
 
+    /// The blocks in order.
+    pub fn blocks(&self) -> &[[u8; 1024]]
+        ensures blocks { result.now ≡ self.now.blocks }
+
+        // What holds of them at any time.
+        ensures whole { AreBlocks self.now.blocks }
+    {
+        &self.blocks
+    }
+
     /// How many bytes of a lane were received: at most 524,288.
     pub fn received(&self, way: Way) -> u64
         ensures length { result ≡ length (lane_octets way self.now.blocks) }

@@ -15,10 +15,12 @@ pub data Environment : Type 0 where
   IoFault : Environment
   DeviceFault : Environment
 
--- What the outside answers to a start: the disk was read, and the batch in doubt was on it or not; a fault of the disk, and whether a
--- checkpoint had been made, with the batch in doubt or without; want of memory; or a disk whose first start was stopped in its header.
+-- What the outside answers to a start: the disk was read, and the batch in doubt was on it or not; it was read, and had the checkpoint of a
+-- start before it that was stopped, with that batch or without; a fault of the disk, and whether a checkpoint had been made, with the batch
+-- or without; want of memory; or a disk whose first start was stopped in its header.
 pub data Recovery : Type 0 where
   Recovers : (committed : Bool) → Recovery
+  Resumes : (committed : Bool) → Recovery
   Interrupted : (checkpointed : Option Bool) → Recovery
   NoMemory : Recovery
   Foreign : Recovery

@@ -8,7 +8,7 @@ use Rattle.net_model.specs.World.{Network, World, Durable, Owner, Burnt, Journal
 use Rattle.net_model.specs.Needed.{view_of}
 use Rattle.net_model.specs.Records.{replay}
 use Rattle.net_model.specs.Journal.{added_len, is_nil, is_blank, new_journal, extended, checkpoint_need, is_checkpoint_due, checkpointed, recovered_journal}
-use Rattle.net_model.specs.Action.{Recovery, Recovers, Interrupted, NoMemory, Foreign, Outcome, Started, WasUp, StartStopped, StartMemory, ForeignAt}
+use Rattle.net_model.specs.Action.{Recovery, Recovers, Resumes, Interrupted, NoMemory, Foreign, Outcome, Started, WasUp, StartStopped, StartMemory, ForeignAt}
 
 -- the batch in doubt is made durable or not
 abbrev pub resolved_durable : Site → World → ℕ → Bool → Durable
@@ -43,14 +43,15 @@ restarted net w v =
       recovered = λ l. if leaves net.site v l then w.durable.lease l else w.recovered l;
       up = number_set w.up v true;
       journal = number_set w.journal v (recovered_journal (w.journal v) (need_at net w v));
+      interrupted = number_set w.interrupted v false;
       in_doubt = number_set w.in_doubt v no_doubt;
       volatile = number_set w.volatile v no_volatile;
     }
 
--- A stopped start leaves the manager down. A checkpoint that it had made stays, and settles what is in doubt. On a blank disk it may
--- leave a header that is no header.
+-- A stopped start leaves the manager down. A checkpoint that it had made stays, and settles what is in doubt. Where it tells of none a
+-- later start may find one all the same; and on a blank disk it may leave a header that is no header.
 abbrev pub interrupted_start : Network → World → ℕ → Option Bool → World
-interrupted_start net w v None = record w { interrupted = number_set w.interrupted v (w.interrupted v || is_blank (w.journal v)) }
+interrupted_start net w v None = record w { interrupted = number_set w.interrupted v true }
 interrupted_start net w v (Some committed) =
     let next = resolved net.site w v committed in
     record w {
@@ -58,8 +59,10 @@ interrupted_start net w v (Some committed) =
       in_doubt = number_set w.in_doubt v (record (w.in_doubt v) { checkpointed = Some committed });
     }
 
+-- A start that finds the checkpoint of a stopped one goes on from what that one left. It may make a checkpoint of its own.
 abbrev pub recovers : Network → World → ℕ → Recovery → World × Outcome
 recovers net w v (Recovers committed) = (restarted net (resolved net.site w v committed) v, Started)
+recovers net w v (Resumes committed) = (restarted net (resolved net.site (interrupted_start net w v (Some committed)) v committed) v, Started)
 recovers net w v (Interrupted made) = (interrupted_start net w v made, StartStopped)
 recovers net w v NoMemory = (w, StartMemory)
 recovers net w v Foreign = (w, ForeignAt 16)
@@ -84,8 +87,10 @@ may_checkpoint net w v committed =
     let next = resolved net.site w v committed in
     not (is_blank (w.journal v)) && is_checkpoint_due (next.journal v) (need_at net next v)
 
+-- a checkpoint that nobody told of is found only where a start that told of none was stopped
 unfoldable pub may_recover : Network → World → ℕ → Recovery → Bool
 may_recover net w v (Recovers committed) = may_resolve (w.in_doubt v) committed
+may_recover net w v (Resumes committed) = w.interrupted v && may_resolve (w.in_doubt v) committed && may_checkpoint net w v committed
 may_recover net w v (Interrupted None) = true
 may_recover net w v (Interrupted (Some committed)) = may_resolve (w.in_doubt v) committed && may_checkpoint net w v committed
 may_recover net w v NoMemory = true

@@ -112,8 +112,9 @@ pub record World : Type 0 where
   pub unclaimed : Lane → List Transmission
   pub outgoing : Lane → List Outgoing
   pub recovered : Lane → ℕ
-  -- per node: whether its manager is up, how many octets its entropy gave, its journal, whether a start was stopped
-  -- before any succeeded, what is in doubt, what one life keeps, and what became of its frames since the last note
+  -- per node: whether its manager is up, how many octets its entropy gave, its journal, whether a start that told of no
+  -- checkpoint was stopped since the last that succeeded, what is in doubt, what one life keeps, and what became of its
+  -- frames since the last note
   pub up : ℕ → Bool
   pub drawn : ℕ → ℕ
   pub journal : ℕ → Journal

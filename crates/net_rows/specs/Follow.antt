@@ -15,7 +15,7 @@ use Rattle.net_model.specs.Decide.{decide, random_need}
 use Rattle.net_model.specs.Relay.{receive}
 use Rattle.net_model.specs.Fold.{view_after, view_batch, view_restarted, empty_view}
 use Rattle.net_model.specs.Handle.{blocks_at}
-use Rattle.net_model.specs.Action.{Action, Start, Crash, TakeBlock, Ask, Complete, Deliver, Recovers, Outcome, Replies, Started, Crashed}
+use Rattle.net_model.specs.Action.{Action, Start, Crash, TakeBlock, Ask, Complete, Deliver, Recovers, Resumes, Outcome, Replies, Started, Crashed}
 use Rattle.net_model.specs.Step.{step, run}
 
 -- whether an effect took place whole, by the outcome
@@ -56,6 +56,8 @@ passed_frame net w view l outcome (Some a) = elim (payload w.durable.facts a.ite
 
 unfoldable pub follow : Network → World → View → Action → Outcome → View
 follow net w view (Start v (Recovers committed)) Started =
+    if v == view.me then view_restarted (if committed then view_batch view (w.in_doubt v).batch else view) else view
+follow net w view (Start v (Resumes committed)) Started =
     if v == view.me then view_restarted (if committed then view_batch view (w.in_doubt v).batch else view) else view
 follow net w view (Crash v) Crashed = if v == view.me then record view { volatile = no_volatile } else view
 follow net w view (TakeBlock v link environment) outcome =

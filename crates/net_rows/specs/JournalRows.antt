@@ -22,7 +22,7 @@ journal_after net steps = (ran net steps).world.journal 0
 abbrev pub many_blocks : List Step
 many_blocks = line (Bits 0 Both 64) ∷ []
 
--- 64 blocks, then a start that writes a checkpoint behind them, then one that writes it before
+-- 64 blocks, then a start that writes a checkpoint after them, then one that writes it before
 abbrev pub Checkpoints : Type 0
 Checkpoints =
     (journal_after (two_nodes []) many_blocks ∷ journal_after (two_nodes []) (many_blocks ++ restart) ∷ journal_after (two_nodes []) (many_blocks ++ restart ++ restart) ∷ []) ≡

@@ -56,7 +56,7 @@ StoppedStart =
           at 8 items.Crashed ∷
           at 9 (items.Refused refusals.Down) ∷
           at 10 (items.NotShown 1 (key 1) refusals.Down) ∷
-          at 11 (items.Refused refusals.Down) ∷ [],
+          at 11 (items.NotCounted (lane 0 Down) refusals.Down) ∷ [],
       Whole,
       true,
     )
@@ -199,7 +199,7 @@ Refusals =
           at 22 (items.Keys ((key 1, octets_on 0 32) ∷ [])) ∷
           at 23 (items.Refused (refusals.Handed 0)) ∷
           at 24 (items.NotShown 0 (key 1) refusals.Memory) ∷
-          at 25 (items.Refused refusals.Memory) ∷
+          at 25 (items.NotCounted (lane 0 Up) refusals.Memory) ∷
           at 26 (items.LinkSet 0 false) ∷
           at 27 (items.Refused refusals.NoRoute) ∷
           at 28 (items.LinkSet 0 true) ∷

@@ -8,23 +8,23 @@ use Rattle.qkd_base.specs.declared.key_name.NameKind.{NameKind}
 use Rattle.qkd_base.specs.declared.key_name.NameKind.TheVariants.{Key, Stream, Note}
 use Rattle.qkd_base.specs.Name.{Name, IsName, is_name, octets_of, kind_number, kind_of_octet, candidate, name_at}
 
-kind_back : (k : NameKind) → kind_of_octet (kind_number k) ≡ k
+pub kind_back : (k : NameKind) → kind_of_octet (kind_number k) ≡ k
 kind_back Key = refl
 kind_back Stream = refl
 kind_back Note = refl
 
-count_back : (n : ℕ) → n < 2 ^ 48 → from_be_bytes w64 (replicate 2 0 ++ drop 2 (to_be_bytes w64 n)) ≡ n
+pub count_back : (n : ℕ) → n < 2 ^ 48 → from_be_bytes w64 (replicate 2 0 ++ drop 2 (to_be_bytes w64 n)) ≡ n
 count_back n h = omega arith
 
-candidate_back : (n : Name) → IsName n → candidate (octets_of n) ≡ n
+pub candidate_back : (n : Name) → IsName n → candidate (octets_of n) ≡ n
 candidate_back n h =
     ap (λ (k : NameKind). record { node = n.node; kind = k; count = from_be_bytes w64 (replicate 2 0 ++ drop 2 (to_be_bytes w64 n.count)) }) (kind_back n.kind)
     ∙ ap (λ (c : ℕ). record { node = n.node; kind = n.kind; count = c }) (count_back n.count h.count)
 
-is_name-true : (n : Name) → IsName n → is_name n ≡ true
+pub is_name-true : (n : Name) → IsName n → is_name n ≡ true
 is_name-true n h = let a = h.node in let b = h.positive in let c = h.count in grind arith
 
-IsName-of : (n : Name) → is_name n ≡ true → IsName n
+pub IsName-of : (n : Name) → is_name n ≡ true → IsName n
 IsName-of n h = record { node = grind arith; positive = grind arith; count = grind arith }
 
 same_bytes : (xs : List ℕ) → bytes_eq xs xs ≡ true

@@ -69,13 +69,13 @@ is_room nodes room x route in_range first is =
     let two = two_of nodes route in
     let nine = nine_of nodes route in
     let rest : room ≡ nodes ++ replicate (9 - length nodes) x = is ∙ ap (λ (r : List ℕ). nodes ++ r) (drop-replicate (length nodes) 9 x) in
-    let front : take (length nodes) room ≡ nodes = ap (take (length nodes)) rest ∙ take-append_seam nodes (replicate (9 - length nodes) x) in
+    let prefix : take (length nodes) room ≡ nodes = ap (take (length nodes)) rest ∙ take-append_seam nodes (replicate (9 - length nodes) x) in
     let head : first_of room ≡ first_of nodes = ap first_of rest ∙ first_of_append nodes (replicate (9 - length nodes) x) (omega (arith, two)) in
     record {
       whole = ap length rest ∙ length-append nodes (replicate (9 - length nodes) x) ∙ ap (λ (k : ℕ). length nodes + k) (length-replicate (9 - length nodes) x) ∙ omega (arith, nine);
       within = nine;
-      route = ap is_route front ∙ route;
-      nodes = ap are_nodes front ∙ in_range;
+      route = ap is_route prefix ∙ route;
+      nodes = ap are_nodes prefix ∙ in_range;
       rest = ap (drop (length nodes)) rest ∙ drop-append_seam nodes (replicate (9 - length nodes) x) ∙ ap (replicate (9 - length nodes)) (first ∙ sym head);
     }
 

@@ -29,7 +29,7 @@ next_after [] v = None
 next_after (a ∷ []) v = None
 next_after (a ∷ b ∷ rest) v = if a == v then Some b else next_after (b ∷ rest) v
 
--- fixed room for a route: what stands behind it repeats its first node
+-- fixed room for a route: what stands after it repeats its first node
 pub record IsRoom (room : List ℕ) (size : ℕ) : Type 0 where
   pub whole : length room ≡ 9
   pub within : size ≤ 9

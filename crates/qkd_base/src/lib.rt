@@ -11,8 +11,6 @@ mod pool_no;
 mod replica;
 mod route;
 mod sae_no;
-#[cfg(test)]
-mod tests;
 mod text;
 
 pub use frame_octets::FrameOctets;

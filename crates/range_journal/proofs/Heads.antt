@@ -1,17 +1,16 @@
 -- The heads of disks.
-use Rattle.std.proofs.Common.{◌≡◌, ◌≢◌, ◌≤◌, ◌<◌, ◌⊎◌, inl, inr, ℕ, zero, suc, ◌+◌, min, Bool, true, false, not, ◌&&◌, ◌==◌, nat_le, List, [], ◌∷◌, ◌++◌, length, get_or, take, drop, refl, sym, ◌∙◌, ap, subst, arith, take-append-drop, length-drop}
+use Rattle.std.proofs.Common.{◌≡◌, ◌≢◌, ◌≤◌, ◌<◌, ◌⊎◌, inl, inr, ℕ, zero, suc, min, Bool, true, false, not, ◌&&◌, ◌==◌, nat_le, List, [], ◌∷◌, ◌++◌, length, get_or, take, drop, refl, sym, ◌∙◌, ap, subst, arith, take-append-drop}
 use Rattle.std.specs.Prelude.{slice_index, Result, Ok, Err, IfOk, IfErr, IsTrue}
 use Rattle.std.specs.Str.{bytes_eq}
 use Rattle.std.proofs.lemmas.Bool.{cases_eq, cases_lt, cases_Bool, false≢true}
 use Rattle.std.proofs.lemmas.Bool.Decides.{nat_tests}
 use Rattle.std.proofs.lemmas.Slice.Eq.{bytes_eq-Decides}
-use Rattle.std.proofs.lemmas.List.{take_all, drop_all, drop_more, get_or-take, length-take}
+use Rattle.std.proofs.lemmas.List.{take_all, drop_all, drop_more, get_or-take}
 use Rattle.disk_model.specs.Images.{Torn, StandsStill, AtEachMoment}
 use Rattle.disk_model.proofs.Moments.{started, stands, joined, weaker}
-use Rattle.range_journal.specs.Batches.{Stands}
-use Rattle.range_journal.specs.Header.{magic, new_header, is_new, is_blank, IsHeaded, IsMisnamed, IsMisversed, HasOtherHead, StandsFor}
+use Rattle.range_journal.specs.Header.{magic, new_header, is_new, is_blank, IsHeaded, HasOtherHead, StandsFor}
 use Rattle.range_journal.specs.Journal.{JournalForm}
-use Rattle.range_journal.specs.Opening.{IsOpening, Refuses, disk_in}
+use Rattle.range_journal.specs.Opening.{IsOpening, IsMadeNew, Refuses, disk_in}
 use Rattle.range_journal.proofs.Once.{headed_front}
 use Rattle.range_journal.specs.Reading.{StopsReading, IsForeign}
 use Rattle.range_journal.specs.declared.refusal.JournalRefusal.{JournalRefusal}
@@ -48,21 +47,28 @@ new_is i sure =
     and_parts true false e = absurd (cc e)
     and_parts false b e = absurd (cc e)
 
-short_image : (i : List ℕ) → length i ≤ 17 → StandsFor i [] ⊎ (i ≡ new_header ++ 1 ∷ [])
-short_image i few = elim (cases_Bool (is_new i)) [
-  | inl sure ↦
-      let n = new_is i sure in
-      elim (cases_eq n.0 1) [
-        | inl open_gate ↦ inr (n.1 ∙ ap (λ (g : ℕ). new_header ++ g ∷ []) open_gate)
-        | inr shut ↦ inl (subst (λ (c : List ℕ). StandsFor c []) (sym n.1) (new_stands n.0 shut))
-      ]
+-- what a blank disk becomes
+
+pub made_new_head : (c i : List ℕ) → IsMadeNew c i → (is_blank i ≡ true) ⊎ ((gate : ℕ) × (i ≡ new_header ++ gate ∷ []))
+made_new_head c i made = elim (cases_Bool (is_new i)) [
+  | inl sure ↦ inr (new_is i sure)
   | inr isnt ↦
+      let few : length i ≤ 17 = made.short in
       let within : nat_le (length i) 17 ≡ true = grind (arith, nat_tests) in
-      inl (inl (ap (λ b. b && not (is_new i)) within ∙ ap (λ b. not b) isnt, refl))
+      inl (ap (λ b. b && not (is_new i)) within ∙ ap (λ b. not b) isnt)
 ]
 
-pub blank_image : (c i : List ℕ) → is_blank c ≡ true → Torn 0 17 c i → IsOpening c i
-blank_image c i blank torn = inr (blank, short_image i (omega (arith, torn.no_longer, few)))
+pub made_new_stands : (c i : List ℕ) → IsMadeNew c i → StandsFor i [] ⊎ (i ≡ new_header ++ 1 ∷ [])
+made_new_stands c i made = elim (made_new_head c i made) [
+  | inl blank ↦ inl (inl (blank, refl))
+  | inr n ↦ elim (cases_eq n.0 1) [
+    | inl open_gate ↦ inr (n.1 ∙ ap (λ (g : ℕ). new_header ++ g ∷ []) open_gate)
+    | inr shut ↦ inl (subst (λ (c : List ℕ). StandsFor c []) (sym n.1) (new_stands n.0 shut))
+  ]
+]
+
+pub blank_image : (c i : List ℕ) → is_blank c ≡ true → Torn 0 17 c i → IsMadeNew c i
+blank_image c i blank torn = record { blank = blank; short = omega (arith, torn.no_longer, few) }
   where
     front : (a b : Bool) → (a && b) ≡ true → a ≡ true
     front true b e = refl

@@ -1,15 +1,17 @@
 -- Octets are batches in one way.
-use Rattle.std.proofs.Common.{◌≡◌, ◌≢◌, ◌≤◌, ◌<◌, ◌⊎◌, inl, inr, ℕ, suc, ◌+◌, ◌-◌, ◌^◌, Bool, true, false, List, [], ◌∷◌, ◌++◌, length, get_or, take, drop, refl, sym, ◌∙◌, ap, subst, arith, append_assoc, length-append, take-append-drop}
+use Rattle.std.proofs.Common.{◌≡◌, ◌≢◌, ◌≤◌, ◌<◌, ◌⊎◌, inl, inr, ℕ, suc, ◌+◌, ◌^◌, Bool, true, false, List, [], ◌∷◌, ◌++◌, length, take, drop, refl, sym, ◌∙◌, ap, subst, arith, append_assoc, length-append, take-append-drop}
 use Rattle.std.specs.Prelude.{slice_index, nat_le, not, ◌&&◌}
 use Rattle.std.specs.Int.{w32, to_be_bytes, from_be_bytes}
 use Rattle.std.proofs.lemmas.Nat.{from_be_bytes-to_be_bytes_4}
-use Rattle.std.proofs.lemmas.Bool.{cases_Bool, false≢true}
+use Rattle.std.proofs.lemmas.Bool.{cases_Bool, cases_eq, false≢true}
 use Rattle.std.proofs.lemmas.Bool.Decides.{nat_tests}
 use Rattle.std.proofs.lemmas.List.{take_at, drop_at, drop_all, get_or-take}
-use Rattle.range_journal.specs.Batches.{spelled, AreShort, Stands, LacksBody, LacksBatch}
-use Rattle.range_journal.specs.Header.{is_new, is_blank, IsHeaded, HasOtherHead, StandsFor, magic}
+use Rattle.range_journal.specs.Batches.{spelled, block_of, AreShort, Stands, StandsBefore, IsOldOrDoubt, LacksBody, LacksBatch}
+use Rattle.range_journal.specs.Closing.{HasOtherGate}
+use Rattle.range_journal.specs.Header.{is_new, is_blank, IsHeaded, HasOtherHead, StandsFor}
 use Rattle.range_journal.specs.Opening.{IsRefusedAt}
 use Rattle.range_journal.specs.Reading.{IsForeign}
+use Rattle.range_journal.proofs.Whole.{one_more_is, short_more}
 
 -- a length is spelled in one way
 word_once : (m n : ℕ) → m < 2 ^ 32 → n < 2 ^ 32 → to_be_bytes w32 m ≡ to_be_bytes w32 n → m ≡ n
@@ -62,6 +64,13 @@ same_batches (x ∷ a) (y ∷ b) g h r s sa sb ng nh e =
     let later = same_batches a b g h r s (later_short x a sa) (later_short y b sb) ng nh p.1 in
     λ i. p.0 i ∷ later i
 
+-- and the gates, and what stands behind them
+same_gate : (a b : List (List ℕ)) (g h : ℕ) (r s : List ℕ) → AreShort a → AreShort b → g ≢ 1 → h ≢ 1 → spelled a ++ g ∷ r ≡ spelled b ++ h ∷ s → (a ≡ b) × (g ≡ h) × (r ≡ s)
+same_gate a b g h r s sa sb ng nh e =
+    let same = same_batches a b g h r s sa sb ng nh e in
+    let behind : g ∷ r ≡ h ∷ s = behind_once (spelled a) (g ∷ r) (h ∷ s) (e ∙ ap (λ (l : List (List ℕ)). spelled l ++ h ∷ s) (sym same)) in
+    (same, first_is g h r s behind, rest_is g h r s behind)
+
 split : (front : List ℕ) (batches : List (List ℕ)) (image : List ℕ) → (s : Stands front batches image) → image ≡ front ++ (spelled batches ++ s.gate ∷ s.rest)
 split front batches image s = s.is ∙ append_assoc front (spelled batches) (s.gate ∷ s.rest)
 
@@ -69,6 +78,64 @@ pub stands_once : (front image : List ℕ) (one other : List (List ℕ)) → Sta
 stands_once front image one other a b =
     same_batches one other a.gate b.gate a.rest b.rest a.short b.short a.shut b.shut
     (behind_once front (spelled one ++ a.gate ∷ a.rest) (spelled other ++ b.gate ∷ b.rest) (sym (split front one image a) ∙ split front other image b))
+
+pub before_stands : (front image : List ℕ) (batches doubt : List (List ℕ)) → StandsBefore front batches doubt image → Stands front batches image
+before_stands front image batches doubt s = record { gate = s.gate; rest = s.rest; is = s.is; shut = s.shut; short = s.short }
+
+-- behind a closed gate anything may be in doubt
+pub before_any : (front image : List ℕ) (batches doubt : List (List ℕ)) → StandsBefore front batches [] image → StandsBefore front batches doubt image
+before_any front image batches doubt s = record { gate = s.gate; rest = s.rest; is = s.is; shut = s.shut; short = s.short; closed = is_closed s.closed }
+  where
+    is_closed : (s.gate ≡ 0) ⊎ ((batch more : List ℕ) × ([] ≡ batch ∷ []) × (length batch < 2 ^ 32) × (s.rest ≡ block_of batch ++ more))
+        → (s.gate ≡ 0) ⊎ ((batch more : List ℕ) × (doubt ≡ batch ∷ []) × (length batch < 2 ^ 32) × (s.rest ≡ block_of batch ++ more))
+    is_closed (inl zero) = inl zero
+    is_closed (inr d) = absurd (cc d.2)
+
+-- a gate that is being closed
+module _ (front content image : List ℕ) (batches doubt : List (List ℕ)) (s : StandsBefore front batches doubt content) (h : HasOtherGate (length front) content image) where
+  whole : content ≡ front ++ (spelled batches ++ s.gate ∷ s.rest)
+  whole = s.is ∙ append_assoc front (spelled batches) (s.gate ∷ s.rest)
+
+  front_is : take (length front) content ≡ front
+  front_is = ap (λ (l : List ℕ). take (length front) l) whole ∙ take_at front (spelled batches ++ s.gate ∷ s.rest) (length front) refl
+
+  was : content ≡ front ++ (spelled h.batches ++ h.gate ∷ h.rest)
+  was = h.was ∙ ap (λ (f : List ℕ). f ++ spelled h.batches ++ h.gate ∷ h.rest) front_is ∙ append_assoc front (spelled h.batches) (h.gate ∷ h.rest)
+
+  same : (batches ≡ h.batches) × (s.gate ≡ h.gate) × (s.rest ≡ h.rest)
+  same =
+      same_gate batches h.batches s.gate h.gate s.rest h.rest s.short h.short s.shut h.shut
+      (behind_once front (spelled batches ++ s.gate ∷ s.rest) (spelled h.batches ++ h.gate ∷ h.rest) (sym whole ∙ was))
+
+  now : image ≡ front ++ spelled batches ++ h.other ∷ s.rest
+  now =
+      h.is ∙ ap (λ (f : List ℕ). f ++ spelled h.batches ++ h.other ∷ h.rest) front_is
+      ∙ ap (λ (l : List (List ℕ)). front ++ spelled l ++ h.other ∷ h.rest) (sym same.0)
+      ∙ ap (λ (l : List ℕ). front ++ spelled batches ++ h.other ∷ l) (sym same.2)
+
+  made : (batch more : List ℕ) → doubt ≡ batch ∷ [] → length batch < 2 ^ 32 → s.rest ≡ block_of batch ++ more → IsOldOrDoubt front batches doubt image
+  made batch more is small rest = elim (cases_eq h.other 1) [
+    | inl open_gate ↦ inr (
+      batch,
+      is,
+      record {
+        gate = 0;
+        rest = more;
+        is = now ∙ ap (λ (g : ℕ). front ++ spelled batches ++ g ∷ s.rest) open_gate ∙ ap (λ (l : List ℕ). front ++ spelled batches ++ 1 ∷ l) rest ∙ one_more_is front batches batch more;
+        shut = λ z. absurd (omega (arith, z));
+        short = short_more batches batch s.short small;
+        closed = inl refl;
+      },
+    )
+    | inr shut ↦ inl (record { gate = h.other; rest = s.rest; is = now; shut = shut; short = s.short; closed = inr (batch, more, is, small, rest) })
+  ]
+
+  pub closed_over : IsOldOrDoubt front batches doubt image
+  closed_over = by_gate s.closed
+    where
+      by_gate : (s.gate ≡ 0) ⊎ ((batch more : List ℕ) × (doubt ≡ batch ∷ []) × (length batch < 2 ^ 32) × (s.rest ≡ block_of batch ++ more)) → IsOldOrDoubt front batches doubt image
+      by_gate (inl zero) = absurd (h.odd (sym same.1 ∙ zero))
+      by_gate (inr d) = made d.0 d.1 d.2 d.3 d.4
 
 pub stands_for_once : (content : List ℕ) (one other : List (List ℕ)) → StandsFor content one → StandsFor content other → one ≡ other
 stands_for_once content one other (inl a) (inl b) = a.1 ∙ sym b.1

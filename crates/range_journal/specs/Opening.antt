@@ -1,11 +1,11 @@
 -- What opening a journal needs and answers.
-use Rattle.std.specs.Prelude.{◌≡◌, ◌⊎◌, ◌≤◌, ℕ, Bool, true, false, IsTrue, List, [], ◌∷◌, ◌++◌, length, Result, Ok, Err, IfOk, IfErr}
+use Rattle.std.specs.Prelude.{◌≡◌, ◌⊎◌, ◌≤◌, ℕ, Bool, true, false, IsTrue, List, length, Result, Ok, Err, IfOk, IfErr}
 use Rattle.qkd_base.specs.Faults.{Rose}
 use Rattle.disk_model.specs.Images.{Only, AtEachMoment}
 use Rattle.disk_model.specs.declared.allowance.Allowance.{Allowance}
 use Rattle.range_journal.specs.Journal.{JournalForm}
 use Rattle.range_journal.specs.Closing.{IsReadOrClosing}
-use Rattle.range_journal.specs.Header.{new_header, is_blank, IsHeaded, HasOtherHead, StandsFor}
+use Rattle.range_journal.specs.Header.{is_blank, IsHeaded, HasOtherHead, StandsFor}
 use Rattle.range_journal.specs.Reading.{IsForeign}
 use Rattle.range_journal.specs.declared.refusal.JournalRefusal.{JournalRefusal}
 use Rattle.range_journal.specs.declared.refusal.JournalRefusal.TheVariants.{JournalFull, Memory, Disk, Foreign}
@@ -43,10 +43,15 @@ Refuses is_honest content before now Memory = Unit {0}
 Refuses is_honest content before now (JournalFull size need) = ⊥
 Refuses is_honest content before now (Foreign place) = IsTrue is_honest → IsRefusedAt content place
 
+-- What a crash leaves while a blank disk gets the head of a new journal: a few octets, which are blank or that head with some gate.
+pub record IsMadeNew (content image : List ℕ) : Type 0 where
+  pub blank : is_blank content ≡ true
+  pub short : length image ≤ 17
+
 -- What a crash leaves while a journal of this content is opened: the content; the content with another octet for a gate
--- that was neither open nor 00; or, where it was blank, no batches, or the new head with an open gate and no octet more.
+-- that was neither open nor 00; or, where it was blank, at most the octets of a new head and a gate.
 abbrev pub IsOpening : List ℕ → List ℕ → Type 0
-IsOpening content image = IsReadOrClosing 16 content image ⊎ ((is_blank content ≡ true) × (StandsFor image [] ⊎ (image ≡ new_header ++ 1 ∷ [])))
+IsOpening content image = IsReadOrClosing 16 content image ⊎ IsMadeNew content image
 
 -- The journal is opened over one of the disk's images.
 pub record Opens {K : Type 0} (is_honest : K → Bool) (content : K → List ℕ) (moment : K → ℕ) (image : K → ℕ → List ℕ → Type 0) (faults : K → ℕ) (disk : K) (result : Result (JournalForm K) (JournalRefusal × K)) (read : List ℕ) : Type 0 where

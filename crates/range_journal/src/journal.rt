@@ -2,7 +2,8 @@
 ghost use Rattle.std.specs.Prelude.{◌≡◌, ◌+◌, ◌-◌, ◌<◌, ◌≤◌, ◌++◌, ◌∷◌, [], List, ℕ, length, take, Some, ◌^◌, nat_lt, false, min, IsTrue, IsOk, IfOk, OnOk, OnErr, vec_len, vec_capacity};
 ghost use Rattle.qkd_base.specs.Faults.{Rose};
 ghost use Rattle.disk_model.specs.Images.{StandsStill, AtEachMoment};
-ghost use Rattle.range_journal.specs.Batches.{AreShort, IsOldOrOneMore, IsSettled, length_of, block_of};
+ghost use Rattle.disk_model.specs.Allowance.{after_room};
+ghost use Rattle.range_journal.specs.Batches.{AreShort, IsAppended, IsSettled, length_of, block_of};
 ghost use Rattle.range_journal.specs.Journal.{IsReady, most};
 ghost use Rattle.range_journal.specs.Refused.{IsAnswer, need_of, disk_after, is_full, is_memory, is_spent};
 
@@ -172,7 +173,7 @@ impl<K: Disk> Journal<K> {
         ensures spent { IsTrue (is_spent result) → Rose (K.faults self.disk) (K.faults (disk_after result)) }
         ensures later { K.faults self.disk ≤ K.faults (disk_after result) }
         ensures moments { AtEachMoment K.moment K.image self.disk (disk_after result)
-            (λ c. IsTrue (K.is_honest self.disk) → IsOldOrOneMore (take self.start (K.content self.disk)) self.batches batch.now c) }
+            (λ c. IsTrue (K.is_honest self.disk) → IsAppended (K.content self.disk) self.start self.batches batch.now c) }
         ensures settled { IfOk result (λ new. IsTrue (K.is_honest new.disk) → IsSettled (K.content new.disk) (K.image new.disk (K.moment new.disk)) new.start new.batches) }
         ensures front { IfOk result (λ new. IsTrue (K.is_honest new.disk) → take new.start (K.content new.disk) ≡ take self.start (K.content self.disk)) }
         ensures honest { K.is_honest (disk_after result) ≡ K.is_honest self.disk }
@@ -253,6 +254,24 @@ impl<K: Disk> Journal<K> {
             )?;
         }
         self.spare = body;
+        Ok(())
+    }
+
+    /// Takes the disk's memory for writes up to that end by what comes after this journal on its disk. What was taken for
+    /// appends is given up. An `Err` changes nothing.
+    pub fn room_to(&mut self, end: u64) -> Result<(), Memory>
+        ensures ok { OnOk result (K.allowance self.new.disk ≡ after_room end (K.allowance self.old.disk)) }
+        ensures spare { OnOk result (self.new.spare ≡ 0) }
+        ensures err { OnErr result (self.new ≡ self.old) }
+        ensures batches { (self.new.start ≡ self.old.start) × (self.new.batches ≡ self.old.batches) }
+        ensures content { K.content self.new.disk ≡ K.content self.old.disk }
+        ensures time { StandsStill (K.moment self.old.disk) (K.moment self.new.disk) (K.image self.old.disk) (K.image self.new.disk) }
+        ensures faults { K.faults self.new.disk ≡ K.faults self.old.disk }
+        ensures honest { K.is_honest self.new.disk ≡ K.is_honest self.old.disk }
+        ensures armings { K.armings self.new.disk ≡ K.armings self.old.disk }
+    {
+        self.disk.room(end)?;
+        self.spare = 0;
         Ok(())
     }
 

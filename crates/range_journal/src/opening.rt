@@ -1,12 +1,12 @@
 // A journal is opened.
 ghost use Rattle.std.specs.Prelude.{[], OnOk, true, not, nat_le, ◌&&◌, min, ◌≡◌, ◌≢◌, ◌⊎◌, ◌+◌, ◌<◌, ◌≤◌, ◌∷◌, ◌++◌, List, ℕ, length, drop, take, IsTrue, IfOk, IfErr};
-ghost use Rattle.disk_model.specs.Images.{Only, AtEachMoment};
+ghost use Rattle.disk_model.specs.Images.{Only, StandsStill, AtEachMoment};
 ghost use Rattle.range_journal.specs.Batches.{Stands, IsSettled};
 ghost use Rattle.range_journal.specs.Closing.{IsReadOrClosing};
-ghost use Rattle.range_journal.specs.Opening.{MayRead, MayOpen, Refuses, IsOpening, Opens, disk_in};
+ghost use Rattle.range_journal.specs.Opening.{MayRead, MayOpen, Refuses, IsOpening, IsMadeNew, Opens, disk_in};
 ghost use Rattle.qkd_base.specs.Faults.{Rose};
 ghost use Rattle.disk_model.specs.Calls.{OnlyReads};
-ghost use Rattle.range_journal.specs.Header.{is_new as is_new_text, is_blank, IsHeaded, StandsFor};
+ghost use Rattle.range_journal.specs.Header.{is_new as is_new_text, is_blank, new_header, IsHeaded, StandsFor};
 ghost use Rattle.range_journal.specs.Reading.{IsFaulty, StopsReading};
 
 use crate::closing::close;
@@ -30,7 +30,9 @@ pub fn open_sized<K: Disk>(
     ensures batches { IfOk result (λ j. IsTrue (K.is_honest disk) → Stands (take start (K.content disk)) j.batches (K.content disk)) }
     ensures settled { IfOk result (λ j. IsTrue (K.is_honest j.disk) → IsSettled (K.content j.disk) (K.image j.disk (K.moment j.disk)) j.start j.batches) }
     ensures front { IfOk result (λ j. IsTrue (K.is_honest j.disk) → take start (K.content j.disk) ≡ take start (K.content disk)) }
+    ensures long { IfOk result (λ j. IsTrue (K.is_honest j.disk) → length (K.content j.disk) ≡ length (K.content disk)) }
     ensures cause { IfErr result (λ e. StopsReading (K.is_honest disk) (K.content disk) start (K.faults disk) (K.faults e.1) e.0) }
+    ensures leaves { IfErr result (λ e. e.0 ≢ JournalRefusal.Disk → StandsStill (K.moment disk) (K.moment e.1) (K.image disk) (K.image e.1)) }
     ensures later { K.faults disk ≤ K.faults (disk_in result) }
     ensures moments { AtEachMoment K.moment K.image disk (disk_in result) (λ i. IsTrue (K.is_honest disk) → IsReadOrClosing start (K.content disk) i) }
     ensures honest { K.is_honest (disk_in result) ≡ K.is_honest disk }
@@ -46,16 +48,16 @@ pub fn open_sized<K: Disk>(
     }
 }
 
-// Gives a blank disk the head of a new journal.
-fn make_new<K: Disk>(alloc: Global, mut disk: K) -> Result<Journal<K>, (JournalRefusal, K)>
+/// Gives a blank disk the head of a new journal.
+pub fn make_new<K: Disk>(alloc: Global, mut disk: K) -> Result<Journal<K>, (JournalRefusal, K)>
     requires may { MayOpen (K.is_honest disk) (K.content disk) (K.image disk (K.moment disk)) (K.allowance disk) (length (K.content disk)) }
     requires blank { IsTrue (K.is_honest disk) → is_blank (K.content disk) ≡ true }
     ensures opened { IfOk result (λ j. (j.start ≡ 16) × (j.spare ≡ 0) × (j.batches ≡ [])) }
     ensures settled { IfOk result (λ j. IsTrue (K.is_honest j.disk) → IsSettled (K.content j.disk) (K.image j.disk (K.moment j.disk)) j.start j.batches) }
-    ensures head { IfOk result (λ j. IsTrue (K.is_honest j.disk) → IsHeaded (take 16 (K.content j.disk))) }
+    ensures head { IfOk result (λ j. IsTrue (K.is_honest j.disk) → take 16 (K.content j.disk) ≡ new_header) }
     ensures cause { IfErr result (λ e. (e.0 ≡ JournalRefusal.Disk) × Rose (K.faults disk) (K.faults e.1)) }
     ensures later { K.faults disk ≤ K.faults (disk_in result) }
-    ensures moments { AtEachMoment K.moment K.image disk (disk_in result) (λ i. IsTrue (K.is_honest disk) → IsOpening (K.content disk) i) }
+    ensures moments { AtEachMoment K.moment K.image disk (disk_in result) (λ i. IsTrue (K.is_honest disk) → IsMadeNew (K.content disk) i) }
     ensures honest { K.is_honest (disk_in result) ≡ K.is_honest disk }
     ensures used { (K.allowance (disk_in result)).used ≤ 12 }
     ensures armings { K.armings (disk_in result) ≡ K.armings disk }
@@ -82,8 +84,8 @@ fn read_head<K: Disk>(disk: &mut K, size: u64) -> Result<[u8; 17], JournalRefusa
     }
 }
 
-// Whether a disk of so many octets that begins with these can't have held a batch.
-fn looks_blank(size: u64, front: &[u8]) -> bool
+/// Whether a disk of so many octets that begins with these, of which it needs the first 17, can't have held a batch.
+pub fn looks_blank(size: u64, front: &[u8]) -> bool
     ensures { result ≡ (nat_le size 17 && not (is_new_text front.now)) }
 {
     size <= 17 && !is_new(front)
@@ -101,6 +103,7 @@ fn open_synced<K: Disk>(
     ensures settled { IfOk result (λ j. IsTrue (K.is_honest j.disk) → IsSettled (K.content j.disk) (K.image j.disk (K.moment j.disk)) j.start j.batches) }
     ensures head { IfOk result (λ j. IsTrue (K.is_honest j.disk) → IsHeaded (take 16 (K.content j.disk))) }
     ensures cause { IfErr result (λ e. Refuses (K.is_honest disk) (K.content disk) (K.faults disk) (K.faults e.1) e.0) }
+    ensures leaves { IfErr result (λ e. e.0 ≢ JournalRefusal.Disk → StandsStill (K.moment disk) (K.moment e.1) (K.image disk) (K.image e.1)) }
     ensures later { K.faults disk ≤ K.faults (disk_in result) }
     ensures moments { AtEachMoment K.moment K.image disk (disk_in result) (λ i. IsTrue (K.is_honest disk) → IsOpening (K.content disk) i) }
     ensures honest { K.is_honest (disk_in result) ≡ K.is_honest disk }
@@ -122,8 +125,8 @@ fn open_synced<K: Disk>(
     }
 }
 
-// Makes what a crash left the only image, and answers how many octets it has.
-fn settle<K: Disk>(disk: &mut K) -> Result<u64, JournalRefusal>
+/// Revives a disk, makes what a crash left its only image, and answers how many octets it has.
+pub fn settle<K: Disk>(disk: &mut K) -> Result<u64, JournalRefusal>
     requires { (K.allowance disk.old).used < 16 }
     ensures image { IsTrue (K.is_honest disk.old) → K.image disk.old (K.moment disk.old) (K.content disk.new) }
     ensures long { IsTrue (K.is_honest disk.old) → IfOk result (λ n. n ≡ length (K.content disk.new)) }
@@ -150,6 +153,7 @@ fn settle<K: Disk>(disk: &mut K) -> Result<u64, JournalRefusal>
 pub fn open<K: Disk>(alloc: Global, mut disk: K) -> Result<Journal<K>, (JournalRefusal, K)>
     requires { (K.allowance disk).used ≤ 12 }
     ensures reads { (read : List ℕ) × Opens K.is_honest K.content K.moment K.image K.faults disk result read }
+    ensures leaves { IfErr result (λ e. e.0 ≢ JournalRefusal.Disk → (i : List ℕ) → K.image e.1 (K.moment e.1) i → K.image disk (K.moment disk) i) }
     ensures settled { IfOk result (λ j. IsTrue (K.is_honest j.disk) → IsSettled (K.content j.disk) (K.image j.disk (K.moment j.disk)) j.start j.batches) }
     ensures head { IfOk result (λ j. IsTrue (K.is_honest j.disk) → IsHeaded (take 16 (K.content j.disk))) }
     ensures later { K.faults disk ≤ K.faults (disk_in result) }
@@ -181,6 +185,7 @@ pub fn open_at<K: Disk>(
     ensures settled { IfOk result (λ j. IsTrue (K.is_honest j.disk) → IsSettled (K.content j.disk) (K.image j.disk (K.moment j.disk)) j.start j.batches) }
     ensures front { IfOk result (λ j. IsTrue (K.is_honest j.disk) → take start (K.content j.disk) ≡ take start (K.content disk)) }
     ensures cause { IfErr result (λ e. StopsReading (K.is_honest disk) (K.content disk) start (K.faults disk) (K.faults e.1) e.0) }
+    ensures leaves { IfErr result (λ e. e.0 ≢ JournalRefusal.Disk → StandsStill (K.moment disk) (K.moment e.1) (K.image disk) (K.image e.1)) }
     ensures later { K.faults disk ≤ K.faults (disk_in result) }
     ensures moments { AtEachMoment K.moment K.image disk (disk_in result) (λ i. IsTrue (K.is_honest disk) → IsReadOrClosing start (K.content disk) i) }
     ensures honest { K.is_honest (disk_in result) ≡ K.is_honest disk }

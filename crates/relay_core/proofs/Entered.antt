@@ -10,12 +10,12 @@ use Rattle.qkd_base.specs.Route.{next_after}
 use Rattle.net_model.specs.declared.fact.Fact.{Fact}
 use Rattle.net_model.specs.declared.fact.Fact.TheVariants.{Key, Chunk, Stored, Open, Joined, Part}
 use Rattle.net_model.specs.Table.{name_of, route_of, is_stored_about, is_joined_about, is_part_of}
-use Rattle.net_model.specs.Streams.{is_chunk_at}
+use Rattle.net_model.specs.Streams.{is_chunk_at, is_chunk_of}
 use Rattle.net_model.specs.Relay.{is_some_of}
 use Rattle.ordered_entries.specs.Entries.{has_entry, entry_at}
 use Rattle.relay_core.specs.declared.group.Group.{Group}
-use Rattle.relay_core.specs.declared.group.Group.TheVariants.{Named, StoredAbout, JoinedAbout, PartsOf, ChunksAt, OwedTo}
-use Rattle.relay_core.specs.Index.{belongs, belongs_at, entry_of, name_entry, IsIndex, is_owed_to, second_of, owed_group, creditor}
+use Rattle.relay_core.specs.declared.group.Group.TheVariants.{Named, StoredAbout, JoinedAbout, PartsOf, ChunksAt, OwedTo, ChunksOf}
+use Rattle.relay_core.specs.Index.{belongs, belongs_at, entry_of, name_entry, IsIndex, is_owed_to, second_of, third_of, owed_group, creditor}
 use Rattle.relay_core.specs.Listed.{Grows, GrowsBy, IsOwnGroup, IsPartlyListed, IsListed}
 use Rattle.relay_core.proofs.Firsts.{get_within}
 use Rattle.relay_core.proofs.Names.{eq_same, eq_from, and_left, and_right, name_eq_from, name_eq_same}
@@ -32,7 +32,8 @@ group_back e =
     else if slice_index e 0 == 2 then JoinedAbout (name_back e)
     else if slice_index e 0 == 3 then PartsOf (name_back e)
     else if slice_index e 0 == 4 then ChunksAt (name_back e) (slice_index e 4)
-    else OwedTo (slice_index e 1)
+    else if slice_index e 0 == 5 then OwedTo (slice_index e 1)
+    else ChunksOf (name_back e)
 
 kind_back : (k : NameKind) → kind_of_octet (kind_number k) ≡ k
 kind_back KeyKind = refl
@@ -51,6 +52,7 @@ group_is (JoinedAbout n) p = ap JoinedAbout (named_back 2 n 0 p)
 group_is (PartsOf n) p = ap PartsOf (named_back 3 n 0 p)
 group_is (ChunksAt s i) p = ap (λ (n : Name). ChunksAt n i) (named_back 4 s i p)
 group_is (OwedTo to) p = refl
+group_is (ChunksOf s) p = ap ChunksOf (named_back 6 s 0 p)
 
 place_is : (g : Group) (p : ℕ) → slice_index (entry_of g p) 7 ≡ p
 place_is (Named n) p = refl
@@ -59,6 +61,7 @@ place_is (JoinedAbout n) p = refl
 place_is (PartsOf n) p = refl
 place_is (ChunksAt s i) p = refl
 place_is (OwedTo to) p = refl
+place_is (ChunksOf s) p = refl
 
 pub same_entry : (g h : Group) (p q : ℕ) → entry_of g p ≡ entry_of h q → (g ≡ h) × (p ≡ q)
 same_entry g h p q e = (
@@ -80,6 +83,7 @@ front_of (JoinedAbout n) = 2 ∷ n.node ∷ kind_number n.kind ∷ n.count ∷ 0
 front_of (PartsOf n) = 3 ∷ n.node ∷ kind_number n.kind ∷ n.count ∷ 0 ∷ 0 ∷ 0 ∷ []
 front_of (ChunksAt s i) = 4 ∷ s.node ∷ kind_number s.kind ∷ s.count ∷ i ∷ 0 ∷ 0 ∷ []
 front_of (OwedTo to) = 5 ∷ to ∷ 0 ∷ 0 ∷ 0 ∷ 0 ∷ 0 ∷ []
+front_of (ChunksOf s) = 6 ∷ s.node ∷ kind_number s.kind ∷ s.count ∷ 0 ∷ 0 ∷ 0 ∷ []
 
 pub front_is : (g : Group) (p : ℕ) → entry_of g p ≡ entry_at (front_of g) p
 unfolding front_of
@@ -89,6 +93,7 @@ front_is (JoinedAbout n) p = refl
 front_is (PartsOf n) p = refl
 front_is (ChunksAt s i) p = refl
 front_is (OwedTo to) p = refl
+front_is (ChunksOf s) p = refl
 
 -- a fact belongs to its own groups and to no other
 
@@ -110,6 +115,10 @@ chunk_own s i (Chunk name stream index route bytes) h =
     ∙ ap (λ (j : ℕ). Some (ChunksAt s j)) (eq_from index i (and_right (name_eq stream s) (index == i) h))
 chunk_own s i _ h = cc
 
+stream_own : (s : Name) (f : Fact) → is_chunk_of s f ≡ true → third_of f ≡ Some (ChunksOf s)
+stream_own s (Chunk name stream index route bytes) h = ap (λ (m : Name). Some (ChunksOf m)) (name_eq_from stream s h)
+stream_own s _ h = cc
+
 some_of : (o : Option ℕ) (to : ℕ) → is_some_of o to ≡ true → o ≡ Some to
 some_of None to h = cc
 some_of (Some m) to h = ap Some (eq_from m to h)
@@ -130,7 +139,8 @@ belongs_own me acked (StoredAbout n) f h = inr (inl (stored_own n f h))
 belongs_own me acked (JoinedAbout n) f h = inr (inl (joined_own n f h))
 belongs_own me acked (PartsOf n) f h = inr (inl (part_own n f h))
 belongs_own me acked (ChunksAt s i) f h = inr (inl (chunk_own s i f h))
-belongs_own me acked (OwedTo to) f h = inr (inr (owed_own me acked to f h))
+belongs_own me acked (OwedTo to) f h = inr (inr (inr (owed_own me acked to f h)))
+belongs_own me acked (ChunksOf s) f h = inr (inr (inl (stream_own s f h)))
 
 second_belongs : (me : ℕ) (acked : List Name) (f : Fact) (g : Group) → second_of f ≡ Some g → belongs me acked g f ≡ true
 second_belongs me acked (Stored note about route) g e =
@@ -145,6 +155,11 @@ second_belongs me acked (Chunk name stream index route bytes) g e =
     ∙ ap (λ (b : Bool). b && (index == index)) (name_eq_same stream) ∙ eq_same index
 second_belongs me acked (Key name master slave route bytes) g e = cc
 second_belongs me acked (Open stream source peer size route) g e = cc
+
+third_belongs : (me : ℕ) (acked : List Name) (f : Fact) (g : Group) → third_of f ≡ Some g → belongs me acked g f ≡ true
+third_belongs me acked (Chunk name stream index route bytes) g e =
+    let s : g ≡ ChunksOf stream = cc in ap (λ (h : Group). belongs me acked h (Chunk name stream index route bytes)) s ∙ name_eq_same stream
+third_belongs me acked _ g e = cc
 
 creditor_belongs : (me : ℕ) (acked : List Name) (f : Fact) (g : Group) (b : Bool) (o : Option ℕ) → has acked (name_of f) ≡ b → next_after (route_of f) me ≡ o →
     owed_group (if b then None else o) ≡ Some g → belongs me acked g f ≡ true
@@ -161,7 +176,8 @@ pub own_belongs : (me : ℕ) (acked : List Name) (f : Fact) (g : Group) → IsOw
 own_belongs me acked f g own = elim own [
   | inl e ↦ ap (λ (h : Group). belongs me acked h f) e ∙ name_eq_same (name_of f)
   | inr (inl e) ↦ second_belongs me acked f g e
-  | inr (inr e) ↦ creditor_belongs me acked f g (has acked (name_of f)) (next_after (route_of f) me) refl refl e
+  | inr (inr (inl e)) ↦ third_belongs me acked f g e
+  | inr (inr (inr e)) ↦ creditor_belongs me acked f g (has acked (name_of f)) (next_after (route_of f) me) refl refl e
 ]
 
 -- the entries of one fact
@@ -212,16 +228,24 @@ first_part old new f to place grows = partly_more old old new f to place (Some (
 pub two_parts : (old mid new : List (List ℕ)) (f : Fact) (to : Option ℕ) (place : ℕ) → Grows old mid (Named (name_of f)) place → GrowsBy mid new (second_of f) place → IsPartlyListed old new f to place
 two_parts old mid new f to place a b = partly_more old mid new f to place (second_of f) (first_part old mid f to place a) b (λ g e. inr (inl e))
 
-pub all_parts : (old mid next new : List (List ℕ)) (f : Fact) (to : Option ℕ) (place : ℕ) → Grows old mid (Named (name_of f)) place → GrowsBy mid next (second_of f) place →
-    GrowsBy next new (owed_group to) place → IsListed old new f to place
-all_parts old mid next new f to place a b c = record {
-  partly = partly_more old next new f to place (owed_group to) (two_parts old mid next f to place a b) c (λ g e. inr (inr e));
+pub three_parts : (old mid next new : List (List ℕ)) (f : Fact) (to : Option ℕ) (place : ℕ) → Grows old mid (Named (name_of f)) place → GrowsBy mid next (second_of f) place →
+    GrowsBy next new (third_of f) place → IsPartlyListed old new f to place
+three_parts old mid next new f to place a b c = partly_more old next new f to place (third_of f) (two_parts old mid next f to place a b) c (λ g e. inr (inr (inl e)))
+
+pub all_parts : (old mid next last new : List (List ℕ)) (f : Fact) (to : Option ℕ) (place : ℕ) → Grows old mid (Named (name_of f)) place → GrowsBy mid next (second_of f) place →
+    GrowsBy next last (third_of f) place → GrowsBy last new (owed_group to) place → IsListed old new f to place
+all_parts old mid next last new f to place a b c d = record {
+  partly = partly_more old last new f to place (owed_group to) (three_parts old mid next last f to place a b c) d (λ g e. inr (inr (inr e)));
   all = λ g own. elim own [
-    | inl e ↦ grown_kept next new place (owed_group to) (entry_of g place) c (grown_kept mid next place (second_of f) (entry_of g place) b (grown_has old mid g place (Some (Named (name_of f))) (ap Some (sym e)) a))
-    | inr (inl e) ↦ grown_kept next new place (owed_group to) (entry_of g place) c (grown_has mid next g place (second_of f) e b)
-    | inr (inr e) ↦ grown_has next new g place (owed_group to) e c
+    | inl e ↦ behind g (grown_kept mid next place (second_of f) (entry_of g place) b (grown_has old mid g place (Some (Named (name_of f))) (ap Some (sym e)) a))
+    | inr (inl e) ↦ behind g (grown_has mid next g place (second_of f) e b)
+    | inr (inr (inl e)) ↦ grown_kept last new place (owed_group to) (entry_of g place) d (grown_has next last g place (third_of f) e c)
+    | inr (inr (inr e)) ↦ grown_has last new g place (owed_group to) e d
   ];
 }
+  where
+    behind : (g : Group) → has_entry next (entry_of g place) ≡ true → has_entry new (entry_of g place) ≡ true
+    behind g h = grown_kept last new place (owed_group to) (entry_of g place) d (grown_kept next last place (third_of f) (entry_of g place) c h)
 
 -- the index with some or all of one more fact's entries
 

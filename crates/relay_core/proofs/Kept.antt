@@ -11,7 +11,7 @@ use Rattle.net_model.specs.Relay.{is_some_of}
 use Rattle.net_model.specs.Decision.{last_count, count_if, group_count}
 use Rattle.relay_core.specs.Knowledge.{IsKnown, AreDistinct, is_owed_by, owes_fact, owed_names, acked_with}
 use Rattle.relay_core.specs.Index.{is_owed_to, creditor, creditor_of, IsIndex}
-use Rattle.relay_core.proofs.Firsts.{get_end, not_true, find_hits, any_at}
+use Rattle.relay_core.proofs.Firsts.{get_end, get_push, not_true, find_hits, any_at}
 use Rattle.relay_core.proofs.Names.{last-push, distinct-push, name_eq_from, names_same, eq_same, and_left, and_right}
 use Rattle.relay_core.proofs.Searched.{index_push, index_acked, IsCleared}
 
@@ -29,6 +29,7 @@ nothing me = record {
   distinct = record { names = λ i n at. absurd (none_there i at.fact at.there); apart = λ i j n a b. absurd (none_there i a.fact a.there) };
   index = empty_index me;
   known = λ n h. let u : ⊥ = cc in absurd u;
+  told = λ i f there h. absurd (none_there i f there);
   last_is = refl;
   bound = omega arith;
 }
@@ -78,6 +79,12 @@ known_pushed me facts after acked es new listed now last more f is named fresh e
   distinct = subst AreDistinct (sym e) (distinct-push facts f is.distinct named fresh);
   index = index;
   known = λ n h. ap (λ (fs : List Fact). has_fact fs n) e ∙ pushed_known facts f n (is.known n h);
+  told = λ i g there h. elim (get_push facts f g i (sym (ap (λ (fs : List Fact). slice_get fs i) e) ∙ there)) [
+    | inl (lt, was) ↦ is.told i g was h
+    | inr (at, same) ↦
+        let t : true ≡ false = sym (is.known (name_of f) (ap (λ (x : Fact). has acked (name_of x)) same ∙ h)) ∙ fresh in
+        let u : ⊥ = cc in absurd u
+  ];
   last_is = m ∙ ap (λ (k : ℕ). max k (max (count_if me (name_of f)) (group_count me (part_of f)))) is.last_is ∙ sym (last-push me facts f) ∙ ap (last_count me) (sym e);
   bound = small is.bound;
 }
@@ -146,7 +153,7 @@ any_somewhere {A} t (x ∷ xs) h =
 some_same : (x y : Fact) → Some x ≡ Some y → x ≡ y
 some_same x y e = cc
 
-pub test_of : (Fact → Bool) → Option Fact → Bool
+unfoldable pub test_of : (Fact → Bool) → Option Fact → Bool
 test_of q None = false
 test_of q (Some f) = q f
 
@@ -243,6 +250,14 @@ acked_known me facts acked after es new listed last place to n f is there named 
   known = λ m h. elim (or_cases (has acked m) (name_eq n m) (sym (ap (λ (ns : List Name). has ns m) e ∙ has_more m) ∙ h)) [
     | inl was ↦ is.known m was
     | inr same ↦ find_hits (λ g. name_eq (name_of g) m) facts place f there (names_same (name_of f) m (named ∙ name_eq_from n m same))
+  ];
+  told = λ i g at h. elim (or_cases (has acked (name_of g)) (name_eq n (name_of g)) (sym (ap (λ (ns : List Name). has ns (name_of g)) e ∙ has_more (name_of g)) ∙ h)) [
+    | inl was ↦ is.told i g at was
+    | inr same ↦
+        let i_is = is.distinct.apart i place n (record { fact = g; there = at; named = sym (name_eq_from n (name_of g) same) }) (record { fact = f; there = there; named = named }) in
+        let g_is : Some g ≡ Some f = sym at ∙ ap (slice_get facts) i_is ∙ there in
+        let g_same : g ≡ f = cc in
+        ap (λ (x : Fact). is_some (next_after (route_of x) me)) g_same ∙ ap is_some (next_is (has acked (name_of f)) (next_after (route_of f) me) owed)
   ];
   last_is = is.last_is;
   bound = is.bound;

@@ -11,7 +11,7 @@ use Rattle.net_model.specs.Table.{name_of, route_of}
 use Rattle.net_model.specs.Relay.{is_some_of}
 use Rattle.ordered_entries.specs.Entries.{has_entry, entry_at, IsNextIn, IsLastIn}
 use Rattle.relay_core.specs.declared.group.Group.{Group}
-use Rattle.relay_core.specs.declared.group.Group.TheVariants.{Named, StoredAbout, JoinedAbout, PartsOf, ChunksAt, OwedTo}
+use Rattle.relay_core.specs.declared.group.Group.TheVariants.{Named, StoredAbout, JoinedAbout, PartsOf, ChunksAt, OwedTo, ChunksOf}
 use Rattle.relay_core.specs.Firsts.{IsFirstFrom, IsNoneFrom}
 use Rattle.relay_core.specs.Knowledge.{AreDistinct}
 use Rattle.relay_core.specs.Index.{belongs, belongs_at, entry_of, IsIndex}
@@ -139,6 +139,7 @@ fewer me acked n (StoredAbout m) x h = h
 fewer me acked n (JoinedAbout m) x h = h
 fewer me acked n (PartsOf m) x h = h
 fewer me acked n (ChunksAt s i) x h = h
+fewer me acked n (ChunksOf s) x h = h
 fewer me acked n (OwedTo to) x h =
     let more = not_from (has (acked ++ n ∷ []) (name_of x)) (and_right (is_some_of (next_after (route_of x) me) to) (not (has (acked ++ n ∷ []) (name_of x))) h) in
     let was = or_false_left (has acked (name_of x)) (name_eq n (name_of x)) (sym (has_more acked n (name_of x)) ∙ more) in
@@ -152,6 +153,7 @@ still me acked n (StoredAbout m) x h other = h
 still me acked n (JoinedAbout m) x h other = h
 still me acked n (PartsOf m) x h other = h
 still me acked n (ChunksAt s i) x h other = h
+still me acked n (ChunksOf s) x h other = h
 still me acked n (OwedTo to) x h other =
     let was = not_from (has acked (name_of x)) (and_right (is_some_of (next_after (route_of x) me) to) (not (has acked (name_of x))) h) in
     let next = and_left (is_some_of (next_after (route_of x) me) to) (not (has acked (name_of x))) h in

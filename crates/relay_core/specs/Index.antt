@@ -5,11 +5,11 @@ use Rattle.qkd_base.specs.Route.{next_after}
 use Rattle.net_model.specs.declared.fact.Fact.{Fact}
 use Rattle.net_model.specs.declared.fact.Fact.TheVariants.{Chunk, Stored, Joined, Part}
 use Rattle.net_model.specs.Table.{name_of, route_of, is_stored_about, is_joined_about, is_part_of}
-use Rattle.net_model.specs.Streams.{is_chunk_at}
+use Rattle.net_model.specs.Streams.{is_chunk_at, is_chunk_of}
 use Rattle.net_model.specs.Relay.{is_some_of}
 use Rattle.ordered_entries.specs.Entries.{has_entry}
 use Rattle.relay_core.specs.declared.group.Group.{Group}
-use Rattle.relay_core.specs.declared.group.Group.TheVariants.{Named, StoredAbout, JoinedAbout, PartsOf, ChunksAt, OwedTo}
+use Rattle.relay_core.specs.declared.group.Group.TheVariants.{Named, StoredAbout, JoinedAbout, PartsOf, ChunksAt, OwedTo, ChunksOf}
 
 -- the neighbour comes next on the fact's route, and hasn't acknowledged it
 abbrev pub is_owed_to : ℕ → List Name → ℕ → Fact → Bool
@@ -23,6 +23,7 @@ belongs me acked (JoinedAbout n) f = is_joined_about n f
 belongs me acked (PartsOf n) f = is_part_of n f
 belongs me acked (ChunksAt s i) f = is_chunk_at s i f
 belongs me acked (OwedTo to) f = is_owed_to me acked to f
+belongs me acked (ChunksOf s) f = is_chunk_of s f
 
 abbrev pub belongs_at : ℕ → List Name → Group → Option Fact → Bool
 belongs_at me acked g None = false
@@ -40,6 +41,7 @@ entry_of (JoinedAbout n) place = name_entry 2 n 0 place
 entry_of (PartsOf n) place = name_entry 3 n 0 place
 entry_of (ChunksAt s i) place = name_entry 4 s i place
 entry_of (OwedTo to) place = 5 ∷ to ∷ 0 ∷ 0 ∷ 0 ∷ 0 ∷ 0 ∷ place ∷ []
+entry_of (ChunksOf s) place = name_entry 6 s 0 place
 
 -- Each of the first facts has an entry in each group to which it belongs. Every entry is one of a fact that belongs to its group, be
 -- it among the first or not.
@@ -48,7 +50,7 @@ pub record IsIndex (me : ℕ) (acked : List Name) (facts : List Fact) (entries :
   pub sound : (g : Group) (p : ℕ) → has_entry entries (entry_of g p) ≡ true → belongs_at me acked g (slice_get facts p) ≡ true
   pub complete : (g : Group) (p : ℕ) → p < count → belongs_at me acked g (slice_get facts p) ≡ true → has_entry entries (entry_of g p) ≡ true
 
--- a fact's own groups: its name's, that of what it says, and that of the neighbour to whom it is owed
+-- a fact's own groups: its name's, that of what it says, a chunk's stream, and that of the neighbour to whom it is owed
 
 abbrev pub second_of : Fact → Option Group
 second_of (Stored note about route) = Some (StoredAbout about)
@@ -56,6 +58,10 @@ second_of (Joined note about route) = Some (JoinedAbout about)
 second_of (Part name key master slave route bytes) = Some (PartsOf key)
 second_of (Chunk name stream index route bytes) = Some (ChunksAt stream index)
 second_of _ = None
+
+abbrev pub third_of : Fact → Option Group
+third_of (Chunk name stream index route bytes) = Some (ChunksOf stream)
+third_of _ = None
 
 abbrev pub owed_group : Option ℕ → Option Group
 owed_group None = None

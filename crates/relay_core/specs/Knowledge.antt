@@ -1,10 +1,10 @@
 -- What a node knows: its facts, and what its neighbours have acknowledged.
-use Rattle.std.specs.Prelude.{◌≡◌, ℕ, ◌<◌, ◌^◌, ◌&&◌, not, is_some, Bool, true, List, [], ◌∷◌, ◌++◌, map, filter, slice_get, Option, Some, if◌then◌else◌}
+use Rattle.std.specs.Prelude.{◌≡◌, ℕ, zero, suc, ◌<◌, ◌^◌, ◌&&◌, not, is_some, Bool, true, List, [], ◌∷◌, ◌++◌, map, filter, slice_get, Option, Some, if◌then◌else◌}
 use Rattle.std.specs.List.{position_from, list_any}
 use Rattle.qkd_base.specs.Name.{Name, IsName, name_eq, has}
 use Rattle.qkd_base.specs.Route.{next_after}
 use Rattle.net_model.specs.declared.fact.Fact.{Fact}
-use Rattle.net_model.specs.Table.{name_of, route_of, has_fact}
+use Rattle.net_model.specs.Table.{name_of, route_of, has_fact, without_bytes}
 use Rattle.net_model.specs.Decision.{last_count}
 use Rattle.relay_core.specs.Index.{IsIndex, is_owed_to}
 
@@ -36,6 +36,12 @@ owed_names me acked facts to = map name_of (filter (is_owed_to me acked to) fact
 abbrev pub acked_with : ℕ → List Name → List Fact → Name → List Name
 acked_with me acked facts n = if owes_fact me acked facts n then acked ++ n ∷ [] else acked
 
+-- the facts, the one at a place with zeros for its bytes
+abbrev pub forgotten : List Fact → ℕ → List Fact
+forgotten [] place = []
+forgotten (f ∷ fs) zero = without_bytes f ∷ fs
+forgotten (f ∷ fs) (suc place) = f ∷ forgotten fs place
+
 -- the fact at this place has this name
 pub record IsNamedAt (facts : List Fact) (i : ℕ) (n : Name) : Type 0 where
   pub fact : Fact
@@ -52,5 +58,6 @@ pub record IsKnown (me : ℕ) (facts : List Fact) (acked : List Name) (entries :
   pub distinct : AreDistinct facts
   pub index : IsIndex me acked facts entries catalogued
   pub known : (n : Name) → has acked n ≡ true → has_fact facts n ≡ true
+  pub told : (i : ℕ) (f : Fact) → slice_get facts i ≡ Some f → has acked (name_of f) ≡ true → is_some (next_after (route_of f) me) ≡ true
   pub last_is : last ≡ last_count me facts
   pub bound : last < 2 ^ 48

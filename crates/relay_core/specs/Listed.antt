@@ -6,7 +6,7 @@ use Rattle.net_model.specs.Table.{name_of}
 use Rattle.ordered_entries.specs.Entries.{has_entry}
 use Rattle.relay_core.specs.declared.group.Group.{Group}
 use Rattle.relay_core.specs.declared.group.Group.TheVariants.{Named}
-use Rattle.relay_core.specs.Index.{entry_of, second_of, owed_group}
+use Rattle.relay_core.specs.Index.{entry_of, second_of, third_of, owed_group}
 
 -- the index with one more entry
 pub record Grows (old new : List (List ℕ)) (g : Group) (place : ℕ) : Type 0 where
@@ -18,7 +18,7 @@ GrowsBy old new (Some g) place = Grows old new g place
 
 -- one of a fact's own groups
 abbrev pub IsOwnGroup : Fact → Option ℕ → Group → Type 0
-IsOwnGroup f to g = (g ≡ Named (name_of f)) ⊎ ((second_of f ≡ Some g) ⊎ (owed_group to ≡ Some g))
+IsOwnGroup f to g = (g ≡ Named (name_of f)) ⊎ ((second_of f ≡ Some g) ⊎ ((third_of f ≡ Some g) ⊎ (owed_group to ≡ Some g)))
 
 pub record IsOwnEntry (f : Fact) (to : Option ℕ) (place : ℕ) (e : List ℕ) : Type 0 where
   pub group : Group

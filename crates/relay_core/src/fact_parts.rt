@@ -1,11 +1,13 @@
 // The parts of a fact.
 ghost use Rattle.std.specs.Prelude.{◌≡◌, ◌<◌, ◌^◌, max};
 ghost use Rattle.qkd_base.specs.Name.{IsName};
-ghost use Rattle.net_model.specs.Table.{name_of, route_of, part_of, is_secret, kind_of};
+ghost use Rattle.net_model.specs.Table.{name_of, route_of, part_of, is_secret, kind_of, zeros_for, without_bytes};
 ghost use Rattle.net_model.specs.Decision.{count_if, group_count};
 
 use net_model::Fact;
-use qkd_base::{KeyName, NodeNo, Route};
+use qkd_base::{KeyName, NodeNo, Octets, Route};
+use std::alloc::Global;
+use std::mem;
 
 /// A fact's name.
 pub fn fact_name(fact: &Fact) -> KeyName
@@ -95,4 +97,25 @@ pub fn later_count(last: u64, fact: &Fact, me: NodeNo) -> u64
 {
     let own = greater(count_here(fact_name(fact), me), group_count_here(fact, me));
     greater(last, own)
+}
+
+// Zeros in the place of bytes.
+fn zero(bytes: &mut Octets, alloc: Global)
+    ensures { bytes.new ≡ zeros_for bytes.old }
+{
+    let mut octets = mem::replace(bytes, Octets::new(alloc)).into_vec();
+    octets.fill(0);
+    *bytes = Octets::from_vec(octets);
+}
+
+/// Overwrites a fact's bytes with zeros. It takes no memory.
+pub fn wipe(fact: &mut Fact, alloc: Global)
+    ensures { fact.new ≡ without_bytes fact.old }
+{
+    match fact {
+        Fact::Key { bytes, .. } => zero(bytes, alloc),
+        Fact::Chunk { bytes, .. } => zero(bytes, alloc),
+        Fact::Part { bytes, .. } => zero(bytes, alloc),
+        _ => {}
+    }
 }

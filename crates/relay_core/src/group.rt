@@ -2,7 +2,7 @@
 ghost use Rattle.std.specs.Prelude.{◌≡◌};
 ghost use Rattle.qkd_base.specs.Name.{has, kind_number, name_eq};
 ghost use Rattle.net_model.specs.Table.{is_stored_about, is_joined_about, is_part_of};
-ghost use Rattle.net_model.specs.Streams.{is_chunk_at};
+ghost use Rattle.net_model.specs.Streams.{is_chunk_at, is_chunk_of};
 ghost use Rattle.relay_core.specs.Index.{belongs, entry_of, name_entry, is_owed_to};
 
 use crate::fact_parts::{fact_name, fact_route};
@@ -25,6 +25,8 @@ pub enum Group {
     ChunksAt(KeyName, u32),
     /// The facts that a neighbour is to be told and hasn't acknowledged.
     OwedTo(NodeNo),
+    /// The chunks of a stream.
+    ChunksOf(KeyName),
 }
 
 // The number of a kind of names.
@@ -94,6 +96,16 @@ fn is_chunk_at(fact: &Fact, of: KeyName, at: u32) -> bool
     }
 }
 
+// Whether a fact is a chunk of a stream.
+fn is_chunk_of(fact: &Fact, of: KeyName) -> bool
+    ensures { result ≡ is_chunk_of of fact.now }
+{
+    match fact {
+        Fact::Chunk { stream, .. } => *stream == of,
+        _ => false,
+    }
+}
+
 /// Whether a list has a name.
 pub fn has_name(names: &[KeyName], name: KeyName) -> bool
     ensures { result ≡ has names.now name }
@@ -123,6 +135,7 @@ impl Group {
             Group::PartsOf(name) => is_part_of(fact, name),
             Group::ChunksAt(stream, index) => is_chunk_at(fact, stream, index),
             Group::OwedTo(to) => is_owed_to(fact, me, acked, to),
+            Group::ChunksOf(stream) => is_chunk_of(fact, stream),
         }
     }
 
@@ -137,6 +150,7 @@ impl Group {
             Group::PartsOf(name) => name_entry(3, name, 0, place),
             Group::ChunksAt(stream, index) => name_entry(4, stream, index, place),
             Group::OwedTo(to) => [5, to.get() as u64, 0, 0, 0, 0, 0, place as u64],
+            Group::ChunksOf(stream) => name_entry(6, stream, 0, place),
         }
     }
 }

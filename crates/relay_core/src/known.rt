@@ -1,18 +1,18 @@
 // The facts that a node knows.
-ghost use Rattle.std.specs.Prelude.{◌≡◌, ◌+◌, ◌<◌, ◌^◌, ◌≤◌, ◌&&◌, ℕ, true, [], ◌∷◌, ◌++◌, OnOk, OnErr, IfOk, IsOk, is_some, IfSome, IfNone, not, false, length, slice_get, find, Some};
+ghost use Rattle.std.specs.Prelude.{◌≡◌, ◌+◌, ◌<◌, ◌^◌, ◌≤◌, ◌&&◌, ℕ, true, [], ◌∷◌, ◌++◌, OnOk, OnErr, IfOk, IsOk, is_some, IfSome, IfNone, not, false, length, slice_get, find, Some, ◌-◌, vec_capacity, vec_len};
 ghost use Rattle.std.specs.Option.{option_copied};
 ghost use Rattle.std.specs.List.{list_any};
 ghost use Rattle.net_model.specs.Table.{name_of, fact_at, has_fact, learned, is_stored_about, is_joined_about, is_part_of};
-ghost use Rattle.net_model.specs.Streams.{is_chunk_at};
+ghost use Rattle.net_model.specs.Streams.{is_chunk_at, is_chunk_of};
 ghost use Rattle.net_model.specs.Decision.{last_count};
 ghost use Rattle.qkd_base.specs.Name.{Name, IsName, name_eq, has};
 ghost use Rattle.net_model.specs.Relay.{is_some_of};
 ghost use Rattle.relay_core.specs.Firsts.{IsFirstFrom, IsNoneFrom};
 ghost use Rattle.relay_core.specs.Index.{belongs, is_owed_to, creditor, creditor_of};
-ghost use Rattle.relay_core.specs.Knowledge.{place_of, AreDistinct, owes_fact, owed_names, acked_with};
+ghost use Rattle.relay_core.specs.Knowledge.{place_of, AreDistinct, owes_fact, owed_names, acked_with, forgotten};
 
 use crate::Group;
-use crate::fact_parts::{fact_name, fact_route, later_count};
+use crate::fact_parts::{fact_name, fact_route, later_count, wipe};
 use crate::listing::{list_new, next_in};
 use net_model::Fact;
 use ordered_entries::Entries;
@@ -49,6 +49,17 @@ fn fact_in(facts: &[Fact], place: usize) -> Option<&Fact>
     ensures { option_copied result ≡ slice_get facts.now place }
 {
     facts.get(place)
+}
+
+// Overwrites the bytes of the fact at a place with zeros.
+fn wipe_at(facts: &mut Vec<Fact>, place: usize)
+    ensures facts { facts.new.items ≡ forgotten facts.old.items place }
+    ensures spare { vec_capacity facts.new - vec_len facts.new ≡ vec_capacity facts.old - vec_len facts.old }
+{
+    let alloc = *facts.allocator();
+    if let Some(fact) = facts.get_mut(place) {
+        wipe(fact, alloc);
+    }
 }
 
 impl Known {
@@ -199,6 +210,14 @@ impl Known {
         self.next(&Group::PartsOf(key), from)
     }
 
+    /// The place of the first chunk of a stream from a place on.
+    pub fn next_chunk(&self, stream: KeyName, from: usize) -> Option<usize>
+        ensures first { IfSome result (λ place. IsFirstFrom (is_chunk_of stream) self.now.facts from place) }
+        ensures none { IfNone result (IsNoneFrom (is_chunk_of stream) self.now.facts from) }
+    {
+        self.next(&Group::ChunksOf(stream), from)
+    }
+
     /// The place of the first fact from a place on that a neighbour is to be told and hasn't acknowledged.
     pub fn next_owed(&self, to: NodeNo, from: usize) -> Option<usize>
         ensures first { IfSome result (λ place. IsFirstFrom (is_owed_to self.now.me self.now.acked to) self.now.facts from place) }
@@ -222,6 +241,31 @@ impl Known {
                         None
                     }
                 }
+            },
+        }
+    }
+
+    /// Whether the next node on its route has acknowledged the fact of a name.
+    pub fn is_acknowledged(&self, name: KeyName) -> bool
+        ensures { result ≡ has self.now.acked name }
+    {
+        // That what is acknowledged is known is what it says.
+        let _acked = &self.acked;
+        match self.next(&Group::Named(name), 0) {
+            None => false,
+            Some(place) => self.is_acknowledged_at(place),
+        }
+    }
+
+    // The same of the fact at a place.
+    fn is_acknowledged_at(&self, place: usize) -> bool
+        ensures { IfSome (slice_get self.now.facts place) (λ f. result ≡ has self.now.acked (name_of f)) }
+    {
+        match self.at(place) {
+            None => false,
+            Some(fact) => match fact_route(fact).next_after(self.me) {
+                None => false,
+                Some(to) => self.next_owed(to, place) != Some(place),
             },
         }
     }
@@ -331,5 +375,13 @@ impl Known {
             None => {}
             Some(place) => self.acknowledge_at(name, place),
         }
+    }
+
+    /// Overwrites the bytes of the fact at a place with zeros, if it has some. It takes no memory.
+    pub fn forget(&mut self, place: usize)
+        ensures facts { self.new.facts ≡ forgotten self.old.facts place }
+        ensures kept { (self.new.me ≡ self.old.me) × (self.new.acked ≡ self.old.acked) × (self.new.facts_spare ≡ self.old.facts_spare) × (self.new.acked_spare ≡ self.old.acked_spare) }
+    {
+        wipe_at(&mut self.facts, place);
     }
 }

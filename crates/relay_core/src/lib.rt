@@ -5,8 +5,6 @@ mod fact_parts;
 mod group;
 mod known;
 mod listing;
-#[cfg(test)]
-mod tests;
 
 pub use fact_parts::{fact_name, fact_route, is_secret, kind_octet};
 pub use group::Group;

@@ -5,7 +5,7 @@ ghost use Rattle.qkd_base.specs.Name.{has};
 ghost use Rattle.net_model.specs.Table.{name_of};
 ghost use Rattle.ordered_entries.specs.Entries.{has_entry};
 ghost use Rattle.relay_core.specs.Firsts.{IsFirstFrom, IsNoneFrom};
-ghost use Rattle.relay_core.specs.Index.{belongs, entry_of, IsIndex, second_of, owed_group, creditor};
+ghost use Rattle.relay_core.specs.Index.{belongs, entry_of, IsIndex, second_of, third_of, owed_group, creditor};
 ghost use Rattle.relay_core.specs.Listed.{Grows, GrowsBy, IsListed, IsPartlyListed};
 
 use crate::Group;
@@ -24,6 +24,16 @@ fn second_group(fact: &Fact) -> Option<Group>
         Fact::Joined { about, .. } => Some(Group::JoinedAbout(*about)),
         Fact::Part { key, .. } => Some(Group::PartsOf(*key)),
         Fact::Chunk { stream, index, .. } => Some(Group::ChunksAt(*stream, *index)),
+        _ => None,
+    }
+}
+
+// The group of a chunk's stream.
+fn third_group(fact: &Fact) -> Option<Group>
+    ensures { result ≡ third_of fact.now }
+{
+    match fact {
+        Fact::Chunk { stream, .. } => Some(Group::ChunksOf(*stream)),
         _ => None,
     }
 }
@@ -69,6 +79,9 @@ fn list_fact(index: &mut Entries, fact: &Fact, to: Option<NodeNo>, place: usize)
         return false;
     }
     if !add_some(index, second_group(fact), place) {
+        return false;
+    }
+    if !add_some(index, third_group(fact), place) {
         return false;
     }
     add_some(index, owed_group(to), place)

@@ -104,6 +104,7 @@ item_text nodes (items.Stream answer) = answer_text answer
 item_text nodes (items.Shown v name held bytes) = words (codes "show" ∷ node_text nodes v ∷ name_text name ∷ shown_words held bytes)
 item_text nodes (items.NotShown v name refusal) = words (codes "show" ∷ node_text nodes v ∷ name_text name ∷ refusal_text refusal ∷ [])
 item_text nodes (items.Counted l counts) = words (codes "ledger" ∷ lane_text l ∷ counts_words counts)
+item_text nodes (items.NotCounted l refusal) = words (codes "ledger" ∷ lane_text l ∷ refusal_text refusal ∷ [])
 
 -- one line of the report: the number of the scenario's line, a space, the item, and the end of the line
 unfoldable pub line_text : List (List ℕ) → NumberedItem → List ℕ

@@ -126,6 +126,11 @@ pub enum Item {
         lane: Lane,
         counts: Counts4,
     },
+    /// The bytes of a lane were asked for, and not counted.
+    NotCounted {
+        lane: Lane,
+        refusal: Refusal,
+    },
 }
 
 /// An item with the number of the line that it stands under.

@@ -125,8 +125,8 @@ underway_next t up a b links step nodes here next near more short layer first h 
       onward = λ tail walk.
           let exact : IsFirstWalk t up next b (links - 1 - step) tail = record { walks = walk.walks; long = omega (arith, walk.long); first = λ other walks long. walk.first other walks (omega (arith, long)) } in
           let whole : IsFirstWalk t up here b (links - step) (here ∷ tail) = subst (λ (k : ℕ). IsFirstWalk t up here b k (here ∷ tail)) (sym left) (first_cons t up here next b (links - 1 - step) near tail layer first exact) in
-          let front : take (step + 1) (set nodes step here) ≡ take step nodes ++ here ∷ [] = rw add-one (take-suc-set nodes step here (omega (arith, more, short, h.room))) in
-          let same : take step nodes ++ here ∷ tail ≡ take (step + 1) (set nodes step here) ++ tail = sym (ap (λ (xs : List ℕ). xs ++ tail) front ∙ append_assoc (take step nodes) (here ∷ []) tail) in
+          let prefix : take (step + 1) (set nodes step here) ≡ take step nodes ++ here ∷ [] = rw add-one (take-suc-set nodes step here (omega (arith, more, short, h.room))) in
+          let same : take step nodes ++ here ∷ tail ≡ take (step + 1) (set nodes step here) ++ tail = sym (ap (λ (xs : List ℕ). xs ++ tail) prefix ∙ append_assoc (take step nodes) (here ∷ []) tail) in
           subst (IsFirstWalk t up a b links) same (h.onward (here ∷ tail) whole);
     }
 
@@ -148,8 +148,8 @@ underway_last t up a b links nodes here short h =
     let none_left : 0 ≡ links - links = omega arith in
     let whole : IsFirstWalk t up here b (links - links) (b ∷ []) = subst (λ (k : ℕ). IsFirstWalk t up here b k (b ∷ [])) none_left (alone t up here b there) in
     let last : get_or nodes links 0 ≡ b = h.filled links (omega arith) (omega (arith, short)) in
-    let front : take (links + 1) nodes ≡ take links nodes ++ get_or nodes links 0 ∷ [] = rw add-one (take-suc nodes links 0 (omega (arith, short, h.room))) in
-    let same : take links nodes ++ b ∷ [] ≡ take (links + 1) nodes = sym (front ∙ ap (λ (x : ℕ). take links nodes ++ x ∷ []) last) in
+    let prefix : take (links + 1) nodes ≡ take links nodes ++ get_or nodes links 0 ∷ [] = rw add-one (take-suc nodes links 0 (omega (arith, short, h.room))) in
+    let same : take links nodes ++ b ∷ [] ≡ take (links + 1) nodes = sym (prefix ∙ ap (λ (x : ℕ). take links nodes ++ x ∷ []) last) in
     subst (IsFirstWalk t up a b links) same (h.onward (b ∷ []) whole)
 
 -- whether one of the links below a number leads there

@@ -6,7 +6,7 @@ use Rattle.net_model.specs.Journal.{is_blank}
 use Rattle.net_model.specs.Faults.{disk_faults, entropy_faults, device_faults, wire_faults, armings}
 use Rattle.scenario_lines.specs.declared.scenario.Scenario.{Scenario}
 use Rattle.report_items.specs.declared.item.Item.{Item}
-use Rattle.report_items.specs.declared.item.Item.TheVariants.{Counted}
+use Rattle.report_items.specs.declared.item.Item.TheVariants.{Counted, NotCounted}
 use Rattle.report_items.specs.declared.item.NumberedItem.{NumberedItem}
 use Rattle.report_items.specs.Texts.{report_text, handed_text, served_text}
 use Rattle.run_model.specs.Play.{Ending, Whole, ForgedAt}
@@ -27,6 +27,7 @@ pub data Stop : Type 0 where
 
 abbrev pub is_ledger : Item → Bool
 is_ledger (Counted lane counts) = true
+is_ledger (NotCounted lane refusal) = true
 is_ledger _ = false
 
 -- of a generated load the ledgers alone

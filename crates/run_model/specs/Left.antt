@@ -7,7 +7,7 @@ use Rattle.net_model.specs.Table.{sae_at}
 use Rattle.net_model.specs.World.{Network, World, Journal, InDoubt, first}
 use Rattle.net_model.specs.Frames.{frame_octets}
 use Rattle.net_model.specs.Fold.{recovered_view}
-use Rattle.net_model.specs.Action.{Action, Start, TakeBlock, Ask, Deliver, Flip, Forge, Recovers, IoFault}
+use Rattle.net_model.specs.Action.{Action, Start, TakeBlock, Ask, Deliver, Flip, Forge, Recovers, Resumes, IoFault}
 use Rattle.net_model.specs.Step.{step}
 use Rattle.net_model.specs.Start.{may_resolve}
 use Rattle.net_model.specs.Deliveries.{Delivery, is_of_name}
@@ -39,6 +39,7 @@ none_or_one (r ∷ rs) = (r ∷ rs) ∷ []
 -- a batch in doubt that a start finds was made before it
 abbrev pub found : World → Action → ℕ → List (List Record)
 found w (Start u (Recovers true)) v = if u == v then none_or_one (w.in_doubt v).batch else []
+found w (Start u (Resumes true)) v = if u == v then none_or_one (w.in_doubt v).batch else []
 found w a v = []
 
 -- The batch that a node made in an action: of an event where its journal got longer, or of the event before its start.

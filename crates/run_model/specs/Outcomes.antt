@@ -65,7 +65,7 @@ show_items v n out = reported_by (items.NotShown v n) (refused_in out)
 -- where the manager of its sender answers, the world's own count of the lane
 abbrev pub ledger_items : Lane → World → Outcome → List Item
 ledger_items l w (Replies (replies.Counted counts)) = items.Counted l (ledger w l) ∷ []
-ledger_items l w out = reported_by items.Refused (refused_in out)
+ledger_items l w out = reported_by (items.NotCounted l) (refused_in out)
 
 -- ---- frames
 

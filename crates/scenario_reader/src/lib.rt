@@ -11,10 +11,10 @@ mod reading;
 mod refusal;
 mod scenario;
 mod stream_lines;
-#[cfg(test)]
-mod tests;
-mod words;
+pub mod words;
 
+pub use fields::{sae, stream};
 pub use refusal::ScenarioRefusal;
 pub use scenario::{LINE_LIMIT, TEXT_LIMIT, read_scenario};
 pub use scenario_lines;
+pub use stream_lines::call;

@@ -3,7 +3,7 @@ ghost use Rattle.std.specs.Prelude.{◌≡◌, ◌||◌, ◌^◌, ◌-◌, min, 
 ghost use Rattle.std.specs.List.{list_all};
 ghost use Rattle.std.specs.Str.{bytes_eq};
 ghost use Rattle.scenario_reader.specs.Words.{words_of};
-ghost use Rattle.scenario_reader.specs.Line.{is_printable, is_comment, begins_blank, ends_blank, is_declaration, may_stand_in_block, rounds_with, command_at, further_command_at};
+ghost use Rattle.scenario_reader.specs.Line.{is_printable, is_comment, is_declaration, may_stand_in_block, rounds_with, command_at, further_command_at};
 ghost use Rattle.scenario_reader.specs.Gives.{Gives};
 
 use crate::declaration_lines::{allow_line, link_line, node_line, sae_line};
@@ -17,7 +17,7 @@ use crate::node_lines::{
 };
 use crate::refusal::LineRefusal;
 use crate::stream_lines::stream_line;
-use crate::words::{is_blank, word};
+use crate::words::{begins_blank, ends_blank, is_blank, word};
 use declared_site::Site;
 use qkd_base::Items;
 use route_table::RouteTable;
@@ -58,26 +58,6 @@ fn is_comment(line: &[u8]) -> bool
     match line {
         [] => false,
         [first, ..] => *first == b'#',
-    }
-}
-
-// Whether a space stands before the first word.
-fn begins_blank(line: &[u8]) -> bool
-    ensures { result ≡ begins_blank line.now }
-{
-    match line {
-        [] => false,
-        [first, ..] => *first == b' ',
-    }
-}
-
-// Whether a space stands after the last word.
-fn ends_blank(line: &[u8]) -> bool
-    ensures { result ≡ ends_blank line.now }
-{
-    match line {
-        [] => false,
-        [.., last] => *last == b' ',
     }
 }
 

@@ -57,9 +57,9 @@ fn close_call(site: &Site, rest: &[u8]) -> Option<StreamCall>
     Some(StreamCall::Close { caller, stream })
 }
 
-// The call that begins with this word.
+/// The call that begins with this word (ETSI GS QKD 004 V2.1.1, clause 6), over the words behind it.
 #[tactic(auto, unfolding(crate::specs::Calling::call_at))]
-fn call(site: &Site, first: &[u8], rest: &[u8]) -> Option<StreamCall>
+pub fn call(site: &Site, first: &[u8], rest: &[u8]) -> Option<StreamCall>
     ensures { result ≡ call_at site.now first.now (words_of rest.now) }
 {
     if first == b"OPEN_CONNECT".as_slice() {

@@ -3,6 +3,7 @@ ghost use Rattle.std.specs.Prelude.{◌≡◌, ◌≤◌, ◌<◌, ◌^◌, ◌&
 ghost use Rattle.std.specs.List.{prefix_len, list_all};
 ghost use Rattle.std.specs.Option.{option_map};
 ghost use Rattle.scenario_reader.specs.Words.{is_space, len_to, words_of, first_of, one_of, two_of, three_of, four_of, five_of, is_name_octet, is_name, is_digit, number_on, number_of, number_in};
+ghost use Rattle.scenario_reader.specs.Line.{begins_blank, ends_blank};
 
 // How many spaces stand at the front.
 fn spaces(line: &[u8]) -> usize
@@ -65,6 +66,26 @@ pub fn is_blank(line: &[u8]) -> bool
     ensures { result ≡ (length (words_of line.now) == 0) }
 {
     word(line).is_none()
+}
+
+/// Whether a space stands before the first word.
+pub fn begins_blank(line: &[u8]) -> bool
+    ensures { result ≡ begins_blank line.now }
+{
+    match line {
+        [] => false,
+        [first, ..] => *first == b' ',
+    }
+}
+
+/// Whether a space stands after the last word.
+pub fn ends_blank(line: &[u8]) -> bool
+    ensures { result ≡ ends_blank line.now }
+{
+    match line {
+        [] => false,
+        [.., last] => *last == b' ',
+    }
 }
 
 /// The only word.

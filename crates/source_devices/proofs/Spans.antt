@@ -1,4 +1,4 @@
--- Frames that stand one behind another among octets.
+-- Frames that stand one after another among octets.
 use Rattle.std.proofs.Common.{◌≡◌, ℕ, zero, suc, ◌+◌, ◌-◌, ◌≤◌, ◌<◌, List, [], ◌∷◌, ◌++◌, length, take, drop, slice_get, slice_index_or, get_or, Some, refl, sym, ap, ap₂, subst, subst₂, ◌∙◌, arith, length-append, length-drop, take_all, append-nil, sub-one}
 use Rattle.std.proofs.lemmas.List.{take-append-le, drop-append-le}
 use Rattle.std.proofs.Math.Seq.{drop-append_seam}
@@ -19,7 +19,7 @@ pub inside_snoc : (octets : List ℕ) (spans : List (ℕ × ℕ)) (s : ℕ × �
 inside_snoc octets [] s all le short = (le, short, tt)
 inside_snoc octets (t ∷ ts) s all le short = (all.0, all.1, inside_snoc octets ts s all.2 le short)
 
--- octets behind the frames change none
+-- octets after the frames change none
 same_cut : (octets more : List ℕ) (s : ℕ × ℕ) → s.0 + s.1 ≤ length octets → cut_out (octets ++ more) s ≡ cut_out octets s
 same_cut octets more s le =
     let start : s.0 ≤ length octets = omega arith in
@@ -37,7 +37,7 @@ inside_more octets more (s ∷ ss) all = (omega (arith, all.0, length-append oct
 last_cut : (octets more : List ℕ) → cut_out (octets ++ more) (length octets, length more) ≡ more
 last_cut octets more = ap (take (length more)) (drop-append_seam octets more) ∙ take_all (length more) more (omega arith)
 
--- a frame whose octets stand behind all others
+-- a frame whose octets stand after all others
 pub frames_new : (octets more : List ℕ) (spans : List (ℕ × ℕ)) (s : ℕ × ℕ) → AllInside octets spans → s ≡ (length octets, length more) →
     frames_at (octets ++ more) (spans ++ s ∷ []) ≡ frames_at octets spans ++ more ∷ []
 frames_new octets more spans s all is =

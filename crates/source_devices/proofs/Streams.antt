@@ -31,7 +31,7 @@ unfolding stream_octet
 same_octet letter number place n i =
     ap (λ (p : ℕ). octet_at letter number p) (mod-add-mod (place + n) (2 ^ 70) i ∙ ap (λ (p : ℕ). p % 2 ^ 70) (add_assoc place n i))
 
--- what a generator tells behind n octets
+-- what a generator tells after n octets
 pub rest_there : (s : StreamForm) (n : ℕ) → IsRest (told_from s) n (told_from (record s { place = (s.place + n) % 2 ^ 70 }))
 rest_there s n = record { octet = λ i. same_octet s.letter s.number s.place n i; last = refl }
 

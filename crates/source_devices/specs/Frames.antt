@@ -2,13 +2,14 @@
 use Rattle.std.specs.Prelude.{◌≡◌, ℕ, List, [], ◌∷◌, take, slice_get, slice_index_or, Option, Some, None, Result, MatchResult}
 use Rattle.edge_io.specs.Writes.{Adds}
 
--- this frame was added, and after a failure none
+-- This frame was added, and after a failure none. A wire that tells nothing goes on telling nothing.
 abbrev pub TakesFrame : {T E : Type 0} → Option (List (List ℕ)) → Option (List (List ℕ)) → Result T E → List ℕ → Type 0
-TakesFrame old new r frame = MatchResult r (λ _. Adds old new (frame ∷ [])) (λ _. Adds old new [])
+TakesFrame None new r frame = new ≡ None
+TakesFrame (Some frames) new r frame = MatchResult r (λ _. Adds (Some frames) new (frame ∷ [])) (λ _. Adds (Some frames) new [])
 
 -- the frame of that number was added once more, and after a failure none
 abbrev pub TakesAgain : {T E : Type 0} → Option (List (List ℕ)) → Option (List (List ℕ)) → Result T E → ℕ → Type 0
-TakesAgain None new r number = Unit {0}
+TakesAgain None new r number = new ≡ None
 TakesAgain (Some frames) new r number = TakesFrame (Some frames) new r (slice_index_or frames number [])
 
 -- the frame of that number is the first n octets

@@ -4,7 +4,7 @@ use Rattle.net_model.specs.OctetSequence.{OctetSequence, has_octets, octets_from
 use Rattle.source_devices.specs.declared.shortage.Shortage.{Shortage}
 use Rattle.source_devices.specs.declared.shortage.Shortage.TheVariants.{Failed, End}
 
--- what is left behind the first n octets
+-- what is left after the first n octets
 pub record IsRest (t : OctetSequence) (n : ℕ) (rest : OctetSequence) : Type 0 where
   pub octet : (i : ℕ) → rest.octet i ≡ t.octet (n + i)
   pub last : rest.end ≡ option_map (λ (e : ℕ). e - n) t.end

@@ -8,7 +8,7 @@ use rand_core::SeedableRng;
 use rand_core::utils::NextWord;
 use std::marker::Model;
 
-// How many octets a stream has: 2^68 words of four. Behind them it begins again.
+// How many octets a stream has: 2^68 words of four. After them it begins again.
 const PERIOD: u128 = 1 << 70;
 
 /// The octets of a key stream of ChaCha20 (RFC 8439, with a block counter of 64 bits), from a place on. Its key is a

@@ -12,8 +12,6 @@ mod mem_wire;
 mod parts;
 mod random_file;
 mod shortage;
-#[cfg(test)]
-mod tests;
 mod wire;
 
 pub use device::Device;

@@ -15,7 +15,7 @@ use std::marker::Model;
 /// that is sent again takes no further room for its octets.
 #[derive(Debug, Drop)]
 pub struct MemWire {
-    // The octets of each new frame, one frame behind another.
+    // The octets of each new frame, one frame after another.
     octets: Vec<u8>,
     // Where each frame begins among them, and its length.
     spans: Vec<(usize, usize)>,
@@ -101,7 +101,7 @@ fn copy_out(octets: &[u8], start: usize, size: usize, into: &mut FrameOctets)
     requires inside { start + size ≤ length octets.now }
     requires short { size ≤ 600 }
     ensures given { take size into.new.octets ≡ cut_out octets.now (start, size) }
-    ensures behind { drop size into.new.octets ≡ drop size into.old.octets }
+    ensures after { drop size into.new.octets ≡ drop size into.old.octets }
 {
     copy_part(octets, start, &mut into.octets[..size]);
 }

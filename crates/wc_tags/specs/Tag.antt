@@ -16,7 +16,7 @@ abbrev pub numbers : ℕ → List ℕ → List ℕ
 numbers zero octets = []
 numbers (suc n) octets = from_be_bytes w64 (take 8 octets) ∷ numbers n (drop 8 octets)
 
--- the blocks of a text, and behind them its length in octets
+-- the blocks of a text, and after them its length in octets
 unfoldable pub blocks_of : List ℕ → List ℕ
 blocks_of text = numbers (block_count text) (padded text) ++ length text ∷ []
 

@@ -3,7 +3,7 @@ use Rattle.disk_model.specs.Images.{AtEachMoment}
 use Rattle.range_journal.specs.Batches.{Stands}
 use Rattle.range_journal.specs.Closing.{IsReadOrClosing}
 use Rattle.range_journal.specs.Journal.{JournalForm}
-use Rattle.range_journal.proofs.Openings.{may_close, open_run, open_settled, open_front, found_stands}
+use Rattle.range_journal.proofs.Openings.{may_close, open_run, open_settled, open_front, open_long, found_stands}
 use Rattle.range_journal.proofs.opening.open_sized.Goals as goal
 
 pub close-requires : goal.close-requires

@@ -23,6 +23,6 @@ returns-in-Some c =
         omega (arith, lt, long, length_frames octets spans, ap length c.deref.ensures.value),
         there.1,
         sym (ap (λ (w : WireForm). slice_get w.frames c.args.number) c.self.view_is) ∙ frame,
-        c.copy_out.ensures.behind,
+        c.copy_out.ensures.after,
       );
     }

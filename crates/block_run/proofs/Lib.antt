@@ -1,0 +1,4 @@
+pub mod Chaining
+pub mod Spread
+pub mod Lasts
+pub mod Whole

@@ -1,0 +1,115 @@
+ghost use Rattle.std.specs.Prelude.{◌≡◌, ◌+◌, ◌%◌, ◌^◌, ◌≤◌};
+
+use crate::{BlockEnd, Work, run_block};
+use edge_io::{Gate, OpenGate};
+use qkd_base::Memory;
+use std::alloc::Global;
+use std::sync::Wait;
+use std::sync::atomic::{AtomicU64, Ordering};
+use std::test::*;
+
+// A job adds its number to its worker's sum, and answers the sum.
+struct Sums;
+
+impl Work for Sums {
+    type Pass = u64;
+
+    type Answer = u64;
+
+    ghost fits = { λ w pass jobs. Unit {0} };
+
+    ghost gives = { λ w job pass answer next. (next ≡ (pass + job) % 2 ^ 64) × (answer ≡ next) };
+
+    fn run<R: Wait>(&self, _rt: &R, pass: &mut u64, job: u32) -> u64 {
+        *pass = pass.wrapping_add(u64::from(job));
+        *pass
+    }
+}
+
+// What the workers leave, and what they answer: worker by worker, each job with its worker's sum so far.
+fn expected(alloc: Global, workers: u32, jobs: u32) -> Result<(Vec<u64>, Vec<(u32, u64)>), Memory>
+    requires { workers ≤ 32 }
+{
+    let mut sums = Vec::new(alloc);
+    let mut answers = Vec::new(alloc);
+    for worker in 0..workers {
+        let mut sum = 0u64;
+        for job in 0..jobs {
+            if job % workers == worker {
+                sum = sum.wrapping_add(u64::from(job));
+                answers.push((job, sum))?;
+            }
+        }
+        sums.push(sum)?;
+    }
+    Ok((sums, answers))
+}
+
+#[test]
+fn each_job_is_done_once_in_its_workers_order(rt: HostRuntime) -> Result<(), Fail> {
+    for (workers, jobs) in [(1, 0), (1, 5), (2, 1), (3, 10), (32, 31), (32, 1000)] {
+        let sums = vec![in rt.alloc(); 0; workers as usize]?;
+        match run_block(&rt, rt.alloc(), &Sums, sums, jobs, &OpenGate) {
+            Ok(BlockEnd { passes, answers }) => {
+                let (sums, told) = expected(rt.alloc(), workers, jobs)?;
+                assert_eq!(rt; passes, sums);
+                assert_eq!(rt; answers, told);
+            }
+            Err((_, sums)) => assert_eq!(rt; sums.len(), workers as usize),
+        }
+    }
+    Ok(())
+}
+
+// Worker 0 waits before its first job until worker 1 has come to its own, and the other way round.
+#[derive(Drop)]
+struct Meeting {
+    first: AtomicU64,
+    second: AtomicU64,
+    missed: AtomicU64,
+}
+
+impl Meeting {
+    fn meet(&self, mine: &AtomicU64, others: &AtomicU64) {
+        mine.store(1, Ordering::SeqCst);
+        for _ in 0..100_000_000u32 {
+            if others.load(Ordering::SeqCst) == 1 {
+                return;
+            }
+        }
+        self.missed.store(1, Ordering::SeqCst);
+    }
+}
+
+impl Gate for Meeting {
+    fn pass(&self, worker: u32, turn: u32) {
+        if turn == 0 {
+            if worker == 0 {
+                self.meet(&self.first, &self.second);
+            } else {
+                self.meet(&self.second, &self.first);
+            }
+        }
+    }
+
+    fn seal(&self, _link: u8, _offset: u64) {}
+}
+
+#[test]
+fn two_workers_are_inside_at_once(rt: HostRuntime) -> Result<(), Fail> {
+    let meeting = Meeting {
+        first: AtomicU64::new(0),
+        second: AtomicU64::new(0),
+        missed: AtomicU64::new(0),
+    };
+    let sums = vec![in rt.alloc(); 0; 2]?;
+    match run_block(&rt, rt.alloc(), &Sums, sums, 2, &meeting) {
+        Ok(BlockEnd { passes, answers }) => {
+            assert_eq!(rt; passes.len(), 2);
+            assert_eq!(rt; answers.len(), 2);
+        }
+        Err((_, sums)) => assert_eq!(rt; sums.len(), 0),
+    }
+    assert_eq!(rt; meeting.missed.load(Ordering::SeqCst), 0);
+    Ok(())
+}

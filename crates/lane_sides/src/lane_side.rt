@@ -1,0 +1,234 @@
+// A lane that one holds alone.
+ghost use Rattle.std.specs.Prelude.{◌≡◌, ◌+◌, ◌≤◌, ◌<◌, ◌^◌, ◌++◌, [], length, take, drop, Ok, Err, OnOk, OnErr, MatchResult, IsErrOf};
+ghost use Rattle.net_model.specs.Facts.{payload_len, IsWellFormed};
+ghost use Rattle.frame_codec.specs.Payload.{IsPayload, payload_octets};
+ghost use Rattle.hop_frames.specs.Frame.{hash_key, spell};
+ghost use Rattle.pad_ledger.specs.Ledger.{received_more};
+ghost use Rattle.qkd_base.specs.Faults.{Rose};
+ghost use Rattle.source_devices.specs.Frames.{TakesFrame};
+ghost use Rattle.source_devices.specs.declared.wire.WireFailed.TheVariants.{Fault};
+ghost use Rattle.lane_sides.specs.Lane.{IsLaneOf, burnt_to, claimed, frame_need, next_frame, counts_of};
+ghost use Rattle.lane_sides.specs.Sending.{sent, sent_frame, answer_of, TakesRepeat};
+
+use crate::Sent;
+use crate::sent::answered;
+use hop_frames::seal;
+use net_model::{Counts4, Order, Payload, Repeat, spelled_len};
+use pad_ledger::{PadLedger, PadRange};
+use qkd_base::{FrameOctets, Lane, Memory};
+use source_devices::{Wire, WireFailed};
+use std::alloc::Global;
+use std::marker::Model;
+
+/// One lane at its sender: its bytes, what became of each, and the wire on which its frames go (SECOQC quantum point-to-point
+/// link). It is held by one alone, who claims, seals and puts in one call.
+#[derive(Debug, Drop)]
+pub struct LaneSide<X: Wire> {
+    lane: Lane,
+    bytes: Vec<u8>,
+    ledger: PadLedger,
+    wire: X,
+}
+
+impl<X: Wire> Model for LaneSide<X> {
+    ghost use Rattle.lane_sides.specs.Lane.{LaneForm, IsLaneOf};
+
+    ghost Value = { LaneForm X };
+
+    ghost view = { λ s. record { lane = s.lane; bytes = s.bytes.items; ledger = s.ledger; wire = s.wire } };
+
+    ghost invariant = { λ s. IsLaneOf s.bytes.items s.ledger };
+}
+
+// The bytes of a claimed range.
+fn part<'a>(bytes: &'a [u8], range: &PadRange) -> &'a [u8]
+    requires { range.now.start + range.now.len ≤ length bytes.now }
+    ensures { result.now ≡ take range.now.len (drop range.now.start bytes.now) }
+{
+    let start = range.start() as usize;
+    let size = range.len() as usize;
+    &bytes[start..start + size]
+}
+
+// The lane's first 8 bytes as a number.
+fn hash_key(bytes: &[u8]) -> u64
+    requires { 8 ≤ length bytes.now }
+    ensures { result ≡ hash_key bytes.now }
+{
+    let mut octets = [0u8; 8];
+    octets.copy_from_slice(&bytes[..8]);
+    u64::from_be_bytes(octets)
+}
+
+// The frame of a payload over a claimed range, in fixed room, and its length.
+fn sealed(
+    lane: Lane,
+    bytes: &[u8],
+    range: PadRange,
+    payload: &Payload,
+    into: &mut FrameOctets,
+) -> u16
+    requires formed { IsWellFormed payload.now }
+    requires need { range.len ≡ frame_need payload.now }
+    requires inside { range.start + range.len ≤ length bytes.now }
+    ensures length { result ≡ 24 + payload_len payload.now }
+    ensures range { result ≤ 585 }
+    ensures frame { take result into.new.octets ≡ spell lane range.start bytes.now (payload_octets payload.now) }
+    ensures rest { drop result into.new.octets ≡ drop result into.old.octets }
+    ensures grammar { IsPayload payload.now }
+{
+    let size = 24 + spelled_len(payload);
+    let key = hash_key(bytes);
+    let pads = part(bytes, &range);
+    seal(range, lane, key, pads, payload, into);
+    size
+}
+
+impl<X: Wire> LaneSide<X> {
+    /// A lane without bytes. It takes no memory.
+    pub fn new(alloc: Global, lane: Lane, wire: X) -> Self
+        ensures { result ≡ record { lane = lane; bytes = []; ledger = record { used = 0; end = 0; received = 0; burnt = 0 }; wire = wire } }
+    {
+        LaneSide {
+            lane,
+            bytes: Vec::new(alloc),
+            ledger: PadLedger::new(),
+            wire,
+        }
+    }
+
+    /// The lane.
+    pub fn lane(&self) -> Lane
+        ensures { result ≡ self.now.lane }
+    {
+        self.lane
+    }
+
+    /// The lane's bytes taken so far.
+    pub fn bytes(&self) -> &[u8]
+        ensures { result.now ≡ self.now.bytes }
+    {
+        &self.bytes
+    }
+
+    /// The lane's wire.
+    pub fn wire(&self) -> &X
+        ensures { result.now ≡ self.now.wire }
+    {
+        &self.wire
+    }
+
+    /// The lane's bytes by what became of them.
+    pub fn counts(&self) -> Counts4
+        ensures { result ≡ counts_of self.now.ledger }
+    {
+        let counts = self.ledger.counts();
+        Counts4 {
+            received: counts.received,
+            unused: counts.unused,
+            spent: counts.spent,
+            burnt: counts.burnt,
+        }
+    }
+
+    /// Takes the lane's next block; a lane has 512. Its first one brings the hash key, 8 bytes that are used at once. An `Err`
+    /// changes nothing.
+    pub fn take(&mut self, block: &[u8; 1024]) -> Result<(), Memory>
+        requires few { length self.old.bytes + 1024 ≤ 524288 }
+        ensures ok { OnOk result (self.new ≡ record self.old { bytes = self.old.bytes ++ block.now; ledger = received_more self.old.ledger 1024 }) }
+        ensures err { OnErr result (self.new ≡ self.old) }
+    {
+        self.bytes.extend_from_slice(block)?;
+        self.ledger.receive(1024);
+        Ok(())
+    }
+
+    /// Bytes may be claimed up to this end, which is durable at the sender.
+    pub fn raise(&mut self, end: u64)
+        requires later { self.old.ledger.end ≤ end }
+        requires received { end ≤ length self.old.bytes }
+        ensures { self.new ≡ record self.old { ledger = record (self.old.ledger) { end = end } } }
+    {
+        self.ledger.raise(end);
+    }
+
+    /// The sender starts again at this leased end: the bytes below it that weren't used are burnt.
+    pub fn restart(&mut self, lease: u64)
+        requires later { self.old.ledger.end ≤ lease }
+        requires received { lease ≤ length self.old.bytes }
+        ensures { self.new ≡ record self.old { ledger = burnt_to lease self.old.ledger } }
+    {
+        self.ledger.raise(lease);
+        self.ledger.burn_to_end();
+    }
+
+    /// Claims an order's bytes, seals its frame over them and puts it on the wire. Bytes of a frame that the wire refused stay
+    /// claimed.
+    pub fn emit(&mut self, order: &Order) -> Sent
+        requires lane { order.now.lane ≡ self.old.lane }
+        requires formed { IsWellFormed order.now.payload }
+        requires reach { self.old.ledger.used + frame_need order.now.payload ≤ self.old.ledger.end }
+        ensures sent { result ≡ sent_frame self.old.ledger.used (next_frame self.old order.now.payload) (answer_of result) }
+        ensures grammar { IsPayload order.now.payload }
+        ensures ledger { self.new.ledger ≡ claimed (frame_need order.now.payload) self.old.ledger }
+        ensures lane { (self.new.lane ≡ self.old.lane) × (self.new.bytes ≡ self.old.bytes) }
+        ensures frames { TakesFrame (X.frames self.old.wire) (X.frames self.new.wire) (answer_of result) (next_frame self.old order.now.payload) }
+        ensures number { MatchResult (answer_of result) (λ n. (n ≡ X.counted self.old.wire) × (X.counted self.new.wire ≡ X.counted self.old.wire + 1)) (λ _. X.counted self.new.wire ≡ X.counted self.old.wire) }
+        ensures cause { IsErrOf (answer_of result) Fault → Rose (X.faults self.old.wire) (X.faults self.new.wire) }
+        ensures later { X.faults self.old.wire ≤ X.faults self.new.wire }
+        ensures calm { (IsErrOf (answer_of result) Fault → ⊥) → X.faults self.new.wire ≡ X.faults self.old.wire }
+    {
+        let need = u64::from(spelled_len(&order.payload)) + 8;
+        let Ok(range) = self.ledger.claim(need) else {
+            unreachable!()
+        };
+        let offset = range.start();
+        let mut frame = FrameOctets::new();
+        let length = sealed(self.lane, &self.bytes, range, &order.payload, &mut frame);
+        let answer = self.wire.send_new(&frame.octets[..usize::from(length)]);
+        answered(offset, length, &frame, answer)
+    }
+
+    /// Puts a frame on the wire once more: the one of its number, or its own octets where the wire has none of that number. No
+    /// byte is claimed.
+    pub fn again(&mut self, repeat: &Repeat) -> Sent
+        requires short { repeat.now.length ≤ 600 }
+        ensures sent { result ≡ sent repeat.now.offset repeat.now.length repeat.now.frame (answer_of result) }
+        ensures lane { (self.new.lane ≡ self.old.lane) × (self.new.bytes ≡ self.old.bytes) × (self.new.ledger ≡ self.old.ledger) }
+        ensures frames { TakesRepeat (X.counted self.old.wire) (X.frames self.old.wire) (X.frames self.new.wire) (answer_of result) repeat.now }
+        ensures number { MatchResult (answer_of result) (λ n. (n ≡ X.counted self.old.wire) × (X.counted self.new.wire ≡ X.counted self.old.wire + 1)) (λ _. X.counted self.new.wire ≡ X.counted self.old.wire) }
+        ensures cause { IsErrOf (answer_of result) Fault → Rose (X.faults self.old.wire) (X.faults self.new.wire) }
+        ensures later { X.faults self.old.wire ≤ X.faults self.new.wire }
+        ensures calm { (IsErrOf (answer_of result) Fault → ⊥) → X.faults self.new.wire ≡ X.faults self.old.wire }
+    {
+        let answer = self.resend(repeat);
+        answered(repeat.offset, repeat.length, &repeat.frame, answer)
+    }
+
+    // The wire's answer to a repeat.
+    fn resend(&mut self, repeat: &Repeat) -> Result<u64, WireFailed>
+        requires short { repeat.now.length ≤ 600 }
+        ensures lane { (self.new.lane ≡ self.old.lane) × (self.new.bytes ≡ self.old.bytes) × (self.new.ledger ≡ self.old.ledger) }
+        ensures frames { TakesRepeat (X.counted self.old.wire) (X.frames self.old.wire) (X.frames self.new.wire) result repeat.now }
+        ensures number { MatchResult result (λ n. (n ≡ X.counted self.old.wire) × (X.counted self.new.wire ≡ X.counted self.old.wire + 1)) (λ _. X.counted self.new.wire ≡ X.counted self.old.wire) }
+        ensures cause { IsErrOf result Fault → Rose (X.faults self.old.wire) (X.faults self.new.wire) }
+        ensures later { X.faults self.old.wire ≤ X.faults self.new.wire }
+        ensures calm { (IsErrOf result Fault → ⊥) → X.faults self.new.wire ≡ X.faults self.old.wire }
+    {
+        match repeat.number {
+            Some(number) if number < self.wire.count() => self.wire.send_again(number),
+            _ => {
+                let frame = &repeat.frame.octets[..usize::from(repeat.length)];
+                self.wire.send_new(frame)
+            }
+        }
+    }
+
+    /// Ends it, and gives its wire back.
+    pub fn into_wire(self) -> X
+        ensures { result ≡ self.wire }
+    {
+        let LaneSide { wire, .. } = self;
+        wire
+    }
+}
