@@ -1,0 +1,12 @@
+pub mod Appends
+pub mod Areas
+pub mod Checkpoints
+pub mod Finishing
+pub mod Fronts
+pub mod Marks
+pub mod Needs
+pub mod Once
+pub mod Openings
+pub mod Plain
+pub mod Standings
+pub mod Targets
