@@ -1,0 +1,75 @@
+// Why no request is read.
+use qkd_base::Memory;
+use std::alloc::AllocError;
+use std::error::Error;
+use std::fmt;
+
+/// Why no request is read. The cases are tried in this order; the last two come at any time.
+#[derive(Clone, Copy, Debug, PartialEq, Eq)]
+pub enum FrontRefusal {
+    /// The input ended before a first octet.
+    NoRequest,
+    /// The octets begin no request head (RFC 9112, sections 2 to 5).
+    BadHead,
+    /// They begin no head with at most 32 fields.
+    TooManyHeaders,
+    /// No head ends within 8,192 octets.
+    HeadTooLong,
+    /// A field Transfer-Encoding is there (RFC 9112, section 6.1).
+    Chunked,
+    /// A POST has no Content-Length (RFC 9112, section 6.3).
+    NoLength,
+    /// There is more than one Content-Length, or it isn't 1 to 10 digits.
+    BadLength,
+    /// The body would have more than 65,536 octets.
+    BodyTooLong,
+    /// The input ended inside a request.
+    EndOfInput,
+    /// The source failed.
+    ReadFault,
+    /// Memory is wanting.
+    Memory,
+}
+
+impl From<Memory> for FrontRefusal {
+    ghost use Rattle.http_front.specs.declared.refusal.FrontRefusal.TheVariants as refusals;
+    ghost use Rattle.std.specs.Prelude.{◌≡◌};
+
+    ghost from_gives = { λ _ e. e ≡ refusals.Memory };
+
+    fn from(_: Memory) -> Self {
+        FrontRefusal::Memory
+    }
+}
+
+impl From<AllocError> for FrontRefusal {
+    ghost use Rattle.http_front.specs.declared.refusal.FrontRefusal.TheVariants as refusals;
+    ghost use Rattle.std.specs.Prelude.{◌≡◌};
+
+    ghost from_gives = { λ _ e. e ≡ refusals.Memory };
+
+    fn from(_: AllocError) -> Self {
+        FrontRefusal::Memory
+    }
+}
+
+impl fmt::Display for FrontRefusal {
+    fn fmt<W: fmt::Write>(&self, f: &mut fmt::Formatter<W>) -> fmt::Result {
+        let text = match self {
+            FrontRefusal::NoRequest => "no request",
+            FrontRefusal::BadHead => "bad request head",
+            FrontRefusal::TooManyHeaders => "more than 32 header fields",
+            FrontRefusal::HeadTooLong => "head too long",
+            FrontRefusal::Chunked => "transfer encoding refused",
+            FrontRefusal::NoLength => "length missing",
+            FrontRefusal::BadLength => "bad length",
+            FrontRefusal::BodyTooLong => "body too long",
+            FrontRefusal::EndOfInput => "input ended",
+            FrontRefusal::ReadFault => "read fault",
+            FrontRefusal::Memory => "out of memory",
+        };
+        write!(f, "{text}")
+    }
+}
+
+impl Error for FrontRefusal {}

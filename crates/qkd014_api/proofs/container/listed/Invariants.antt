@@ -1,0 +1,6 @@
+use Rattle.std.proofs.Common.{◌≡◌, ◌++◌, drop, ltb, false}
+use Rattle.qkd014_api.specs.Texts.{keys_text}
+use Rattle.qkd014_api.proofs.container.listed.Given as goal
+
+abbrev pub invariant-loop-place : goal.invariant-loop-place
+invariant-loop-place l = l.body ++ keys_text (ltb 0 l.place) (drop l.place l.keys) ≡ l.initial.body ++ keys_text false l.keys

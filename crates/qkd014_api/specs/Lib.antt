@@ -1,0 +1,9 @@
+pub mod Answers
+pub mod Bodies
+pub mod Calls
+pub mod Fronts
+pub mod Gives
+pub mod Numbers
+pub mod Queries
+pub mod Resources
+pub mod Texts
