@@ -1,0 +1,52 @@
+//! Laws of what an action leaves as it was: it changes one manager, and one lane or the lanes that leave one node.
+#![tactic(auto)]
+
+ghost use Rattle.std.specs.Prelude.{◌≡◌, ◌&&◌, ℕ, Some, false, slice_get, true};
+ghost use Rattle.qkd_base.specs.declared.lane.Lane.{Lane as LaneValue};
+ghost use Rattle.net_model.specs.World.{Network, World, Allocation, Transmission};
+ghost use Rattle.net_model.specs.Premises.{IsNetwork};
+ghost use Rattle.net_model.specs.Action.{Action, Allocate, Environment, Transmit};
+ghost use Rattle.net_model.specs.Events.{is_lane};
+ghost use Rattle.net_model.specs.Frames.{frame_octets};
+ghost use Rattle.net_model.specs.Step.{is_enabled, step};
+ghost use Rattle.net_model.specs.Invariant.{Conserved};
+ghost use Rattle.law_others.specs.Touched.{touches_node, touches_lane, touches_link, LanePart, changes_part, PartStays, ManagerStays, StaysAt, LaneStays};
+
+/// Each manager that an action doesn't touch is as it was. Premises: the network is one, all that is conserved holds before, and
+/// the action may happen; what the outside answers in it is of no account.
+pub fn law_other_managers_stay()
+    ensures { (net : Network) (w : World) (a : Action) (u : ℕ) → IsNetwork net → Conserved net w → is_enabled net w a ≡ true →
+        touches_node net.site a u ≡ false → StaysAt net u w (step net w a).0 }
+{}
+
+/// Where an order gets its bytes, and where a frame is put or refused, every manager is as it was, the sender too: a claim moves
+/// bytes from what is ordered to what is owned, so the planned end stays. Only what became of its frames is more at the
+/// sender of a frame that was put or refused. Premise of a claim: its order is one of the lane's.
+pub fn law_allocate_and_transmit_leave_views()
+    ensures allocate { (net : Network) (w : World) (t : Transmission) (u : ℕ) → is_enabled net w (Allocate t) ≡ true →
+        StaysAt net u w (step net w (Allocate t)).0 }
+    ensures transmit { (net : Network) (w : World) (l : LaneValue) (j : ℕ) (environment : Environment) (u : ℕ) →
+        ManagerStays net u w (step net w (Transmit l j environment)).0 }
+{}
+
+/// Each lane that an action doesn't touch is as it was: its blocks, owners, leases, frames, wire and orders, and what may be put;
+/// and of a lane that it touches each part is as it was that it doesn't change. Premises: as for managers.
+pub fn law_other_lanes_stay()
+    ensures lane { (net : Network) (w : World) (a : Action) (l : LaneValue) → IsNetwork net → Conserved net w → is_enabled net w a ≡ true →
+        touches_lane net.site a l ≡ false → LaneStays l w (step net w a).0 }
+    ensures part { (net : Network) (w : World) (a : Action) (l : LaneValue) (p : LanePart) → IsNetwork net → Conserved net w → is_enabled net w a ≡ true →
+        (touches_lane net.site a l && changes_part p a) ≡ false → PartStays p l w (step net w a).0 }
+{}
+
+/// Each link is as it was, up or down, unless the action sets it. No premises.
+pub fn law_other_links_stay()
+    ensures { (net : Network) (w : World) (a : Action) (link : ℕ) → touches_link a link ≡ false → (step net w a).0.link_up link ≡ w.link_up link }
+{}
+
+/// On every lane, touched or not, each frame that was there has its place and its octets after any action. Premises: the network
+/// is one, and all that is conserved holds before; the action need not be one that may happen.
+pub fn law_frames_octets_stay_in_a_step()
+    ensures { (net : Network) (w : World) (act : Action) (l : LaneValue) (j : ℕ) (a : Allocation) → IsNetwork net → Conserved net w →
+        is_lane net.site l ≡ true → slice_get (w.frames l) j ≡ Some a →
+        frame_octets net (step net w act).0 l (slice_get ((step net w act).0.frames l) j) ≡ frame_octets net w l (slice_get (w.frames l) j) }
+{}
