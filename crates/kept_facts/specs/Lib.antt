@@ -1,0 +1,4 @@
+pub mod Needs
+pub mod Settled
+pub mod Taken
+pub mod Parts

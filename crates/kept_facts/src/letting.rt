@@ -1,0 +1,169 @@
+// How bytes that are needed no more are let go: where something was learned, acknowledged or handed out, that of which it tells
+// is looked at again.
+ghost use Rattle.std.specs.Prelude.{◌≡◌, ◌≤◌, ◌<◌, ℕ, length, slice_get, IfSome};
+ghost use Rattle.std.specs.Option.{option_copied};
+ghost use Rattle.net_model.specs.Needed.{masked};
+ghost use Rattle.net_model.specs.Table.{fact_at};
+ghost use Rattle.qkd_base.specs.Name.{Name};
+ghost use Rattle.kept_facts.specs.Needs.{kept_view};
+ghost use Rattle.kept_facts.specs.Settled.{IsSettled, AreSettled, LetsGo, opened_by, key_of, IsLearnedSettled, IsToldSettled, IsGivenSettled, WasMasked};
+
+use crate::needs::needs_at;
+use net_model::Fact;
+use qkd_base::{KeyName, SaeNo};
+use relay_core::Group;
+use stream_core::Streams;
+
+// Lets the bytes of the fact at a place go, unless they are needed.
+fn let_go_at(streams: &mut Streams, place: usize)
+    ensures lets { LetsGo streams.old streams.new }
+    ensures settled { IsSettled streams.new place }
+{
+    if !needs_at(streams.ends(), place) {
+        streams.forget(place);
+    }
+}
+
+// The same of each fact of a group.
+fn let_go_group(streams: &mut Streams, group: &Group)
+    ensures lets { LetsGo streams.old streams.new }
+    ensures settled { AreSettled streams.new group.now }
+{
+    let mut from = 0;
+    while from < streams.ends().known().len() {
+        match streams.ends().known().next(group, from) {
+            None => return,
+            Some(place) => {
+                let_go_at(streams, place);
+                from = place + 1;
+            }
+        }
+    }
+}
+
+// The stream that the fact at a place opens.
+fn opened_at(streams: &Streams, place: usize) -> Option<KeyName>
+    ensures { result ≡ opened_by (slice_get streams.now.ends.known.facts place) }
+{
+    match streams.ends().known().at(place) {
+        Some(Fact::Open { stream, .. }) => Some(*stream),
+        _ => None,
+    }
+}
+
+// The same where the fact at a place was learned.
+fn let_go_learned(streams: &mut Streams, place: usize)
+    ensures lets { LetsGo streams.old streams.new }
+    ensures settled { IsLearnedSettled streams.new place }
+{
+    let_go_at(streams, place);
+    match opened_at(streams, place) {
+        None => {}
+        Some(stream) => let_go_group(streams, &Group::ChunksOf(stream)),
+    }
+}
+
+// The group key of which the fact of a name is a part.
+fn key_of(streams: &Streams, name: KeyName) -> Option<KeyName>
+    ensures { result ≡ key_of (fact_at streams.now.ends.known.facts name) }
+{
+    match streams.ends().known().fact(name) {
+        Some(Fact::Part { key, .. }) => Some(*key),
+        _ => None,
+    }
+}
+
+// The same where the fact of a name was acknowledged.
+fn let_go_told(streams: &mut Streams, name: KeyName)
+    ensures lets { LetsGo streams.old streams.new }
+    ensures settled { IsToldSettled streams.new name }
+{
+    let_go_group(streams, &Group::Named(name));
+    match key_of(streams, name) {
+        None => {}
+        Some(key) => let_go_group(streams, &Group::PartsOf(key)),
+    }
+}
+
+// The same where what has a name was handed out.
+fn let_go_given(streams: &mut Streams, name: KeyName)
+    ensures lets { LetsGo streams.old streams.new }
+    ensures settled { IsGivenSettled streams.new name }
+{
+    let_go_group(streams, &Group::Named(name));
+    let_go_group(streams, &Group::PartsOf(name));
+}
+
+// The same where the acknowledgement at a place came.
+fn let_go_told_at(streams: &mut Streams, place: usize)
+    ensures lets { LetsGo streams.old streams.new }
+    ensures settled { IfSome (slice_get streams.old.ends.known.acked place) (IsToldSettled streams.new) }
+{
+    match streams.ends().known().acked().get(place).copied() {
+        None => {}
+        Some(name) => let_go_told(streams, name),
+    }
+}
+
+// The handing at a place.
+fn handing_in(pairs: &[(KeyName, SaeNo)], place: usize) -> Option<&(KeyName, SaeNo)>
+    ensures { option_copied result ≡ slice_get pairs.now place }
+{
+    pairs.get(place)
+}
+
+// The same where the handing at a place was made.
+fn let_go_given_at(streams: &mut Streams, place: usize)
+    ensures lets { LetsGo streams.old streams.new }
+    ensures settled { IfSome (slice_get streams.old.ends.handed place) (λ h. IsGivenSettled streams.new h.0) }
+{
+    match handing_in(streams.ends().handed(), place).copied() {
+        None => {}
+        Some(pair) => let_go_given(streams, pair.0),
+    }
+}
+
+// The same of all facts learned from a place on.
+fn let_go_all_learned(streams: &mut Streams, from: usize)
+    ensures lets { LetsGo streams.old streams.new }
+    ensures settled { (p : ℕ) → from ≤ p → p < length streams.new.ends.known.facts → IsLearnedSettled streams.new p }
+{
+    for place in from..streams.ends().known().len() {
+        let_go_learned(streams, place);
+    }
+}
+
+// The same of all acknowledgements from a place on.
+fn let_go_all_told(streams: &mut Streams, from: usize)
+    ensures lets { LetsGo streams.old streams.new }
+    ensures settled { (p : ℕ) → from ≤ p → IfSome (slice_get streams.new.ends.known.acked p) (IsToldSettled streams.new) }
+{
+    for place in from..streams.ends().known().acked().len() {
+        let_go_told_at(streams, place);
+    }
+}
+
+// The same of all handings from a place on.
+fn let_go_all_given(streams: &mut Streams, from: usize)
+    ensures lets { LetsGo streams.old streams.new }
+    ensures settled { (p : ℕ) → from ≤ p → IfSome (slice_get streams.new.ends.handed p) (λ h. IsGivenSettled streams.new h.0) }
+{
+    for place in from..streams.ends().handed().len() {
+        let_go_given_at(streams, place);
+    }
+}
+
+/// Lets all bytes go that are needed no more, where those that weren't needed were zeros when there were so many facts,
+/// acknowledgements and handings.
+pub fn let_go(streams: &mut Streams, facts: usize, acked: usize, handed: usize)
+    requires { WasMasked streams.old facts acked handed }
+    ensures view { kept_view streams.new ≡ masked (kept_view streams.old) }
+    ensures spare { (streams.new.ends.known.facts_spare ≡ streams.old.ends.known.facts_spare) × (streams.new.ends.known.acked_spare ≡ streams.old.ends.known.acked_spare)
+        × (streams.new.ends.handed_spare ≡ streams.old.ends.handed_spare) × (streams.new.closed_spare ≡ streams.old.closed_spare) }
+{
+    // That names differ is what it says.
+    let _count = streams.ends().known().len();
+    let_go_all_learned(streams, facts);
+    let_go_all_told(streams, acked);
+    let_go_all_given(streams, handed);
+}

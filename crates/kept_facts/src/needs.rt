@@ -1,0 +1,145 @@
+// Which bytes a node needs: while a fact is owed to a next node, or its application here hasn't got it.
+ghost use Rattle.std.specs.Prelude.{◌≡◌, true, false, slice_get, IfSome};
+ghost use Rattle.std.specs.List.{list_any};
+ghost use Rattle.net_model.specs.Table.{fact_at, parts_of, part_of, sae_at, stream_end};
+ghost use Rattle.net_model.specs.Needed.{has_it, end_needs, is_needed};
+ghost use Rattle.relay_core.specs.Knowledge.{is_owed_by};
+ghost use Rattle.end_store.specs.Pooled.{ends_view};
+ghost use Rattle.kept_facts.specs.Needs.{needs_at};
+
+use end_store::EndStore;
+use net_model::Fact;
+use qkd_base::{KeyName, SaeNo};
+use relay_core::{Known, fact_name, fact_route};
+
+// Whether a fact is to be told to a next node that hasn't acknowledged it.
+fn is_owed(known: &Known, fact: &Fact) -> bool
+    ensures { result ≡ is_owed_by known.now.me known.now.acked fact.now }
+{
+    fact_route(fact).next_after(known.me()).is_some() && !known.is_acknowledged(fact_name(fact))
+}
+
+// The same of the fact at a place.
+fn is_owed_at(known: &Known, place: usize) -> bool
+    ensures { IfSome (slice_get known.now.facts place) (λ f. result ≡ is_owed_by known.now.me known.now.acked f) }
+{
+    match known.at(place) {
+        None => false,
+        Some(fact) => is_owed(known, fact),
+    }
+}
+
+// Whether a part of a group key is owed.
+fn has_owed_part(known: &Known, key: KeyName) -> bool
+    ensures { result ≡ list_any (is_owed_by known.now.me known.now.acked) (parts_of known.now.facts key) }
+{
+    let mut from = 0;
+    while from < known.len() {
+        match known.next_part(key, from) {
+            None => return false,
+            Some(place) => {
+                if is_owed_at(known, place) {
+                    return true;
+                }
+                from = place + 1;
+            }
+        }
+    }
+    false
+}
+
+/// Whether an application has got the key or chunk of a name.
+pub fn has_it(ends: &EndStore, name: KeyName, sae: Option<SaeNo>) -> bool
+    ensures { result ≡ has_it (ends_view ends.now) name sae }
+{
+    match sae {
+        None => false,
+        Some(sae) => ends.was_handed(name, sae),
+    }
+}
+
+// The application at the first or at the last node of a stream.
+fn stream_sae(known: &Known, at_first: bool, stream: KeyName) -> Option<SaeNo>
+    ensures { result ≡ stream_end at_first (fact_at known.now.facts stream) }
+{
+    match known.fact(stream) {
+        Some(Fact::Open { source, peer, .. }) => {
+            if at_first { Some(*source) } else { Some(*peer) }
+        }
+        _ => None,
+    }
+}
+
+/// The application at the first or at the last node of a key, chunk or part.
+pub fn sae_at(known: &Known, at_first: bool, fact: &Fact) -> Option<SaeNo>
+    ensures { result ≡ sae_at known.now.facts at_first fact.now }
+{
+    match fact {
+        Fact::Key { master, slave, .. } => {
+            if at_first {
+                Some(*master)
+            } else {
+                Some(*slave)
+            }
+        }
+        Fact::Chunk { stream, .. } => stream_sae(known, at_first, *stream),
+        Fact::Part { master, slave, .. } => {
+            if at_first {
+                Some(*master)
+            } else {
+                Some(*slave)
+            }
+        }
+        _ => None,
+    }
+}
+
+// Whether a fact is needed at its origin, where it isn't owed.
+fn origin_needs(ends: &EndStore, fact: &Fact) -> bool
+    ensures { result ≡ end_needs (ends_view ends.now) true fact.now (part_of fact.now) }
+{
+    match fact {
+        Fact::Part { key, master, .. } => {
+            !ends.was_handed(*key, *master) || has_owed_part(ends.known(), *key)
+        }
+        _ => !has_it(ends, fact_name(fact), sae_at(ends.known(), true, fact)),
+    }
+}
+
+// The same at its target.
+fn target_needs(ends: &EndStore, fact: &Fact) -> bool
+    ensures { result ≡ end_needs (ends_view ends.now) false fact.now (part_of fact.now) }
+{
+    match fact {
+        Fact::Part { key, slave, .. } => !ends.was_handed(*key, *slave),
+        _ => !has_it(ends, fact_name(fact), sae_at(ends.known(), false, fact)),
+    }
+}
+
+/// Whether a node needs a fact.
+#[tactic(auto, unfolding(net_model::specs::Needed::is_needed))]
+pub fn needs(ends: &EndStore, fact: &Fact) -> bool
+    ensures { result ≡ is_needed (ends_view ends.now) fact.now }
+{
+    if is_owed(ends.known(), fact) {
+        return true;
+    }
+    let route = fact_route(fact);
+    if route.first() == ends.known().me() {
+        origin_needs(ends, fact)
+    } else if route.last() == ends.known().me() {
+        target_needs(ends, fact)
+    } else {
+        false
+    }
+}
+
+/// Whether it needs the fact at a place.
+pub fn needs_at(ends: &EndStore, place: usize) -> bool
+    ensures { result ≡ needs_at (ends_view ends.now) (slice_get ends.now.known.facts place) }
+{
+    match ends.known().at(place) {
+        None => false,
+        Some(fact) => needs(ends, fact),
+    }
+}

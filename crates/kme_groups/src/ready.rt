@@ -1,0 +1,115 @@
+// Group keys that wait for their master, counted and in order of name.
+ghost use Rattle.std.specs.Prelude.{◌≡◌, ◌≤◌, IfOk, IfSome, IfNone, length, take, Some, true, false};
+ghost use Rattle.net_model.specs.Decision.{last_count};
+ghost use Rattle.end_store.specs.Waiting.{own};
+ghost use Rattle.end_store.specs.Pooled.{ends_view};
+ghost use Rattle.kme_groups.specs.Candidates.{is_candidate, candidates, first_pool};
+
+use crate::GroupPool;
+use crate::candidates::{first_pool, is_candidate};
+use end_store::{EndStore, Line, Pool};
+use qkd_base::{KeyName, Memory, NameKind};
+use std::alloc::Global;
+
+// The name of a count, if it is that of a candidate.
+fn candidate_at(store: &EndStore, pool: &GroupPool, ready: bool, count: u64) -> Option<KeyName>
+    requires positive { 1 ≤ count }
+    requires within { count ≤ last_count store.now.known.me store.now.known.facts }
+    ensures some { IfSome result (λ name. (name ≡ own store.now.known.me count) × (is_candidate (ends_view store.now) pool.now.master pool.now.slaves.now pool.now.bits ready (own store.now.known.me count) ≡ true)) }
+    ensures none { IfNone result (is_candidate (ends_view store.now) pool.now.master pool.now.slaves.now pool.now.bits ready (own store.now.known.me count) ≡ false) }
+{
+    let known = store.known();
+    // That counts are those of names is what it says.
+    let _last = known.last_count();
+    match KeyName::new(known.me(), NameKind::Key, count) {
+        None => None,
+        Some(name) => {
+            if is_candidate(store, pool, ready, name) {
+                Some(name)
+            } else {
+                None
+            }
+        }
+    }
+}
+
+// How many candidates there are, counted up to a number, where the parts for their first slave are in a pool.
+fn count_in(store: &EndStore, pool: &GroupPool, parts: &Pool, ready: bool, number: usize) -> usize
+    requires { Some parts.now ≡ first_pool pool.now.master pool.now.slaves.now pool.now.bits }
+    ensures { result ≡ length (take number (candidates (ends_view store.now) pool.now.master pool.now.slaves.now pool.now.bits ready)) }
+{
+    // That counts end is what it says.
+    let _last = store.known().last_count();
+    let mut found = 0;
+    let mut after = 0;
+    while found < number {
+        match store.next(&Line::Parts(*parts), after + 1) {
+            None => return found,
+            Some(count) => {
+                after = count;
+                match candidate_at(store, pool, ready, count) {
+                    None => {}
+                    Some(_) => found += 1,
+                }
+            }
+        }
+    }
+    found
+}
+
+// The first ready ones in order of name, at most so many.
+fn first_in(
+    alloc: Global,
+    store: &EndStore,
+    pool: &GroupPool,
+    parts: &Pool,
+    number: usize,
+) -> Result<Vec<KeyName>, Memory>
+    requires { Some parts.now ≡ first_pool pool.now.master pool.now.slaves.now pool.now.bits }
+    ensures { IfOk result (λ names. names.items ≡ take number (candidates (ends_view store.now) pool.now.master pool.now.slaves.now pool.now.bits true)) }
+{
+    // That counts end is what it says.
+    let _last = store.known().last_count();
+    let mut names = Vec::new(alloc);
+    let mut after = 0;
+    'names: while names.len() < number {
+        match store.next(&Line::Parts(*parts), after + 1) {
+            None => return Ok(names),
+            Some(count) => {
+                after = count;
+                match candidate_at(store, pool, true, count) {
+                    None => {}
+                    Some(name) => names.push(name)?,
+                }
+            }
+        }
+    }
+    Ok(names)
+}
+
+/// How many group keys of a pool wait for their master, or are ready, counted up to a number. It takes no memory.
+pub fn group_count(store: &EndStore, pool: &GroupPool, ready: bool, number: usize) -> usize
+    requires { 1 ≤ length pool.now.slaves.now }
+    ensures { result ≡ length (take number (candidates (ends_view store.now) pool.now.master pool.now.slaves.now pool.now.bits ready)) }
+{
+    match first_pool(pool) {
+        None => 0,
+        Some(parts) => count_in(store, pool, &parts, ready, number),
+    }
+}
+
+/// The first ready group keys of a pool in order of name, at most so many.
+pub fn ready_groups(
+    alloc: Global,
+    store: &EndStore,
+    pool: &GroupPool,
+    number: usize,
+) -> Result<Vec<KeyName>, Memory>
+    requires { 1 ≤ length pool.now.slaves.now }
+    ensures { IfOk result (λ names. names.items ≡ take number (candidates (ends_view store.now) pool.now.master pool.now.slaves.now pool.now.bits true)) }
+{
+    match first_pool(pool) {
+        None => Ok(Vec::new(alloc)),
+        Some(parts) => first_in(alloc, store, pool, &parts, number),
+    }
+}

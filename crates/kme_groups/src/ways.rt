@@ -1,0 +1,45 @@
+// The routes from a master's node to the homes of several slaves.
+ghost use Rattle.std.specs.Prelude.{◌≡◌, ℕ, Bool, IfOk, is_some, Some};
+ghost use Rattle.declared_site.specs.SiteOf.{IsDeclared, site_of};
+ghost use Rattle.net_model.specs.Groups.{routes_to};
+ghost use Rattle.kme_site.specs.Up.{AreUp};
+
+use declared_site::Site;
+use kme_site::{home, route_between};
+use qkd_base::{Memory, NodeNo, Route, SaeNo};
+use std::alloc::Global;
+
+/// Whether each slave's home has a route. It takes no memory.
+pub fn has_ways(site: &Site, up: u32, me: NodeNo, slaves: &[SaeNo]) -> bool
+    requires { IsDeclared site.now }
+    ensures { (is_up : ℕ → Bool) → AreUp up is_up → result ≡ is_some (routes_to (site_of site.now) is_up me slaves.now) }
+{
+    for slave in slaves {
+        match route_between(site, up, me, home(site, *slave)) {
+            None => return false,
+            Some(_) => {}
+        }
+    }
+    true
+}
+
+/// The slaves with these routes, where each has one.
+pub fn ways(
+    alloc: Global,
+    site: &Site,
+    up: u32,
+    me: NodeNo,
+    slaves: &[SaeNo],
+) -> Result<Vec<(SaeNo, Route)>, Memory>
+    requires { IsDeclared site.now }
+    ensures { IfOk result (λ ways. (is_up : ℕ → Bool) → AreUp up is_up → routes_to (site_of site.now) is_up me slaves.now ≡ Some ways.items) }
+{
+    let mut ways = Vec::new(alloc);
+    for slave in slaves {
+        match route_between(site, up, me, home(site, *slave)) {
+            None => return Err(Memory),
+            Some(route) => ways.push((*slave, route))?,
+        }
+    }
+    Ok(ways)
+}

@@ -1,0 +1,4 @@
+pub mod Passing
+pub mod Deciding
+pub mod Made
+pub mod Overs

@@ -1,0 +1,88 @@
+// Ready keys: handed to their master, and counted.
+ghost use Rattle.std.specs.Prelude.{◌≡◌, []};
+ghost use Rattle.declared_site.specs.SiteOf.{IsDeclared, site_of};
+ghost use Rattle.net_model.specs.View.{View};
+ghost use Rattle.net_model.specs.declared.reply.Reply.TheVariants.{ReadyCount};
+ghost use Rattle.net_model.specs.Decision.{answers};
+ghost use Rattle.net_model.specs.Pools.{enc, status};
+ghost use Rattle.end_store.specs.Pooled.{Sees};
+ghost use Rattle.kme_step.specs.Steps.{IsStep};
+
+use crate::{Holder, hand_out};
+use declared_site::Site;
+use end_store::EndStore;
+use kme_site::is_entitled;
+use kme_step::{Change, Step};
+use net_model::Reply;
+use qkd_base::{Items, PoolNo, SaeNo};
+use std::alloc::Global;
+
+/// Hands the first ready keys of a pool to their master (ETSI GS QKD 014 V1.1.1, Get key). `NotAllowed` where the pair is not
+/// allowed or the master not at home here, `Few` where fewer are ready.
+pub fn enc(
+    alloc: Global,
+    site: &Site,
+    store: &EndStore,
+    pool: &PoolNo,
+    number: u16,
+) -> Result<Step, Reply>
+    requires { IsDeclared site.now }
+    ensures { (v : View) → Sees v store.now → IsStep v [] (enc (site_of site.now) v pool.now.master pool.now.slave number pool.now.bits) result }
+{
+    let known = store.known();
+    if !is_entitled(site, known.me(), pool.master, pool.master, pool.slave) {
+        return Err(Reply::NotAllowed);
+    }
+    // A refusal takes no memory, so the ready keys are counted first.
+    let ready = store.ready_count(pool, number as usize);
+    if ready < number as usize {
+        return Err(Reply::Few {
+            count: ready as u32,
+        });
+    }
+    match store.ready_keys(alloc, pool, number as usize) {
+        Err(_) => Err(Reply::Memory),
+        Ok(names) => hand_out(alloc, known, &Holder::Named, &names, pool.master),
+    }
+}
+
+// So many keys are ready. No pool has more than can be told; where one had, it is want of memory.
+fn ready_count(alloc: Global, count: usize) -> Result<Step, Reply>
+    ensures { (v : View) → IsStep v [] (answers v (ReadyCount count)) result }
+{
+    if count >= 1 << 32 {
+        return Err(Reply::Memory);
+    }
+    Ok(Step {
+        batch: Items::new(alloc),
+        reply: Reply::ReadyCount {
+            count: count as u32,
+        },
+        change: Change::Same,
+    })
+}
+
+/// Counts the ready keys of 256 bits of a pair (ETSI GS QKD 014 V1.1.1, Get status). `NotAllowed` as in `enc`.
+pub fn status(
+    alloc: Global,
+    site: &Site,
+    store: &EndStore,
+    master: SaeNo,
+    slave: SaeNo,
+) -> Result<Step, Reply>
+    requires { IsDeclared site.now }
+    ensures { (v : View) → Sees v store.now → IsStep v [] (status (site_of site.now) v master slave) result }
+{
+    let known = store.known();
+    if !is_entitled(site, known.me(), master, master, slave) {
+        return Err(Reply::NotAllowed);
+    }
+    // That there are fewer names is what it says.
+    let _last = known.last_count();
+    let pool = PoolNo {
+        master,
+        slave,
+        bits: 256,
+    };
+    ready_count(alloc, store.ready_count(&pool, 1 << 48))
+}

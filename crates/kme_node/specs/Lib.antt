@@ -1,0 +1,4 @@
+pub mod Ports
+pub mod Places
+pub mod Holdings
+pub mod Replayed

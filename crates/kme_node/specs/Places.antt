@@ -1,0 +1,20 @@
+-- A manager's ends of its links stand apart, and its orders fit the bytes received.
+use Rattle.std.specs.Prelude.{◌≡◌, ◌≢◌, ℕ, ◌+◌, ◌≤◌, List, [], ◌∷◌}
+use Rattle.std.specs.List.{AllByRecursion}
+use Rattle.net_model.specs.declared.fact.Fact.{Fact}
+use Rattle.net_model.specs.World.{Transmission, needs}
+use Rattle.net_model.specs.View.{Port, received_of}
+use Rattle.net_model.specs.Fold.{on_lane}
+
+-- no two have one lane
+abbrev pub AreApart : List Port → Type 0
+AreApart [] = Unit {0}
+AreApart (p ∷ ps) = AllByRecursion (λ (q : Port). q.lane ≢ p.lane) ps × AreApart ps
+
+-- no end is planned past the bytes received
+abbrev pub AreWithin : List Port → Type 0
+AreWithin ports = AllByRecursion (λ (p : Port). p.planned ≤ received_of p) ports
+
+-- what is to be sent on each lane fits behind what was planned
+abbrev pub HaveBytes : List Fact → List Transmission → List Port → Type 0
+HaveBytes facts orders ports = AllByRecursion (λ (p : Port). p.planned + needs facts (on_lane p.lane orders) ≤ received_of p) ports

@@ -1,0 +1,4 @@
+pub mod Drafts
+pub mod Wanted
+pub mod Keeps
+pub mod Adds

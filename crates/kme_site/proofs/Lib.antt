@@ -1,0 +1,4 @@
+pub mod Joined
+pub mod Walks
+pub mod Outgoing
+pub mod Line

@@ -1,0 +1,229 @@
+-- What is asked for has the group that is looked for.
+use Rattle.std.proofs.Common.{◌≡◌, ℕ, zero, suc, Bool, true, false, ◌||◌, ◌&&◌, List, [], ◌∷◌, ◌++◌, length, refl, sym, ◌∙◌, ap, subst, arith, Option, Some, None}
+use Rattle.std.specs.Prelude.{map, slice_get, slice_set, ◌==◌, if◌then◌else◌}
+use Rattle.std.specs.List.{list_any}
+use Rattle.std.specs.Str.{bytes_eq}
+use Rattle.std.proofs.lemmas.Bool.Decides.{nat_tests}
+use Rattle.qkd_base.specs.Lane.{lane_eq, way_eq, way_number}
+use Rattle.qkd_base.specs.Name.{Name, name_eq, kind_eq, kind_number}
+use Rattle.qkd_base.specs.declared.lane.Lane.{Lane}
+use Rattle.qkd_base.specs.declared.lane.Way.{Way}
+use Rattle.qkd_base.specs.declared.lane.Way.TheVariants.{Up, Down}
+use Rattle.qkd_base.specs.declared.frame_octets.FrameOctets.{FrameOctets}
+use Rattle.resend_window.specs.declared.held.Held.{Held}
+use Rattle.resend_window.specs.declared.edit.Query.{Query}
+use Rattle.resend_window.specs.declared.edit.Query.TheVariants.{At, Answering, DataOf}
+use Rattle.resend_window.specs.declared.edit.Edit.{Edit}
+use Rattle.resend_window.specs.declared.edit.Edit.TheVariants.{MarkDue, Renew, Renumber, Remove}
+use Rattle.resend_window.specs.Slots.{passes, is_asked, edit, edited}
+use Rattle.net_model.specs.Item.{item_eq}
+use Rattle.net_model.specs.Window.{offset_eq}
+use Rattle.resend_window.specs.declared.arrival.Arrival.{Arrival}
+use Rattle.resend_window.specs.declared.arrival.Arrivals.{Arrivals}
+use Rattle.resend_window.specs.declared.arrival.Arrivals.TheVariants.{Of, From}
+use Rattle.resend_window.specs.declared.awaited.Awaited.{Awaited}
+use Rattle.resend_window.specs.Held.{item_by}
+use Rattle.resend_window.specs.Lists.{is_from, is_same}
+use Rattle.resend_window.proofs.Edits.{lane_sym}
+use Rattle.resend_window.specs.Groups.{offset_group, name_group, query_group, item_group, held_groups, is_removal, arrivals_group, arrival_groups, awaited_by, awaited_group, awaited_groups}
+use Rattle.resend_window.specs.declared.catalogue.Catalogue.{Catalogue}
+use Rattle.resend_window.specs.Catalogued.{IsCatalogue, Catalogues}
+use Rattle.resend_window.proofs.Catalogues.{AreGroups, catalogue_gap}
+
+eq_sym : (a b : ℕ) → (a == b) ≡ (b == a)
+eq_sym a b = grind (arith, nat_tests)
+
+way_is : (a b : Way) → (way_number a == way_number b) ≡ way_eq b a
+way_is Up Up = refl
+way_is Up Down = refl
+way_is Down Up = refl
+way_is Down Down = refl
+
+-- the numbers of an offset's group
+pub offset_is : (l k : Lane) (x y : ℕ) → ((l.link == k.link) && ((way_number l.way == way_number k.way) && ((x == y) && true))) ≡ (lane_eq k l && (y == x))
+offset_is l k x y =
+    ap (λ (b : Bool). b && ((way_number l.way == way_number k.way) && ((x == y) && true))) (eq_sym l.link k.link)
+    ∙ ap (λ (b : Bool). (k.link == l.link) && (b && ((x == y) && true))) (way_is l.way k.way)
+    ∙ ap (λ (b : Bool). (k.link == l.link) && (way_eq k.way l.way && (b && true))) (eq_sym x y)
+    ∙ by (k.link == l.link) (way_eq k.way l.way) (y == x)
+  where
+    by : (a b c : Bool) → (a && (b && (c && true))) ≡ ((a && b) && c)
+    by true true true = refl
+    by true true false = refl
+    by true false c = refl
+    by false b c = refl
+
+-- the numbers of a name's group
+pub name_is : (l k : Lane) (n m : Name) → ((l.link == k.link) && ((way_number l.way == way_number k.way) && ((n.node == m.node) && ((kind_number n.kind == kind_number m.kind) && ((n.count == m.count) && true))))) ≡ (lane_eq k l && name_eq m n)
+name_is l k n m =
+    ap (λ (b : Bool). b && ((way_number l.way == way_number k.way) && ((n.node == m.node) && ((kind_number n.kind == kind_number m.kind) && ((n.count == m.count) && true))))) (eq_sym l.link k.link)
+    ∙ ap (λ (b : Bool). (k.link == l.link) && (b && ((n.node == m.node) && ((kind_number n.kind == kind_number m.kind) && ((n.count == m.count) && true))))) (way_is l.way k.way)
+    ∙ ap (λ (b : Bool). (k.link == l.link) && (way_eq k.way l.way && (b && ((kind_number n.kind == kind_number m.kind) && ((n.count == m.count) && true))))) (eq_sym n.node m.node)
+    ∙ ap (λ (b : Bool). (k.link == l.link) && (way_eq k.way l.way && ((m.node == n.node) && (b && ((n.count == m.count) && true))))) (eq_sym (kind_number n.kind) (kind_number m.kind))
+    ∙ ap (λ (b : Bool). (k.link == l.link) && (way_eq k.way l.way && ((m.node == n.node) && ((kind_number m.kind == kind_number n.kind) && (b && true))))) (eq_sym n.count m.count)
+    ∙ by (k.link == l.link) (way_eq k.way l.way) (m.node == n.node) (kind_number m.kind == kind_number n.kind) (m.count == n.count)
+  where
+    by : (a b c d e : Bool) → (a && (b && (c && (d && (e && true))))) ≡ ((a && b) && ((c && d) && e))
+    by true true true true true = refl
+    by true true true true false = refl
+    by true true true false e = refl
+    by true true false d e = refl
+    by true false c d e = refl
+    by false b c d e = refl
+
+and_true : (b : Bool) → (b && true) ≡ b
+and_true true = refl
+and_true false = refl
+
+or_none : (b : Bool) → (b || false) ≡ b
+or_none true = refl
+or_none false = refl
+
+and_false : (b : Bool) → (b && false) ≡ false
+and_false true = refl
+and_false false = refl
+
+held_asked : (q : Query) (l : Lane) (x : ℕ) (n : Name) (o number : Option ℕ) (sent : ℕ) (d : Bool) (size : ℕ) (f : FrameOctets) →
+    (let h : Held = record { lane = l; offset = x; name = n; ack_of = o; number = number; sent = sent; due = d; length = size; frame = f } in list_any (bytes_eq (query_group q)) (held_groups (Some h)) ≡ is_asked q h)
+held_asked (At k y) l x n None number sent d size f = or_none _ ∙ offset_is k l y x
+held_asked (At k y) l x n (Some z) number sent d size f = or_none _ ∙ offset_is k l y x
+held_asked (Answering k y) l x n None number sent d size f = sym (and_false (lane_eq l k))
+held_asked (Answering k y) l x n (Some z) number sent d size f = or_none _ ∙ offset_is k l y z
+held_asked (DataOf k m) l x n None number sent d size f = or_none _ ∙ name_is k l m n
+held_asked (DataOf k m) l x n (Some z) number sent d size f = sym (and_false (lane_eq l k))
+
+pub held_are : (q : Query) → AreGroups held_groups (passes (is_asked q)) (query_group q)
+held_are q = record { asked = by; nothing = refl }
+  where
+    by : (o : Option Held) → list_any (bytes_eq (query_group q)) (held_groups o) ≡ passes (is_asked q) o
+    by None = refl
+    by (Some h) = held_asked q h.lane h.offset h.name h.ack_of h.number h.sent h.due h.length h.frame
+
+-- a change keeps the groups of what it changes
+
+edit_keeps : (e : Edit) (h : Held) → is_removal e ≡ false → held_groups (edit e h) ≡ held_groups (Some h)
+edit_keeps MarkDue h kept = refl
+edit_keeps (Renew n) h kept = refl
+edit_keeps (Renumber n) h kept = refl
+edit_keeps Remove h kept = cc
+
+pub edited_keeps : (q : Query) (e : Edit) (o : Option Held) → is_removal e ≡ false → held_groups (edited q e o) ≡ held_groups o
+edited_keeps q e None kept = refl
+edited_keeps q e (Some h) kept = by (is_asked q h)
+  where
+    by : (b : Bool) → held_groups (if b then edit e h else Some h) ≡ held_groups (Some h)
+    by true = edit_keeps e h kept
+    by false = refl
+
+pub keys_kept : {A : Type 0} (keys : Option A → List (List ℕ)) (xs : List (Option A)) (p : ℕ) (o new : Option A) → slice_get xs p ≡ Some o → keys new ≡ keys o → map keys (slice_set xs p new) ≡ map keys xs
+keys_kept keys [] p o new there same = cc
+keys_kept keys (x ∷ xs) zero o new there same = let is : x ≡ o = cc in ap (λ k. k ∷ map keys xs) (same ∙ ap keys (sym is))
+keys_kept keys (x ∷ xs) (suc p) o new there same = ap (λ ks. keys x ∷ ks) (keys_kept keys xs p o new there same)
+
+pub keys_set : {A : Type 0} (keys : Option A → List (List ℕ)) (xs : List (Option A)) (p : ℕ) → keys None ≡ [] → map keys (slice_set xs p None) ≡ slice_set (map keys xs) p []
+keys_set keys [] p none = refl
+keys_set keys (x ∷ xs) zero none = ap (λ k. k ∷ map keys xs) none
+keys_set keys (x ∷ xs) (suc p) none = ap (λ ks. keys x ∷ ks) (keys_set keys xs p none)
+
+pub keys_push : {A : Type 0} (keys : Option A → List (List ℕ)) (xs : List (Option A)) (o : Option A) → map keys (xs ++ o ∷ []) ≡ map keys xs ++ keys o ∷ []
+keys_push keys [] o = refl
+keys_push keys (x ∷ xs) o = ap (λ ks. keys x ∷ ks) (keys_push keys xs o)
+
+pub keys_length : {A : Type 0} (keys : Option A → List (List ℕ)) (xs : List (Option A)) → length (map keys xs) ≡ length xs
+keys_length keys [] = refl
+keys_length keys (x ∷ xs) = let r = keys_length keys xs in omega arith
+
+-- acknowledgements
+
+arrival_asked : (q : Arrivals) (a : Arrival) → list_any (bytes_eq (arrivals_group q)) (arrival_groups (Some a)) ≡ is_from q a
+arrival_asked (Of l) a = or_none _ ∙ offset_is l a.lane 0 0 ∙ and_true (lane_eq a.lane l)
+arrival_asked (From l x) a = or_none _ ∙ offset_is l a.lane x a.offset
+
+pub arrival_are : (q : Arrivals) → AreGroups arrival_groups (passes (is_from q)) (arrivals_group q)
+arrival_are q = record { asked = by; nothing = refl }
+  where
+    by : (o : Option Arrival) → list_any (bytes_eq (arrivals_group q)) (arrival_groups o) ≡ passes (is_from q) o
+    by None = refl
+    by (Some a) = arrival_asked q a
+
+-- orders
+
+or_same : (b : Bool) → (b || (b || false)) ≡ b
+or_same true = refl
+or_same false = refl
+
+name_sym : (l k : Lane) (n m : Name) → (lane_eq k l && name_eq m n) ≡ (lane_eq l k && name_eq n m)
+name_sym l k n m =
+    ap (λ (b : Bool). b && name_eq m n) (lane_sym k l)
+    ∙ ap (λ (b : Bool). lane_eq l k && b)
+    (ap (λ (b : Bool). (b && kind_eq m.kind n.kind) && (m.count == n.count)) (eq_sym m.node n.node)
+    ∙ ap (λ (b : Bool). ((n.node == m.node) && b) && (m.count == n.count)) (eq_sym (kind_number m.kind) (kind_number n.kind))
+    ∙ ap (λ (b : Bool). ((n.node == m.node) && kind_eq n.kind m.kind) && b) (eq_sym m.count n.count))
+
+-- a name's group, and one more number
+name_more : (l k : Lane) (n m : Name) (x y : ℕ) →
+    ((l.link == k.link) && ((way_number l.way == way_number k.way) && ((n.node == m.node) && ((kind_number n.kind == kind_number m.kind) && ((n.count == m.count) && ((x == y) && true)))))) ≡ ((lane_eq l k && name_eq n m) && (x == y))
+name_more l k n m x y =
+    by (l.link == k.link) (way_number l.way == way_number k.way) (n.node == m.node) (kind_number n.kind == kind_number m.kind) (n.count == m.count) (x == y)
+    ∙ ap (λ (b : Bool). b && (x == y)) (name_is l k n m ∙ name_sym l k n m)
+  where
+    by : (a b c d e f : Bool) → (a && (b && (c && (d && (e && (f && true)))))) ≡ ((a && (b && (c && (d && (e && true))))) && f)
+    by true true true true true true = refl
+    by true true true true true false = refl
+    by true true true true false f = refl
+    by true true true false e f = refl
+    by true true false d e f = refl
+    by true false c d e f = refl
+    by false b c d e f = refl
+
+and_none : (b c : Bool) → ((b && false) && c) ≡ false
+and_none true c = refl
+and_none false c = refl
+
+same_by : (l k : Lane) (n m : Name) (i j : Bool) (o p : Option ℕ) → bytes_eq (awaited_by l n i o) (awaited_by k m j p) ≡ ((lane_eq l k && item_eq (item_by i n) (item_by j m)) && offset_eq o p)
+same_by l k n m false false None None = name_more l k n m 0 0
+same_by l k n m false false None (Some y) = sym (and_false (lane_eq l k && name_eq n m))
+same_by l k n m false false (Some x) None = sym (and_false (lane_eq l k && name_eq n m))
+same_by l k n m false false (Some x) (Some y) = name_more l k n m x y
+same_by l k n m true true None None = name_more l k n m 0 0
+same_by l k n m true true None (Some y) = sym (and_false (lane_eq l k && name_eq n m))
+same_by l k n m true true (Some x) None = sym (and_false (lane_eq l k && name_eq n m))
+same_by l k n m true true (Some x) (Some y) = name_more l k n m x y
+same_by l k n m false true None p = no_tag p
+  where
+    no_tag : (p : Option ℕ) → bytes_eq (awaited_by l n false None) (awaited_by k m true p) ≡ ((lane_eq l k && false) && offset_eq None p)
+    no_tag None = sym (and_none (lane_eq l k) true)
+    no_tag (Some y) = sym (and_none (lane_eq l k) false)
+same_by l k n m false true (Some x) p = no_tag p
+  where
+    no_tag : (p : Option ℕ) → bytes_eq (awaited_by l n false (Some x)) (awaited_by k m true p) ≡ ((lane_eq l k && false) && offset_eq (Some x) p)
+    no_tag None = sym (and_none (lane_eq l k) false)
+    no_tag (Some y) = sym (and_none (lane_eq l k) (x == y))
+same_by l k n m true false None p = no_tag p
+  where
+    no_tag : (p : Option ℕ) → bytes_eq (awaited_by l n true None) (awaited_by k m false p) ≡ ((lane_eq l k && false) && offset_eq None p)
+    no_tag None = sym (and_none (lane_eq l k) true)
+    no_tag (Some y) = sym (and_none (lane_eq l k) false)
+same_by l k n m true false (Some x) p = no_tag p
+  where
+    no_tag : (p : Option ℕ) → bytes_eq (awaited_by l n true (Some x)) (awaited_by k m false p) ≡ ((lane_eq l k && false) && offset_eq (Some x) p)
+    no_tag None = sym (and_none (lane_eq l k) false)
+    no_tag (Some y) = sym (and_none (lane_eq l k) (x == y))
+
+pub awaited_are : (w : Awaited) → AreGroups awaited_groups (passes (is_same w)) (awaited_group w)
+awaited_are w = record { asked = by; nothing = refl }
+  where
+    by : (o : Option Awaited) → list_any (bytes_eq (awaited_group w)) (awaited_groups o) ≡ passes (is_same w) o
+    by None = refl
+    by (Some a) = or_same (bytes_eq (awaited_group w) (awaited_group a)) ∙ same_by w.lane a.lane w.name a.name w.is_ack a.is_ack w.ack_of a.ack_of
+
+-- one more place
+
+pub listed_gap : {A : Type 0} (keys : Option A → List (List ℕ)) (xs more : List (Option A)) (o : Option A) (index : Catalogue) → more ≡ xs ++ o ∷ [] → keys o ≡ [] → Catalogues (map keys xs) index → Catalogues (map keys more) index
+listed_gap keys xs more o index e none was whole =
+    subst (λ (ks : List (List (List ℕ))). IsCatalogue ks index.entries) (sym (ap (map keys) e ∙ keys_push keys xs o ∙ ap (λ k. map keys xs ++ k ∷ []) none)) (catalogue_gap (map keys xs) index.entries (was whole))
+
+pub listed_more : {A : Type 0} (keys : Option A → List (List ℕ)) (xs more : List (Option A)) (o : Option A) (first second : List ℕ) (index : Catalogue) → more ≡ xs ++ o ∷ [] → keys o ≡ first ∷ second ∷ [] →
+    Catalogues (map keys xs ++ (first ∷ second ∷ []) ∷ []) index → Catalogues (map keys more) index
+listed_more keys xs more o first second index e some was =
+    subst (λ (ks : List (List (List ℕ))). Catalogues ks index) (sym (ap (map keys) e ∙ keys_push keys xs o ∙ ap (λ k. map keys xs ++ k ∷ []) some)) was

@@ -1,0 +1,10 @@
+pub mod Lists
+pub mod Edits
+pub mod Least
+pub mod Windows
+pub mod Frames
+pub mod Placings
+pub mod Sorted
+pub mod Dues
+pub mod Catalogues
+pub mod Grouped

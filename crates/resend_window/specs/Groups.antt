@@ -1,0 +1,80 @@
+-- The groups in which frames, acknowledgements and orders are found.
+use Rattle.std.specs.Prelude.{ℕ, Bool, true, false, List, [], ◌∷◌, Option, Some, None}
+use Rattle.qkd_base.specs.Lane.{way_number}
+use Rattle.qkd_base.specs.Name.{Name, kind_number}
+use Rattle.qkd_base.specs.declared.lane.Lane.{Lane}
+use Rattle.resend_window.specs.declared.held.Held.{Held}
+use Rattle.resend_window.specs.declared.edit.Query.{Query}
+use Rattle.resend_window.specs.declared.edit.Query.TheVariants.{At, Answering, DataOf}
+use Rattle.resend_window.specs.declared.edit.Edit.{Edit}
+use Rattle.resend_window.specs.declared.edit.Edit.TheVariants.{Remove}
+use Rattle.resend_window.specs.declared.arrival.Arrival.{Arrival}
+use Rattle.resend_window.specs.declared.arrival.Arrivals.{Arrivals}
+use Rattle.resend_window.specs.declared.arrival.Arrivals.TheVariants.{Of, From}
+use Rattle.resend_window.specs.declared.awaited.Awaited.{Awaited}
+
+-- lists with places where nothing is left, and for how many more there is room
+
+pub record HeldItems : Type 0 where
+  pub items : List (Option Held)
+  pub spare : ℕ
+
+pub record ArrivalItems : Type 0 where
+  pub items : List (Option Arrival)
+  pub spare : ℕ
+
+pub record AwaitedItems : Type 0 where
+  pub items : List (Option Awaited)
+  pub spare : ℕ
+
+-- groups that a lane and an offset tell, and that a lane and a name do
+
+abbrev pub offset_group : ℕ → Lane → ℕ → List ℕ
+offset_group tag l x = tag ∷ l.link ∷ way_number l.way ∷ x ∷ 0 ∷ 0 ∷ 0 ∷ []
+
+abbrev pub name_group : ℕ → Lane → Name → ℕ → List ℕ
+name_group tag l n x = tag ∷ l.link ∷ way_number l.way ∷ n.node ∷ kind_number n.kind ∷ n.count ∷ x ∷ []
+
+-- frames
+
+abbrev pub query_group : Query → List ℕ
+query_group (At l x) = offset_group 0 l x
+query_group (Answering l x) = offset_group 1 l x
+query_group (DataOf l n) = name_group 2 l n 0
+
+abbrev pub item_group : Lane → Name → Option ℕ → List ℕ
+item_group l n None = name_group 2 l n 0
+item_group l n (Some x) = offset_group 1 l x
+
+abbrev pub held_groups : Option Held → List (List ℕ)
+held_groups None = []
+held_groups (Some h) = offset_group 0 h.lane h.offset ∷ item_group h.lane h.name h.ack_of ∷ []
+
+abbrev pub is_removal : Edit → Bool
+is_removal Remove = true
+is_removal _ = false
+
+-- acknowledgements
+
+abbrev pub arrivals_group : Arrivals → List ℕ
+arrivals_group (Of l) = offset_group 0 l 0
+arrivals_group (From l x) = offset_group 1 l x
+
+abbrev pub arrival_groups : Option Arrival → List (List ℕ)
+arrival_groups None = []
+arrival_groups (Some a) = offset_group 0 a.lane 0 ∷ offset_group 1 a.lane a.offset ∷ []
+
+-- orders
+
+abbrev pub awaited_by : Lane → Name → Bool → Option ℕ → List ℕ
+awaited_by l n false None = name_group 0 l n 0
+awaited_by l n false (Some x) = name_group 1 l n x
+awaited_by l n true None = name_group 2 l n 0
+awaited_by l n true (Some x) = name_group 3 l n x
+
+abbrev pub awaited_group : Awaited → List ℕ
+awaited_group a = awaited_by a.lane a.name a.is_ack a.ack_of
+
+abbrev pub awaited_groups : Option Awaited → List (List ℕ)
+awaited_groups None = []
+awaited_groups (Some a) = awaited_group a ∷ awaited_group a ∷ []

@@ -1,0 +1,61 @@
+-- What is kept of a frame that was sent, and what it is at a tick.
+use Rattle.std.specs.Prelude.{◌≡◌, ℕ, ◌-◌, ◌≤◌, ◌==◌, ◌&&◌, ◌||◌, nat_le, Bool, false, List, [], ◌∷◌, map, take, length, is_none, if◌then◌else◌}
+use Rattle.std.specs.List.{list_any}
+use Rattle.qkd_base.specs.Lane.{lane_eq}
+use Rattle.qkd_base.specs.Name.{Name}
+use Rattle.qkd_base.specs.declared.lane.Lane.{Lane}
+use Rattle.net_model.specs.Item.{Item, DataItem, AckItem, item_of, is_data_of}
+use Rattle.net_model.specs.World.{Entry, Transmission, PendingAck}
+use Rattle.net_model.specs.Window.{offset_eq, room_octets}
+use Rattle.resend_window.specs.declared.held.Held.{Held}
+use Rattle.resend_window.specs.declared.arrival.Arrival.{Arrival}
+use Rattle.resend_window.specs.declared.awaited.Awaited.{Awaited}
+
+-- its age is the ticks since it was sent, and only that of a fact counts
+abbrev pub entry_at : ℕ → Held → Entry
+entry_at now h =
+    record {
+      transmission = record { lane = h.lane; item = item_of h.ack_of h.name; received_offset = h.ack_of };
+      offset = h.offset;
+      number = h.number;
+      age = if is_none h.ack_of then now - h.sent else 0;
+      due = h.due || (is_none h.ack_of && nat_le 4 (now - h.sent));
+      frame = take h.length h.frame.octets;
+    }
+
+abbrev pub entries_at : ℕ → List Held → List Entry
+entries_at now hs = map (entry_at now) hs
+
+-- it was sent by now, and the room behind its octets is zero
+pub record IsHeld (now : ℕ) (h : Held) : Type 0 where
+  pub sent : h.sent ≤ now
+  pub size : length (take h.length h.frame.octets) ≡ h.length
+  pub clean : h.frame ≡ room_octets (take h.length h.frame.octets)
+
+-- all are
+abbrev pub AreHeld : ℕ → List Held → Type 0
+AreHeld now [] = Unit {0}
+AreHeld now (h ∷ hs) = IsHeld now h × AreHeld now hs
+
+abbrev pub stand_together : Held → Held → Bool
+stand_together h k = lane_eq h.lane k.lane && (h.offset == k.offset)
+
+-- no two stand at one place of a lane
+abbrev pub AreApart : List Held → Type 0
+AreApart [] = Unit {0}
+AreApart (h ∷ hs) = (list_any (stand_together h) hs ≡ false) × AreApart hs
+
+-- it goes out on this lane at the next tick
+abbrev pub is_next_on : ℕ → Lane → Held → Bool
+is_next_on now l h = lane_eq h.lane l && (entry_at now h).due
+
+-- acknowledgements not yet sent, and what awaits its placing
+
+abbrev pub pending_ack : Arrival → PendingAck
+pending_ack a = record { lane = a.lane; offset = a.offset; name = a.name }
+
+abbrev pub item_by : Bool → Name → Item
+item_by is_ack n = if is_ack then AckItem n else DataItem n
+
+abbrev pub transmission : Awaited → Transmission
+transmission a = record { lane = a.lane; item = item_by a.is_ack a.name; received_offset = a.ack_of }

@@ -1,0 +1,37 @@
+-- Lists in which items are taken out and changed in place.
+use Rattle.std.specs.Prelude.{◌==◌, ◌&&◌, Bool, true, false, List, Option, Some, None, if◌then◌else◌}
+use Rattle.qkd_base.specs.Lane.{lane_eq}
+use Rattle.qkd_base.specs.declared.lane.Lane.{Lane}
+use Rattle.net_model.specs.Item.{item_of, is_data_of}
+use Rattle.net_model.specs.Window.{offset_eq}
+use Rattle.resend_window.specs.declared.held.Held.{Held}
+use Rattle.resend_window.specs.declared.edit.Query.{Query}
+use Rattle.resend_window.specs.declared.edit.Query.TheVariants.{At, Answering, DataOf}
+use Rattle.resend_window.specs.declared.edit.Edit.{Edit}
+use Rattle.resend_window.specs.declared.edit.Edit.TheVariants.{MarkDue, Renew, Renumber, Remove}
+
+-- a test of what is left
+abbrev pub passes : {A : Type 0} → (A → Bool) → Option A → Bool
+passes t None = false
+passes t (Some x) = t x
+
+abbrev pub is_asked : Query → Held → Bool
+is_asked (At l x) h = lane_eq h.lane l && (h.offset == x)
+is_asked (Answering l x) h = lane_eq h.lane l && offset_eq h.ack_of (Some x)
+is_asked (DataOf l n) h = lane_eq h.lane l && is_data_of n (item_of h.ack_of h.name)
+
+abbrev pub edit : Edit → Held → Option Held
+edit MarkDue h = Some (record h { due = true })
+edit (Renew now) h = Some (record h { sent = now; due = false })
+edit (Renumber n) h = Some (record h { number = Some n })
+edit Remove h = None
+
+-- those that are asked for are changed, or taken out
+abbrev pub edited : Query → Edit → Option Held → Option Held
+edited q e None = None
+edited q e (Some h) = if is_asked q h then edit e h else Some h
+
+-- the same of a test whose items are taken out
+abbrev pub removed : {A : Type 0} → (A → Bool) → Option A → Option A
+removed t None = None
+removed t (Some x) = if t x then None else Some x

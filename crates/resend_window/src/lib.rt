@@ -1,0 +1,19 @@
+//! What a manager sent and may send again, and the acknowledgements that it owes.
+#![tactic(auto)]
+
+mod arrival;
+mod arrival_list;
+mod awaited;
+mod awaited_list;
+mod catalogue;
+mod edit;
+mod groups;
+mod held;
+mod held_list;
+mod repeating;
+mod rooms;
+mod slots;
+mod window;
+
+pub use arrival::Pending;
+pub use window::Window;

@@ -1,0 +1,50 @@
+// What goes out again.
+ghost use Rattle.std.specs.Prelude.{◌≡◌, ◌+◌, ◌<◌, ◌^◌, ◌∷◌, [], map, IfSome, IfNone, IfOk};
+ghost use Rattle.net_model.specs.Window.{repeats_on, repeat_of};
+ghost use Rattle.resend_window.specs.Held.{AreHeld, AreApart, entries_at};
+ghost use Rattle.resend_window.specs.Kept.{somes};
+ghost use Rattle.resend_window.specs.Repeating.{rest_after};
+
+use crate::edit::Query;
+use crate::held_list::HeldList;
+use crate::slots::next_offset;
+use net_model::{Repeat, Repeats};
+use qkd_base::{Items, Lane, Memory};
+
+// The first frame that goes out at the next tick on a lane, above an offset.
+fn next_repeat(slots: &HeldList, tick: u64, lane: &Lane, after: Option<u64>) -> Option<Repeat>
+    requires room { tick + 1 < 2 ^ 64 }
+    requires held { AreHeld tick (somes slots.now.items) }
+    requires apart { AreApart (somes slots.now.items) }
+    ensures some { IfSome result (λ r. rest_after (tick + 1) lane.now (somes slots.now.items) after ≡ r ∷ rest_after (tick + 1) lane.now (somes slots.now.items) (Some r.offset)) }
+    ensures none { IfNone result (rest_after (tick + 1) lane.now (somes slots.now.items) after ≡ []) }
+{
+    match next_offset(slots.as_slice(), tick, lane, after) {
+        None => None,
+        Some(offset) => match slots.first(&Query::At(*lane, offset)) {
+            None => None,
+            Some(held) => Some(held.repeat()),
+        },
+    }
+}
+
+/// The frames that go out again at the next tick on a lane: at most 16, in order of offset.
+pub fn repeats_of(slots: &HeldList, tick: u64, lane: &Lane) -> Result<Repeats, Memory>
+    requires room { tick + 1 < 2 ^ 64 }
+    requires held { AreHeld tick (somes slots.now.items) }
+    requires apart { AreApart (somes slots.now.items) }
+    ensures { IfOk result (λ rs. rs ≡ map repeat_of (repeats_on (entries_at (tick + 1) (somes slots.now.items)) lane.now)) }
+{
+    let mut repeats = Items::new(slots.allocator());
+    let mut after = None;
+    for count in 0..16u8 {
+        match next_repeat(slots, tick, lane, after) {
+            None => return Ok(repeats),
+            Some(repeat) => {
+                after = Some(repeat.offset);
+                repeats.push(repeat)?;
+            }
+        }
+    }
+    Ok(repeats)
+}

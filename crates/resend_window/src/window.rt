@@ -1,0 +1,236 @@
+// A manager's window.
+ghost use Rattle.std.specs.Prelude.{◌≡◌, ◌+◌, ◌≤◌, ◌<◌, ◌^◌, ◌&&◌, ◌++◌, [], ◌∷◌, List, true, false, OnOk, IfSome, IfNone, IfOk, length, map, filter};
+ghost use Rattle.std.specs.List.{list_any};
+ghost use Rattle.qkd_base.specs.Name.{Name};
+ghost use Rattle.qkd_base.specs.Lane.{lane_eq};
+ghost use Rattle.net_model.specs.Item.{item_of, is_data_of};
+ghost use Rattle.net_model.specs.World.{no_volatile};
+ghost use Rattle.net_model.specs.Window.{acknowledge, cleared, age, repeats_on, repeat_of, transmission_eq, transmission_of, stands_at, complete_one, is_acked_item};
+ghost use Rattle.resend_window.specs.Held.{transmission};
+ghost use Rattle.resend_window.specs.Placed.{placed, order_placed, repeat_placed};
+ghost use Rattle.kme_step.specs.Steps.{planned};
+ghost use Rattle.resend_window.specs.Kept.{KeepsRooms, pending_from};
+
+use crate::arrival::{Arrival, Pending};
+use crate::arrival_list::ArrivalList;
+use crate::awaited::Awaited;
+use crate::awaited_list::AwaitedList;
+use crate::edit::{Edit, Query};
+use crate::held::{held_of, reversed};
+use crate::held_list::HeldList;
+use crate::repeating::repeats_of;
+use net_model::{Order, Placing, Repeat, Repeats};
+use qkd_base::{KeyName, Lane, Memory};
+use std::alloc::Global;
+use std::marker::Model;
+
+/// What one life of a manager keeps beside its lanes: the frames that it sent and may send again, the acknowledgements that it
+/// owes, and the orders whose placings aren't noted yet (ETSI GS QKD 014 leaves the relay to the key managers).
+#[derive(Drop)]
+pub struct Window {
+    // The number of plans of this life.
+    tick: u64,
+    slots: HeldList,
+    pending: ArrivalList,
+    awaiting: AwaitedList,
+}
+
+impl Model for Window {
+    ghost use Rattle.std.specs.Prelude.{◌-◌, ◌^◌, min, map, length};
+    ghost use Rattle.std.specs.Option.{option_map};
+    ghost use Rattle.resend_window.specs.Kept.{Kept, somes};
+    ghost use Rattle.resend_window.specs.Held.{pending_ack};
+    ghost use Rattle.resend_window.specs.Lists.{IsWindow, value_of};
+
+    ghost Value = { Kept };
+
+    ghost view = { λ w. record {
+      volatile = value_of w.tick w.slots.items w.pending.items w.awaiting.items;
+      arrivals = map (option_map pending_ack) w.pending.items;
+      received_spare = w.pending.spare;
+      orders_spare = min w.awaiting.spare (w.slots.spare - length (somes w.awaiting.items));
+      ticks_spare = 2 ^ 64 - 1 - w.tick;
+    } };
+
+    ghost invariant = { λ w. IsWindow w.tick (somes w.slots.items) (somes w.awaiting.items) w.slots.spare };
+}
+
+impl Window {
+    /// A window that has nothing. It takes no memory.
+    pub fn new(alloc: Global) -> Self
+        ensures { result.volatile ≡ no_volatile }
+    {
+        Window {
+            tick: 0,
+            slots: HeldList::new(alloc),
+            pending: ArrivalList::new(alloc),
+            awaiting: AwaitedList::new(alloc),
+        }
+    }
+
+    /// Lets all go, as at a start. It takes no memory, and the rooms stay.
+    pub fn clear(&mut self)
+        ensures volatile { self.new.volatile ≡ no_volatile }
+        ensures rooms { KeepsRooms self.old self.new }
+    {
+        self.tick = 0;
+        self.slots.clear();
+        self.pending.clear();
+        self.awaiting.clear();
+    }
+
+    /// A frame was received on a lane at an offset: its acknowledgement is due again if it was sent, stays pending if it is, and
+    /// else becomes pending. It takes no memory.
+    pub fn received(&mut self, lane: Lane, offset: u64, name: KeyName)
+        requires { 0 < self.old.received_spare }
+        ensures volatile { self.new.volatile ≡ acknowledge self.old.volatile lane offset name }
+        ensures received { self.old.received_spare ≤ self.new.received_spare + 1 }
+        ensures others { (self.old.orders_spare ≤ self.new.orders_spare) × (self.old.ticks_spare ≤ self.new.ticks_spare) }
+    {
+        let arrival = Arrival { lane, offset, name };
+        let answer = arrival.answer();
+        if self.slots.has(&answer) {
+            self.slots.change(&answer, &Edit::MarkDue);
+        } else if !self.pending.has(&arrival.same()) {
+            self.pending.push(arrival);
+        }
+    }
+
+    /// The acknowledgement of a fact was received on a lane: its frames on the link's other lane are let go. It takes no memory.
+    pub fn acknowledged(&mut self, lane: Lane, name: KeyName)
+        ensures volatile { self.new.volatile ≡ record self.old.volatile { window = cleared lane name self.old.volatile.window } }
+        ensures rooms { KeepsRooms self.old self.new }
+    {
+        self.slots.remove(&Query::DataOf(reversed(lane), name));
+    }
+
+    /// Whether a frame of a fact on a lane is kept.
+    pub fn holds(&self, lane: Lane, name: KeyName) -> bool
+        ensures { result ≡ list_any (λ e. lane_eq e.transmission.lane lane && is_data_of name e.transmission.item) self.now.volatile.window }
+    {
+        self.slots.has(&Query::DataOf(lane, name))
+    }
+
+    /// Whether an order awaits its placing: that of a fact, or for a received offset that of its acknowledgement.
+    pub fn awaits(&self, lane: Lane, name: KeyName, ack_of: Option<u64>) -> bool
+        ensures { result ≡ list_any (transmission_eq (record { lane = lane; item = item_of ack_of name; received_offset = ack_of })) self.now.volatile.awaiting }
+    {
+        self.awaiting.has(&Awaited::new(lane, name, ack_of))
+    }
+
+    /// A plan was made: what it repeats went out, what it orders awaits its placing, and every other frame of a fact is a tick
+    /// older. It takes no memory.
+    pub fn planned(&mut self, orders: &[Order], repeats: &[Repeat])
+        requires room { length orders.now ≤ self.old.orders_spare }
+        requires tick { 0 < self.old.ticks_spare }
+        ensures volatile { self.new.volatile ≡ planned orders.now repeats.now self.old.volatile }
+        ensures received { self.old.received_spare ≤ self.new.received_spare }
+        ensures orders { self.old.orders_spare ≤ self.new.orders_spare + length orders.now }
+        ensures ticks { self.old.ticks_spare ≤ self.new.ticks_spare + 1 }
+    {
+        self.tick += 1;
+        self.slots.renew_all(repeats, self.tick);
+        self.awaiting.push_all(orders);
+    }
+
+    // An order's placing, where that order is awaited and its place is free.
+    fn place_order(&mut self, placing: &Placing, wanted: &Awaited, is_acked: bool)
+        requires wanted { transmission wanted.now ≡ transmission_of placing.now }
+        requires awaited { list_any (transmission_eq (transmission_of placing.now)) self.old.volatile.awaiting ≡ true }
+        requires free { list_any (stands_at placing.now) self.old.volatile.window ≡ false }
+        ensures volatile { self.new.volatile ≡ placed is_acked self.old.volatile placing.now }
+        ensures rooms { KeepsRooms self.old self.new }
+    {
+        self.awaiting.remove(wanted);
+        self.pending
+            .remove_sent(reversed(placing.lane), placing.ack_of);
+        if !is_acked {
+            self.slots.push(held_of(placing, self.tick));
+        }
+    }
+
+    // An order's placing.
+    fn completed_order(&mut self, placing: &Placing, is_acked: bool)
+        ensures volatile { self.new.volatile ≡ order_placed is_acked self.old.volatile placing.now }
+        ensures rooms { KeepsRooms self.old self.new }
+    {
+        let wanted = Awaited::new(placing.lane, placing.name, placing.ack_of);
+        if self.awaiting.has(&wanted) {
+            if !self.slots.has(&Query::At(placing.lane, placing.offset)) {
+                self.place_order(placing, &wanted, is_acked);
+            }
+        }
+    }
+
+    // A repeat's placing.
+    fn completed_repeat(&mut self, placing: &Placing)
+        ensures volatile { self.new.volatile ≡ repeat_placed self.old.volatile placing.now }
+        ensures rooms { KeepsRooms self.old self.new }
+    {
+        let query = Query::At(placing.lane, placing.offset);
+        match placing.number {
+            Some(number) => self.slots.change(&query, &Edit::Renumber(number)),
+            None => self.slots.change(&query, &Edit::MarkDue),
+        }
+    }
+
+    /// What became of an order or a repeat: an order that was awaited is kept from now on, unless its fact was acknowledged
+    /// meanwhile; a repeat has its new number, or is due again where the wire refused it. It takes no memory: the room for an
+    /// order was taken with it.
+    pub fn completed(&mut self, placing: &Placing, is_acked: bool)
+        ensures volatile { (acked : List Name) → is_acked ≡ is_acked_item acked (item_of placing.now.ack_of placing.now.name) → self.new.volatile ≡ complete_one acked self.old.volatile placing.now }
+        ensures rooms { KeepsRooms self.old self.new }
+    {
+        if placing.fresh {
+            self.completed_order(placing, is_acked);
+        } else {
+            self.completed_repeat(placing);
+        }
+    }
+
+    /// The first acknowledgement pending that a lane brought, from a place on.
+    pub fn next_pending(&self, lane: Lane, from: usize) -> Option<Pending>
+        ensures some { IfSome result (λ p. pending_from self.now lane from ≡ record { lane = lane; offset = p.offset; name = p.name } ∷ pending_from self.now lane (p.place + 1)) }
+        ensures none { IfNone result (pending_from self.now lane from ≡ []) }
+        ensures place { IfSome result (λ p. p.place < 2 ^ 63) }
+        ensures all { filter (λ a. lane_eq a.lane lane) self.now.volatile.pending_acks ≡ pending_from self.now lane 0 }
+    {
+        self.pending.next(lane, from)
+    }
+
+    /// Makes room for so many more acknowledgements. An `Err` changes nothing else either.
+    pub fn room_received(&mut self, more: u32) -> Result<(), Memory>
+        ensures volatile { self.new.volatile ≡ self.old.volatile }
+        ensures rooms { KeepsRooms self.old self.new }
+        ensures ok { OnOk result (more ≤ self.new.received_spare) }
+    {
+        self.pending.grow(more as usize)
+    }
+
+    /// Makes room for a plan of so many orders, and for what they leave. An `Err` changes nothing else either.
+    pub fn room_orders(&mut self, more: u32) -> Result<(), Memory>
+        ensures volatile { self.new.volatile ≡ self.old.volatile }
+        ensures rooms { KeepsRooms self.old self.new }
+        ensures orders { OnOk result (more ≤ self.new.orders_spare) }
+        ensures tick { OnOk result (0 < self.new.ticks_spare) }
+    {
+        if self.tick == u64::MAX {
+            return Err(Memory);
+        }
+        self.awaiting.grow(more as usize)?;
+        let orders = more as usize + self.awaiting.count();
+        self.slots.grow(orders)?;
+        Ok(())
+    }
+
+    /// The frames that a plan sends again on a lane: those that are due once all are a tick older, at most 16, in order of
+    /// offset.
+    pub fn repeats(&self, lane: Lane) -> Result<Repeats, Memory>
+        ensures { IfOk result (λ rs. rs ≡ map repeat_of (repeats_on (map age self.now.volatile.window) lane)) }
+    {
+        if self.tick == u64::MAX {
+            return Err(Memory);
+        }
+        repeats_of(&self.slots, self.tick, &lane)
+    }
+}

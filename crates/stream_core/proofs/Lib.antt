@@ -1,0 +1,6 @@
+pub mod Keyed
+pub mod Numbers
+pub mod Tallying
+pub mod Handing
+pub mod Chunks
+pub mod Held

@@ -1,0 +1,82 @@
+// How many chunks of streams are known.
+ghost use Rattle.std.specs.Prelude.{◌≡◌, None};
+ghost use Rattle.qkd_base.specs.Name.{Name, kind_number};
+ghost use Rattle.stream_core.specs.Tallied.{stream_key, tally_at, IsPut};
+
+use qkd_base::{KeyName, NameKind, SaeNo};
+use std::alloc::Global;
+use std::collections::BTreeMap;
+use std::marker::Model;
+
+/// How many chunks of a stream are known, and how many of them its source has got.
+#[derive(Clone, Copy, Debug)]
+pub struct Tally {
+    pub source: SaeNo,
+    pub chunks: u64,
+    pub given: u64,
+}
+
+/// Tallies of streams. One may be missing where memory was wanting.
+#[derive(Drop)]
+pub struct Tallies {
+    tallies: BTreeMap<[u64; 3], Tally>,
+}
+
+impl Model for Tallies {
+    ghost use Rattle.std.specs.Prelude.{List, ℕ};
+    ghost use Rattle.stream_core.specs.declared.tallies.Tally.{Tally};
+
+    ghost Value = { List (List ℕ × Tally) };
+
+    ghost view = { λ t. t.tallies.entries };
+}
+
+// The number of a kind of names.
+fn kind_number(kind: NameKind) -> u64
+    ensures { result ≡ kind_number kind }
+{
+    match kind {
+        NameKind::Key => 0,
+        NameKind::Stream => 1,
+        NameKind::Note => 2,
+    }
+}
+
+// The key of a stream.
+fn stream_key(stream: KeyName) -> [u64; 3]
+    ensures { result ≡ stream_key stream }
+{
+    [
+        stream.node().get() as u64,
+        kind_number(stream.kind()),
+        stream.count(),
+    ]
+}
+
+impl Tallies {
+    /// No tallies. It takes no memory.
+    pub fn new(alloc: Global) -> Self
+        ensures { (stream : Name) → tally_at result stream ≡ None }
+    {
+        Tallies {
+            tallies: BTreeMap::new(alloc),
+        }
+    }
+
+    /// The tally of a stream.
+    pub fn find(&self, stream: KeyName) -> Option<Tally>
+        ensures { result ≡ tally_at self.now stream }
+    {
+        self.tallies.get(&stream_key(stream)).copied()
+    }
+
+    /// Puts the tally of a stream in the place of its former one. Where there is none and memory is wanting, none is put.
+    pub fn put(&mut self, stream: KeyName, tally: Tally)
+        ensures { IsPut self.old self.new stream tally }
+    {
+        match self.tallies.insert(stream_key(stream), tally) {
+            Ok(_) => {}
+            Err(_) => {}
+        }
+    }
+}
