@@ -1,0 +1,4 @@
+pub mod Drafts
+pub mod Frames
+pub mod Recovery
+pub mod Spelled

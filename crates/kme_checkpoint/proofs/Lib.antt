@@ -1,0 +1,4 @@
+pub mod Batched
+pub mod Formed
+pub mod Listed
+pub mod Whole

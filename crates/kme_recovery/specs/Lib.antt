@@ -1,0 +1,3 @@
+pub mod Unread
+pub mod Putting
+pub mod Recovery

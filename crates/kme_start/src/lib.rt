@@ -1,0 +1,7 @@
+//! A manager started on its disk.
+#![tactic(auto)]
+
+mod starting;
+
+pub use kme_recovery::RecoverRefusal;
+pub use starting::recover;

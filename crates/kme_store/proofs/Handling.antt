@@ -1,0 +1,115 @@
+-- What an event makes of a manager that is up, from what each call of its handling ensures.
+use Rattle.std.proofs.Common.{◌≡◌, ℕ, ◌+◌, ◌≤◌, Bool, IsTrue, List, ◌++◌, length, take, replicate, refl, sym, ap, subst, ◌∙◌}
+use Rattle.std.specs.Prelude.{IsSome, Option, Ok}
+use Rattle.std.proofs.lemmas.List.{length-replicate}
+use Rattle.std.proofs.Math.Seq.{take-append_seam}
+use Rattle.qkd_base.specs.Faults.{Rose}
+use Rattle.net_model.specs.declared.event.Event.{Event}
+use Rattle.net_model.specs.declared.record.Record.{Record}
+use Rattle.net_model.specs.declared.reply.Reply.{Reply}
+use Rattle.net_model.specs.declared.reply.Reply.TheVariants as replies
+use Rattle.net_model.specs.OctetSequence.{OctetSequence}
+use Rattle.net_model.specs.View.{View}
+use Rattle.net_model.specs.Journal.{journal_limit}
+use Rattle.net_model.specs.Decide.{decide, random_need}
+use Rattle.declared_site.specs.SiteOf.{site_of}
+use Rattle.declared_site.specs.declared.site.Site.{Site as Declared}
+use Rattle.disk_model.specs.Images.{AtEachMoment}
+use Rattle.disk_model.specs.declared.arm.Armings.{Armings}
+use Rattle.hop_frames.specs.Sealing.{hop_sealing}
+use Rattle.range_journal.specs.Batches.{length_of}
+use Rattle.journal_snapshot.specs.Standing.{IsKept}
+use Rattle.journal_snapshot.specs.declared.live.Live.{Live}
+use Rattle.journal_snapshot.specs.Snapshots.{SnapshotForm}
+use Rattle.kme_step.specs.Steps.{IsStep, placings_of}
+use Rattle.kme_step.specs.Random.{with_random}
+use Rattle.kme_step.specs.declared.step.Step.{Step}
+use Rattle.kme_batches.specs.Spelled.{IsBody, added}
+use Rattle.kme_batches.specs.Drafts.{HasPlace, IsRoomier, HoldsEither, with_octets}
+use Rattle.kme_batches.proofs.Decided.{AreOver}
+use Rattle.kme_store.specs.Drawing.{Gives}
+use Rattle.kme_store.specs.Manager.{HasDisk, WhereUp, WhereDown, IsTaken, IsToldBy, Answers}
+use Rattle.kme_store.specs.declared.standing.Standing.{Standing}
+use Rattle.kme_store.specs.declared.standing.Standing.TheVariants.{Up, Down, Between}
+use Rattle.kme_store.proofs.Answering.{IsMadeOver, IsWritten, drawn_effect, stopped, gone}
+use Rattle.kme_store.proofs.Told.{Appends, Nothing, told_still, told_more}
+
+-- what is written back of a slice is the slice
+pub written : {X : Type 0} (n : ℕ) (new old : List X) → length new ≡ n → take n (new ++ old) ≡ new
+written n new old e = ap (λ (m : ℕ). take m (new ++ old)) (sym e) ∙ take-append_seam new old
+
+module _ {K E : Type 0} (is_honest : K → Bool) (content : K → List ℕ) (moment : K → ℕ) (image : K → ℕ → List ℕ → Type 0) (disk_faults : K → ℕ) (armings : K → Armings) (told : E → Option OctetSequence) (entropy_faults : E → ℕ) (is_up : ℕ → Bool) (event : Event) (site : Declared) (v : View) (before : E) (journal : SnapshotForm K) where
+  -- a draft over zeros, and the journal that has the room for it
+  pub record IsDrafted (mid : SnapshotForm K) (zeros : List ℕ) (s : Step) (body : Option (List ℕ)) : Type 0 where
+    pub roomier : IsRoomier is_honest content moment image disk_faults armings journal mid
+    pub kept : IsTrue (is_honest journal.disk) → IsKept journal.live journal.batches (content journal.disk) (image journal.disk (moment journal.disk))
+    pub over : zeros ≡ replicate (random_need v event) 0
+    pub step : IsStep v (placings_of event) (decide (site_of site) hop_sealing is_up v zeros event) (Ok s)
+    pub spelled : IsBody mid.live.version s.batch body
+    pub place : HasPlace mid body
+
+  pub made_over : (mid : SnapshotForm K) (zeros : List ℕ) (s : Step) (body : Option (List ℕ)) → IsDrafted mid zeros s body →
+      IsMadeOver is_honest content moment image disk_faults armings told entropy_faults is_up event site v before journal zeros s body
+  made_over mid zeros s body d = record {
+    need = ap length d.over ∙ length-replicate (random_need v event) 0;
+    step = d.step;
+    spelled = subst (λ (l : Live). IsBody l.version s.batch body) d.roomier.live d.spelled;
+    within =
+        subst (λ (l : Live). length_of l.start journal.batches + added body ≤ journal_limit) d.roomier.live
+        (subst (λ (bs : List (List ℕ)). length_of mid.live.start bs + added body ≤ journal_limit) d.roomier.batches d.place.within);
+  }
+
+  -- the step over the octets that were drawn, and what became of its batch
+  pub record IsFinished (mid : SnapshotForm K) (random : List ℕ) (s : Step) (body : Option (List ℕ)) (standing : Standing K) (now : View) (reply : Reply) : Type 0 where
+    pub spelled : IsBody mid.live.version (with_random random s.batch) body
+    pub moments : HasDisk (λ disk. AtEachMoment moment image mid.disk disk (λ i. IsTrue (is_honest mid.disk) → HoldsEither mid body i)) standing
+    pub up : WhereUp (λ j. (j.live ≡ mid.live) × (j.batches ≡ with_octets mid.batches body)) standing
+    pub taken : WhereUp (λ j. IsTaken v (placings_of event) (record s { batch = with_random random s.batch }) now reply) standing
+    pub down : WhereDown (λ disk. (reply ≡ replies.Stopped) × IsSome body × Rose (disk_faults mid.disk) (disk_faults disk)) standing
+
+  -- from what was said over the view that was left and the step with its octets in place
+  pub is_finished : (mid : SnapshotForm K) (random : List ℕ) (s s' : Step) (body : Option (List ℕ)) (standing : Standing K) (w now : View) (reply : Reply) → w ≡ v → s' ≡ record s { batch = with_random random s.batch } →
+      IsBody mid.live.version s'.batch body → HasDisk (λ disk. AtEachMoment moment image mid.disk disk (λ i. IsTrue (is_honest mid.disk) → HoldsEither mid body i)) standing →
+      WhereUp (λ j. (j.live ≡ mid.live) × (j.batches ≡ with_octets mid.batches body)) standing → WhereUp (λ j. IsTaken w (placings_of event) s' now reply) standing →
+      WhereDown (λ disk. (reply ≡ replies.Stopped) × IsSome body × Rose (disk_faults mid.disk) (disk_faults disk)) standing → IsFinished mid random s body standing now reply
+  is_finished mid random s s' body standing w now reply same step spelled moments up taken down = record {
+    spelled = subst (λ (x : Step). IsBody mid.live.version x.batch body) step spelled;
+    moments = moments;
+    up = up;
+    taken = subst (λ (x : Step). WhereUp (λ j. IsTaken v (placings_of event) x now reply) standing) step (subst (λ (x : View). WhereUp (λ j. IsTaken x (placings_of event) s' now reply) standing) same taken);
+    down = down;
+  }
+
+  is_written : (mid : SnapshotForm K) (zeros random : List ℕ) (s : Step) (body body' : Option (List ℕ)) (disk : K) → IsDrafted mid zeros s body → IsBody mid.live.version (with_random random s.batch) body' →
+      AtEachMoment moment image mid.disk disk (λ i. IsTrue (is_honest mid.disk) → HoldsEither mid body' i) →
+      IsWritten is_honest content moment image disk_faults armings told entropy_faults is_up event site v before journal mid (record s { batch = with_random random s.batch }) body' disk
+  is_written mid zeros random s body body' disk d spelled moments = record {
+    roomier = d.roomier;
+    kept = d.kept;
+    spelled = subst (λ (l : Live). IsBody l.version (with_random random s.batch) body') d.roomier.live spelled;
+    moments = moments;
+  }
+
+  -- it took place, or it stopped
+  pub finished : AreOver → {T : Type 0} (zeros random : List ℕ) (s : Step) (body body' : Option (List ℕ)) (after : E) (done : T) (mid : SnapshotForm K) (standing : Standing K) (site' : Declared) (now : View) (reply : Reply) →
+      IsDrafted mid zeros s body → length random ≡ length zeros → Gives (told before) (told after) (Ok done) (length random) random → IsFinished mid random s body' standing now reply →
+      Answers is_honest moment image disk_faults told entropy_faults is_up event (record { site = site; view = v; standing = Up journal; entropy = before }) journal
+      (record { site = site'; view = now; standing = standing; entropy = after }) reply
+  finished laws {T} zeros random s body body' after done mid (Up j) site' now reply d as_many gives f =
+      gone is_honest content moment image disk_faults armings told entropy_faults is_up event site v before journal laws {T = T} zeros random s body body' after done mid j site' now reply
+      (made_over mid zeros s body d) as_many gives (is_written mid zeros random s body body' j.disk d f.spelled f.moments) f.up.0 f.up.1 f.taken
+  finished laws {T} zeros random s body body' after done mid (Down disk) site' now reply d as_many gives f =
+      stopped is_honest content moment image disk_faults armings told entropy_faults is_up event site v before journal laws {T = T} zeros random s body body' after done mid disk site' now reply
+      (made_over mid zeros s body d) as_many gives (is_written mid zeros random s body body' disk d f.spelled f.moments) f.down.0 f.down.1 f.down.2
+  finished laws {T} zeros random s body body' after done mid Between site' now reply d as_many gives f = absurd f.moments
+
+  -- what its journal gives back is still what it is
+  pub told_after : AreOver → Appends → Nothing → (zeros random : List ℕ) (s : Step) (body body' : Option (List ℕ)) (mid : SnapshotForm K) (standing : Standing K) (site' : Declared) (now : View) (reply : Reply) →
+      IsDrafted mid zeros s body → length random ≡ length zeros → IsFinished mid random s body' standing now reply → site' ≡ site → IsToldBy site v (Up journal) → IsToldBy site' now standing
+  told_after laws appends nothing zeros random s body body' mid (Up j) site' now reply d as_many f same was =
+      let made = made_over mid zeros s body d in
+      let e = drawn_effect is_honest content moment image disk_faults armings told entropy_faults is_up event site v before journal laws zeros random s body made (as_many ∙ made.need) in
+      let here : IsToldBy site v (Up mid) = told_still site v journal mid site v refl refl d.roomier.live d.roomier.batches was in
+      told_more site v mid j appends nothing e.effect body' site' now (subst (λ (rs : List Record). IsBody mid.live.version rs body') e.same.batch f.spelled) f.up.0 f.up.1 same (f.taken.view e.effect e.same) here
+  told_after laws appends nothing zeros random s body body' mid (Down disk) site' now reply d as_many f same was = tt
+  told_after laws appends nothing zeros random s body body' mid Between site' now reply d as_many f same was = absurd f.moments

@@ -1,0 +1,190 @@
+-- A manager as a value, and what an event makes of it.
+use Rattle.std.specs.Prelude.{◌≡◌, ◌⊎◌, ℕ, zero, suc, Bool, true, false, IsTrue, ◌+◌, List, [], Option, Some, None}
+use Rattle.qkd_base.specs.Faults.{Rose}
+use Rattle.net_model.specs.declared.event.Event.{Event}
+use Rattle.net_model.specs.declared.placing.Placing.{Placing}
+use Rattle.net_model.specs.declared.record.Record.{Record}
+use Rattle.net_model.specs.declared.reply.Reply.{Reply}
+use Rattle.net_model.specs.declared.reply.Reply.TheVariants as replies
+use Rattle.net_model.specs.OctetSequence.{OctetSequence}
+use Rattle.net_model.specs.View.{View, Port}
+use Rattle.net_model.specs.Decision.{Effect}
+use Rattle.net_model.specs.Journal.{added_len, extended}
+use Rattle.net_model.specs.Fold.{view_after}
+use Rattle.net_model.specs.Action.{Environment, EntropyFault, IoFault, Replies, is_shown}
+use Rattle.declared_site.specs.SiteOf.{site_of}
+use Rattle.declared_site.specs.declared.site.Site.{Site as Declared}
+use Rattle.disk_model.specs.Images.{AtEachMoment, StandsStill}
+use Rattle.disk_model.specs.declared.arm.Arm.{Arm}
+use Rattle.disk_model.specs.declared.arm.Armings.{Armings}
+use Rattle.range_journal.specs.Header.{is_blank}
+use Rattle.journal_snapshot.specs.Standing.{Holds}
+use Rattle.journal_snapshot.specs.Snapshots.{SnapshotForm, journal_of}
+use Rattle.source_devices.specs.Telling.{IsRest}
+use Rattle.law_journals.specs.GivesBack.{GivesBack}
+use Rattle.kme_step.specs.declared.step.Step.{Step}
+use Rattle.kme_step.specs.Steps.{IsEffect}
+use Rattle.kme_store.specs.Course.{Course, Stays, Stops, Goes, course}
+use Rattle.kme_batches.specs.Recovery.{AreReadAs}
+use Rattle.kme_batches.specs.Spelled.{with_batch, batch_in_doubt, IsBody}
+use Rattle.kme_store.specs.declared.standing.Standing.{Standing}
+use Rattle.kme_store.specs.declared.standing.Standing.TheVariants.{Up, Down, Between}
+
+-- what its site is, what it knows, where its journal stands, and its entropy. What a manager that is down knows says nothing.
+pub record ManagerForm (K E : Type 0) : Type 0 where
+  pub site : Declared
+  pub view : View
+  pub standing : Standing K
+  pub entropy : E
+
+-- it is up, with a journal of which this holds
+abbrev pub IsUpWith : {K : Type 0} → (SnapshotForm K → Type 0) → Standing K → Type 0
+IsUpWith P (Up journal) = P journal
+IsUpWith P (Down disk) = ⊥
+IsUpWith P Between = ⊥
+
+-- it is down, with a disk of which this holds
+abbrev pub IsDownWith : {K : Type 0} → (K → Type 0) → Standing K → Type 0
+IsDownWith P (Up journal) = ⊥
+IsDownWith P (Down disk) = P disk
+IsDownWith P Between = ⊥
+
+-- this holds of its disk, up or down
+abbrev pub HasDisk : {K : Type 0} → (K → Type 0) → Standing K → Type 0
+HasDisk P (Up journal) = P journal.disk
+HasDisk P (Down disk) = P disk
+HasDisk P Between = ⊥
+
+-- this holds of the journal or of the disk, where it is up or down
+abbrev pub WhereUp : {K : Type 0} → (SnapshotForm K → Type 0) → Standing K → Type 0
+WhereUp P (Up journal) = P journal
+WhereUp P (Down disk) = Unit {0}
+WhereUp P Between = Unit {0}
+
+abbrev pub WhereDown : {K : Type 0} → (K → Type 0) → Standing K → Type 0
+WhereDown P (Up journal) = Unit {0}
+WhereDown P (Down disk) = P disk
+WhereDown P Between = Unit {0}
+
+-- a step is taken over and answered
+pub record IsTaken (v : View) (placings : List Placing) (s : Step) (now : View) (reply : Reply) : Type 0 where
+  pub answer : reply ≡ s.reply
+  pub view : (e : Effect) → IsEffect v placings e s → now ≡ view_after v e
+
+-- the batches of a journal, which give this view back
+pub record IsStory {K : Type 0} (site : Declared) (view : View) (journal : SnapshotForm K) (story : List (List Record)) : Type 0 where
+  pub read : AreReadAs journal.live.version journal.batches story
+  pub back : GivesBack (site_of site) view.me story view
+
+-- A manager that is up is what its journal gives back. Within an event alone it is neither up nor down.
+abbrev pub IsToldBy : {K : Type 0} → Declared → View → Standing K → Type 0
+IsToldBy site view (Up journal) = (story : List (List Record)) × IsStory site view journal story
+IsToldBy site view (Down disk) = Unit {0}
+IsToldBy site view Between = ⊥
+
+-- a disk that was armed once more, and else is what it was
+pub record IsArmed {K : Type 0} (is_honest : K → Bool) (content : K → List ℕ) (moment : K → ℕ) (image : K → ℕ → List ℕ → Type 0) (faults : K → ℕ) (armings : K → Armings) (arm : Arm) (old new : K) : Type 0 where
+  pub armed : armings new ≡ record { count = (armings old).count + 1; last = Some arm }
+  pub same : content new ≡ content old
+  pub time : StandsStill (moment old) (moment new) (image old) (image new)
+  pub failed : faults new ≡ faults old
+  pub honest : is_honest new ≡ is_honest old
+
+-- up or down as before, with the same batches, and this of the disk
+abbrev pub StandsOver : {K : Type 0} → (K → K → Type 0) → Standing K → Standing K → Type 0
+StandsOver P (Up old) (Up new) = (new.live ≡ old.live) × (new.batches ≡ old.batches) × P old.disk new.disk
+StandsOver P (Down old) (Down new) = P old new
+StandsOver P (Up old) (Down new) = ⊥
+StandsOver P (Down old) (Up new) = ⊥
+StandsOver P Between new = ⊥
+StandsOver P (Up old) Between = ⊥
+StandsOver P (Down old) Between = ⊥
+
+-- what the outside answers
+
+-- these octets come next, where any are told
+abbrev pub ComesNext : Option OctetSequence → OctetSequence → Type 0
+ComesNext None rest = Unit {0}
+ComesNext (Some told) rest = told ≡ rest
+
+-- so many of them were drawn
+abbrev pub IsDrawn : Option OctetSequence → ℕ → Option OctetSequence → Type 0
+IsDrawn None octets now = Unit {0}
+IsDrawn (Some told) zero now = now ≡ Some told
+IsDrawn (Some told) (suc n) now = (left : OctetSequence) × (now ≡ Some left) × IsRest told (suc n) left
+
+-- what becomes of it
+
+-- from this journal to that disk each image at each moment has the journal's batches, and isn't blank
+abbrev pub Keeps : {K : Type 0} → (K → Bool) → (K → ℕ) → (K → ℕ → List ℕ → Type 0) → SnapshotForm K → K → Type 0
+Keeps is_honest moment image journal disk = AtEachMoment moment image journal.disk disk (λ i. IsTrue (is_honest journal.disk) → (is_blank i ≡ false) × Holds journal.live journal.batches [] i)
+
+-- or, while the new one is in doubt, it has these or these with one more
+abbrev pub Writes : {K : Type 0} → (K → Bool) → (K → ℕ) → (K → ℕ → List ℕ → Type 0) → SnapshotForm K → List Record → K → Type 0
+Writes is_honest moment image journal batch disk =
+    AtEachMoment moment image journal.disk disk
+    (λ i. IsTrue (is_honest journal.disk) → (is_blank i ≡ false) × (Holds journal.live journal.batches (batch_in_doubt journal.live.version batch) i ⊎ Holds journal.live (with_batch journal.live.version journal.batches batch) [] i))
+
+-- a batch that is well formed in this version, with its octets where it isn't empty
+abbrev pub HasBodyIn : ℕ → List Record → Type 0
+HasBodyIn version batch = (octets : Option (List ℕ)) × IsBody version batch octets
+
+-- the batch stands behind the others, and nothing does for an empty one
+pub record IsAdded {K : Type 0} (old : SnapshotForm K) (batch : List Record) (new : SnapshotForm K) : Type 0 where
+  pub live : new.live ≡ old.live
+  pub batches : new.batches ≡ with_batch old.live.version old.batches batch
+  pub journal : journal_of new ≡ extended (journal_of old) (added_len old.live.version batch)
+
+pub record HasStayed {K E : Type 0} (is_honest : K → Bool) (moment : K → ℕ) (image : K → ℕ → List ℕ → Type 0) (told : E → Option OctetSequence) (old : ManagerForm K E) (journal : SnapshotForm K) (refusal : Reply) (new : ManagerForm K E) (reply : Reply) : Type 0 where
+  pub answer : reply ≡ refusal
+  pub view : new.view ≡ old.view
+  pub entropy : IsDrawn (told old.entropy) 0 (told new.entropy)
+  pub up : IsUpWith (λ j. (j.live ≡ journal.live) × (j.batches ≡ journal.batches) × Keeps is_honest moment image journal j.disk) new.standing
+
+pub record HasStopped {K E : Type 0} (is_honest : K → Bool) (moment : K → ℕ) (image : K → ℕ → List ℕ → Type 0) (told : E → Option OctetSequence) (old : ManagerForm K E) (journal : SnapshotForm K) (octets : ℕ) (effect : Effect) (new : ManagerForm K E) (reply : Reply) : Type 0 where
+  pub answer : reply ≡ replies.Stopped
+  pub entropy : IsDrawn (told old.entropy) octets (told new.entropy)
+  pub spelled : HasBodyIn journal.live.version effect.batch
+  pub down : IsDownWith (Writes is_honest moment image journal effect.batch) new.standing
+
+pub record HasGone {K E : Type 0} (is_honest : K → Bool) (moment : K → ℕ) (image : K → ℕ → List ℕ → Type 0) (told : E → Option OctetSequence) (old : ManagerForm K E) (journal : SnapshotForm K) (octets : ℕ) (effect : Effect) (new : ManagerForm K E) (reply : Reply) : Type 0 where
+  pub answer : reply ≡ effect.reply
+  pub view : new.view ≡ view_after old.view effect
+  pub entropy : IsDrawn (told old.entropy) octets (told new.entropy)
+  pub spelled : HasBodyIn journal.live.version effect.batch
+  pub up : IsUpWith (λ j. IsAdded journal effect.batch j × Writes is_honest moment image journal effect.batch j.disk) new.standing
+
+abbrev pub IsAfter : {K E : Type 0} → (K → Bool) → (K → ℕ) → (K → ℕ → List ℕ → Type 0) → (E → Option OctetSequence) → ManagerForm K E → SnapshotForm K → Course → ManagerForm K E → Reply → Type 0
+IsAfter is_honest moment image told old journal (Stays refusal) new reply = HasStayed is_honest moment image told old journal refusal new reply
+IsAfter is_honest moment image told old journal (Stops octets effect) new reply = HasStopped is_honest moment image told old journal octets effect new reply
+IsAfter is_honest moment image told old journal (Goes octets effect) new reply = HasGone is_honest moment image told old journal octets effect new reply
+
+-- An event. The outside gave these octets and this answer, and a fault has its cause.
+pub record Answers {K E : Type 0} (is_honest : K → Bool) (moment : K → ℕ) (image : K → ℕ → List ℕ → Type 0) (disk_faults : K → ℕ) (told : E → Option OctetSequence) (entropy_faults : E → ℕ) (is_up : ℕ → Bool) (event : Event) (old : ManagerForm K E) (journal : SnapshotForm K) (new : ManagerForm K E) (reply : Reply) : Type 0 where
+  pub rest : OctetSequence
+  pub environment : Environment
+  pub next : ComesNext (told old.entropy) rest
+  pub shown : is_shown environment (Replies reply) ≡ true
+  pub entropy_fault : environment ≡ EntropyFault → Rose (entropy_faults old.entropy) (entropy_faults new.entropy)
+  pub disk_fault : environment ≡ IoFault → HasDisk (λ disk. Rose (disk_faults journal.disk) (disk_faults disk)) new.standing
+  pub after : IsAfter is_honest moment image told old journal (course (site_of old.site) is_up old.view (journal_of journal) rest event environment) new reply
+
+-- a manager that is up answers the event; one that is down stays as it is
+abbrev pub Acts : {K E : Type 0} → (K → Bool) → (K → ℕ) → (K → ℕ → List ℕ → Type 0) → (K → ℕ) → (E → Option OctetSequence) → (E → ℕ) → (ℕ → Bool) → Event → ManagerForm K E → Standing K → ManagerForm K E → Reply → Type 0
+Acts is_honest moment image disk_faults told entropy_faults is_up event old (Up journal) new reply = Answers is_honest moment image disk_faults told entropy_faults is_up event old journal new reply
+Acts is_honest moment image disk_faults told entropy_faults is_up event old (Down disk) new reply = (new ≡ old) × (reply ≡ replies.Down)
+Acts is_honest moment image disk_faults told entropy_faults is_up event old Between new reply = ⊥
+
+abbrev pub is_up : {K : Type 0} → Standing K → Bool
+is_up (Up journal) = true
+is_up (Down disk) = false
+is_up Between = false
+
+abbrev pub length_in : {K : Type 0} → Standing K → ℕ
+length_in (Up journal) = (journal_of journal).length'
+length_in (Down disk) = 0
+length_in Between = 0
+
+abbrev pub lease_of : Option Port → ℕ
+lease_of None = 0
+lease_of (Some p) = p.lease
