@@ -1,0 +1,11 @@
+pub mod Given
+pub mod Fields
+pub mod Slaves
+pub mod Sites
+pub mod Commands
+pub mod Dispatched
+pub mod Found
+pub mod Linked
+pub mod Declared
+pub mod Lines
+pub mod Whole

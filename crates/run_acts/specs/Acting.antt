@@ -1,0 +1,67 @@
+-- What becomes of a network that is asked for an action or a script.
+use Rattle.std.specs.Prelude.{◌≡◌, ℕ, List, [], ◌∷◌}
+use Rattle.disk_model.specs.declared.arm.Arm.{Arm}
+use Rattle.disk_model.specs.declared.arm.Arm.TheVariants as arms
+use Rattle.disk_model.specs.declared.arm.Image.{Image as DiskImage}
+use Rattle.disk_model.specs.declared.arm.Image.TheVariants as images
+use Rattle.net_model.specs.Site.{Site}
+use Rattle.net_model.specs.World.{Network, World}
+use Rattle.net_model.specs.Action.{Action, Outcome, Image, Fault, ForgedMatch}
+use Rattle.net_model.specs.Action as actions
+use Rattle.net_model.specs.Step.{step, IsStep}
+use Rattle.report_items.specs.declared.item.Item.{Item}
+use Rattle.run_turns.specs.Reported.{delivered}
+use Rattle.run_model.specs.Script.{Script}
+use Rattle.run_model.specs.Play.{Whole, plain, numbered, play, IsPlay}
+use Rattle.run_acts.specs.Quiet.{IsQuiet}
+use Rattle.run_acts.specs.declared.tampered.Tampered.{Tampered}
+use Rattle.run_acts.specs.declared.tampered.Tampered.TheVariants as tamperings
+
+-- what a crash of a disk leaves, and a fault that it is armed with, as the network has them
+abbrev pub image_left : DiskImage → Image
+image_left images.Lost = actions.Lost
+image_left images.Kept = actions.Kept
+image_left images.Torn = actions.Torn
+
+abbrev pub fault_of : Arm → Fault
+fault_of (arms.Cut call image) = actions.Cut call (image_left image)
+fault_of (arms.Fail call) = actions.Fail call
+
+-- what came of octets that need not be a frame
+abbrev pub tampered : Tampered → Outcome
+tampered (tamperings.Came delivery) = delivered delivery
+tampered tamperings.Matched = ForgedMatch
+
+-- between lines it stands for this network and its world
+pub record IsReady {S : Type 0} (Stands : S → Network → World → Type 0) (s : S) (net : Network) (w : World) : Type 0 where
+  pub stands : Stands s net w
+  pub quiet : IsQuiet w
+
+-- The action that was asked for was done with what the outside answered, and had this outcome. How often parts failed and were armed is
+-- told from the one to the other.
+pub record Does {S : Type 0} (Stands : S → Network → World → Type 0) (Tallied : S → S → Site → List Action → Type 0) (old new : S) (net : Network) (w : World)
+    (asked : Action) (outcome : Outcome) : Type 0 where
+  pub action : Action
+  pub is : plain action ≡ asked
+  pub may : IsStep net w action
+  pub said : (step net w action).1 ≡ outcome
+  pub ready : IsReady Stands new net (step net w action).0
+  pub tallied : Tallied old new net.site (action ∷ [])
+
+-- Some first actions of a script were done, and the run ends. What is left rests in the world behind them.
+pub record Begins {S : Type 0} (Rests : S → Network → World → Type 0) (Tallied : S → S → Site → List Action → Type 0) (old new : S) (net : Network) (w : World)
+    (script : Script) : Type 0 where
+  pub actions : List Action
+  pub is : IsPlay net w script actions
+  pub rests : Rests new net (play net 0 w script actions).world
+  pub tallied : Tallied old new net.site actions
+
+-- The whole script was done, and reported these items.
+pub record Plays {S : Type 0} (Stands : S → Network → World → Type 0) (Tallied : S → S → Site → List Action → Type 0) (old new : S) (net : Network) (w : World)
+    (script : Script) (items : List Item) : Type 0 where
+  pub actions : List Action
+  pub after : World
+  pub is : IsPlay net w script actions
+  pub said : (number : ℕ) → play net number w script actions ≡ record { items = numbered number items; world = after; ending = Whole }
+  pub ready : IsReady Stands new net after
+  pub tallied : Tallied old new net.site actions

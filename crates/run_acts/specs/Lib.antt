@@ -1,0 +1,4 @@
+pub mod Fitting
+pub mod Quiet
+pub mod Acting
+pub mod Runnable

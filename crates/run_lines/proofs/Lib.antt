@@ -1,0 +1,14 @@
+pub mod Taking
+pub mod Writing
+pub mod Leading
+pub mod Going
+pub mod Looping
+pub mod Ends
+pub mod Turns
+pub mod Passing
+pub mod Settles
+pub mod Turning
+pub mod Tasking
+pub mod Calm
+pub mod AllLanes
+pub mod Wires

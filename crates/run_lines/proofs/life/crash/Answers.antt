@@ -1,0 +1,12 @@
+use Rattle.std.proofs.Common.{◌∙◌, ap}
+use Rattle.declared_site.specs.declared.site.Site.{Site as SiteValue}
+use Rattle.run_model.specs.Outcomes.{crash_items}
+use Rattle.run_lines.proofs.Going.{Ways, one_asked}
+use Rattle.run_lines.proofs.Calm.{crashed_calm}
+use Rattle.run_lines.proofs.life.crash.Goals as goal
+
+pub returns-clause-runs : goal.returns-clause-runs
+returns-clause-runs g c = λ net w ready.
+    let ways : Ways g.S.Acts.stands g.S.Acts.rests g.S.Acts.tallied = record { rest = g.met.S.Acts.comes_to_rest; none = g.met.S.Acts.none_tallied; more = g.met.S.Acts.more_tallied } in
+    one_asked _ _ _ ways _ c.args.number net _ _ _ _ w _ _ crash_items _ _ _ (c.crash-was_up.ensures.done net w ready) (crashed_calm c.crash-was_up.result) c.crash_item.ensures
+    (ap (λ (s : SiteValue). s.nodes) (c.declared.ensures ∙ c.crash-was_up.ensures.site)) c.write_item.ensures.wrote

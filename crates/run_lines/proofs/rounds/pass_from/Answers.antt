@@ -1,0 +1,40 @@
+use Rattle.std.proofs.Common.{◌∙◌, refl, subst, arith}
+use Rattle.run_lines.proofs.Going.{Ways}
+use Rattle.run_lines.proofs.Looping.{Went, went_none, went_short, went_runs, went_runs_short, went_ends}
+use Rattle.run_lines.proofs.Turns.{one_pass, no_pass}
+use Rattle.run_lines.proofs.rounds.pass_from.Goals as goal
+
+pub loop-place-init : goal.loop-place-init
+loop-place-init g c =
+    let ways : Ways g.S.Acts.stands g.S.Acts.rests g.S.Acts.tallied = record { rest = g.met.S.Acts.comes_to_rest; none = g.met.S.Acts.none_tallied; more = g.met.S.Acts.more_tallied } in
+    record { site = refl; armed = refl; later = omega arith; went = went_none _ _ _ ways _ c.args.number _ _ _ }
+
+pub returns-in-Err-clause-runs : goal.returns-in-Err-clause-runs
+returns-in-Err-clause-runs g c =
+    let ways : Ways g.S.Acts.stands g.S.Acts.rests g.S.Acts.tallied = record { rest = g.met.S.Acts.comes_to_rest; none = g.met.S.Acts.none_tallied; more = g.met.S.Acts.more_tallied } in
+    went_short _ _ _ ways _ c.args.number _ _ _ _ _ _ c.loop-place.invariant.went
+
+pub returns-in-Err-pass-clause-runs : goal.returns-in-Err-pass-clause-runs
+returns-in-Err-pass-clause-runs g c =
+    let ways : Ways g.S.Acts.stands g.S.Acts.rests g.S.Acts.tallied = record { rest = g.met.S.Acts.comes_to_rest; none = g.met.S.Acts.none_tallied; more = g.met.S.Acts.more_tallied } in
+    let here = subst (Went _ _ _ _ _ _ _ c.args.number _) (one_pass c.args.lane.now c.loop-place.place c.args.to c.loop-place-test.true) c.loop-place.invariant.went in
+    let runs = c.in-Err-pass.ensures.runs in
+    went_runs_short _ _ _ ways _ c.args.number (Unit {0}) _ _ _ _ _ _ _ _ _ _ here (rw (c.loop-place.invariant.site, c.in-Ok.ensures) at runs)
+
+pub loop-place-preserved : goal.loop-place-preserved
+loop-place-preserved g c =
+    let ways : Ways g.S.Acts.stands g.S.Acts.rests g.S.Acts.tallied = record { rest = g.met.S.Acts.comes_to_rest; none = g.met.S.Acts.none_tallied; more = g.met.S.Acts.more_tallied } in
+    let here = subst (Went _ _ _ _ _ _ _ c.args.number _) (one_pass c.args.lane.now c.loop-place.place c.args.to c.loop-place-test.true) c.loop-place.invariant.went in
+    let runs = c.in-Ok-pass.ensures.runs in
+    record {
+      site = c.in-Ok-pass.ensures.site ∙ c.loop-place.invariant.site;
+      armed = c.in-Ok-pass.ensures.armed ∙ c.loop-place.invariant.armed;
+      later = omega (arith, c.loop-place.invariant.later, c.in-Ok-pass.ensures.blame.later);
+      went = went_runs _ _ _ ways _ c.args.number (tt {0}) _ _ _ _ _ _ _ _ _ here (rw (c.loop-place.invariant.site, c.in-Ok.ensures) at runs);
+    }
+
+pub returns-clause-runs : goal.returns-clause-runs
+returns-clause-runs g c =
+    let ways : Ways g.S.Acts.stands g.S.Acts.rests g.S.Acts.tallied = record { rest = g.met.S.Acts.comes_to_rest; none = g.met.S.Acts.none_tallied; more = g.met.S.Acts.more_tallied } in
+    let none = no_pass c.args.lane.now c.loop-place.place c.args.to c.loop-place-test.false in
+    went_ends _ _ _ ways _ c.args.number (tt {0}) _ _ _ _ _ (subst (Went _ _ _ _ _ _ _ c.args.number _) none c.loop-place.invariant.went)

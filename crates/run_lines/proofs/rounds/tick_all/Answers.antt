@@ -1,0 +1,46 @@
+use Rattle.std.proofs.Common.{◌≡◌, ◌∙◌, length, refl, ap, subst, arith}
+use Rattle.std.proofs.lemmas.Grind.{common_steps}
+use Rattle.declared_site.specs.declared.site.Site.{Site as SiteValue}
+use Rattle.declared_site.specs.SiteOf.{site_of}
+use Rattle.run_lines.proofs.Going.{Ways}
+use Rattle.run_lines.proofs.Looping.{Went, went_none, went_runs, went_runs_short, went_ends}
+use Rattle.run_lines.proofs.Turns.{one_tick, no_tick}
+use Rattle.run_lines.proofs.rounds.tick_all.Goals as goal
+
+pub loop-place-init : goal.loop-place-init
+loop-place-init g c =
+    let ways : Ways g.S.Acts.stands g.S.Acts.rests g.S.Acts.tallied = record { rest = g.met.S.Acts.comes_to_rest; none = g.met.S.Acts.none_tallied; more = g.met.S.Acts.more_tallied } in
+    record { site = refl; armed = refl; later = omega arith; went = went_none _ _ _ ways _ c.args.number _ _ _ }
+
+pub returns-in-Err-clause-runs : goal.returns-in-Err-clause-runs
+returns-in-Err-clause-runs g c =
+    let ways : Ways g.S.Acts.stands g.S.Acts.rests g.S.Acts.tallied = record { rest = g.met.S.Acts.comes_to_rest; none = g.met.S.Acts.none_tallied; more = g.met.S.Acts.more_tallied } in
+    let site = site_of (g.S.Acts.site c.args.net.now) in
+    let n : c.len-nodes.result ≡ site.nodes = c.len-nodes.ensures ∙ ap (λ (s : SiteValue). length s.nodes) c.declared.ensures in
+    let node : c.unwrap-node.result ≡ c.loop-place.place = grind (arith, common_steps, c.new.ensures, c.unwrap-node.ensures) in
+    let here = subst (Went _ _ _ _ _ _ _ c.args.number _) (one_tick site site.nodes c.loop-place.place (omega (arith, n, c.loop-place-test.true))) c.loop-place.invariant.went in
+    let runs = c.in-Err.ensures.runs in
+    went_runs_short _ _ _ ways _ c.args.number (Unit {0}) _ _ _ _ _ _ _ _ _ _ here (rw (c.loop-place.invariant.site, node) at runs)
+
+pub loop-place-preserved : goal.loop-place-preserved
+loop-place-preserved g c =
+    let ways : Ways g.S.Acts.stands g.S.Acts.rests g.S.Acts.tallied = record { rest = g.met.S.Acts.comes_to_rest; none = g.met.S.Acts.none_tallied; more = g.met.S.Acts.more_tallied } in
+    let site = site_of (g.S.Acts.site c.args.net.now) in
+    let n : c.len-nodes.result ≡ site.nodes = c.len-nodes.ensures ∙ ap (λ (s : SiteValue). length s.nodes) c.declared.ensures in
+    let node : c.unwrap-node.result ≡ c.loop-place.place = grind (arith, common_steps, c.new.ensures, c.unwrap-node.ensures) in
+    let here = subst (Went _ _ _ _ _ _ _ c.args.number _) (one_tick site site.nodes c.loop-place.place (omega (arith, n, c.loop-place-test.true))) c.loop-place.invariant.went in
+    let runs = c.in-Ok.ensures.runs in
+    record {
+      site = c.in-Ok.ensures.site ∙ c.loop-place.invariant.site;
+      armed = c.in-Ok.ensures.armed ∙ c.loop-place.invariant.armed;
+      later = omega (arith, c.loop-place.invariant.later, c.in-Ok.ensures.blame.later);
+      went = went_runs _ _ _ ways _ c.args.number (tt {0}) _ _ _ _ _ _ _ _ _ here (rw (c.loop-place.invariant.site, node) at runs);
+    }
+
+pub returns-clause-runs : goal.returns-clause-runs
+returns-clause-runs g c =
+    let ways : Ways g.S.Acts.stands g.S.Acts.rests g.S.Acts.tallied = record { rest = g.met.S.Acts.comes_to_rest; none = g.met.S.Acts.none_tallied; more = g.met.S.Acts.more_tallied } in
+    let site = site_of (g.S.Acts.site c.args.net.now) in
+    let n : c.len-nodes.result ≡ site.nodes = c.len-nodes.ensures ∙ ap (λ (s : SiteValue). length s.nodes) c.declared.ensures in
+    let none = no_tick site site.nodes c.loop-place.place (omega (arith, n, c.loop-place-test.false)) in
+    went_ends _ _ _ ways _ c.args.number (tt {0}) _ _ _ _ _ (subst (Went _ _ _ _ _ _ _ c.args.number _) none c.loop-place.invariant.went)

@@ -1,0 +1,86 @@
+use Rattle.std.proofs.Common.{◌∙◌, refl, arith}
+use Rattle.declared_site.specs.SiteOf.{site_of}
+use Rattle.run_lines.proofs.Going.{Ways}
+use Rattle.run_lines.proofs.AllLanes.{lane_there}
+use Rattle.run_lines.proofs.Passing.{was_on, counts_more, passed_none, count_is, lane_short, count_short, passed_more, passed_all, all_counted}
+use Rattle.run_lines.proofs.settling.pass_new.Goals as goal
+
+pub loop-place-init : goal.loop-place-init
+loop-place-init g c =
+    let ways : Ways g.S.Acts.stands g.S.Acts.rests g.S.Acts.tallied = record { rest = g.met.S.Acts.comes_to_rest; none = g.met.S.Acts.none_tallied; more = g.met.S.Acts.more_tallied } in
+    record {
+      site = refl;
+      armed = refl;
+      later = omega arith;
+      passed = λ n earlier w ready was. passed_none _ _ _ ways _ c.args.number c.args.lanes.now n earlier w _ _ c.new-each.result c.new-each.ensures.items ready;
+    }
+
+pub on_wire-count-requires : goal.on_wire-count-requires
+on_wire-count-requires g c =
+    rw c.loop-place.invariant.site
+    (lane_there (site_of (g.S.Acts.site c.args.net.now)) c.args.lanes.now c.loop-place.place c.index-lanes-place.result _ c.requires.lanes c.loop-place-test.true c.index-lanes-place.is)
+
+pub pass_from-requires-clause-lane : goal.pass_from-requires-clause-lane
+pass_from-requires-clause-lane g c =
+    rw c.loop-place.invariant.site
+    (lane_there (site_of (g.S.Acts.site c.args.net.now)) c.args.lanes.now c.loop-place.place c.index-lanes-place.result _ c.requires.lanes c.loop-place-test.true c.index-lanes-place.is)
+
+pub pass_from-requires-clause-ready : goal.pass_from-requires-clause-ready
+pass_from-requires-clause-ready g c =
+    let q = c.requires.ready in
+    let p = c.loop-place.invariant.passed q.0 q.1 q.2 q.3 q.4 in
+    (q.0, p.after, p.reached.ready)
+
+pub returns-in-Err-clause-runs : goal.returns-in-Err-clause-runs
+returns-in-Err-clause-runs g c = λ n earlier w ready was.
+    let ways : Ways g.S.Acts.stands g.S.Acts.rests g.S.Acts.tallied = record { rest = g.met.S.Acts.comes_to_rest; none = g.met.S.Acts.none_tallied; more = g.met.S.Acts.more_tallied } in
+    let p = c.loop-place.invariant.passed n earlier w ready was in
+    let from = was_on earlier c.args.before.now c.args.lanes.now c.loop-place.place c.index-lanes-place.result _ was c.loop-place-test.true c.index-lanes-place.is in
+    let found = c.on_wire-count.ensures n p.after p.reached.ready.stands in
+    let runs = c.in-Err.ensures.runs in
+    let runs_here = rw c.loop-place.invariant.site at runs in
+    lane_short _ _ _ ways _ c.args.number c.args.lanes.now n earlier w _ _ _ _ c.loop-place.place _ c.index-lanes-place.result _ _ _ c.loop-place-test.true c.index-lanes-place.is p from found _ _ _ (runs_here n p.after p.reached.ready)
+
+pub returns-in-Err-more_frames-clause-runs : goal.returns-in-Err-more_frames-clause-runs
+returns-in-Err-more_frames-clause-runs g c = λ n earlier w ready was.
+    let ways : Ways g.S.Acts.stands g.S.Acts.rests g.S.Acts.tallied = record { rest = g.met.S.Acts.comes_to_rest; none = g.met.S.Acts.none_tallied; more = g.met.S.Acts.more_tallied } in
+    let p = c.loop-place.invariant.passed n earlier w ready was in
+    let from = was_on earlier c.args.before.now c.args.lanes.now c.loop-place.place c.index-lanes-place.result _ was c.loop-place-test.true c.index-lanes-place.is in
+    let found = c.on_wire-count.ensures n p.after p.reached.ready.stands in
+    let runs = c.in-Ok.ensures.runs in
+    let runs_here = rw c.loop-place.invariant.site at runs in
+    count_short _ _ _ ways _ c.args.number c.args.lanes.now n earlier w _ _ _ _ c.loop-place.place _ c.index-lanes-place.result _ _ _ c.loop-place-test.true c.index-lanes-place.is p from found _ _ (runs_here n p.after p.reached.ready)
+
+pub returns-in-Err-push-clause-runs : goal.returns-in-Err-push-clause-runs
+returns-in-Err-push-clause-runs g c = λ n earlier w ready was.
+    let ways : Ways g.S.Acts.stands g.S.Acts.rests g.S.Acts.tallied = record { rest = g.met.S.Acts.comes_to_rest; none = g.met.S.Acts.none_tallied; more = g.met.S.Acts.more_tallied } in
+    let p = c.loop-place.invariant.passed n earlier w ready was in
+    let from = was_on earlier c.args.before.now c.args.lanes.now c.loop-place.place c.index-lanes-place.result _ was c.loop-place-test.true c.index-lanes-place.is in
+    let found = c.on_wire-count.ensures n p.after p.reached.ready.stands in
+    let runs = c.in-Ok.ensures.runs in
+    let runs_here = rw c.loop-place.invariant.site at runs in
+    count_short _ _ _ ways _ c.args.number c.args.lanes.now n earlier w _ _ _ _ c.loop-place.place _ c.index-lanes-place.result _ _ _ c.loop-place-test.true c.index-lanes-place.is p from found _ _ (runs_here n p.after p.reached.ready)
+
+pub loop-place-preserved : goal.loop-place-preserved
+loop-place-preserved g c =
+    let ways : Ways g.S.Acts.stands g.S.Acts.rests g.S.Acts.tallied = record { rest = g.met.S.Acts.comes_to_rest; none = g.met.S.Acts.none_tallied; more = g.met.S.Acts.more_tallied } in
+    record {
+      site = c.in-Ok.ensures.site ∙ c.loop-place.invariant.site;
+      armed = c.in-Ok.ensures.armed ∙ c.loop-place.invariant.armed;
+      later = omega (arith, c.loop-place.invariant.later, c.in-Ok.ensures.blame.later);
+      passed = λ n earlier w ready was.
+          let p = c.loop-place.invariant.passed n earlier w ready was in
+          let from = was_on earlier c.args.before.now c.args.lanes.now c.loop-place.place c.index-lanes-place.result _ was c.loop-place-test.true c.index-lanes-place.is in
+          let found = c.on_wire-count.ensures n p.after p.reached.ready.stands in
+          let runs = c.in-Ok.ensures.runs in
+          let runs_here = rw c.loop-place.invariant.site at runs in
+          let counted = count_is _ _ _ ways _ c.args.number c.args.lanes.now n earlier w _ _ _ _ c.loop-place.place _ c.index-lanes-place.result _ _ _ c.loop-place-test.true c.index-lanes-place.is p from found in
+          passed_more _ _ _ ways _ c.args.number c.args.lanes.now n earlier w _ _ _ _ c.loop-place.place _ c.index-lanes-place.result _ _ _ c.loop-place-test.true c.index-lanes-place.is p from found _ _ (runs_here n p.after p.reached.ready) _
+          (counts_more c.args.lanes.now w c.loop-place.each _ c.loop-place.all _ _ c.loop-place.place c.index-lanes-place.result _ c.loop-place-test.true c.index-lanes-place.is p.counted counted c.in-Ok-push.ensures.items c.in-Ok-more_frames.ensures);
+    }
+
+pub returns-clause-runs : goal.returns-clause-runs
+returns-clause-runs g c = λ n earlier w ready was.
+    let ways : Ways g.S.Acts.stands g.S.Acts.rests g.S.Acts.tallied = record { rest = g.met.S.Acts.comes_to_rest; none = g.met.S.Acts.none_tallied; more = g.met.S.Acts.more_tallied } in
+    let p = c.loop-place.invariant.passed n earlier w ready was in
+    (passed_all _ _ _ ways _ c.args.number c.args.lanes.now n earlier w _ _ _ _ c.loop-place.place _ c.loop-place-test.false p, all_counted c.args.lanes.now w c.loop-place.place _ c.loop-place-test.false p.counted)

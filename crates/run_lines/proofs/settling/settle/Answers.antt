@@ -1,0 +1,81 @@
+use Rattle.std.proofs.Common.{◌≡◌, ◌∙◌, ◌+◌, ◌-◌, refl, subst, arith}
+use Rattle.declared_site.specs.SiteOf.{site_of}
+use Rattle.run_model.specs.Lines.{settle}
+use Rattle.run_lines.specs.Going.{Reached}
+use Rattle.run_lines.proofs.Going.{Ways, reached_none, reached_on, reached_stop, stops_here, finishes}
+use Rattle.run_lines.proofs.Settles.{one_round, no_round, none_put, some_put}
+use Rattle.run_lines.proofs.settling.settle.Goals as goal
+
+pub returns-in-Err-clause-runs : goal.returns-in-Err-clause-runs
+returns-in-Err-clause-runs g c = λ net w ready.
+    let ways : Ways g.S.Acts.stands g.S.Acts.rests g.S.Acts.tallied = record { rest = g.met.S.Acts.comes_to_rest; none = g.met.S.Acts.none_tallied; more = g.met.S.Acts.more_tallied } in
+    stops_here _ _ _ ways _ c.args.number net _ _ w _ ready
+
+pub returns-in-Err-count_frames-clause-runs : goal.returns-in-Err-count_frames-clause-runs
+returns-in-Err-count_frames-clause-runs g c = λ net w ready.
+    let ways : Ways g.S.Acts.stands g.S.Acts.rests g.S.Acts.tallied = record { rest = g.met.S.Acts.comes_to_rest; none = g.met.S.Acts.none_tallied; more = g.met.S.Acts.more_tallied } in
+    stops_here _ _ _ ways _ c.args.number net _ _ w _ ready
+
+pub loop-turn-init : goal.loop-turn-init
+loop-turn-init g c =
+    let ways : Ways g.S.Acts.stands g.S.Acts.rests g.S.Acts.tallied = record { rest = g.met.S.Acts.comes_to_rest; none = g.met.S.Acts.none_tallied; more = g.met.S.Acts.more_tallied } in
+    let all : c.args.rounds - 0 ≡ c.args.rounds = omega arith in
+    record {
+      site = refl;
+      armed = refl;
+      later = omega arith;
+      went = λ net w ready.
+          let counted = c.in-Ok-count_frames.ensures net w ready.stands in
+          (w, rw all (reached_none _ _ _ ways _ c.args.number net _ _ w _ ready), rw c.deref.ensures.value at counted);
+    }
+
+pub returns-in-Err-round-clause-runs : goal.returns-in-Err-round-clause-runs
+returns-in-Err-round-clause-runs g c = λ net w ready.
+    let ways : Ways g.S.Acts.stands g.S.Acts.rests g.S.Acts.tallied = record { rest = g.met.S.Acts.comes_to_rest; none = g.met.S.Acts.none_tallied; more = g.met.S.Acts.more_tallied } in
+    let site = site_of (g.S.Acts.site c.args.net.now) in
+    let at = c.loop-turn.invariant.went net w ready in
+    let left = c.args.rounds - (c.loop-turn._turn + 1) in
+    let here = subst (Reached _ _ _ _ _ _ _ c.args.number net w _ at.0) (one_round site c.args.rounds c.loop-turn._turn c.loop-turn-test.true) at.1 in
+    let runs = c.in-Err-round.ensures.runs in
+    let runs_here = rw (c.loop-turn.invariant.site, c.deref-in-loop-turn.ensures.value) at runs in
+    let out = runs_here (settle site left) net at.0 at.1.ready at.2 in
+    reached_stop _ _ _ ways _ c.args.number net _ _ _ _ _ _ w at.0 _ _ _ here out
+
+pub returns-then-now-frames-clause-runs : goal.returns-then-now-frames-clause-runs
+returns-then-now-frames-clause-runs g c = λ net w ready.
+    let ways : Ways g.S.Acts.stands g.S.Acts.rests g.S.Acts.tallied = record { rest = g.met.S.Acts.comes_to_rest; none = g.met.S.Acts.none_tallied; more = g.met.S.Acts.more_tallied } in
+    let site = site_of (g.S.Acts.site c.args.net.now) in
+    let at = c.loop-turn.invariant.went net w ready in
+    let left = c.args.rounds - (c.loop-turn._turn + 1) in
+    let here = subst (Reached _ _ _ _ _ _ _ c.args.number net w _ at.0) (one_round site c.args.rounds c.loop-turn._turn c.loop-turn-test.true) at.1 in
+    let runs = c.in-Ok-round.ensures.runs in
+    let runs_here = rw (c.loop-turn.invariant.site, c.deref-in-loop-turn.ensures.value) at runs in
+    let out = runs_here (settle site left) net at.0 at.1.ready at.2 in
+    let ended = subst (Reached _ _ _ _ _ _ _ c.args.number net at.0 _ out.0) (none_put (settle site left) c.loop-turn.frames.all c.in-Ok-round.now.all c.if-now-frames.true) out.1 in
+    finishes _ _ _ ways _ c.args.number net _ _ _ _ w _ _ (reached_on _ _ _ ways _ c.args.number net _ _ _ _ _ _ w at.0 out.0 _ _ _ here ended)
+
+pub loop-turn-preserved : goal.loop-turn-preserved
+loop-turn-preserved g c =
+    let ways : Ways g.S.Acts.stands g.S.Acts.rests g.S.Acts.tallied = record { rest = g.met.S.Acts.comes_to_rest; none = g.met.S.Acts.none_tallied; more = g.met.S.Acts.more_tallied } in
+    record {
+      site = c.in-Ok-round.ensures.site ∙ c.loop-turn.invariant.site;
+      armed = c.in-Ok-round.ensures.armed ∙ c.loop-turn.invariant.armed;
+      later = omega (arith, c.loop-turn.invariant.later, c.in-Ok-round.ensures.blame.later);
+      went = λ net w ready.
+          let site = site_of (g.S.Acts.site c.args.net.now) in
+          let at = c.loop-turn.invariant.went net w ready in
+          let left = c.args.rounds - (c.loop-turn._turn + 1) in
+          let here = subst (Reached _ _ _ _ _ _ _ c.args.number net w _ at.0) (one_round site c.args.rounds c.loop-turn._turn c.loop-turn-test.true) at.1 in
+          let runs = c.in-Ok-round.ensures.runs in
+          let runs_here = rw (c.loop-turn.invariant.site, c.deref-in-loop-turn.ensures.value) at runs in
+          let out = runs_here (settle site left) net at.0 at.1.ready at.2 in
+          let goes = subst (Reached _ _ _ _ _ _ _ c.args.number net at.0 _ out.0) (some_put (settle site left) c.loop-turn.frames.all c.in-Ok-round.now.all c.if-now-frames.false) out.1 in
+          (out.0, reached_on _ _ _ ways _ c.args.number net _ _ _ _ _ _ w at.0 out.0 _ _ _ here goes, out.2);
+    }
+
+pub returns-clause-runs : goal.returns-clause-runs
+returns-clause-runs g c = λ net w ready.
+    let ways : Ways g.S.Acts.stands g.S.Acts.rests g.S.Acts.tallied = record { rest = g.met.S.Acts.comes_to_rest; none = g.met.S.Acts.none_tallied; more = g.met.S.Acts.more_tallied } in
+    let at = c.loop-turn.invariant.went net w ready in
+    let none = no_round (site_of (g.S.Acts.site c.args.net.now)) c.args.rounds c.loop-turn._turn c.loop-turn-test.false in
+    finishes _ _ _ ways _ c.args.number net _ _ _ _ w at.0 _ (subst (Reached _ _ _ _ _ _ _ c.args.number net w _ at.0) none at.1)

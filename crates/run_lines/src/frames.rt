@@ -1,0 +1,70 @@
+// Lines that bring a frame of a wire to its receiver, as it is or changed.
+ghost use Rattle.std.specs.Prelude.{◌≡◌, true};
+ghost use Rattle.declared_site.specs.SiteOf.{site_of};
+ghost use Rattle.net_model.specs.Action.{Ok as Fine, Deliver, Flip};
+ghost use Rattle.report_items.specs.declared.item.Item.TheVariants as items;
+ghost use Rattle.run_model.specs.Script.{asks};
+ghost use Rattle.run_model.specs.Outcomes.{frame_items};
+ghost use Rattle.run_acts.specs.Fitting.{is_fit};
+ghost use Rattle.run_lines.specs.Reporting.{IsBlamed};
+ghost use Rattle.run_lines.specs.Running.{Runs, IsReadySomewhere};
+
+use crate::Stop;
+use crate::report::write_some;
+use edge_io::Sink;
+use qkd_base::Lane;
+use run_acts::{Acts, Tampered};
+use run_turns::{flipped_item, passed_item};
+use std::alloc::Global;
+
+/// A frame of a lane's wire comes to the lane's receiver.
+pub fn pass<S: Acts, W: Sink>(
+    alloc: Global,
+    net: &mut S,
+    number: u32,
+    lane: &Lane,
+    frame: u32,
+    sink: &mut W,
+) -> Result<(), Stop>
+    requires fit { is_fit (site_of (S.site net.old)) (Deliver lane.now frame Fine) ≡ true }
+    requires ready { IsReadySomewhere S.stands net.old }
+    ensures site { S.site net.new ≡ S.site net.old }
+    ensures armed { S.armed net.new ≡ S.armed net.old }
+    ensures runs { Runs S.stands S.rests S.tallied (S.site net.old).nodes net.old net.new (W.taken sink.old) (W.taken sink.new) number (asks (Deliver lane.now frame Fine) (frame_items (items.Passed lane.now frame))) result }
+    ensures blame { IsBlamed (W.faults sink.old) (W.faults sink.new) result }
+{
+    match net.pass(*lane, u64::from(frame)) {
+        Ok(delivery) => {
+            let item = passed_item(*lane, frame, &delivery);
+            write_some(alloc, net.declared(), number, item, sink)
+        }
+        Err(_) => Err(Stop::Memory),
+    }
+}
+
+/// A frame of a lane's wire comes with one bit changed.
+pub fn flip<S: Acts, W: Sink>(
+    alloc: Global,
+    net: &mut S,
+    number: u32,
+    lane: &Lane,
+    frame: u32,
+    bit: u32,
+    sink: &mut W,
+) -> Result<(), Stop>
+    requires fit { is_fit (site_of (S.site net.old)) (Flip lane.now frame bit Fine) ≡ true }
+    requires ready { IsReadySomewhere S.stands net.old }
+    ensures site { S.site net.new ≡ S.site net.old }
+    ensures armed { S.armed net.new ≡ S.armed net.old }
+    ensures runs { Runs S.stands S.rests S.tallied (S.site net.old).nodes net.old net.new (W.taken sink.old) (W.taken sink.new) number (asks (Flip lane.now frame bit Fine) (frame_items (items.Flipped lane.now frame bit))) result }
+    ensures blame { IsBlamed (W.faults sink.old) (W.faults sink.new) result }
+{
+    match net.flip(*lane, u64::from(frame), bit) {
+        Ok(Tampered::Came(delivery)) => {
+            let item = flipped_item(*lane, frame, bit, &delivery);
+            write_some(alloc, net.declared(), number, item, sink)
+        }
+        Ok(Tampered::Matched) => Err(Stop::Forged(number)),
+        Err(_) => Err(Stop::Memory),
+    }
+}

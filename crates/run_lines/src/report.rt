@@ -1,0 +1,73 @@
+// Items on their way to a sink.
+ghost use Rattle.std.specs.Prelude.{◌≡◌, ◌∷◌, [], OnOk, map};
+ghost use Rattle.std.specs.Option.{option_to_list};
+ghost use Rattle.edge_io.specs.Writes.{Adds};
+ghost use Rattle.report_items.specs.Texts.{line_text, report_text};
+ghost use Rattle.run_model.specs.Play.{numbered};
+ghost use Rattle.run_lines.specs.Reporting.{Wrote, IsBlamed};
+
+use crate::Stop;
+use declared_site::Site;
+use edge_io::{Failed, Sink};
+use report_items::Item;
+use report_writer::line_text;
+use std::alloc::Global;
+
+/// Writes what an item says, under the number of its line, in one write.
+pub fn write_item<W: Sink>(
+    alloc: Global,
+    site: &Site,
+    number: u32,
+    item: &Item,
+    sink: &mut W,
+) -> Result<(), Stop>
+    ensures wrote { Wrote result (W.taken sink.old) (W.taken sink.new) (report_text site.now.nodes (numbered number (item.now ∷ []))) }
+    ensures piece { OnOk result (Adds (W.pieces sink.old) (W.pieces sink.new) (line_text site.now.nodes (record { number = number; item = item.now }) ∷ [])) }
+    ensures blame { IsBlamed (W.faults sink.old) (W.faults sink.new) result }
+{
+    let Ok(text) = line_text(alloc, number, item, site) else {
+        return Err(Stop::Memory);
+    };
+    match sink.write_all(text.as_slice()) {
+        Ok(()) => Ok(()),
+        Err(Failed) => Err(Stop::WriteFault),
+    }
+}
+
+/// Writes what an item says, if there is one.
+pub fn write_some<W: Sink>(
+    alloc: Global,
+    site: &Site,
+    number: u32,
+    item: Option<Item>,
+    sink: &mut W,
+) -> Result<(), Stop>
+    ensures wrote { Wrote result (W.taken sink.old) (W.taken sink.new) (report_text site.now.nodes (numbered number (option_to_list item))) }
+    ensures blame { IsBlamed (W.faults sink.old) (W.faults sink.new) result }
+{
+    match item {
+        Some(item) => write_item(alloc, site, number, &item, sink),
+        None => Ok(()),
+    }
+}
+
+/// Writes what items say, a write for each. After an `Err` a first part of their text was taken.
+pub fn write_items<W: Sink>(
+    alloc: Global,
+    site: &Site,
+    number: u32,
+    items: &[Item],
+    sink: &mut W,
+) -> Result<(), Stop>
+    ensures wrote { Wrote result (W.taken sink.old) (W.taken sink.new) (report_text site.now.nodes (numbered number items.now)) }
+    ensures pieces { OnOk result (Adds (W.pieces sink.old) (W.pieces sink.new) (map (line_text site.now.nodes) (numbered number items.now))) }
+    ensures blame { IsBlamed (W.faults sink.old) (W.faults sink.new) result }
+{
+    for item in items {
+        match write_item(alloc, site, number, item, sink) {
+            Ok(()) => {}
+            Err(stop) => return Err(stop),
+        }
+    }
+    Ok(())
+}

@@ -1,0 +1,104 @@
+// The ticks and the passes of a settle's rounds.
+ghost use Rattle.std.specs.Prelude.{◌≡◌, ◌<◌, ◌-◌, true, length, IfOk, if◌then◌else◌};
+ghost use Rattle.declared_site.specs.SiteOf.{IsDeclared, site_of};
+ghost use Rattle.net_model.specs.Site.{count_up};
+ghost use Rattle.net_model.specs.Events.{is_lane};
+ghost use Rattle.run_model.specs.Script.{Looks, Ends};
+ghost use Rattle.run_model.specs.Lines.{ticked, ticks, passes};
+ghost use Rattle.run_lines.specs.Reporting.{IsBlamed};
+ghost use Rattle.run_lines.specs.Running.{Runs, IsReadySomewhere};
+
+use crate::Stop;
+use crate::asking::tick;
+use crate::frames::pass;
+use edge_io::Sink;
+use qkd_base::{Lane, Memory, NodeNo};
+use run_acts::Acts;
+use std::alloc::Global;
+
+// A node ticks quietly, if it is up.
+fn tick_if_up<S: Acts, W: Sink>(
+    alloc: Global,
+    net: &mut S,
+    number: u32,
+    node: NodeNo,
+    sink: &mut W,
+) -> Result<(), Stop>
+    requires node { node < length (S.site net.old).nodes }
+    requires ready { IsReadySomewhere S.stands net.old }
+    ensures site { S.site net.new ≡ S.site net.old }
+    ensures armed { S.armed net.new ≡ S.armed net.old }
+    ensures runs { Runs S.stands S.rests S.tallied (S.site net.old).nodes net.old net.new (W.taken sink.old) (W.taken sink.new) number (Looks (λ w. if w.up node then ticked (site_of (S.site net.old)) true node else Ends)) result }
+    ensures blame { IsBlamed (W.faults sink.old) (W.faults sink.new) result }
+{
+    if net.is_up(node) {
+        tick(alloc, net, number, node, true, sink)
+    } else {
+        Ok(())
+    }
+}
+
+/// All nodes that are up tick quietly, in order.
+pub fn tick_all<S: Acts, W: Sink>(
+    alloc: Global,
+    net: &mut S,
+    number: u32,
+    sink: &mut W,
+) -> Result<(), Stop>
+    requires declared { IsDeclared (S.site net.old) }
+    requires ready { IsReadySomewhere S.stands net.old }
+    ensures site { S.site net.new ≡ S.site net.old }
+    ensures armed { S.armed net.new ≡ S.armed net.old }
+    ensures runs { Runs S.stands S.rests S.tallied (S.site net.old).nodes net.old net.new (W.taken sink.old) (W.taken sink.new) number (ticks (site_of (S.site net.old)) (count_up (site_of (S.site net.old)).nodes)) result }
+    ensures blame { IsBlamed (W.faults sink.old) (W.faults sink.new) result }
+{
+    let nodes = net.declared().nodes.len();
+    for place in 0..nodes {
+        let node = NodeNo::new(place as u8).unwrap();
+        match tick_if_up(alloc, net, number, node, sink) {
+            Ok(()) => {}
+            Err(stop) => return Err(stop),
+        }
+    }
+    Ok(())
+}
+
+// The number of a frame in a report. No memory holds more of them than a report can count.
+fn reported_number(frame: u64) -> Result<u32, Memory>
+    ensures { IfOk result (λ number. number ≡ frame) }
+{
+    match u32::try_from(frame) {
+        Ok(number) => Ok(number),
+        Err(_) => Err(Memory),
+    }
+}
+
+/// The frames of a lane's wire from one number up to another come to the lane's receiver.
+pub fn pass_from<S: Acts, W: Sink>(
+    alloc: Global,
+    net: &mut S,
+    number: u32,
+    lane: &Lane,
+    from: u64,
+    to: u64,
+    sink: &mut W,
+) -> Result<(), Stop>
+    requires lane { is_lane (site_of (S.site net.old)) lane.now ≡ true }
+    requires ready { IsReadySomewhere S.stands net.old }
+    ensures site { S.site net.new ≡ S.site net.old }
+    ensures armed { S.armed net.new ≡ S.armed net.old }
+    ensures runs { Runs S.stands S.rests S.tallied (S.site net.old).nodes net.old net.new (W.taken sink.old) (W.taken sink.new) number (passes lane.now from (to - from)) result }
+    ensures blame { IsBlamed (W.faults sink.old) (W.faults sink.new) result }
+{
+    for place in from..to {
+        let frame = match reported_number(place) {
+            Ok(frame) => frame,
+            Err(_) => return Err(Stop::Memory),
+        };
+        match pass(alloc, net, number, lane, frame, sink) {
+            Ok(()) => {}
+            Err(stop) => return Err(stop),
+        }
+    }
+    Ok(())
+}

@@ -1,0 +1,153 @@
+// Settles: rounds of ticks and passes.
+ghost use Rattle.std.specs.Prelude.{◌≡◌, ◌+◌, IfOk, MatchResult, map, nat_lt, if◌then◌else◌};
+ghost use Rattle.declared_site.specs.SiteOf.{IsDeclared, site_of};
+ghost use Rattle.net_model.specs.World.{Network, World};
+ghost use Rattle.run_model.specs.Script.{Script, Ends};
+ghost use Rattle.run_model.specs.Lines.{all_lanes, all_passes, settle};
+ghost use Rattle.run_acts.specs.Acting.{IsReady};
+ghost use Rattle.run_lines.specs.Reporting.{IsBlamed};
+ghost use Rattle.run_lines.specs.Going.{Reached};
+ghost use Rattle.run_lines.specs.Running.{Finishes, Stops, Runs, IsReadySomewhere};
+ghost use Rattle.run_lines.specs.Counting.{on_wire, AreOn, round};
+
+use crate::Stop;
+use crate::lanes::all_lanes;
+use crate::rounds::{pass_from, tick_all};
+use edge_io::Sink;
+use qkd_base::{Lane, Memory};
+use run_acts::Acts;
+use std::alloc::Global;
+
+/// How many frames stand on each of some wires, and on all of them.
+#[derive(Drop)]
+pub struct Frames {
+    pub each: Vec<u64>,
+    pub all: u64,
+}
+
+// The frames on these lanes' wires.
+fn count_frames<S: Acts>(alloc: Global, net: &S, lanes: &[Lane]) -> Result<Frames, Memory>
+    requires { lanes.now ≡ all_lanes (site_of (S.site net.now)) }
+    ensures { IfOk result (λ frames. (n : Network) (w : World) → S.stands net.now n w → AreOn lanes.now w frames) }
+{
+    let mut each = Vec::new(alloc);
+    let mut all = 0u64;
+    for lane in lanes {
+        let count = net.on_wire(*lane);
+        all = more_frames(all, count)?;
+        each.push(count)?;
+    }
+    Ok(Frames { each, all })
+}
+
+// So many frames and as many more. No memory holds more of them than this counts.
+fn more_frames(frames: u64, more: u64) -> Result<u64, Memory>
+    ensures { IfOk result (λ sum. sum ≡ frames + more) }
+{
+    match frames.checked_add(more) {
+        Some(sum) => Ok(sum),
+        None => Err(Memory),
+    }
+}
+
+// On each wire the frames come to their receivers that weren't there before the round. The answer counts all that stand there now.
+fn pass_new<S: Acts, W: Sink>(
+    alloc: Global,
+    net: &mut S,
+    number: u32,
+    lanes: &[Lane],
+    before: &[u64],
+    sink: &mut W,
+) -> Result<Frames, Stop>
+    requires lanes { lanes.now ≡ all_lanes (site_of (S.site net.old)) }
+    requires ready { (n : Network) × (earlier : World) × (w : World) × IsReady S.stands net.old n w × (before.now ≡ map (on_wire earlier) lanes.now) }
+    ensures site { S.site net.new ≡ S.site net.old }
+    ensures armed { S.armed net.new ≡ S.armed net.old }
+    ensures runs { (n : Network) (earlier w : World) → IsReady S.stands net.old n w → before.now ≡ map (on_wire earlier) lanes.now →
+        MatchResult result
+        (λ frames. Finishes S.stands S.tallied (S.site net.old).nodes net.old net.new (W.taken sink.old) (W.taken sink.new) number n w (all_passes earlier w lanes.now) × AreOn lanes.now w frames)
+        (λ stop. Stops S.rests S.tallied (S.site net.old).nodes net.old net.new (W.taken sink.old) (W.taken sink.new) number n w (all_passes earlier w lanes.now) stop) }
+    ensures blame { IsBlamed (W.faults sink.old) (W.faults sink.new) result }
+{
+    let mut each = Vec::new(alloc);
+    let mut all = 0u64;
+    for place in 0..lanes.len() {
+        let lane = &lanes[place];
+        let count = net.on_wire(*lane);
+        match pass_from(alloc, net, number, lane, before[place], count, sink) {
+            Ok(()) => {}
+            Err(stop) => return Err(stop),
+        }
+        all = match more_frames(all, count) {
+            Ok(sum) => sum,
+            Err(_) => return Err(Stop::Memory),
+        };
+        match each.push(count) {
+            Ok(()) => {}
+            Err(_) => return Err(Stop::Memory),
+        }
+    }
+    Ok(Frames { each, all })
+}
+
+// A round. The answer counts the frames that stand on the wires after it.
+fn round<S: Acts, W: Sink>(
+    alloc: Global,
+    net: &mut S,
+    number: u32,
+    lanes: &[Lane],
+    before: &Frames,
+    sink: &mut W,
+) -> Result<Frames, Stop>
+    requires declared { IsDeclared (S.site net.old) }
+    requires lanes { lanes.now ≡ all_lanes (site_of (S.site net.old)) }
+    requires ready { (n : Network) × (w : World) × IsReady S.stands net.old n w × AreOn lanes.now w before.now }
+    ensures site { S.site net.new ≡ S.site net.old }
+    ensures armed { S.armed net.new ≡ S.armed net.old }
+    ensures runs { (next : Script) (n : Network) (w : World) → IsReady S.stands net.old n w → AreOn lanes.now w before.now →
+        MatchResult result
+        (λ now. (after : World) × Reached S.stands S.tallied (S.site net.old).nodes net.old net.new (W.taken sink.old) (W.taken sink.new) number n w (round (site_of (S.site net.old)) next) after (if nat_lt before.now.all now.all then next else Ends) × AreOn lanes.now after now)
+        (λ stop. Stops S.rests S.tallied (S.site net.old).nodes net.old net.new (W.taken sink.old) (W.taken sink.new) number n w (round (site_of (S.site net.old)) next) stop) }
+    ensures blame { IsBlamed (W.faults sink.old) (W.faults sink.new) result }
+{
+    match tick_all(alloc, net, number, sink) {
+        Ok(()) => pass_new(alloc, net, number, lanes, before.each.as_slice(), sink),
+        Err(stop) => Err(stop),
+    }
+}
+
+/// So many rounds at most, and none after one in which no frame was put.
+pub fn settle<S: Acts, W: Sink>(
+    alloc: Global,
+    net: &mut S,
+    number: u32,
+    rounds: u16,
+    sink: &mut W,
+) -> Result<(), Stop>
+    requires declared { IsDeclared (S.site net.old) }
+    requires ready { IsReadySomewhere S.stands net.old }
+    ensures site { S.site net.new ≡ S.site net.old }
+    ensures armed { S.armed net.new ≡ S.armed net.old }
+    ensures runs { Runs S.stands S.rests S.tallied (S.site net.old).nodes net.old net.new (W.taken sink.old) (W.taken sink.new) number (settle (site_of (S.site net.old)) rounds) result }
+    ensures blame { IsBlamed (W.faults sink.old) (W.faults sink.new) result }
+{
+    let lanes = match all_lanes(alloc, net.declared()) {
+        Ok(lanes) => lanes,
+        Err(_) => return Err(Stop::Memory),
+    };
+    let mut frames = match count_frames(alloc, net, &lanes) {
+        Ok(frames) => frames,
+        Err(_) => return Err(Stop::Memory),
+    };
+    for _turn in 0..rounds {
+        let now = match round(alloc, net, number, &lanes, &frames, sink) {
+            Ok(now) => now,
+            Err(stop) => return Err(stop),
+        };
+        if now.all <= frames.all {
+            return Ok(());
+        }
+        frames = now;
+    }
+    Ok(())
+}

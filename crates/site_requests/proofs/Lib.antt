@@ -1,0 +1,9 @@
+pub mod Numbers
+pub mod Slaves
+pub mod Calls
+pub mod Saying
+pub mod Ends
+pub mod Cut
+pub mod Readings
+pub mod Existing
+pub mod Turns

@@ -1,0 +1,4 @@
+pub mod LineEnds
+pub mod Reading
+pub mod Speaking
+pub mod Serving
