@@ -1,0 +1,14 @@
+pub mod Bodies
+pub mod Lists
+pub mod Back
+pub mod Numbers
+pub mod Steps
+pub mod Strangers
+pub mod Bits
+pub mod Networks
+pub mod Firsts
+pub mod Shown
+pub mod Images
+pub mod Told
+pub mod Ends
+pub mod Headlines

@@ -1,0 +1,5 @@
+pub mod Stands
+pub mod Emitting
+pub mod Going
+pub mod Taking
+pub mod Seeing

@@ -1,0 +1,37 @@
+// Blocks come to a lane.
+ghost use Rattle.std.specs.Prelude.{◌≡◌, OnOk, OnErr};
+ghost use Rattle.net_model.specs.World.{Network, World};
+ghost use Rattle.world_lanes.specs.Stands.{LaneStands, WireStands};
+ghost use Rattle.world_lanes.specs.Taking.{is_of_way, MayTake, TakesBlock};
+
+use lane_sides::LaneSide;
+use qkd_base::{Lane, Memory, Way};
+use source_devices::Wire;
+
+// Whether the block of a link is the lane's.
+fn is_of_lane(lane: Lane, number: u32) -> bool
+    ensures { result ≡ is_of_way lane.way number }
+{
+    match lane.way {
+        Way::Up => number % 2 == 0,
+        Way::Down => number % 2 == 1,
+    }
+}
+
+/// Takes the next block of the lane's link, if it is of the lane's way. In the network its sender has just made it durable. An
+/// `Err` changes nothing here.
+pub fn take<X: Wire>(side: &mut LaneSide<X>, number: u32, block: &[u8; 1024]) -> Result<(), Memory>
+    requires asked { (net : Network) × (w : World) × MayTake X.frames X.counted net w side.old number block.now }
+    ensures ok { OnOk result ((net : Network) (w w' : World) → MayTake X.frames X.counted net w side.old number block.now → TakesBlock net w w' side.old.lane number block.now
+        → LaneStands X.frames X.counted net w' side.old.lane side.new) }
+    ensures err { OnErr result (side.new ≡ side.old) }
+    ensures kept { side.new.wire ≡ side.old.wire }
+    ensures wire { (net : Network) (w w' : World) → MayTake X.frames X.counted net w side.old number block.now → TakesBlock net w w' side.old.lane number block.now
+        → WireStands X.frames X.counted net w' side.old.lane side.new.wire }
+{
+    if is_of_lane(side.lane(), number) {
+        side.take(block)
+    } else {
+        Ok(())
+    }
+}

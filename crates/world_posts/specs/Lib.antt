@@ -1,0 +1,10 @@
+pub mod Asking
+pub mod Blocks
+pub mod Counts
+pub mod Handled
+pub mod Hearing
+pub mod Lives
+pub mod Noting
+pub mod Stands
+pub mod Starting
+pub mod Tampering

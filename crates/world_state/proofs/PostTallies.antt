@@ -1,0 +1,72 @@
+-- What is counted of a plan, of a note, and of a note in vain.
+use Rattle.std.proofs.Common.{◌≡◌, ℕ, false, List, [], ◌∷◌, length, refl, sym, ap, subst, ◌∙◌, arith, Some}
+use Rattle.std.specs.Prelude.{slice_get}
+use Rattle.disk_model.specs.declared.arm.Armings.{Armings}
+use Rattle.net_model.specs.declared.event.Event.{Event}
+use Rattle.net_model.specs.Site.{Site}
+use Rattle.net_model.specs.Action.{Environment, Ask, Complete, is_io_fault, is_entropy_fault}
+use Rattle.net_model.specs.Faults.{disk_faults, entropy_faults, armings}
+use Rattle.kme_store.specs.declared.post.Post.{Post}
+use Rattle.lane_sides.specs.Lane.{LaneForm}
+use Rattle.world_posts.specs.Counts.{disk_of, entropy_of, Counts}
+use Rattle.world_state.specs.Stands.{place_of}
+use Rattle.world_state.specs.Tallied.{IsArmedBy, PostTallied, Tallied}
+use Rattle.world_state.specs.declared.state.State.{State}
+use Rattle.world_state.proofs.AsksOne.{asks_counted, asks_no_other}
+use Rattle.world_state.proofs.Changes.{OnePost, posts_same, each_post}
+use Rattle.world_state.proofs.OneSide.{some_same}
+use Rattle.world_state.proofs.OneTallied.{CountsOne, CountsNoOther, one_post_tallied}
+use Rattle.world_state.proofs.Tallies.{none_tallied}
+use Rattle.world_state.proofs.Tallying.{no_less}
+
+-- a note is counted nowhere
+
+note_one : (s : Site) (v : ℕ) → CountsOne s (Complete v) v false false
+note_one s v = record { disk = λ h. h; entropy = λ h. h; armed = λ u. refl; disks = λ u apart. refl; entropies = λ u apart. refl }
+
+note_no_other : (v : ℕ) → CountsNoOther (Complete v)
+note_no_other v = record { devices = λ link. refl; wires = λ l. refl }
+
+-- no arming is one of nothing
+unarmed : (before now : Armings) → now ≡ before → IsArmedBy [] before now
+unarmed before now same = subst (λ (n : Armings). IsArmedBy [] before n) (sym same) (record { times = omega arith; last = refl })
+
+module _ {K Q E X : Type 0} (disk_count : K → ℕ) (armed : K → Armings) (entropy_count : E → ℕ) (device_count : Q → ℕ) (wire_count : X → ℕ) (site : Site) (old new : State K Q E X) (v : ℕ) (p q : Post K E)
+    (one : OnePost old new v p q) (disks : (u : ℕ) (x : Post K E) → slice_get old.posts.items u ≡ Some x → (k : K) × (disk_of x ≡ Some k)) where
+  pub asked_tallied : (event : Event) (environment : Environment) → Counts disk_count armed entropy_count (is_io_fault environment) (is_entropy_fault environment) p q →
+      Tallied disk_count armed entropy_count device_count wire_count old new site (Ask v event environment ∷ [])
+  asked_tallied event environment c =
+      one_post_tallied disk_count armed entropy_count device_count wire_count site (Ask v event environment) old new disks v p q (is_io_fault environment) (is_entropy_fault environment) one
+      (asks_counted site v event environment) (asks_no_other v event environment) c
+
+  module _ (c : Counts disk_count armed entropy_count false false p q) where
+    pub noted_tallied : Tallied disk_count armed entropy_count device_count wire_count old new site (Complete v ∷ [])
+    noted_tallied = one_post_tallied disk_count armed entropy_count device_count wire_count site (Complete v) old new disks v p q false false one (note_one site v) (note_no_other v) c
+
+    mine : PostTallied disk_count armed entropy_count site v [] p q
+    unfolding disk_faults entropy_faults armings
+    mine = record {
+      before = c.before;
+      now = c.now;
+      was = c.was;
+      is = c.is;
+      failed = no_less (disk_count c.before) (disk_count c.now) c.disk.later;
+      armed_with = unarmed (armed c.before) (armed c.now) c.arms;
+      refused = no_less (entropy_count (entropy_of p)) (entropy_count (entropy_of q)) c.entropy.later;
+    }
+
+    abbrev none : Tallied disk_count armed entropy_count device_count wire_count old old site []
+    none = none_tallied disk_count armed entropy_count device_count wire_count site old disks
+
+    pub stayed_tallied : Tallied disk_count armed entropy_count device_count wire_count old new site []
+    stayed_tallied = record {
+      nodes = posts_same old new v p q one;
+      posts = λ u x y was is.
+          each_post old new v p q one (λ n z. (t : Post K E) → slice_get old.posts.items n ≡ Some t → PostTallied disk_count armed entropy_count site n [] t z)
+          (λ t at. let same : p ≡ t = some_same (sym one.there ∙ at) in subst (λ (s : Post K E). PostTallied disk_count armed entropy_count site v [] s q) same mine)
+          (λ n z other at t was. none.posts n t z was at) u y is x was;
+      links = ap (λ (xs : List Q). length xs) one.devices;
+      devices = λ link x y was is. none.devices link x y was (ap (λ (xs : List Q). slice_get xs link) (sym one.devices) ∙ is);
+      sides = ap (λ (xs : List (LaneForm X)). length xs) one.lanes;
+      wires = λ l x y was is. none.wires l x y was (ap (λ (xs : List (LaneForm X)). slice_get xs (place_of l)) (sym one.lanes) ∙ is);
+    }

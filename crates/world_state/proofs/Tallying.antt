@@ -1,0 +1,105 @@
+-- What is counted of a frame that is put: its wire's faults alone.
+use Rattle.std.proofs.Common.{◌≡◌, ℕ, ◌+◌, ◌-◌, ◌^◌, ◌≤◌, Bool, true, false, ◌&&◌, List, [], ◌∷◌, length, refl, sym, ap, subst, ◌∙◌, arith, Option, Some, Result, Ok, Err}
+use Rattle.std.specs.Prelude.{min, slice_get, cond, IsErrOf}
+use Rattle.qkd_base.specs.Faults.{Rose}
+use Rattle.qkd_base.specs.Lane.{lane_eq}
+use Rattle.qkd_base.specs.declared.lane.Lane.{Lane}
+use Rattle.disk_model.specs.declared.arm.Armings.{Armings}
+use Rattle.net_model.specs.Site.{Site}
+use Rattle.net_model.specs.World.{Transmission}
+use Rattle.net_model.specs.Action.{Action, Allocate, Transmit, is_io_fault}
+use Rattle.net_model.specs.Faults.{disk_faults, entropy_faults, device_faults, wire_faults, armings}
+use Rattle.source_devices.specs.declared.wire.WireFailed.{WireFailed}
+use Rattle.source_devices.specs.declared.wire.WireFailed.TheVariants.{Fault, Memory}
+use Rattle.kme_store.specs.declared.post.Post.{Post}
+use Rattle.lane_sides.specs.Lane.{LaneForm}
+use Rattle.law_records.proofs.Base.{lane_same, not_both}
+use Rattle.law_ticks.proofs.Puts.{lanes_apart}
+use Rattle.world_lanes.specs.Emitting.{wire_answer}
+use Rattle.world_state.specs.Stands.{place_of}
+use Rattle.world_state.specs.Tallied.{Counted, PostTallied, Tallied}
+use Rattle.world_posts.specs.Counts.{disk_of}
+use Rattle.world_state.specs.declared.state.State.{State}
+use Rattle.world_state.proofs.Tallies.{none_counted, none_tallied}
+use Rattle.world_state.proofs.OneSide.{some_same, OneSide, sides_same, each_side}
+
+pub no_less : (a b : ℕ) → a ≤ b → Counted 0 a b
+no_less a b h = least a b (2 ^ 64 - 1) h
+  where
+    least : (a b top : ℕ) → a ≤ b → min (a + 0) top ≤ b
+    least a b top h = omega (arith, h)
+
+-- how often a wire failed, by what it answered
+abbrev pub failed : Bool → ℕ
+failed t = 0 + cond t 1 0
+
+mine_counted : (answer : Result ℕ WireFailed) (t : Bool) (before now : ℕ) → t ≡ true → (IsErrOf answer Fault → Rose before now) → before ≤ now → Counted (failed (t && is_io_fault (wire_answer answer))) before now
+mine_counted (Ok n) true before now is cause later = no_less before now later
+mine_counted (Err Fault) true before now is cause later = cause refl
+mine_counted (Err Memory) true before now is cause later = no_less before now later
+mine_counted answer false before now is cause later = cc
+
+other_counted : (t : Bool) (fault : Bool) (count : ℕ) → t ≡ false → Counted (failed (t && fault)) count count
+other_counted false fault count is = none_counted count
+other_counted true fault count is = cc
+
+module _ {K Q E X : Type 0} (disk_count : K → ℕ) (armed : K → Armings) (entropy_count : E → ℕ) (device_count : Q → ℕ) (wire_count : X → ℕ) (site : Site)
+    (old new : State K Q E X) (l : Lane) (before now : LaneForm X) (one : OneSide old new l before now)
+    (disks : (v : ℕ) (p : Post K E) → slice_get old.posts.items v ≡ Some p → (k : K) × (disk_of p ≡ Some k))
+    (j : ℕ) (answer : Result ℕ WireFailed) (cause : IsErrOf answer Fault → Rose (wire_count before.wire) (wire_count now.wire)) (later : wire_count before.wire ≤ wire_count now.wire) where
+  abbrev All : List Action → Type 0
+  All actions = Tallied disk_count armed entropy_count device_count wire_count old new site actions
+
+  abbrev none : Tallied disk_count armed entropy_count device_count wire_count old old site []
+  none = none_tallied disk_count armed entropy_count device_count wire_count site old disks
+
+  post_there : (v : ℕ) (p q : Post K E) → slice_get old.posts.items v ≡ Some p → slice_get new.posts.items v ≡ Some q → PostTallied disk_count armed entropy_count site v [] p q
+  post_there v p q was is = none.posts v p q was (ap (λ (ps : List (Post K E)). slice_get ps v) (sym one.posts) ∙ is)
+
+  device_there : (link : ℕ) (p q : Q) → slice_get old.devices.items link ≡ Some p → slice_get new.devices.items link ≡ Some q → Counted (device_faults link []) (device_count p) (device_count q)
+  device_there link p q was is = none.devices link p q was (ap (λ (qs : List Q). slice_get qs link) (sym one.devices) ∙ is)
+
+  wire_there : (k : Lane) (p q : LaneForm X) → slice_get old.lanes.items (place_of k) ≡ Some p → slice_get new.lanes.items (place_of k) ≡ Some q →
+      Counted (failed (lane_eq l k && is_io_fault (wire_answer answer))) (wire_count p.wire) (wire_count q.wire)
+  wire_there k p q was is =
+      each_side old new l before now one
+      (λ m x. (y : LaneForm X) → slice_get old.lanes.items (place_of m) ≡ Some y → Counted (failed (lane_eq l m && is_io_fault (wire_answer answer))) (wire_count y.wire) (wire_count x.wire))
+      (λ y at.
+      let same : before ≡ y = some_same (sym one.there ∙ at) in
+      subst (λ (x : LaneForm X). Counted (failed (lane_eq l l && is_io_fault (wire_answer answer))) (wire_count x.wire) (wire_count now.wire)) same
+      (mine_counted answer (lane_eq l l) (wire_count before.wire) (wire_count now.wire) (lane_same l) cause later))
+      (λ m x apart at y was.
+      let same : x ≡ y = some_same (sym at ∙ was) in
+      subst (λ (z : LaneForm X). Counted (failed (lane_eq l m && is_io_fault (wire_answer answer))) (wire_count z.wire) (wire_count x.wire)) same
+      (other_counted (lane_eq l m) (is_io_fault (wire_answer answer)) (wire_count x.wire) (lanes_apart m l apart)))
+      k q is p was
+
+  post_put : (v : ℕ) (p q : Post K E) → PostTallied disk_count armed entropy_count site v [] p q → PostTallied disk_count armed entropy_count site v (Transmit l j (wire_answer answer) ∷ []) p q
+  unfolding disk_faults entropy_faults armings
+  post_put v p q h = record { before = h.before; now = h.now; was = h.was; is = h.is; failed = h.failed; armed_with = h.armed_with; refused = h.refused }
+
+  post_emitted : (t : Transmission) (v : ℕ) (p q : Post K E) → PostTallied disk_count armed entropy_count site v [] p q → PostTallied disk_count armed entropy_count site v (Allocate t ∷ Transmit l j (wire_answer answer) ∷ []) p q
+  unfolding disk_faults entropy_faults armings
+  post_emitted t v p q h = record { before = h.before; now = h.now; was = h.was; is = h.is; failed = h.failed; armed_with = h.armed_with; refused = h.refused }
+
+  pub put_tallied : All (Transmit l j (wire_answer answer) ∷ [])
+  unfolding device_faults wire_faults
+  put_tallied = record {
+    nodes = ap length one.posts;
+    posts = λ v p q was is. post_put v p q (post_there v p q was is);
+    links = ap length one.devices;
+    devices = device_there;
+    sides = sides_same old new l before now one;
+    wires = wire_there;
+  }
+
+  pub emitted_tallied : (t : Transmission) → All (Allocate t ∷ Transmit l j (wire_answer answer) ∷ [])
+  unfolding device_faults wire_faults
+  emitted_tallied t = record {
+    nodes = ap length one.posts;
+    posts = λ v p q was is. post_emitted t v p q (post_there v p q was is);
+    links = ap length one.devices;
+    devices = device_there;
+    sides = sides_same old new l before now one;
+    wires = wire_there;
+  }

@@ -1,0 +1,11 @@
+pub mod Armed
+pub mod Blocks
+pub mod Changed
+pub mod Frames
+pub mod Moving
+pub mod Rests
+pub mod Sending
+pub mod Stands
+pub mod Starting
+pub mod Tallied
+pub mod Ticking

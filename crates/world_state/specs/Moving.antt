@@ -1,0 +1,30 @@
+-- What an action does to a state.
+use Rattle.std.specs.Prelude.{◌≡◌, ◌⊎◌, ℕ, Bool, true, false, List, length, slice_get, Option, Some}
+use Rattle.qkd_base.specs.declared.lane.Lane.{Lane}
+use Rattle.net_model.specs.OctetSequence.{OctetSequence}
+use Rattle.net_model.specs.World.{Network, World}
+use Rattle.net_model.specs.Events.{is_lane}
+use Rattle.net_model.specs.Action.{Action}
+use Rattle.net_model.specs.Step.{step}
+use Rattle.kme_site.specs.Up.{AreUp}
+use Rattle.kme_store.specs.declared.post.Post.{Post}
+use Rattle.lane_sides.specs.Lane.{LaneForm}
+use Rattle.world_lanes.specs.Stands.{LaneStands}
+use Rattle.world_posts.specs.Stands.{PostStands}
+use Rattle.world_state.specs.Changed.{changes_node, changes_lane}
+use Rattle.world_state.specs.Stands.{place_of}
+use Rattle.world_state.specs.declared.state.State.{State}
+
+-- What the action changes stands for what it is after it; each post and lane that it doesn't change is as it was.
+pub record Moves {K Q E X : Type 0} (is_honest : K → Bool) (moment : K → ℕ) (image : K → ℕ → List ℕ → Type 0) (left : E → Option OctetSequence)
+    (told : Q → Option OctetSequence) (frames : X → Option (List (List ℕ))) (counted : X → ℕ) (old new : State K Q E X) (net : Network) (w : World) (a : Action) : Type 0 where
+  pub site : new.site ≡ old.site
+  pub nodes : length new.posts.items ≡ length old.posts.items
+  pub posts : (v : ℕ) (p : Post K E) → slice_get new.posts.items v ≡ Some p →
+      PostStands is_honest moment image left net (step net w a).0 v p ⊎ ((changes_node net.site a v ≡ false) × (slice_get old.posts.items v ≡ Some p))
+  pub sides : length new.lanes.items ≡ length old.lanes.items
+  pub lanes : (l : Lane) (side : LaneForm X) → is_lane net.site l ≡ true → slice_get new.lanes.items (place_of l) ≡ Some side →
+      LaneStands frames counted net (step net w a).0 l side ⊎ ((changes_lane net.site a l ≡ false) × (slice_get old.lanes.items (place_of l) ≡ Some side))
+  pub links : length new.devices.items ≡ length old.devices.items
+  pub devices : (link : ℕ) (q : Q) → slice_get new.devices.items link ≡ Some q → told q ≡ Some (net.device link)
+  pub up : AreUp new.up (step net w a).0.link_up

@@ -1,0 +1,26 @@
+-- What is left of a run where it ends for want of memory.
+use Rattle.std.specs.Prelude.{◌≡◌, ℕ, ◌*◌, Bool, true, List, length, slice_get, Option, Some}
+use Rattle.qkd_base.specs.declared.lane.Lane.{Lane}
+use Rattle.net_model.specs.OctetSequence.{OctetSequence}
+use Rattle.net_model.specs.World.{Network, World}
+use Rattle.net_model.specs.Events.{is_lane}
+use Rattle.declared_site.specs.SiteOf.{site_of}
+use Rattle.kme_store.specs.declared.post.Post.{Post}
+use Rattle.lane_sides.specs.Lane.{LaneForm}
+use Rattle.world_lanes.specs.Stands.{IsRunning, WireStands}
+use Rattle.world_posts.specs.Stands.{PostStands}
+use Rattle.world_state.specs.Stands.{place_of}
+use Rattle.world_state.specs.declared.state.State.{State}
+
+-- Each node has its post, each lane its wire and each link its device, as the world has them. What a lane's sender kept of its bytes
+-- says nothing any more.
+pub record Rests {K Q E X : Type 0} (is_honest : K → Bool) (moment : K → ℕ) (image : K → ℕ → List ℕ → Type 0) (left : E → Option OctetSequence)
+    (told : Q → Option OctetSequence) (frames : X → Option (List (List ℕ))) (counted : X → ℕ) (s : State K Q E X) (net : Network) (w : World) : Type 0 where
+  pub running : IsRunning net w
+  pub sited : net.site ≡ site_of s.site
+  pub nodes : length s.posts.items ≡ net.site.nodes
+  pub posts : (v : ℕ) (p : Post K E) → slice_get s.posts.items v ≡ Some p → PostStands is_honest moment image left net w v p
+  pub sides : length s.lanes.items ≡ 2 * net.site.links
+  pub wires : (l : Lane) (side : LaneForm X) → is_lane net.site l ≡ true → slice_get s.lanes.items (place_of l) ≡ Some side → WireStands frames counted net w l side.wire
+  pub links : length s.devices.items ≡ net.site.links
+  pub devices : (link : ℕ) (q : Q) → slice_get s.devices.items link ≡ Some q → told q ≡ Some (net.device link)

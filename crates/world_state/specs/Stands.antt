@@ -1,0 +1,36 @@
+-- What the state of a run stands for in the network.
+use Rattle.std.specs.Prelude.{◌≡◌, ℕ, ◌+◌, ◌*◌, Bool, true, List, length, slice_get, Option, Some}
+use Rattle.qkd_base.specs.declared.lane.Way.{Way}
+use Rattle.qkd_base.specs.declared.lane.Way.TheVariants.{Up, Down}
+use Rattle.qkd_base.specs.declared.lane.Lane.{Lane}
+use Rattle.net_model.specs.OctetSequence.{OctetSequence}
+use Rattle.net_model.specs.World.{Network, World}
+use Rattle.net_model.specs.Events.{is_lane}
+use Rattle.declared_site.specs.SiteOf.{site_of}
+use Rattle.kme_site.specs.Up.{AreUp}
+use Rattle.kme_store.specs.declared.post.Post.{Post}
+use Rattle.lane_sides.specs.Lane.{LaneForm}
+use Rattle.world_lanes.specs.Stands.{IsRunning, LaneStands}
+use Rattle.world_posts.specs.Stands.{PostStands}
+use Rattle.world_state.specs.declared.state.State.{State}
+
+-- link by link, the lane up before the lane down
+abbrev pub of_way : Way → ℕ
+of_way Up = 0
+of_way Down = 1
+
+abbrev pub place_of : Lane → ℕ
+place_of l = 2 * l.link + of_way l.way
+
+-- each node has its post, each lane its sender's side and its wire, each link its device, which tells its octets, and is up or down
+pub record Stands {K Q E X : Type 0} (is_honest : K → Bool) (moment : K → ℕ) (image : K → ℕ → List ℕ → Type 0) (left : E → Option OctetSequence)
+    (told : Q → Option OctetSequence) (frames : X → Option (List (List ℕ))) (counted : X → ℕ) (s : State K Q E X) (net : Network) (w : World) : Type 0 where
+  pub running : IsRunning net w
+  pub sited : net.site ≡ site_of s.site
+  pub nodes : length s.posts.items ≡ net.site.nodes
+  pub posts : (v : ℕ) (p : Post K E) → slice_get s.posts.items v ≡ Some p → PostStands is_honest moment image left net w v p
+  pub sides : length s.lanes.items ≡ 2 * net.site.links
+  pub lanes : (l : Lane) (side : LaneForm X) → is_lane net.site l ≡ true → slice_get s.lanes.items (place_of l) ≡ Some side → LaneStands frames counted net w l side
+  pub links : length s.devices.items ≡ net.site.links
+  pub devices : (link : ℕ) (q : Q) → slice_get s.devices.items link ≡ Some q → told q ≡ Some (net.device link)
+  pub up : AreUp s.up w.link_up

@@ -1,0 +1,48 @@
+-- What is counted of a run: how often each part failed, and with what each disk was armed.
+use Rattle.std.specs.Prelude.{◌≡◌, ℕ, ◌+◌, ◌-◌, ◌^◌, ◌≤◌, min, true, List, length, slice_get, Option, Some}
+use Rattle.std.specs.Option.{option_map}
+use Rattle.qkd_base.specs.declared.lane.Lane.{Lane}
+use Rattle.disk_model.specs.declared.arm.Armings.{Armings}
+use Rattle.net_model.specs.Site.{Site}
+use Rattle.net_model.specs.Events.{is_lane}
+use Rattle.net_model.specs.Action.{Action, Fault}
+use Rattle.net_model.specs.Faults.{disk_faults, entropy_faults, device_faults, wire_faults, armings}
+use Rattle.kme_store.specs.declared.post.Post.{Post}
+use Rattle.lane_sides.specs.Lane.{LaneForm}
+use Rattle.run_model.specs.Bench.{last_of_both}
+use Rattle.run_acts.specs.Acting.{fault_of}
+use Rattle.world_posts.specs.Counts.{disk_of, entropy_of}
+use Rattle.world_state.specs.Stands.{place_of}
+use Rattle.world_state.specs.declared.state.State.{State}
+
+-- a count rose by so many at least, or stands at a counter's last value
+abbrev pub Counted : (n before now : ℕ) → Type 0
+Counted n before now = min (before + n) (2 ^ 64 - 1) ≤ now
+
+-- a disk was armed with just these, one after another
+pub record IsArmedBy (faults : List Fault) (before now : Armings) : Type 0 where
+  pub times : now.count ≡ before.count + length faults
+  pub last : option_map fault_of now.last ≡ last_of_both (option_map fault_of before.last) faults
+
+-- what is counted of both
+pub record PostTallied {K E : Type 0} (disk_count : K → ℕ) (armed : K → Armings) (entropy_count : E → ℕ) (site : Site) (v : ℕ) (actions : List Action) (old new : Post K E) : Type 0 where
+  pub before : K
+  pub now : K
+  pub was : disk_of old ≡ Some before
+  pub is : disk_of new ≡ Some now
+  pub failed : Counted (disk_faults site v actions) (disk_count before) (disk_count now)
+  pub armed_with : IsArmedBy (armings v actions) (armed before) (armed now)
+  pub refused : Counted (entropy_faults v actions) (entropy_count (entropy_of old)) (entropy_count (entropy_of new))
+
+-- of all parts
+pub record Tallied {K Q E X : Type 0} (disk_count : K → ℕ) (armed : K → Armings) (entropy_count : E → ℕ) (device_count : Q → ℕ) (wire_count : X → ℕ)
+    (old new : State K Q E X) (site : Site) (actions : List Action) : Type 0 where
+  pub nodes : length new.posts.items ≡ length old.posts.items
+  pub posts : (v : ℕ) (p q : Post K E) → slice_get old.posts.items v ≡ Some p → slice_get new.posts.items v ≡ Some q →
+      PostTallied disk_count armed entropy_count site v actions p q
+  pub links : length new.devices.items ≡ length old.devices.items
+  pub devices : (link : ℕ) (p q : Q) → slice_get old.devices.items link ≡ Some p → slice_get new.devices.items link ≡ Some q →
+      Counted (device_faults link actions) (device_count p) (device_count q)
+  pub sides : length new.lanes.items ≡ length old.lanes.items
+  pub wires : (l : Lane) (p q : LaneForm X) → slice_get old.lanes.items (place_of l) ≡ Some p → slice_get new.lanes.items (place_of l) ≡ Some q →
+      Counted (wire_faults l actions) (wire_count p.wire) (wire_count q.wire)

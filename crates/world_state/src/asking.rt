@@ -1,0 +1,36 @@
+// A manager of the state is asked.
+ghost use Rattle.std.specs.Prelude.{◌≡◌, true};
+ghost use Rattle.declared_site.specs.SiteOf.{site_of};
+ghost use Rattle.net_model.specs.World.{Network, World};
+ghost use Rattle.net_model.specs.Action.{Ask, Replies, Ok as Fine};
+ghost use Rattle.run_acts.specs.Fitting.{is_fit};
+ghost use Rattle.run_acts.specs.Acting.{IsReady, Does};
+ghost use Rattle.world_state.specs.Stands.{Stands};
+ghost use Rattle.world_state.specs.Tallied.{Tallied};
+ghost use Rattle.world_state.specs.Armed.{most_armed};
+
+use crate::State;
+use disk_model::Disk;
+use net_model::{Event, Reply};
+use qkd_base::NodeNo;
+use source_devices::{Device, Entropy, Wire};
+
+/// Asks a node's manager an event, but for a plan.
+pub fn ask<K: Disk + Drop, Q: Device + Drop, E: Entropy + Drop, X: Wire + Drop>(
+    state: &mut State<K, Q, E, X>,
+    node: NodeNo,
+    event: &Event,
+) -> Reply
+    requires fit { is_fit (site_of state.old.site) (Ask node event.now Fine) ≡ true }
+    requires ready { (net : Network) × (w : World) × IsReady (Stands K.is_honest K.moment K.image E.left Q.told X.frames X.counted) state.old net w }
+    ensures site { state.new.site ≡ state.old.site }
+    ensures armed { most_armed K.armings state.new.posts.items ≡ most_armed K.armings state.old.posts.items }
+    ensures done { (net : Network) (w : World) → IsReady (Stands K.is_honest K.moment K.image E.left Q.told X.frames X.counted) state.old net w
+        → Does (Stands K.is_honest K.moment K.image E.left Q.told X.frames X.counted) (Tallied K.faults K.armings E.faults Q.faults X.faults) state.old state.new net w (Ask node event.now Fine) (Replies result) }
+{
+    let up = state.up;
+    match state.posts.get_mut(usize::from(node.get())) {
+        None => Reply::Down,
+        Some(post) => world_posts::ask(post, event, up),
+    }
+}

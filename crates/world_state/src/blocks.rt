@@ -1,0 +1,95 @@
+// A node takes the blocks of its links.
+ghost use Rattle.std.specs.Prelude.{◌≡◌, ℕ, [], IfOk, OnErr, MatchOption, true};
+ghost use Rattle.declared_site.specs.SiteOf.{site_of};
+ghost use Rattle.net_model.specs.declared.reply.Reply.TheVariants.{Took};
+ghost use Rattle.net_model.specs.Site.{outgoing_lane};
+ghost use Rattle.net_model.specs.World.{Network, World};
+ghost use Rattle.net_model.specs.Action.{TakeBlock, Replies, Ok as Fine};
+ghost use Rattle.run_model.specs.Script.{asks};
+ghost use Rattle.run_turns.specs.Reported.{taken};
+ghost use Rattle.run_acts.specs.Fitting.{is_fit};
+ghost use Rattle.run_acts.specs.Acting.{IsReady, Does, Begins};
+ghost use Rattle.world_state.specs.Armed.{most_armed};
+ghost use Rattle.world_state.specs.Blocks.{IsBlockTaken};
+ghost use Rattle.world_state.specs.Rests.{Rests};
+ghost use Rattle.world_state.specs.Stands.{Stands};
+ghost use Rattle.world_state.specs.Tallied.{Tallied};
+
+use crate::State;
+use crate::reading::lane_place;
+use declared_site::Site;
+use disk_model::Disk;
+use kme_site::sender;
+use net_model::Reply;
+use qkd_base::{Lane, LinkNo, Memory, NodeNo, Way};
+use run_turns::BlockTake;
+use source_devices::{Device, Entropy, Wire};
+
+// The lane of a link that leaves a node of its ends.
+fn outgoing(site: &Site, node: NodeNo, link: LinkNo) -> Lane
+    ensures { result ≡ outgoing_lane (site_of site.now) node link }
+{
+    let low = sender(site, Lane { link, way: Way::Up });
+    let way = if low == node { Way::Up } else { Way::Down };
+    Lane { link, way }
+}
+
+// The number of the block that was taken, if one was.
+fn number(take: &BlockTake) -> Option<u32>
+    ensures { MatchOption result ((n : ℕ) → taken take.now ≡ Replies (Took n) → ⊥) (λ n. taken take.now ≡ Replies (Took n)) }
+{
+    match take {
+        BlockTake::Replied(Reply::Took { number }) => Some(*number),
+        _ => None,
+    }
+}
+
+// The node's manager takes the block. What it took is in the room, and comes to its lane next.
+fn hand<K: Disk + Drop, Q: Device + Drop, E: Entropy + Drop, X: Wire + Drop>(
+    state: &mut State<K, Q, E, X>,
+    node: NodeNo,
+    link: LinkNo,
+    into: &mut [u8; 1024],
+) -> BlockTake
+    requires fit { is_fit (site_of state.old.site) (TakeBlock node link Fine) ≡ true }
+    requires ready { (net : Network) × (w : World) × IsReady (Stands K.is_honest K.moment K.image E.left Q.told X.frames X.counted) state.old net w }
+    ensures armed { most_armed K.armings state.new.posts.items ≡ most_armed K.armings state.old.posts.items }
+    ensures taken { (net : Network) (w : World) → IsReady (Stands K.is_honest K.moment K.image E.left Q.told X.frames X.counted) state.old net w
+        → IsBlockTaken K.is_honest K.moment K.image E.left Q.told K.faults K.armings E.faults Q.faults X.faults state.old state.new net w node link into.new (taken result) }
+{
+    let up = state.up;
+    let alloc = *state.posts.allocator();
+    let post = &mut state.posts[usize::from(node.get())];
+    let device = &mut state.devices[usize::from(link.get())];
+    world_posts::take_block(alloc, post, device, link, up, into)
+}
+
+/// A node takes the next block of a link, and so does the lane of that link that leaves it, where the block is of its way. Want
+/// of memory there ends the run.
+pub fn take_block<K: Disk + Drop, Q: Device + Drop, E: Entropy + Drop, X: Wire + Drop>(
+    state: &mut State<K, Q, E, X>,
+    node: NodeNo,
+    link: LinkNo,
+) -> Result<BlockTake, Memory>
+    requires fit { is_fit (site_of state.old.site) (TakeBlock node link Fine) ≡ true }
+    requires ready { (net : Network) × (w : World) × IsReady (Stands K.is_honest K.moment K.image E.left Q.told X.frames X.counted) state.old net w }
+    ensures site { state.new.site ≡ state.old.site }
+    ensures armed { most_armed K.armings state.new.posts.items ≡ most_armed K.armings state.old.posts.items }
+    ensures done { IfOk result (λ take. (net : Network) (w : World) → IsReady (Stands K.is_honest K.moment K.image E.left Q.told X.frames X.counted) state.old net w
+        → Does (Stands K.is_honest K.moment K.image E.left Q.told X.frames X.counted) (Tallied K.faults K.armings E.faults Q.faults X.faults) state.old state.new net w (TakeBlock node link Fine) (taken take)) }
+    ensures left { OnErr result ((net : Network) (w : World) → IsReady (Stands K.is_honest K.moment K.image E.left Q.told X.frames X.counted) state.old net w
+        → Begins (Rests K.is_honest K.moment K.image E.left Q.told X.frames X.counted) (Tallied K.faults K.armings E.faults Q.faults X.faults) state.old state.new net w (asks (TakeBlock node link Fine) (λ outcome. []))) }
+{
+    let mut block = [0u8; 1024];
+    let take = hand(state, node, link, &mut block);
+    match number(&take) {
+        None => Ok(take),
+        Some(number) => {
+            let lane = outgoing(&state.site, node, link);
+            match world_lanes::take(&mut state.lanes[lane_place(lane)], number, &block) {
+                Err(_) => Err(Memory),
+                Ok(()) => Ok(take),
+            }
+        }
+    }
+}

@@ -1,0 +1,43 @@
+// Which links are up, by the bits of a number.
+ghost use Rattle.std.specs.Prelude.{◌≡◌, ◌==◌, ◌<◌, ℕ, true, if◌then◌else◌};
+ghost use Rattle.declared_site.specs.SiteOf.{site_of};
+ghost use Rattle.net_model.specs.World.{Network, World};
+ghost use Rattle.net_model.specs.Action.{SetLink, LinkSet};
+ghost use Rattle.route_table.specs.Layer.{bit_is_set};
+ghost use Rattle.run_acts.specs.Fitting.{is_fit};
+ghost use Rattle.run_acts.specs.Acting.{IsReady, Does};
+ghost use Rattle.world_state.specs.Armed.{most_armed};
+ghost use Rattle.world_state.specs.Stands.{Stands};
+ghost use Rattle.world_state.specs.Tallied.{Tallied};
+
+use crate::State;
+use disk_model::Disk;
+use qkd_base::LinkNo;
+use source_devices::{Device, Entropy, Wire};
+
+/// The number in which one link is up or down, and each other one as before.
+pub fn with_link(links: u32, link: LinkNo, up: bool) -> u32
+    ensures { (other : ℕ) → other < 32 → bit_is_set result other ≡ (if other == link then up else bit_is_set links other) }
+{
+    if up {
+        links | 1 << link.get()
+    } else {
+        links & !(1 << link.get())
+    }
+}
+
+/// A link is up or down from here on.
+pub fn set_link<K: Disk + Drop, Q: Device + Drop, E: Entropy + Drop, X: Wire + Drop>(
+    state: &mut State<K, Q, E, X>,
+    link: LinkNo,
+    up: bool,
+)
+    requires fit { is_fit (site_of state.old.site) (SetLink link up) ≡ true }
+    requires ready { (net : Network) × (w : World) × IsReady (Stands K.is_honest K.moment K.image E.left Q.told X.frames X.counted) state.old net w }
+    ensures site { state.new.site ≡ state.old.site }
+    ensures armed { most_armed K.armings state.new.posts.items ≡ most_armed K.armings state.old.posts.items }
+    ensures done { (net : Network) (w : World) → IsReady (Stands K.is_honest K.moment K.image E.left Q.told X.frames X.counted) state.old net w
+        → Does (Stands K.is_honest K.moment K.image E.left Q.told X.frames X.counted) (Tallied K.faults K.armings E.faults Q.faults X.faults) state.old state.new net w (SetLink link up) LinkSet }
+{
+    state.up = with_link(state.up, link, up);
+}

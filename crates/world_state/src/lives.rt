@@ -1,0 +1,55 @@
+// A manager's life ends, and a disk is armed.
+ghost use Rattle.std.specs.Prelude.{◌≡◌, ◌≤◌, ◌<◌, ◌+◌, ◌^◌, true};
+ghost use Rattle.declared_site.specs.SiteOf.{site_of};
+ghost use Rattle.net_model.specs.World.{Network, World};
+ghost use Rattle.net_model.specs.Action.{Armed, Crash as Crashes, Arm as Arms};
+ghost use Rattle.run_turns.specs.Reported.{crashed};
+ghost use Rattle.run_acts.specs.Fitting.{is_fit};
+ghost use Rattle.run_acts.specs.Acting.{IsReady, Does, fault_of};
+ghost use Rattle.world_state.specs.Armed.{most_armed};
+ghost use Rattle.world_state.specs.Stands.{Stands};
+ghost use Rattle.world_state.specs.Tallied.{Tallied};
+
+use crate::State;
+use disk_model::{Arm, Disk};
+use qkd_base::NodeNo;
+use source_devices::{Device, Entropy, Wire};
+
+/// Ends the life of a node's manager. It answers whether that was up.
+pub fn crash<K: Disk + Drop, Q: Device + Drop, E: Entropy + Drop, X: Wire + Drop>(
+    state: &mut State<K, Q, E, X>,
+    node: NodeNo,
+) -> bool
+    requires fit { is_fit (site_of state.old.site) (Crashes node) ≡ true }
+    requires ready { (net : Network) × (w : World) × IsReady (Stands K.is_honest K.moment K.image E.left Q.told X.frames X.counted) state.old net w }
+    ensures site { state.new.site ≡ state.old.site }
+    ensures armed { most_armed K.armings state.new.posts.items ≡ most_armed K.armings state.old.posts.items }
+    ensures done { (net : Network) (w : World) → IsReady (Stands K.is_honest K.moment K.image E.left Q.told X.frames X.counted) state.old net w
+        → Does (Stands K.is_honest K.moment K.image E.left Q.told X.frames X.counted) (Tallied K.faults K.armings E.faults Q.faults X.faults) state.old state.new net w (Crashes node) (crashed result) }
+{
+    let place = usize::from(node.get());
+    let post = state.posts.remove(place);
+    let (post, was_up) = world_posts::crash(post);
+    let _ = state.posts.insert(place, post);
+    was_up
+}
+
+/// Arms a node's disk with a fault, in place of an older one.
+pub fn arm<K: Disk + Drop, Q: Device + Drop, E: Entropy + Drop, X: Wire + Drop>(
+    state: &mut State<K, Q, E, X>,
+    node: NodeNo,
+    arm: Arm,
+)
+    requires fit { is_fit (site_of state.old.site) (Arms node (fault_of arm)) ≡ true }
+    requires ready { (net : Network) × (w : World) × IsReady (Stands K.is_honest K.moment K.image E.left Q.told X.frames X.counted) state.old net w }
+    requires few { most_armed K.armings state.old.posts.items < 2 ^ 32 }
+    ensures site { state.new.site ≡ state.old.site }
+    ensures armed { most_armed K.armings state.new.posts.items ≤ most_armed K.armings state.old.posts.items + 1 }
+    ensures done { (net : Network) (w : World) → IsReady (Stands K.is_honest K.moment K.image E.left Q.told X.frames X.counted) state.old net w
+        → Does (Stands K.is_honest K.moment K.image E.left Q.told X.frames X.counted) (Tallied K.faults K.armings E.faults Q.faults X.faults) state.old state.new net w (Arms node (fault_of arm)) Armed }
+{
+    match state.posts.get_mut(usize::from(node.get())) {
+        None => {}
+        Some(post) => world_posts::arm(post, arm),
+    }
+}
