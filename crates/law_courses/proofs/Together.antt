@@ -1,5 +1,5 @@
 -- The parts of the headline, put together.
-use Rattle.std.proofs.Common.{◌≡◌, ℕ, ◌<◌, false, List, Option, Some, sym, subst, append-nil}
+use Rattle.std.proofs.Common.{◌≡◌, ℕ, ◌<◌, false, List, Option, Some, refl, sym, subst, append-nil}
 use Rattle.net_model.specs.declared.record.Record.{Record}
 use Rattle.net_model.specs.Journal.{is_blank}
 use Rattle.net_model.specs.World.{Network, World, first}
@@ -10,8 +10,9 @@ use Rattle.run_model.specs.Left.{IsFoldOf}
 use Rattle.run_model.specs.Bench.{Layers, Sources, Seen}
 use Rattle.run_model.specs.Course.{Words, Run, Course, tasks_of, whole_run, last_world, IsCourseOf}
 use Rattle.run_model.specs.Keys.{KeysAndBytes}
-use Rattle.run_model.specs.Headline.{Stop, Done, ForgedMatch, ListenFault, WriteFault, Memory, IsReported, Headline}
+use Rattle.run_model.specs.Headline.{Stop, Done, ForgedMatch, ListenFault, WriteFault, Memory, IsReported}
 use Rattle.law_courses.specs.Benched.{lines_alone}
+use Rattle.law_courses.specs.Headlines.{HeadlineOf}
 use Rattle.law_courses.specs.Seen.{IsTold, IsKept, IsSeen}
 use Rattle.law_courses.proofs.Telling.{no_more, still_first}
 use Rattle.law_courses.proofs.Folds.{is_fold}
@@ -42,8 +43,8 @@ module _ (words : Words) (layers : Layers) (sources : Sources) (scenario : Scena
       (d.0, d.1, is_fold c.net (whole_run c) v kept.committed d.0 run.network run.steps kept.may kept.given)
 
   pub headline : (stop : Stop) (old new : Option (List ℕ)) → IsReported words stop layers scenario c old new → KeysAndBytes c →
-      Headline words stop layers sources scenario seen old new
-  headline stop old new reported keys =
+      HeadlineOf words stop layers sources scenario seen old new c
+  headline stop old new reported keys = (
       record {
         course = c;
         run = run;
@@ -58,4 +59,6 @@ module _ (words : Words) (layers : Layers) (sources : Sources) (scenario : Scena
         device_faults = h.device_faults;
         wire_faults = h.wire_faults;
         armed = h.armed;
-      }
+      },
+      refl,
+  )

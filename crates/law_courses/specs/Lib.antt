@@ -1,2 +1,3 @@
 pub mod Benched
+pub mod Headlines
 pub mod Seen

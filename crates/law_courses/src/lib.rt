@@ -23,9 +23,10 @@ ghost use Rattle.run_model.specs.Left.{batches_made, IsFoldOf};
 ghost use Rattle.run_model.specs.Bench.{Layers, Sources, Seen, RoseBy};
 ghost use Rattle.run_model.specs.Course.{Words, Run, Load, Course, tasks_of, whole_run, last_world, lines_played, IsCourseOf};
 ghost use Rattle.run_model.specs.Keys.{KeysAndBytes};
-ghost use Rattle.run_model.specs.Headline.{Stop, Took, TookFirst, Done, ForgedMatch, WriteFault, Memory, IsReported, Headline};
+ghost use Rattle.run_model.specs.Headline.{Stop, Took, TookFirst, Done, ForgedMatch, WriteFault, Memory, IsReported};
 ghost use Rattle.law_journals.specs.GivesBack.{GivesBack};
 ghost use Rattle.law_courses.specs.Benched.{IsBenched, lines_alone, counter, kept_view};
+ghost use Rattle.law_courses.specs.Headlines.{HeadlineOf};
 ghost use Rattle.law_courses.specs.Seen.{IsTold, IsSeen};
 
 use law_headline::{law_course_is_run, law_keys_and_bytes, law_tasks_are_run};
@@ -97,19 +98,19 @@ pub fn law_octets_left()
         (sequence_of rest).end ≡ option_map (λ (e : ℕ). e - n) (sequence_of told).end → rest ≡ drop n told }
 {}
 
-/// So what was done for the tasks of a scenario has its headline, where the sink and the bench's parts tell what they should. Of a generated load it
+/// So what was done for the tasks of a scenario has its headline, of just its course, where the sink and the bench's parts tell what they should. Of a generated load it
 /// is left to say what the sink took.
 pub fn law_headline_of_tasks()
     ensures run { (layers : Layers) (sources : Sources) (scenario : Scenario) (workers : ℕ) (stop : Stop) (seen : Seen) (old new : Option (List ℕ)) (net : Network) (done : List Performed) →
         IsBenched layers sources scenario net → IsRunOf layers.http net workers first (tasks_of scenario) done →
         IsTold stop scenario.site.nodes (report layers.http net first (tasks_of scenario) done) old new →
         IsSeen layers sources net (report layers.http net first (tasks_of scenario) done).world (actions_of net done) seen →
-        Headline (Run workers) stop layers sources scenario seen old new }
+        HeadlineOf (Run workers) stop layers sources scenario seen old new (lines_alone net done) }
     ensures load { (layers : Layers) (sources : Sources) (scenario : Scenario) (rounds : ℕ) (stop : Stop) (seen : Seen) (old new : Option (List ℕ)) (net : Network) (done : List Performed) →
         scenario ≡ load_scenario rounds → IsBenched layers sources scenario net → IsRunOf layers.http net 1 first (tasks_of scenario) done →
         IsReported (Load rounds) stop layers scenario (lines_alone net done) old new →
         IsSeen layers sources net (report layers.http net first (tasks_of scenario) done).world (actions_of net done) seen →
-        Headline (Load rounds) stop layers sources scenario seen old new }
+        HeadlineOf (Load rounds) stop layers sources scenario seen old new (lines_alone net done) }
 {
     law_tasks_make_a_course();
     law_lines_are_the_whole();

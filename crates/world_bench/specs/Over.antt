@@ -8,7 +8,8 @@ use Rattle.hop_frames.specs.Sealing.{hop_sealing}
 use Rattle.scenario_lines.specs.declared.scenario.Scenario.{Scenario}
 use Rattle.run_model.specs.Report.{Performed, report, actions_of}
 use Rattle.run_model.specs.Bench.{Layers, Sources, Seen}
-use Rattle.run_model.specs.Course.{tasks_of}
+use Rattle.run_model.specs.Course.{Words, tasks_of}
+use Rattle.run_model.specs.Headline.{Stop, Headline}
 use Rattle.world_bench.specs.New.{IsNew, network_on, AreKnown}
 use Rattle.world_bench.specs.Reading.{ReadsDisks}
 use Rattle.world_bench.specs.Seen.{IsSeenOn}
@@ -30,3 +31,9 @@ pub record IsOver {K Q E X : Type 0} (is_honest : K → Bool) (content : K → L
   pub ran : HasRun is_honest content moment image left told frames counted disk_count armed entropy_count device_count wire_count old new scenario.site (network_on told left old scenario.site)
       (actions_of (network_on told left old scenario.site) done) (report layers.http (network_on told left old scenario.site) first (tasks_of scenario) done).world
   pub shows : IsSeenOn moment image left frames disk_count armed entropy_count device_count wire_count old new seen
+
+-- The headline holds, and its run is over what the parts of the bench told.
+abbrev pub HeadlineOver : {K Q E X : Type 0} → (told : Q → Option OctetSequence) → (left : E → Option OctetSequence) → (old : Bench K Q E X) →
+    Words → Stop → Layers → Sources → Scenario → Seen → (before after : Option (List ℕ)) → Type 0
+HeadlineOver told left old words stop layers sources scenario seen before after =
+    (h : Headline words stop layers sources scenario seen before after) × (h.course.net ≡ network_on told left old scenario.site)

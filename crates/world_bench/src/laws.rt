@@ -12,7 +12,7 @@ ghost use Rattle.run_model.specs.Report.{Performed, report, IsRunOf};
 ghost use Rattle.run_model.specs.Load.{load_scenario};
 ghost use Rattle.run_model.specs.Bench.{Layers, Sources, Seen};
 ghost use Rattle.run_model.specs.Course.{Run, Load, tasks_of};
-ghost use Rattle.run_model.specs.Headline.{Stop, IsReported, Headline};
+ghost use Rattle.run_model.specs.Headline.{Stop, IsReported};
 ghost use Rattle.law_courses.specs.Benched.{IsBenched, lines_alone};
 ghost use Rattle.law_courses.specs.Seen.{IsTold, IsSeen};
 ghost use Rattle.world_state.specs.Stands.{Stands};
@@ -23,7 +23,7 @@ ghost use Rattle.world_bench.specs.New.{IsNew, network_on, AreKnown};
 ghost use Rattle.world_bench.specs.Reading.{ReadsDisks, batches_on};
 ghost use Rattle.world_bench.specs.Seen.{IsSeenOn};
 ghost use Rattle.world_bench.specs.Ran.{HasRun};
-ghost use Rattle.world_bench.specs.Over.{IsOver};
+ghost use Rattle.world_bench.specs.Over.{IsOver, HeadlineOver};
 ghost use Rattle.world_bench.specs.declared.bench.Bench.{Bench as BenchValue};
 
 use disk_model::Disk;
@@ -64,20 +64,20 @@ pub fn law_bench_is_seen<K: Disk + Drop, Q: Device + Drop, E: Entropy + Drop, X:
     frames_of_a_network();
 }
 
-/// So what was done for the tasks of a scenario over a new bench has its headline, where the sink took what it should. Of a generated load it is left to
-/// say what the sink took.
+/// So what was done for the tasks of a scenario over a new bench has its headline, of a run over what the bench's parts told, where the sink took what it
+/// should. Of a generated load it is left to say what the sink took.
 pub fn law_bench_headline<K: Disk + Drop, Q: Device + Drop, E: Entropy + Drop, X: Wire + Drop>()
     ensures run { (layers : Layers) (sources : Sources) (scenario : Scenario) (workers : ℕ) (stop : Stop) (seen : Seen) (old new : BenchValue K Q E X) (before after : Option (List ℕ)) (done : List Performed) →
         IsOver K.is_honest K.content K.moment K.image E.left Q.told X.frames X.counted K.faults K.armings E.faults Q.faults X.faults old new layers sources scenario done seen →
         IsRunOf layers.http (network_on Q.told E.left old scenario.site) workers first (tasks_of scenario) done →
         IsTold stop scenario.site.nodes (report layers.http (network_on Q.told E.left old scenario.site) first (tasks_of scenario) done) before after →
-        Headline (Run workers) stop layers sources scenario seen before after }
+        HeadlineOver Q.told E.left old (Run workers) stop layers sources scenario seen before after }
     ensures load { (layers : Layers) (sources : Sources) (scenario : Scenario) (rounds : ℕ) (stop : Stop) (seen : Seen) (old new : BenchValue K Q E X) (before after : Option (List ℕ)) (done : List Performed) →
         scenario ≡ load_scenario rounds →
         IsOver K.is_honest K.content K.moment K.image E.left Q.told X.frames X.counted K.faults K.armings E.faults Q.faults X.faults old new layers sources scenario done seen →
         IsRunOf layers.http (network_on Q.told E.left old scenario.site) 1 first (tasks_of scenario) done →
         IsReported (Load rounds) stop layers scenario (lines_alone (network_on Q.told E.left old scenario.site) done) before after →
-        Headline (Load rounds) stop layers sources scenario seen before after }
+        HeadlineOver Q.told E.left old (Load rounds) stop layers sources scenario seen before after }
 {
     frames_of_a_network();
     law_tasks_are_run();
