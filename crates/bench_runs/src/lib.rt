@@ -1,0 +1,8 @@
+//! A scenario is run over a bench, whose parts are put back whatever comes of it.
+#![tactic(auto)]
+
+mod running;
+
+pub use run_lines::{Stop, has_block};
+pub use running::run_scenario;
+pub use world_bench::Bench;
