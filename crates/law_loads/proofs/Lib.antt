@@ -1,0 +1,10 @@
+pub mod Singles
+pub mod Firsts
+pub mod Said
+pub mod Counting
+pub mod Scripts
+pub mod Reports
+pub mod Lines
+pub mod Told
+pub mod Tasks
+pub mod Rounds
