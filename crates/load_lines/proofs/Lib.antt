@@ -1,0 +1,6 @@
+pub mod Keys
+pub mod Telling
+pub mod Hearing
+pub mod Tasks
+pub mod Entries
+pub mod Reported

@@ -1,0 +1,5 @@
+pub mod Told
+pub mod Counting
+pub mod Leading
+pub mod Lines
+pub mod Loaded
