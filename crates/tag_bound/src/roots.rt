@@ -1,0 +1,91 @@
+// The keys that give two texts a chosen difference of hashes.
+ghost use Rattle.std.specs.Prelude.{◌≡◌, ℕ, ◌<◌, ◌≤◌, ◌↔◌, IfOk, IsOk, length};
+ghost use Rattle.wc_tags.specs.Tag.{blocks_of};
+ghost use Rattle.tag_bound.specs.Keys.{IsFirstRepeat, AreDistinct};
+ghost use Rattle.tag_bound.specs.Differences.{count_giving, most_blocks, IsTooLong, AreCompared};
+
+use crate::keys::{Keys64, first_repeat};
+use crate::refusal::RootRefusal;
+use std::alloc::Global;
+use wc_tags::hash;
+
+/// The longest text that is compared, in octets.
+const LONGEST: usize = 600;
+
+/// How many keys gave a difference, and how many there can be.
+#[derive(Clone, Copy, Debug, PartialEq, Eq)]
+pub struct RootCount {
+    /// The number of blocks of the text that has more of them, with its length block: 2 to 76.
+    pub bound: u32,
+    /// How many of the keys gave the difference: at most the bound.
+    pub found: u32,
+}
+
+/// Counts the keys under which the hashes of two different texts have this difference, which is their
+/// sum in the field. A text has at most 600 octets, and no key stands twice. Memory is taken for the
+/// keys that were seen, and let go again.
+///
+/// That few keys give a difference is the reason why a tag holds (Wegman and Carter, New hash functions
+/// and their use in authentication and set equality, 1981).
+pub fn roots_among(
+    alloc: Global,
+    a: &[u8],
+    b: &[u8],
+    difference: u64,
+    keys: &Keys64,
+) -> Result<RootCount, RootRefusal>
+    ensures too_long { (result ≡ Err RootRefusal.TooLong) ↔ IsTooLong a.now b.now }
+    ensures equal { (result ≡ Err RootRefusal.Equal) ↔ (¬ (IsTooLong a.now b.now) × (a.now ≡ b.now)) }
+
+    // Memory may be wanting where two texts are compared under keys, and nowhere else.
+    ensures memory { result ≡ Err RootRefusal.Memory → AreCompared a.now b.now × (0 < length keys.now) }
+    ensures repeated { (place : ℕ) → (result ≡ Err (RootRefusal.Repeated place)) ↔ (AreCompared a.now b.now × IsFirstRepeat keys.now place × ¬ (result ≡ Err RootRefusal.Memory)) }
+    ensures counted { IsOk result ↔ (AreCompared a.now b.now × AreDistinct keys.now × ¬ (result ≡ Err RootRefusal.Memory)) }
+    ensures bound { IfOk result (λ count. count.bound ≡ most_blocks a.now b.now) }
+    ensures found { IfOk result (λ count. count.found ≡ count_giving a.now b.now difference keys.now) }
+
+    // Few keys give the difference.
+    ensures few { IfOk result (λ count. count.found ≤ count.bound) }
+{
+    if a.len() > LONGEST || b.len() > LONGEST {
+        return Err(RootRefusal::TooLong);
+    }
+    if a == b {
+        return Err(RootRefusal::Equal);
+    }
+    if let Some(place) = first_repeat(alloc, keys.as_slice())? {
+        return Err(RootRefusal::Repeated(place));
+    }
+    Ok(count(a, b, difference, keys.as_slice()))
+}
+
+// The count for different texts and distinct keys.
+fn count(a: &[u8], b: &[u8], difference: u64, keys: &[u64]) -> RootCount
+    requires texts { AreCompared a.now b.now }
+    requires keys { AreDistinct keys.now }
+    ensures bound { result.bound ≡ most_blocks a.now b.now }
+    ensures found { result.found ≡ count_giving a.now b.now difference keys.now }
+    ensures few { result.found ≤ result.bound }
+{
+    RootCount {
+        bound: block_count(a).max(block_count(b)),
+        found: giving(a, b, difference, keys) as u32,
+    }
+}
+
+// How many blocks a text has, with its length block.
+fn block_count(text: &[u8]) -> u32
+    requires { length text.now ≤ 600 }
+    ensures { result ≡ length (blocks_of text.now) }
+{
+    text.len().div_ceil(8) as u32 + 1
+}
+
+// How many of the keys give the difference.
+fn giving(a: &[u8], b: &[u8], difference: u64, keys: &[u64]) -> usize
+    ensures { result ≡ count_giving a.now b.now difference keys.now }
+{
+    keys.iter()
+        .filter(|key| hash(**key, a) ^ hash(**key, b) == difference)
+        .count()
+}
