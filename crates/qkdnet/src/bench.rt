@@ -1,36 +1,73 @@
-// The outside of a run.
-ghost use Rattle.std.specs.Prelude.{IfOk};
-ghost use Rattle.qkdnet.specs.Generated.{IsGenerated};
+// The outside of a run of the program.
+ghost use Rattle.std.specs.Prelude.{◌≡◌, IfOk, length};
+ghost use Rattle.std.specs.List.{All};
+ghost use Rattle.world_bench.specs.New.{IsNew};
+ghost use Rattle.qkdnet.specs.Fresh.{AreBlank, AreSilent};
 
-use crate::generator::octets;
-use qkd_base::{Items, Lists, Memory};
+use disk_model::{Disk, MemDisk};
+use qkd_base::{LinkNo, Memory, NodeNo};
+use qkd_network::Bench;
+use source_devices::{Device, Entropy, GeneratedDevice, GeneratedEntropy, MemWire, Wire};
 use std::alloc::Global;
 
-/// The lists that the outside of a run gives.
-#[derive(Debug, Drop)]
-pub struct Bench {
-    /// What the device of each link gives, by the link's number.
-    pub devices: Lists,
-    /// What the entropy of each node gives, by the node's number.
-    pub entropies: Lists,
-    /// The octets of the frames on each lane's wire, one frame after another: the lane up of link l at 2l, the lane
-    /// down at 2l + 1.
-    pub wires: Lists,
+/// Empty disks and wires in memory, and devices and entropies that give the same octets in each run.
+pub type ProgramBench = Bench<MemDisk, GeneratedDevice, GeneratedEntropy, MemWire>;
+
+/// A new bench, whose disks were never armed.
+pub fn new_bench(alloc: Global) -> Result<ProgramBench, Memory>
+    ensures fresh { IfOk result (λ bench. IsNew ⟦<MemDisk as Disk>⟧.is_honest ⟦<MemDisk as Disk>⟧.moment ⟦<MemDisk as Disk>⟧.image ⟦<GeneratedEntropy as Entropy>⟧.left ⟦<GeneratedDevice as Device>⟧.told ⟦<MemWire as Wire>⟧.frames bench) }
+    ensures unarmed { IfOk result (λ bench. All (λ k. (⟦<MemDisk as Disk>⟧.armings k).count ≡ 0) bench.disks.items) }
+{
+    Ok(Bench {
+        disks: disks(alloc)?,
+        entropies: entropies(alloc)?,
+        devices: devices(alloc)?,
+        wires: wires(alloc)?,
+    })
 }
 
-/// The bench of the program: 1,048,576 octets for the link and 65,536 for the lower node, from a generator.
-pub fn generated(alloc: Global) -> Result<Bench, Memory>
-    ensures { IfOk result IsGenerated }
+// Sixteen empty disks.
+fn disks(alloc: Global) -> Result<Vec<MemDisk>, Memory>
+    ensures { IfOk result (λ disks. AreBlank 16 disks.items) }
 {
-    let mut devices: Lists = Items::new(alloc);
-    let bits = octets(alloc, b'L', 0, 1048576)?;
-    devices.push(bits)?;
-    let mut entropies: Lists = Items::new(alloc);
-    let entropy = octets(alloc, b'E', 0, 65536)?;
-    entropies.push(entropy)?;
-    Ok(Bench {
-        devices,
-        entropies,
-        wires: Items::new(alloc),
-    })
+    let mut disks = Vec::new(alloc);
+    for _ in 0..16u8 {
+        disks.push(MemDisk::new(alloc, &[], Vec::new(alloc))?)?;
+    }
+    Ok(disks)
+}
+
+// The entropy of each node.
+fn entropies(alloc: Global) -> Result<Vec<GeneratedEntropy>, Memory>
+    ensures { IfOk result (λ entropies. length entropies.items ≡ 16) }
+{
+    let mut entropies = Vec::new(alloc);
+    for number in 0..16u8 {
+        let node = NodeNo::new(number).unwrap();
+        entropies.push(GeneratedEntropy::new(node))?;
+    }
+    Ok(entropies)
+}
+
+// The device of each link.
+fn devices(alloc: Global) -> Result<Vec<GeneratedDevice>, Memory>
+    ensures { IfOk result (λ devices. length devices.items ≡ 32) }
+{
+    let mut devices = Vec::new(alloc);
+    for number in 0..32u8 {
+        let link = LinkNo::new(number).unwrap();
+        devices.push(GeneratedDevice::new(link))?;
+    }
+    Ok(devices)
+}
+
+// Two empty wires for each link.
+fn wires(alloc: Global) -> Result<Vec<MemWire>, Memory>
+    ensures { IfOk result (λ wires. AreSilent 64 wires.items) }
+{
+    let mut wires = Vec::new(alloc);
+    for _ in 0..64u8 {
+        wires.push(MemWire::new(alloc, Vec::new(alloc)))?;
+    }
+    Ok(wires)
 }

@@ -1,2 +1,0 @@
-pub mod LineOrder
-pub mod Scenario

@@ -1,2 +1,0 @@
-pub mod AbstractRun
-pub mod Script

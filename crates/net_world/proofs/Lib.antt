@@ -1,4 +1,0 @@
-pub mod Taking
-pub mod Frames
-pub mod Performs
-pub mod Running

@@ -1,0 +1,32 @@
+-- What was read to the end, or past the limit, means what all of the input means.
+use Rattle.std.proofs.Common.{◌≡◌, ℕ, ◌+◌, ◌<◌, List, [], ◌++◌, length, take, refl, ap, ◌∙◌, inl, inr, arith}
+use Rattle.std.specs.Prelude.{◌⊎◌, Option, None, Some}
+use Rattle.std.proofs.lemmas.List.{take-append-le, append-nil}
+use Rattle.scenario_reader.specs.Line.{nothing_read}
+use Rattle.scenario_reader.specs.Text.{meaning_of, text_limit, parts_from, parts_of}
+use Rattle.qkd_network.specs.Blocks.{lines_before, line_of_block}
+use Rattle.qkd_network.specs.Inputs.{ReadsWhole, IsInput}
+
+-- no more than one octet past the limit is looked at
+same_front : (bytes rest : List ℕ) → (rest ≡ []) ⊎ (text_limit < length bytes) → take (text_limit + 1) (bytes ++ rest) ≡ take (text_limit + 1) bytes
+same_front bytes rest (inl none) = ap (λ (r : List ℕ). take (text_limit + 1) (bytes ++ r)) none ∙ ap (take (text_limit + 1)) (append-nil bytes)
+same_front bytes rest (inr long) = take-append-le (text_limit + 1) bytes rest (omega (arith, long))
+
+-- the input that was read from
+pub record Read (left : Option (List ℕ)) (bytes : List ℕ) : Type 0 where
+  pub input : List ℕ
+  pub input_is : IsInput left input
+  pub means : meaning_of input ≡ meaning_of bytes
+  pub block : line_of_block input ≡ line_of_block bytes
+
+pub read_of : (left rest : Option (List ℕ)) (bytes : List ℕ) → ReadsWhole left rest bytes → Read left bytes
+read_of None rest bytes r = record { input = bytes; input_is = tt; means = refl; block = refl }
+read_of (Some all) None bytes r = absurd r.0
+read_of (Some all) (Some rest) bytes r =
+    let same = ap (take (text_limit + 1)) r.0 ∙ same_front bytes rest r.1 in
+    record {
+      input = all;
+      input_is = refl;
+      means = ap (λ (text : List ℕ). parts_from text_limit 1 nothing_read (parts_of text)) same;
+      block = ap (λ (text : List ℕ). lines_before (parts_of text) + 1) same;
+    }

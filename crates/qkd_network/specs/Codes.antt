@@ -1,0 +1,33 @@
+-- The exit status and the words on standard error of each end.
+use Rattle.std.specs.Prelude.{ℕ, List, [], ◌++◌, Result, Ok, Err}
+use Rattle.std.specs.Fmt.{decimal}
+use lib.Chars.{codes}
+use Rattle.run_lines.specs.declared.stop.Stop.{Stop}
+use Rattle.run_lines.specs.declared.stop.Stop.TheVariants as stops
+use Rattle.qkd_network.specs.declared.status.Status.{Status}
+use Rattle.qkd_network.specs.declared.status.Status.TheVariants.{Done, Usage, BadLine, ReadFault, WriteFault, ForgedMatch, Memory}
+
+abbrev pub code_of : Status → ℕ
+code_of Done = 0
+code_of (Usage i) = 1
+code_of (BadLine n) = 2
+code_of ReadFault = 3
+code_of WriteFault = 3
+code_of (ForgedMatch n) = 4
+code_of Memory = 5
+
+abbrev pub said_of : Status → List ℕ
+said_of Done = []
+said_of (Usage i) = codes "usage: word " ++ decimal i
+said_of (BadLine n) = codes "line " ++ decimal n
+said_of ReadFault = codes "read fault"
+said_of WriteFault = codes "write fault"
+said_of (ForgedMatch n) = codes "forged frame at line " ++ decimal n
+said_of Memory = codes "out of memory"
+
+-- that of a run
+abbrev pub status_of : {T : Type 0} → Result T Stop → Status
+status_of (Ok done) = Done
+status_of (Err stops.WriteFault) = WriteFault
+status_of (Err stops.Memory) = Memory
+status_of (Err (stops.Forged line)) = ForgedMatch line

@@ -1,0 +1,44 @@
+// The forms of the words.
+ghost use Rattle.std.specs.Prelude.{◌≡◌, ◌≤◌, Ok, Err, MatchResult, drop, length};
+ghost use Rattle.qkd_network.specs.Forms.{asked_by, run_form, words_of};
+
+use qkd_base::Texts;
+
+/// What the words ask for.
+#[derive(Clone, Copy, Debug, PartialEq, Eq)]
+pub enum Form {
+    /// A scenario is run by one worker.
+    Run,
+}
+
+/// What the words ask for, or the place of the first word that fits no form, or their number if one is missing.
+#[tactic(auto, unfolding(crate::specs::Forms::asked_by))]
+pub fn read_form(words: &Texts) -> Result<Form, usize>
+    ensures { MatchResult result (λ form. asked_by words.now ≡ Ok (words_of form)) (λ place. asked_by words.now ≡ Err place) }
+{
+    let Some(first) = words.get(0) else {
+        return Err(0);
+    };
+    if first.as_str() != "run" {
+        return Err(0);
+    }
+    run_form(words)
+}
+
+// That of `run`, which is the first word.
+#[tactic(auto, unfolding(crate::specs::Forms::run_form))]
+fn run_form(words: &Texts) -> Result<Form, usize>
+    requires { 1 ≤ length words.now }
+    ensures { MatchResult result (λ form. run_form (drop 1 words.now) ≡ Ok (words_of form)) (λ place. run_form (drop 1 words.now) ≡ Err place) }
+{
+    let Some(count) = words.get(1) else {
+        return Err(1);
+    };
+    if count.as_str() != "1" {
+        return Err(1);
+    }
+    if words.len() > 2 {
+        return Err(2);
+    }
+    Ok(Form::Run)
+}

@@ -1,0 +1,73 @@
+// How the program ended.
+use run_lines::Stop;
+use std::fmt;
+
+/// How the program ended.
+#[derive(Clone, Copy, Debug, PartialEq, Eq)]
+pub enum Status {
+    /// The whole report was written.
+    Done,
+    /// The words are no form; this one, from 0, is the first that fits none, or their number if one is missing.
+    Usage(usize),
+    /// This line, from 1, is the first that is refused.
+    BadLine(u32),
+    /// The source failed.
+    ReadFault,
+    /// The sink failed.
+    WriteFault,
+    /// At this line a frame that nobody sent had the tag of the lane's next bytes. The run ended there.
+    ForgedMatch(u32),
+    /// Memory was wanting.
+    Memory,
+}
+
+impl Status {
+    ghost use Rattle.std.specs.Prelude.{◌≡◌};
+    ghost use Rattle.qkd_network.specs.Codes.{code_of, status_of};
+
+    /// The exit status.
+    pub fn code(self) -> u8
+        ensures { result ≡ code_of self }
+    {
+        match self {
+            Status::Done => 0,
+            Status::Usage(_) => 1,
+            Status::BadLine(_) => 2,
+            Status::ReadFault => 3,
+            Status::WriteFault => 3,
+            Status::ForgedMatch(_) => 4,
+            Status::Memory => 5,
+        }
+    }
+
+    // That of a run.
+    pub(crate) fn of_run(ended: Result<(), Stop>) -> Self
+        ensures { result ≡ status_of ended }
+    {
+        match ended {
+            Ok(()) => Status::Done,
+            Err(Stop::WriteFault) => Status::WriteFault,
+            Err(Stop::Forged(line)) => Status::ForgedMatch(line),
+            Err(Stop::Memory) => Status::Memory,
+        }
+    }
+}
+
+impl fmt::Display for Status {
+    ghost use Rattle.std.specs.Prelude.{Some};
+    ghost use Rattle.qkd_network.specs.Codes.{said_of};
+
+    ghost output = { λ s. Some (said_of s) };
+
+    fn fmt<W: fmt::Write>(&self, f: &mut fmt::Formatter<W>) -> fmt::Result {
+        match *self {
+            Status::Done => write!(f, ""),
+            Status::Usage(place) => write!(f, "usage: word {place}"),
+            Status::BadLine(number) => write!(f, "line {number}"),
+            Status::ReadFault => write!(f, "read fault"),
+            Status::WriteFault => write!(f, "write fault"),
+            Status::ForgedMatch(number) => write!(f, "forged frame at line {number}"),
+            Status::Memory => write!(f, "out of memory"),
+        }
+    }
+}

@@ -1,9 +1,0 @@
-pub mod Words
-pub mod KeySize
-pub mod Phase
-pub mod DeclaredSite
-pub mod Gives
-pub mod Declaring
-pub mod Commanding
-pub mod Line
-pub mod Text
