@@ -1,0 +1,10 @@
+pub mod Walks
+pub mod Upper
+pub mod PartUppers
+pub mod NameUppers
+pub mod KeyUppers
+pub mod ItemUppers
+pub mod Lower
+pub mod PartLowers
+pub mod NameLowers
+pub mod ItemLowers

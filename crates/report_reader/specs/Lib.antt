@@ -1,0 +1,5 @@
+pub mod Runs
+pub mod Fits
+pub mod Walk
+pub mod Rows
+pub mod Misfit
