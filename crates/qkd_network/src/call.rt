@@ -12,6 +12,7 @@ use crate::Status;
 use crate::blocks::{first_refused, line_of_block};
 use crate::form::{Form, read_form};
 use crate::reading::{ReadRefusal, read_all};
+use bench_loads::run_load;
 use bench_runs::{has_block, run_scenario};
 use disk_model::Disk;
 use edge_io::{Sink, Source};
@@ -22,8 +23,9 @@ use source_devices::{Device, Entropy, Wire};
 use std::alloc::Global;
 use world_bench::Bench;
 
-/// Does what the words ask for: reads a scenario from the source to its end, runs it over a new bench, and writes its report to the
-/// sink, a line at a time.
+/// Does what the words ask for. For `run` it reads a scenario from the source to its end, runs it over a new bench, and writes its
+/// report to the sink, a line at a time. For `load` it runs the generated load of so many rounds, and writes its ledgers and how many
+/// keys it handed out; the source is not touched.
 ///
 /// Whatever it is called with, the answer says what was done. On `Usage` that word is the first that fits no form, and nothing was
 /// touched. On `BadLine` that line is the first that is refused; nothing is judged before the source was read to its end or past the
@@ -56,6 +58,9 @@ pub fn network<
 {
     match read_form(words) {
         Err(place) => return Status::Usage(place),
+        Ok(Form::Load { rounds }) => {
+            return Status::of_run(run_load(alloc, rounds, sink, bench));
+        }
         Ok(Form::Run) => {}
     }
     let bytes = match read_all(alloc, source) {
