@@ -1,0 +1,45 @@
+//! Tests of the top call: scenarios over a bench in memory, and what is reported of them.
+#![tactic(auto)]
+
+#[cfg(test)]
+mod bench;
+#[cfg(test)]
+mod blocks;
+#[cfg(test)]
+mod crashes;
+#[cfg(test)]
+mod cuts;
+#[cfg(test)]
+mod edges;
+#[cfg(test)]
+mod ends;
+#[cfg(test)]
+mod frames;
+#[cfg(test)]
+mod groups;
+#[cfg(test)]
+mod handings;
+#[cfg(test)]
+mod http;
+#[cfg(test)]
+mod journals;
+#[cfg(test)]
+mod keys;
+#[cfg(test)]
+mod ledgers;
+#[cfg(test)]
+mod links;
+#[cfg(test)]
+mod marks;
+#[cfg(test)]
+mod outside;
+#[cfg(test)]
+mod relays;
+#[cfg(test)]
+mod repeats;
+#[cfg(test)]
+mod run;
+#[cfg(test)]
+mod script;
+#[cfg(test)]
+mod streams;

@@ -1,0 +1,127 @@
+// One run of the top call.
+use crate::bench::{FirstParts, TestBench, is_whole, new_bench};
+use crate::script::{Lines, Script};
+use edge_io::{MemSink, MemSource, Source};
+use qkd_base::{Items, Memory, Text, Texts};
+use qkd_network::{Status, network};
+use std::alloc::Global;
+
+/// The room of a sink that takes each report here.
+pub const ROOM: usize = 65536;
+
+/// What came of a run.
+#[derive(Drop)]
+pub struct Outcome {
+    pub status: Status,
+    pub report: String,
+    pub bench: TestBench,
+}
+
+/// The words of most runs here.
+pub const ONE_WORKER: &str = "run 1";
+
+// The words of a text, of which each space parts two. An empty text has none.
+fn texts(alloc: Global, words: &str) -> Result<Texts, Memory> {
+    let mut texts = Items::new(alloc);
+    if !words.is_empty() {
+        for word in words.split(' ') {
+            texts.push(Text::from_string(String::from_str(alloc, word)?))?;
+        }
+    }
+    Ok(texts)
+}
+
+/// Does what the words ask for over a new bench with these parts, and gives the bench back.
+pub fn over<S: Source>(
+    alloc: Global,
+    words: &str,
+    first: FirstParts,
+    source: &mut S,
+    sink: &mut MemSink,
+) -> Result<(Status, TestBench), Memory> {
+    let words = texts(alloc, words)?;
+    let mut bench = new_bench(alloc, first)?;
+    let status = network(alloc, &words, source, sink, &mut bench);
+    Ok((status, bench))
+}
+
+/// A source of this text.
+pub fn source(alloc: Global, text: &str) -> Result<MemSource, Memory> {
+    Ok(MemSource::new(text.as_bytes().to_vec(alloc)?, Vec::new(alloc)))
+}
+
+/// Runs a scenario with these parts.
+pub fn run(alloc: Global, text: &str, first: FirstParts) -> Result<Outcome, Memory> {
+    let mut source = source(alloc, text)?;
+    let mut sink = MemSink::new(alloc, ROOM, Vec::new(alloc))?;
+    let (status, bench) = over(alloc, ONE_WORKER, first, &mut source, &mut sink)?;
+    let report = String::from_utf8_lossy(alloc, sink.taken())?;
+    Ok(Outcome {
+        status,
+        report,
+        bench,
+    })
+}
+
+/// Notes the first line in which what was found differs from what is wanted.
+pub fn note(
+    alloc: Global,
+    case: &str,
+    found: &str,
+    wanted: &str,
+    wrong: &mut String,
+) -> Result<(), Memory> {
+    let mut lines = found.split('\n');
+    for want in wanted.split('\n') {
+        let line = lines.next().unwrap_or("(no line)");
+        if line != want {
+            let said = format!(in alloc; "{case}: {line}, and not {want}\n")?;
+            wrong.push_str(said.as_str())?;
+            return Ok(());
+        }
+    }
+    if found.len() > wanted.len() {
+        wrong.push_str(case)?;
+        wrong.push_str(": more lines\n")?;
+    }
+    Ok(())
+}
+
+/// Notes where a run with these parts ends otherwise, reports otherwise, or keeps a part.
+pub fn compare_with(
+    alloc: Global,
+    case: &str,
+    script: &Script,
+    first: FirstParts,
+    status: Status,
+    wrong: &mut String,
+) -> Result<(), Memory> {
+    let outcome = run(alloc, script.text.as_str(), first)?;
+    if !is_whole(&outcome.bench) {
+        wrong.push_str(case)?;
+        wrong.push_str(": a part is missing\n")?;
+    }
+    if outcome.status != status {
+        let said = format!(in alloc; "{case}: {}, and not {status}\n", outcome.status)?;
+        wrong.push_str(said.as_str())?;
+    }
+    note(
+        alloc,
+        case,
+        outcome.report.as_str(),
+        script.report.as_str(),
+        wrong,
+    )
+}
+
+/// Notes where the lines are reported otherwise.
+pub fn compare(
+    alloc: Global,
+    case: &str,
+    parts: &[Lines],
+    wrong: &mut String,
+) -> Result<(), Memory> {
+    let script = Script::of(alloc, parts)?;
+    let first = FirstParts::new(alloc, 8)?;
+    compare_with(alloc, case, &script, first, Status::Done, wrong)
+}
