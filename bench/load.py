@@ -1,0 +1,68 @@
+#!/usr/bin/env python3
+"""Measures the generated load: the built program beside a plain Rust program of the same work.
+
+    python3 bench/load.py [PROGRAM]
+
+PROGRAM is the built program, and crates/qkdnet/out/qkdnet where none is named. The plain program stands in bench/plain and
+is built by cargo, without a network. Both run the same scenario of N rounds; their reports have to be equal. Printed are, for
+each N, the least processor time of five turns and the greatest memory of each, and the ratios. No test depends on them.
+"""
+import os
+import pathlib
+import subprocess
+import sys
+import tempfile
+
+HERE = pathlib.Path(__file__).resolve().parent
+PROGRAM = pathlib.Path(sys.argv[1] if len(sys.argv) > 1 else HERE.parent / "crates/qkdnet/out/qkdnet").resolve()
+NODES = range(8)
+
+
+def key(node, count):
+    return f"00000000-0000-8{node:03x}-8000-{count:012x}"
+
+
+def scenario(rounds):
+    """The generated load as a scenario: eight nodes in a ring, and rounds in which four keys go from one to another."""
+    lines = [f"node n{v}" for v in NODES] + [f"link n{v} n{v + 1}" for v in range(7)] + ["link n0 n7"]
+    lines += [f"sae s{v} n{v}" for v in NODES] + [f"allow s{a} s{b}" for a in NODES for b in NODES if a != b]
+    lines += [f"bits {link} both {2 * rounds}" for link in NODES]
+    given = [0] * 8
+    for r in range(rounds):
+        master, slave = r % 8, (3 * r + 1) % 8
+        names = " ".join(key(master, 4 * given[master] + k) for k in (1, 2, 3, 4))
+        lines += [f"fill s{master} s{slave} 256 4", "settle 40", f"enc n{master} s{master} s{slave} 4 256", f"dec n{slave} s{slave} s{master} {names}"]
+        for node in {master, slave}:
+            given[node] += 1
+    lines += [f"ledger {link} {way}" for link in NODES for way in ("up", "down")]
+    return "".join(line + "\n" for line in [*lines, "end"]).encode()
+
+
+def turn(program, text, report):
+    """The processor seconds and the KB of one run, whose report goes to the file."""
+    with open(report, "wb") as out, tempfile.TemporaryFile() as source:
+        source.write(text)
+        source.seek(0)
+        child = subprocess.Popen([program, "run", "1"], stdin=source, stdout=out)
+        _, status, used = os.wait4(child.pid, 0)
+        child.returncode = os.waitstatus_to_exitcode(status)
+    if child.returncode:
+        sys.exit(f"{program} ends with {child.returncode}")
+    return used.ru_utime + used.ru_stime, used.ru_maxrss
+
+
+def main():
+    subprocess.run(["cargo", "build", "--release", "--offline", "--quiet"], cwd=HERE / "plain", check=True)
+    plain = HERE / "plain/target/release/qkdnet-plain"
+    print("rounds  program: s, KB  plain: s, KB  ratio of time, of memory")
+    with tempfile.TemporaryDirectory() as room:
+        for rounds in (50, 100, 200, 500):
+            text, reports = scenario(rounds), [f"{room}/program", f"{room}/plain"]
+            ours, theirs = ([turn(it, text, report) for _ in range(5)] for it, report in zip((PROGRAM, plain), reports))
+            if pathlib.Path(reports[0]).read_bytes() != pathlib.Path(reports[1]).read_bytes():
+                sys.exit(f"the reports of {rounds} rounds differ")
+            (a, m), (b, n) = ((min(s for s, _ in it), max(kb for _, kb in it)) for it in (ours, theirs))
+            print(f"{rounds:6}  {a:.3f} {m}  {b:.3f} {n}  {a / b:.2f} {m / n:.2f}")
+
+
+main()
