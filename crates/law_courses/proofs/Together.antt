@@ -45,20 +45,20 @@ module _ (words : Words) (layers : Layers) (sources : Sources) (scenario : Scena
   pub headline : (stop : Stop) (old new : Option (List ℕ)) → IsReported words stop layers scenario c old new → KeysAndBytes c →
       HeadlineOf words stop layers sources scenario seen old new c
   headline stop old new reported keys = (
-      record {
-        course = c;
-        run = run;
-        reported = reported;
-        wires = h.wires;
-        disks = folded;
-        other_disks = h.other_disks;
-        left = h.left;
-        keys = keys;
-        disk_faults = h.disk_faults;
-        entropy_faults = h.entropy_faults;
-        device_faults = h.device_faults;
-        wire_faults = h.wire_faults;
-        armed = h.armed;
-      },
-      refl,
+    record {
+      course = c;
+      run = run;
+      reported = reported;
+      wires = h.wires;
+      disks = folded;
+      other_disks = h.other_disks;
+      left = h.left;
+      keys = keys;
+      disk_faults = h.disk_faults;
+      entropy_faults = h.entropy_faults;
+      device_faults = h.device_faults;
+      wire_faults = h.wire_faults;
+      armed = h.armed;
+    },
+    refl,
   )
