@@ -59,29 +59,29 @@ unhanded_counted v e seen m slaves bits number stock h =
     ∙ ap (min number) (length-filter (is_candidate v m slaves bits false) (own_names v)
     ∙ same_tests (is_candidate v m slaves bits false) (is_unhanded_group v m slaves bits) (λ n. and_true (is_unhanded_group v m slaves bits n)) (own_names v))
 
-pub parts_seen : (v : View) (e : Ends) → Sees v e → (key : Name) (m : ℕ) (ways : List (ℕ × List ℕ)) (bytes : List ℕ) (more : ℕ) → new_parts (ends_view e) key m ways bytes more ≡ new_parts v key m ways bytes more
+pub parts_seen : (v : View) (e : Ends) → Sees v e → (key : Name) (m : ℕ) (routes : List (ℕ × List ℕ)) (bytes : List ℕ) (more : ℕ) → new_parts (ends_view e) key m routes bytes more ≡ new_parts v key m routes bytes more
 parts_seen v e seen key m [] bytes more = refl
 parts_seen v e seen key m (w ∷ ws) bytes more =
     (λ i. Learned (Part (fresh_seen v e seen more i) key m w.0 w.1 bytes) ∷ parts_seen v e seen key m ws bytes (more + 1) i)
 
-pub groups_seen : (v : View) (e : Ends) → Sees v e → (m : ℕ) (ways : List (ℕ × List ℕ)) (size : ℕ) (random : List ℕ) (more count : ℕ) →
-    new_groups (ends_view e) m ways size random more count ≡ new_groups v m ways size random more count
-groups_seen v e seen m ways size random more zero = refl
-groups_seen v e seen m ways size random more (suc k) =
-    (λ i. (ap (λ (n : Name). new_parts (ends_view e) n m ways (take size random) (more + 1)) (fresh_seen v e seen more) ∙ parts_seen v e seen (fresh_name v KeyKind more) m ways (take size random) (more + 1)) i
-    ++ groups_seen v e seen m ways size (drop size random) (more + 1 + length ways) k i)
+pub groups_seen : (v : View) (e : Ends) → Sees v e → (m : ℕ) (routes : List (ℕ × List ℕ)) (size : ℕ) (random : List ℕ) (more count : ℕ) →
+    new_groups (ends_view e) m routes size random more count ≡ new_groups v m routes size random more count
+groups_seen v e seen m routes size random more zero = refl
+groups_seen v e seen m routes size random more (suc k) =
+    (λ i. (ap (λ (n : Name). new_parts (ends_view e) n m routes (take size random) (more + 1)) (fresh_seen v e seen more) ∙ parts_seen v e seen (fresh_name v KeyKind more) m routes (take size random) (more + 1)) i
+    ++ groups_seen v e seen m routes size (drop size random) (more + 1 + length routes) k i)
 
 -- the records, one key after the other
 
-pub one_group : (v : View) (m : ℕ) (ways : List (ℕ × List ℕ)) (size : ℕ) (random left front after : List ℕ) (more next count turn : ℕ) (key : Name) (batch longer : List Record) →
-    batch ++ new_groups v m ways size left more (count - turn) ≡ new_groups v m ways size random 0 count → turn < count → key ≡ fresh_name v KeyKind more → front ≡ take size left →
-    longer ≡ batch ++ new_parts v key m ways front (more + 1) → after ≡ drop size left → next ≡ more + 1 + length ways →
-    longer ++ new_groups v m ways size after next (count - (turn + 1)) ≡ new_groups v m ways size random 0 count
-one_group v m ways size random left front after more next count turn key batch longer h lt named f e d n =
+pub one_group : (v : View) (m : ℕ) (routes : List (ℕ × List ℕ)) (size : ℕ) (random left front after : List ℕ) (more next count turn : ℕ) (key : Name) (batch longer : List Record) →
+    batch ++ new_groups v m routes size left more (count - turn) ≡ new_groups v m routes size random 0 count → turn < count → key ≡ fresh_name v KeyKind more → front ≡ take size left →
+    longer ≡ batch ++ new_parts v key m routes front (more + 1) → after ≡ drop size left → next ≡ more + 1 + length routes →
+    longer ++ new_groups v m routes size after next (count - (turn + 1)) ≡ new_groups v m routes size random 0 count
+one_group v m routes size random left front after more next count turn key batch longer h lt named f e d n =
     let step : count - turn ≡ suc (count - (turn + 1)) = omega arith in
-    (λ i. (e ∙ (λ j. batch ++ new_parts v (named j) m ways (f j) (more + 1))) i ++ new_groups v m ways size (d i) (n i) (count - (turn + 1)))
-    ∙ append_assoc batch (new_parts v (fresh_name v KeyKind more) m ways (take size left) (more + 1)) (new_groups v m ways size (drop size left) (more + 1 + length ways) (count - (turn + 1)))
-    ∙ ap (λ (k : ℕ). batch ++ new_groups v m ways size left more k) (sym step)
+    (λ i. (e ∙ (λ j. batch ++ new_parts v (named j) m routes (f j) (more + 1))) i ++ new_groups v m routes size (d i) (n i) (count - (turn + 1)))
+    ∙ append_assoc batch (new_parts v (fresh_name v KeyKind more) m routes (take size left) (more + 1)) (new_groups v m routes size (drop size left) (more + 1 + length routes) (count - (turn + 1)))
+    ∙ ap (λ (k : ℕ). batch ++ new_groups v m routes size left more k) (sym step)
     ∙ h
 
 -- enc
@@ -136,27 +136,27 @@ module _ (site : Site) (v : View) (m : ℕ) (slaves : List ℕ) (n bits : ℕ) (
 
 -- fill
 
-module _ (v : View) (m : ℕ) (slaves : List ℕ) (bits count : ℕ) (random : List ℕ) (ways : List (ℕ × List ℕ)) (stock : ℕ) (counted : stock ≡ min 4097 (unhanded_group v m slaves bits)) where
+module _ (v : View) (m : ℕ) (slaves : List ℕ) (bits count : ℕ) (random : List ℕ) (routes : List (ℕ × List ℕ)) (stock : ℕ) (counted : stock ≡ min 4097 (unhanded_group v m slaves bits)) where
   filled_by : (full : Bool) → nat_lt 4096 (unhanded_group v m slaves bits + count) ≡ full →
-      filled_group v m slaves bits count random (Some ways) ≡ (if full then Refuses PoolFull else makes v (new_groups v m ways (bits / 8) random 0 count) (MadeKeys count (fresh_name v KeyKind 0)))
-  filled_by full t = ap (λ (b : Bool). if b then Refuses PoolFull else makes v (new_groups v m ways (bits / 8) random 0 count) (MadeKeys count (fresh_name v KeyKind 0))) t
+      filled_group v m slaves bits count random (Some routes) ≡ (if full then Refuses PoolFull else makes v (new_groups v m routes (bits / 8) random 0 count) (MadeKeys count (fresh_name v KeyKind 0)))
+  filled_by full t = ap (λ (b : Bool). if b then Refuses PoolFull else makes v (new_groups v m routes (bits / 8) random 0 count) (MadeKeys count (fresh_name v KeyKind 0))) t
 
-  pub filled_full : 4096 < stock + count → IsStep v [] (filled_group v m slaves bits count random (Some ways)) (Err PoolFull)
+  pub filled_full : 4096 < stock + count → IsStep v [] (filled_group v m slaves bits count random (Some routes)) (Err PoolFull)
   filled_full lt =
-      same_step v (filled_group v m slaves bits count random (Some ways)) (Refuses PoolFull) (Err PoolFull)
+      same_step v (filled_group v m slaves bits count random (Some routes)) (Refuses PoolFull) (Err PoolFull)
       (filled_by true (let c = counted in let t : nat_lt 4096 (unhanded_group v m slaves bits + count) ≡ true = grind (arith, nat_tests) in t)) refl
 
-  fits : stock + count ≤ 4096 → filled_group v m slaves bits count random (Some ways) ≡ makes v (new_groups v m ways (bits / 8) random 0 count) (MadeKeys count (fresh_name v KeyKind 0))
+  fits : stock + count ≤ 4096 → filled_group v m slaves bits count random (Some routes) ≡ makes v (new_groups v m routes (bits / 8) random 0 count) (MadeKeys count (fresh_name v KeyKind 0))
   fits le = filled_by false (let c = counted in let t : nat_lt 4096 (unhanded_group v m slaves bits + count) ≡ false = grind (arith, nat_tests) in t)
 
-  pub filled_memory : stock + count ≤ 4096 → IsStep v [] (filled_group v m slaves bits count random (Some ways)) (Err Memory)
+  pub filled_memory : stock + count ≤ 4096 → IsStep v [] (filled_group v m slaves bits count random (Some routes)) (Err Memory)
   filled_memory le =
-      same_step v (filled_group v m slaves bits count random (Some ways)) (makes v (new_groups v m ways (bits / 8) random 0 count) (MadeKeys count (fresh_name v KeyKind 0))) (Err Memory) (fits le) refl
+      same_step v (filled_group v m slaves bits count random (Some routes)) (makes v (new_groups v m routes (bits / 8) random 0 count) (MadeKeys count (fresh_name v KeyKind 0))) (Err Memory) (fits le) refl
 
-  pub filled_makes : stock + count ≤ 4096 → (batch : List Record) (first : Name) → batch ≡ new_groups v m ways (bits / 8) random 0 count → first ≡ fresh_name v KeyKind 0 →
-      IsStep v [] (filled_group v m slaves bits count random (Some ways)) (Ok (record { batch = batch; reply = MadeKeys count first; change = Same }))
+  pub filled_makes : stock + count ≤ 4096 → (batch : List Record) (first : Name) → batch ≡ new_groups v m routes (bits / 8) random 0 count → first ≡ fresh_name v KeyKind 0 →
+      IsStep v [] (filled_group v m slaves bits count random (Some routes)) (Ok (record { batch = batch; reply = MadeKeys count first; change = Same }))
   filled_makes le batch first b f =
-      same_step v (filled_group v m slaves bits count random (Some ways)) (makes v (new_groups v m ways (bits / 8) random 0 count) (MadeKeys count (fresh_name v KeyKind 0)))
+      same_step v (filled_group v m slaves bits count random (Some routes)) (makes v (new_groups v m routes (bits / 8) random 0 count) (MadeKeys count (fresh_name v KeyKind 0)))
       (Ok (record { batch = batch; reply = MadeKeys count first; change = Same })) (fits le)
       (record { batch = b; reply = ap (MadeKeys count) f; orders = refl; volatile = refl })
 
@@ -174,10 +174,10 @@ module _ (site : Site) (up : ℕ → Bool) (v : View) (m : ℕ) (slaves : List �
         same_step v (fill_group site up v m slaves bits count random) (filled_group v m slaves bits count random o) r (fill_by true is ∙ ap (filled_group v m slaves bits count random) routed) h
 
 -- where all slaves have routes
-pub by_ways : (v : View) (m : ℕ) (slaves : List ℕ) (bits count : ℕ) (random : List ℕ) (o : Option (List (ℕ × List ℕ))) (r : Result Step Reply) → is_some o ≡ true →
-    ((ways : List (ℕ × List ℕ)) → o ≡ Some ways → IsStep v [] (filled_group v m slaves bits count random (Some ways)) r) → IsStep v [] (filled_group v m slaves bits count random o) r
-by_ways v m slaves bits count random None r h all = absurd (let u : ⊥ = cc in u)
-by_ways v m slaves bits count random (Some ways) r h all = all ways refl
+pub by_routes : (v : View) (m : ℕ) (slaves : List ℕ) (bits count : ℕ) (random : List ℕ) (o : Option (List (ℕ × List ℕ))) (r : Result Step Reply) → is_some o ≡ true →
+    ((routes : List (ℕ × List ℕ)) → o ≡ Some routes → IsStep v [] (filled_group v m slaves bits count random (Some routes)) r) → IsStep v [] (filled_group v m slaves bits count random o) r
+by_routes v m slaves bits count random None r h all = absurd (let u : ⊥ = cc in u)
+by_routes v m slaves bits count random (Some routes) r h all = all routes refl
 
 pub not_there : {A : Type 0} (o : Option A) → false ≡ is_some o → o ≡ None
 not_there None h = refl

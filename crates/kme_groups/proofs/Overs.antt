@@ -39,14 +39,14 @@ next_key : (v : View) (m : ℕ) (w : ℕ × List ℕ) (ws : List (ℕ × List �
 next_key v m w ws size random more next zero lt = refl
 next_key v m w ws size random more next (suc k) lt = apart v more next lt
 
-no_ways : (v : View) (m size : ℕ) (random : List ℕ) (more count : ℕ) → new_groups v m [] size random more count ≡ []
-no_ways v m size random more zero = refl
-no_ways v m size random more (suc k) = no_ways v m size (drop size random) (more + 1 + 0) k
+no_routes : (v : View) (m size : ℕ) (random : List ℕ) (more count : ℕ) → new_groups v m [] size random more count ≡ []
+no_routes v m size random more zero = refl
+no_routes v m size random more (suc k) = no_routes v m size (drop size random) (more + 1 + 0) k
 
-some_ways : (v : View) (m : ℕ) (w : ℕ × List ℕ) (ws : List (ℕ × List ℕ)) (size : ℕ) (zeros random : List ℕ) (more count : ℕ) → size * count ≤ length zeros → size * count ≤ length random →
+some_routes : (v : View) (m : ℕ) (w : ℕ × List ℕ) (ws : List (ℕ × List ℕ)) (size : ℕ) (zeros random : List ℕ) (more count : ℕ) → size * count ≤ length zeros → size * count ≤ length random →
     with_random random (new_groups v m (w ∷ ws) size zeros more count) ≡ new_groups v m (w ∷ ws) size random more count
-some_ways v m w ws size zeros random more zero z r = refl
-some_ways v m w ws size zeros random more (suc k) z r =
+some_routes v m w ws size zeros random more zero z r = refl
+some_routes v m w ws size zeros random more (suc k) z r =
     let key : Name = fresh_name v KeyKind more in
     let next : ℕ = more + 1 + length (w ∷ ws) in
     let z1 = in_front size k (length zeros) z in
@@ -54,22 +54,22 @@ some_ways v m w ws size zeros random more (suc k) z r =
     let spent : length (take size zeros) ≡ size = (let t = length-take size zeros in omega arith) in
     parts_over v key m random (take size zeros) w ws (more + 1) (new_groups v m (w ∷ ws) size (drop size zeros) next k) (next_key v m w ws size (drop size zeros) more next k (omega arith))
     ∙ ap (λ (n : ℕ). new_parts v key m (w ∷ ws) (over random (take size zeros)) (more + 1) ++ with_random (drop n random) (new_groups v m (w ∷ ws) size (drop size zeros) next k)) spent
-    ∙ (λ i. new_parts v key m (w ∷ ws) (over_as_many size zeros random z1 r1 i) (more + 1) ++ some_ways v m w ws size (drop size zeros) (drop size random) next k (behind size k zeros z) (behind size k random r) i)
+    ∙ (λ i. new_parts v key m (w ∷ ws) (over_as_many size zeros random z1 r1 i) (more + 1) ++ some_routes v m w ws size (drop size zeros) (drop size random) next k (behind size k zeros z) (behind size k random r) i)
 
-pub groups_over : (v : View) (m : ℕ) (ways : List (ℕ × List ℕ)) (size : ℕ) (zeros random : List ℕ) (more count : ℕ) → size * count ≤ length zeros → size * count ≤ length random →
-    with_random random (new_groups v m ways size zeros more count) ≡ new_groups v m ways size random more count
-groups_over v m [] size zeros random more count z r = ap (with_random random) (no_ways v m size zeros more count) ∙ sym (no_ways v m size random more count)
-groups_over v m (w ∷ ws) size zeros random more count z r = some_ways v m w ws size zeros random more count z r
+pub groups_over : (v : View) (m : ℕ) (routes : List (ℕ × List ℕ)) (size : ℕ) (zeros random : List ℕ) (more count : ℕ) → size * count ≤ length zeros → size * count ≤ length random →
+    with_random random (new_groups v m routes size zeros more count) ≡ new_groups v m routes size random more count
+groups_over v m [] size zeros random more count z r = ap (with_random random) (no_routes v m size zeros more count) ∙ sym (no_routes v m size random more count)
+groups_over v m (w ∷ ws) size zeros random more count z r = some_routes v m w ws size zeros random more count z r
 
-filled_over : (v : View) (m : ℕ) (slaves : List ℕ) (bits count : ℕ) (zeros random : List ℕ) (ways : Option (List (ℕ × List ℕ))) → bits / 8 * count ≤ length zeros → bits / 8 * count ≤ length random →
-    decision_over random (filled_group v m slaves bits count zeros ways) ≡ filled_group v m slaves bits count random ways
+filled_over : (v : View) (m : ℕ) (slaves : List ℕ) (bits count : ℕ) (zeros random : List ℕ) (routes : Option (List (ℕ × List ℕ))) → bits / 8 * count ≤ length zeros → bits / 8 * count ≤ length random →
+    decision_over random (filled_group v m slaves bits count zeros routes) ≡ filled_group v m slaves bits count random routes
 filled_over v m slaves bits count zeros random None z r = refl
-filled_over v m slaves bits count zeros random (Some ways) z r = by (nat_lt 4096 (unhanded_group v m slaves bits + count))
+filled_over v m slaves bits count zeros random (Some routes) z r = by (nat_lt 4096 (unhanded_group v m slaves bits + count))
   where
-    by : (full : Bool) → decision_over random (if full then Refuses PoolFull else makes v (new_groups v m ways (bits / 8) zeros 0 count) (MadeKeys count (fresh_name v KeyKind 0)))
-        ≡ (if full then Refuses PoolFull else makes v (new_groups v m ways (bits / 8) random 0 count) (MadeKeys count (fresh_name v KeyKind 0)))
+    by : (full : Bool) → decision_over random (if full then Refuses PoolFull else makes v (new_groups v m routes (bits / 8) zeros 0 count) (MadeKeys count (fresh_name v KeyKind 0)))
+        ≡ (if full then Refuses PoolFull else makes v (new_groups v m routes (bits / 8) random 0 count) (MadeKeys count (fresh_name v KeyKind 0)))
     by true = refl
-    by false = ap (λ (batch : List Record). makes v batch (MadeKeys count (fresh_name v KeyKind 0))) (groups_over v m ways (bits / 8) zeros random 0 count z r)
+    by false = ap (λ (batch : List Record). makes v batch (MadeKeys count (fresh_name v KeyKind 0))) (groups_over v m routes (bits / 8) zeros random 0 count z r)
 
 pub fill_over : (site : Site) (up : ℕ → Bool) (v : View) (m : ℕ) (slaves : List ℕ) (bits count : ℕ) (zeros random : List ℕ) → bits / 8 * count ≤ length zeros → bits / 8 * count ≤ length random →
     decision_over random (fill_group site up v m slaves bits count zeros) ≡ fill_group site up v m slaves bits count random

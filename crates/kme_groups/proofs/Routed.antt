@@ -25,17 +25,17 @@ module _ (site : Site) (up : ℕ → Bool) (me s : ℕ) (ss : List ℕ) where
   pub blocked : None ≡ route site up me (site.home s) → is_some (routes_to site up me (s ∷ ss)) ≡ false
   blocked h = ap (λ (o : Option (List ℕ)). is_some (with_route s o (routes_to site up me ss))) (sym h)
 
-  pub open_way : (way : List ℕ) → Some way ≡ route site up me (site.home s) → is_some (routes_to site up me (s ∷ ss)) ≡ is_some (routes_to site up me ss)
-  open_way way h = ap (λ (o : Option (List ℕ)). is_some (with_route s o (routes_to site up me ss))) (sym h) ∙ by (routes_to site up me ss)
+  pub open_route : (routed : List ℕ) → Some routed ≡ route site up me (site.home s) → is_some (routes_to site up me (s ∷ ss)) ≡ is_some (routes_to site up me ss)
+  open_route routed h = ap (λ (o : Option (List ℕ)). is_some (with_route s o (routes_to site up me ss))) (sym h) ∙ by (routes_to site up me ss)
     where
-      by : (o : Option (List (ℕ × List ℕ))) → is_some (with_route s (Some way) o) ≡ is_some o
+      by : (o : Option (List (ℕ × List ℕ))) → is_some (with_route s (Some routed) o) ≡ is_some o
       by None = refl
       by (Some rest) = refl
 
-  pub one_way : (way : List ℕ) (front : List (ℕ × List ℕ)) → Some way ≡ route site up me (site.home s) →
-      with_front front (routes_to site up me (s ∷ ss)) ≡ with_front (front ++ (s, way) ∷ []) (routes_to site up me ss)
-  one_way way front h = ap (λ (o : Option (List ℕ)). with_front front (with_route s o (routes_to site up me ss))) (sym h) ∙ by (routes_to site up me ss)
+  pub one_route : (routed : List ℕ) (front : List (ℕ × List ℕ)) → Some routed ≡ route site up me (site.home s) →
+      with_front front (routes_to site up me (s ∷ ss)) ≡ with_front (front ++ (s, routed) ∷ []) (routes_to site up me ss)
+  one_route routed front h = ap (λ (o : Option (List ℕ)). with_front front (with_route s o (routes_to site up me ss))) (sym h) ∙ by (routes_to site up me ss)
     where
-      by : (o : Option (List (ℕ × List ℕ))) → with_front front (with_route s (Some way) o) ≡ with_front (front ++ (s, way) ∷ []) o
+      by : (o : Option (List (ℕ × List ℕ))) → with_front front (with_route s (Some routed) o) ≡ with_front (front ++ (s, routed) ∷ []) o
       by None = refl
-      by (Some rest) = ap Some (sym (append_assoc front ((s, way) ∷ []) rest))
+      by (Some rest) = ap Some (sym (append_assoc front ((s, routed) ∷ []) rest))

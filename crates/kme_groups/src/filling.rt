@@ -9,7 +9,7 @@ ghost use Rattle.kme_step.specs.Steps.{IsStep};
 
 use crate::GroupPool;
 use crate::ready::group_count;
-use crate::ways::{has_ways, ways};
+use crate::routes::{has_routes, routes};
 use declared_site::Site;
 use end_store::EndStore;
 use kme_keys::{first_octets, fresh_name, octets_behind};
@@ -26,24 +26,24 @@ fn push_parts(
     batch: &mut Records,
     key: KeyName,
     master: SaeNo,
-    ways: &[(SaeNo, Route)],
+    routes: &[(SaeNo, Route)],
     bytes: &[u8],
     more: u64,
 ) -> Result<u64, Memory>
     requires { more ≤ 2 ^ 48 }
-    ensures parts { OnOk result (batch.new ≡ batch.old ++ new_parts (ends_view store.now) key master ways.now bytes.now more) }
-    ensures next { IfOk result (λ next. next ≡ more + length ways.now) }
+    ensures parts { OnOk result (batch.new ≡ batch.old ++ new_parts (ends_view store.now) key master routes.now bytes.now more) }
+    ensures next { IfOk result (λ next. next ≡ more + length routes.now) }
     ensures bound { IfOk result (λ next. next ≤ 2 ^ 48) }
 {
     let mut next = more;
-    for way in ways {
+    for routed in routes {
         let name = fresh_name(store, next)?;
         let fact = Fact::Part {
             name,
             key,
             master,
-            slave: way.0,
-            route: way.1,
+            slave: routed.0,
+            route: routed.1,
             bytes: Octets::from_slice(alloc, bytes)?,
         };
         batch.push(Record::Learned { fact })?;
@@ -57,11 +57,11 @@ fn new_groups(
     alloc: Global,
     store: &EndStore,
     pool: &GroupPool,
-    ways: &[(SaeNo, Route)],
+    routes: &[(SaeNo, Route)],
     count: u16,
     random: &[u8],
 ) -> Result<Records, Memory>
-    ensures { IfOk result (λ batch. batch ≡ new_groups (ends_view store.now) pool.now.master ways.now (pool.now.bits / 8) random.now 0 count) }
+    ensures { IfOk result (λ batch. batch ≡ new_groups (ends_view store.now) pool.now.master routes.now (pool.now.bits / 8) random.now 0 count) }
 {
     let size = (pool.bits / 8) as usize;
     let mut batch = Items::new(alloc);
@@ -76,7 +76,7 @@ fn new_groups(
             &mut batch,
             key,
             pool.master,
-            ways,
+            routes,
             bytes,
             more + 1,
         )?;
@@ -106,10 +106,10 @@ fn filled_group(
     let Ok(first) = fresh_name(store, 0) else {
         return Err(Reply::Memory);
     };
-    let Ok(ways) = ways(alloc, site, up, store.known().me(), pool.slaves) else {
+    let Ok(routes) = routes(alloc, site, up, store.known().me(), pool.slaves) else {
         return Err(Reply::Memory);
     };
-    match new_groups(alloc, store, pool, &ways, count, random) {
+    match new_groups(alloc, store, pool, &routes, count, random) {
         Err(_) => Err(Reply::Memory),
         Ok(batch) => Ok(Step {
             batch,
@@ -140,7 +140,7 @@ pub fn fill_group(
     if !is_entitled_group(site, me, pool.master, pool.slaves) {
         return Err(Reply::NotAllowed);
     }
-    if !has_ways(site, up, me, pool.slaves) {
+    if !has_routes(site, up, me, pool.slaves) {
         return Err(Reply::NoRoute);
     }
     filled_group(alloc, site, up, store, pool, count, random)

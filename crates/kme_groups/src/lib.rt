@@ -8,7 +8,7 @@ mod enc;
 mod filling;
 mod pool;
 mod ready;
-mod ways;
+mod routes;
 
 pub use drawn::law_group_fill_over_other_octets;
 pub use enc::enc_group;

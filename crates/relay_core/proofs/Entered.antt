@@ -4,9 +4,9 @@ use Rattle.std.specs.Prelude.{slice_get, slice_index, ◌==◌, not, if◌then�
 use Rattle.std.specs.Str.{bytes_eq}
 use Rattle.std.proofs.lemmas.Slice.Eq.{bytes_eq-Decides}
 use Rattle.qkd_base.specs.declared.key_name.NameKind.{NameKind}
-use Rattle.qkd_base.specs.declared.key_name.NameKind.TheVariants.{Key as KeyKind, Stream as StreamKind, Note as NoteKind}
 use Rattle.qkd_base.specs.Name.{Name, name_eq, has, kind_number, kind_of_octet}
 use Rattle.qkd_base.specs.Route.{next_after}
+use Rattle.qkd_base.proofs.Names.{kind_back}
 use Rattle.net_model.specs.declared.fact.Fact.{Fact}
 use Rattle.net_model.specs.declared.fact.Fact.TheVariants.{Key, Chunk, Stored, Open, Joined, Part}
 use Rattle.net_model.specs.Table.{name_of, route_of, is_stored_about, is_joined_about, is_part_of}
@@ -34,11 +34,6 @@ group_back e =
     else if slice_index e 0 == 4 then ChunksAt (name_back e) (slice_index e 4)
     else if slice_index e 0 == 5 then OwedTo (slice_index e 1)
     else ChunksOf (name_back e)
-
-kind_back : (k : NameKind) → kind_of_octet (kind_number k) ≡ k
-kind_back KeyKind = refl
-kind_back StreamKind = refl
-kind_back NoteKind = refl
 
 named_back : (tag : ℕ) (n : Name) (index place : ℕ) → name_back (name_entry tag n index place) ≡ n
 unfolding name_back

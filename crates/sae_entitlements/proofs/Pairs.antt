@@ -15,13 +15,13 @@ use Rattle.sae_entitlements.specs.Pair.{pair_cmp}
 use Rattle.sae_entitlements.specs.Grants.{Sae, Grants, none, with_sae, with_pair, is_allowed, find_sae, HasDistinctIds}
 use Rattle.sae_entitlements.specs.Rows.{sae_of, slaves_of, pairs_of, grants_of, AreApplications}
 
-pair_total : IsTotalOrder pair_cmp
+pub pair_total : IsTotalOrder pair_cmp
 pair_total = then_total (on_total (λ (p : ℕ × ℕ). p.0) nat_cmp_total) (on_total (λ (p : ℕ × ℕ). p.1) nat_cmp_total)
 
-same_pair : (p q : ℕ × ℕ) → ((p.0 == q.0) && (p.1 == q.1)) ≡ eq_by_cmp pair_cmp p q
+pub same_pair : (p q : ℕ × ℕ) → ((p.0 == q.0) && (p.1 == q.1)) ≡ eq_by_cmp pair_cmp p q
 same_pair p q = both_tied _ _ (nat_cmp p.0 q.0) (nat_cmp p.1 q.1) (unsigned_ties p.0 q.0) (unsigned_ties p.1 q.1)
 
-pair_antisymmetric : IsAntisymmetric pair_cmp
+pub pair_antisymmetric : IsAntisymmetric pair_cmp
 pair_antisymmetric p q tied =
     let parts = and_parts (p.0 == q.0) (p.1 == q.1) (same_pair p q ∙ ap is_eq tied) in
     ap (λ (m : ℕ). (m, p.1)) (eqb-true p.0 q.0 parts.0) ∙ ap (λ (s : ℕ). (q.0, s)) (eqb-true p.1 q.1 parts.1)

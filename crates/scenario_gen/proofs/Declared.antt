@@ -15,10 +15,8 @@ use Rattle.scenario_spelling.proofs.Texts.{one_line}
 use Rattle.run_model.specs.Load.{load_site, load_nodes, load_pairs}
 use Rattle.net_model.specs.Site.{count_up}
 use Rattle.std.specs.FinSet as set
-use Rattle.std.specs.Ordering.{eq_by_cmp, is_eq, nat_cmp}
-use Rattle.std.specs.Cmp.{IsTotalOrder, nat_cmp_total, then_total, on_total, both_tied, unsigned_ties}
-use Rattle.std.proofs.lemmas.Bool.{and_parts, eqb-true}
 use Rattle.sae_entitlements.specs.Pair.{pair_cmp}
+use Rattle.sae_entitlements.proofs.Pairs.{pair_total, same_pair, pair_antisymmetric}
 use Rattle.std.specs.Fmt.{digits}
 use lib.Chars.{codes}
 use Rattle.route_table.specs.Table.{no_links}
@@ -89,17 +87,6 @@ unfolding digits
 all_plain = refl
 
 -- ---- the pairs are a set
-
-pair_total : IsTotalOrder pair_cmp
-pair_total = then_total (on_total (λ (p : ℕ × ℕ). p.0) nat_cmp_total) (on_total (λ (p : ℕ × ℕ). p.1) nat_cmp_total)
-
-same_pair : (p q : ℕ × ℕ) → (eqb p.0 q.0 && eqb p.1 q.1) ≡ eq_by_cmp pair_cmp p q
-same_pair p q = both_tied _ _ (nat_cmp p.0 q.0) (nat_cmp p.1 q.1) (unsigned_ties p.0 q.0) (unsigned_ties p.1 q.1)
-
-pair_antisymmetric : set.IsAntisymmetric pair_cmp
-pair_antisymmetric p q tied =
-    let parts = and_parts (eqb p.0 q.0) (eqb p.1 q.1) (same_pair p q ∙ ap is_eq tied) in
-    ap (λ (m : ℕ). (m, p.1)) (eqb-true p.0 q.0 parts.0) ∙ ap (λ (s : ℕ). (q.0, s)) (eqb-true p.1 q.1 parts.1)
 
 inserts : (ps rest : List (ℕ × ℕ)) → inserted (set.from_list ps) rest ≡ set.from_list (ps ++ rest)
 inserts ps [] = ap set.from_list (sym (append-nil ps))

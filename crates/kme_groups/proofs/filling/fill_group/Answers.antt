@@ -13,22 +13,22 @@ returns-then-not-is_entitled_group c v is_up up seen =
     let me = me_seen v c.args.store.now seen c.known.result.now c.me-me.result c.known.ensures c.me-me.ensures in
     fill_refuses (site_of c.args.site.now) is_up v p.master p.slaves.now p.bits c.args.count c.args.random.now c.is_entitled_group.result (c.is_entitled_group.ensures v me) (cc)
 
-pub returns-then-not-has_ways : goal.returns-then-not-has_ways
-returns-then-not-has_ways c v is_up up seen =
+pub returns-then-not-has_routes : goal.returns-then-not-has_routes
+returns-then-not-has_routes c v is_up up seen =
     let p = c.args.pool.now in
     let s = site_of c.args.site.now in
     let me = me_seen v c.args.store.now seen c.known.result.now c.me-me.result c.known.ensures c.me-me.ensures in
-    let blocked : c.has_ways.result ≡ is_some (routes_to s is_up v.me p.slaves.now) = c.has_ways.ensures is_up up ∙ ap (λ (n : ℕ). is_some (routes_to s is_up n p.slaves.now)) (sym me) in
-    let no_way : c.has_ways.result ≡ false = cc in
+    let blocked : c.has_routes.result ≡ is_some (routes_to s is_up v.me p.slaves.now) = c.has_routes.ensures is_up up ∙ ap (λ (n : ℕ). is_some (routes_to s is_up n p.slaves.now)) (sym me) in
+    let no_route : c.has_routes.result ≡ false = cc in
     fill_routed s is_up v p.master p.slaves.now p.bits c.args.count c.args.random.now c.is_entitled_group.result (c.is_entitled_group.ensures v me) (cc) None
-    (not_there (routes_to s is_up v.me p.slaves.now) (sym no_way ∙ blocked)) (Err NoRoute) refl
+    (not_there (routes_to s is_up v.me p.slaves.now) (sym no_route ∙ blocked)) (Err NoRoute) refl
 
 pub returns : goal.returns
 returns c v is_up up seen =
     let p = c.args.pool.now in
     let s = site_of c.args.site.now in
     let me = me_seen v c.args.store.now seen c.known.result.now c.me-me.result c.known.ensures c.me-me.ensures in
-    let open_ways : c.has_ways.result ≡ is_some (routes_to s is_up v.me p.slaves.now) = c.has_ways.ensures is_up up ∙ ap (λ (n : ℕ). is_some (routes_to s is_up n p.slaves.now)) (sym me) in
-    let all : c.has_ways.result ≡ true = cc in
+    let open_routes : c.has_routes.result ≡ is_some (routes_to s is_up v.me p.slaves.now) = c.has_routes.ensures is_up up ∙ ap (λ (n : ℕ). is_some (routes_to s is_up n p.slaves.now)) (sym me) in
+    let all : c.has_routes.result ≡ true = cc in
     fill_routed s is_up v p.master p.slaves.now p.bits c.args.count c.args.random.now c.is_entitled_group.result (c.is_entitled_group.ensures v me) (cc) (routes_to s is_up v.me p.slaves.now)
-    refl c.filled_group.result (c.filled_group.ensures v is_up up seen (sym open_ways ∙ all))
+    refl c.filled_group.result (c.filled_group.ensures v is_up up seen (sym open_routes ∙ all))

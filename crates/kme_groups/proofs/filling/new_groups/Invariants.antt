@@ -6,6 +6,6 @@ use Rattle.kme_groups.proofs.filling.new_groups.Given as goal
 
 abbrev pub invariant-loop-turn : goal.invariant-loop-turn
 invariant-loop-turn l = record {
-  keys : l.batch ++ new_groups (ends_view l.store) l.pool.master l.ways (l.pool.bits / 8) l.left l.more (l.count - l._turn) ≡ new_groups (ends_view l.store) l.pool.master l.ways (l.pool.bits / 8) l.random 0 l.count;
+  keys : l.batch ++ new_groups (ends_view l.store) l.pool.master l.routes (l.pool.bits / 8) l.left l.more (l.count - l._turn) ≡ new_groups (ends_view l.store) l.pool.master l.routes (l.pool.bits / 8) l.random 0 l.count;
   bound : l.more ≤ 2 ^ 48;
 }

@@ -10,7 +10,7 @@ use qkd_base::{Memory, NodeNo, Route, SaeNo};
 use std::alloc::Global;
 
 /// Whether each slave's home has a route. It takes no memory.
-pub fn has_ways(site: &Site, up: u32, me: NodeNo, slaves: &[SaeNo]) -> bool
+pub fn has_routes(site: &Site, up: u32, me: NodeNo, slaves: &[SaeNo]) -> bool
     requires { IsDeclared site.now }
     ensures { (is_up : ℕ → Bool) → AreUp up is_up → result ≡ is_some (routes_to (site_of site.now) is_up me slaves.now) }
 {
@@ -24,7 +24,7 @@ pub fn has_ways(site: &Site, up: u32, me: NodeNo, slaves: &[SaeNo]) -> bool
 }
 
 /// The slaves with these routes, where each has one.
-pub fn ways(
+pub fn routes(
     alloc: Global,
     site: &Site,
     up: u32,
@@ -32,14 +32,14 @@ pub fn ways(
     slaves: &[SaeNo],
 ) -> Result<Vec<(SaeNo, Route)>, Memory>
     requires { IsDeclared site.now }
-    ensures { IfOk result (λ ways. (is_up : ℕ → Bool) → AreUp up is_up → routes_to (site_of site.now) is_up me slaves.now ≡ Some ways.items) }
+    ensures { IfOk result (λ routes. (is_up : ℕ → Bool) → AreUp up is_up → routes_to (site_of site.now) is_up me slaves.now ≡ Some routes.items) }
 {
-    let mut ways = Vec::new(alloc);
+    let mut routes = Vec::new(alloc);
     for slave in slaves {
         match route_between(site, up, me, home(site, *slave)) {
             None => return Err(Memory),
-            Some(route) => ways.push((*slave, route))?,
+            Some(route) => routes.push((*slave, route))?,
         }
     }
-    Ok(ways)
+    Ok(routes)
 }

@@ -3,7 +3,7 @@ use Rattle.std.specs.Prelude.{is_some}
 use Rattle.declared_site.specs.SiteOf.{site_of}
 use Rattle.net_model.specs.Groups.{routes_to}
 use Rattle.kme_site.specs.Up.{AreUp}
-use Rattle.kme_groups.proofs.ways.has_ways.Given as goal
+use Rattle.kme_groups.proofs.routes.has_routes.Given as goal
 
 abbrev pub invariant-loop-slave : goal.invariant-loop-slave
 invariant-loop-slave l = (is_up : ℕ → Bool) → AreUp l.up is_up → is_some (routes_to (site_of l.site) is_up l.me (drop l.slave-index l.slaves)) ≡ is_some (routes_to (site_of l.site) is_up l.me l.slaves)
