@@ -39,7 +39,7 @@ use Rattle.world_bench.proofs.Lists.{some_is, mapped, there, within, all_at, at_
 use Rattle.world_bench.proofs.Back.{below_or_past, given_back, stayed_there, gives_back, stays_there}
 use Rattle.world_bench.proofs.Networks.{is_network, known_is}
 use Rattle.world_bench.proofs.Firsts.{all_left, node_first}
-use Rattle.world_bench.proofs.Images.{post_gives}
+use Rattle.world_bench.proofs.Images.{rest_gives}
 use Rattle.world_bench.proofs.Shown.{seen_risen, seen_still, seen_armed, seen_unarmed}
 use Rattle.world_bench.proofs.Told.{entropy_there, left_of, pair_place, place_past, no_lane, empty_wire, told_frames}
 use Rattle.world_bench.proofs.Strangers.{none_drawn, nothing_wired, no_disk_faults, no_entropy_faults, no_armings, no_device_faults, no_wire_faults}
@@ -222,7 +222,7 @@ module _ {K Q E X : Type 0} (is_honest : K → Bool) (content : K → List ℕ) 
       MayLeave moment image (slice_get new.disks.items v) octets → (story : List (List Record)) × (batches octets ≡ Some story) × IsGiven net w v story
   disks_give batches reads v below started octets may =
       let n = node_back v below in
-      post_gives net w v h.rests.running started batches reads is_honest content moment image left n.post (h.rests.posts v n.post n.at)
+      rest_gives net w v started batches reads is_honest content moment image left n.post (h.rests.posts v n.post n.at)
       (all_at (IsOnDisk is_honest content moment image) s.posts.items v n.post h.back.on_disk n.at) n.disk n.is_disk octets
       (subst (λ (o : Option K). MayLeave moment image o octets) n.has_disk may)
 
@@ -244,12 +244,14 @@ module _ {K Q E X : Type 0} (is_honest : K → Bool) (content : K → List ℕ) 
       by : (v < nodes) ⊎ (nodes ≤ v) → IsRest (sequence_of all) (w.drawn v) (sequence_of rest)
       by (inl below) =
           let n = node_back v below in
-          let e = entropy_there is_honest moment image left net w v n.post (h.rests.posts v n.post n.at) in
+          let at_rest = h.rests.posts v n.post n.at in
+          let e = entropy_there is_honest moment image left net at_rest.0 v n.post at_rest.2 in
           let part = after v rest is in
           let same : part.0 ≡ entropy_of n.post = some_is (sym part.1 ∙ n.has_entropy) in
           let left_is : e.rest ≡ sequence_of rest = some_is (sym e.tells ∙ ap left (sym same) ∙ part.2) in
           subst (λ (t : OctetSequence). IsRest t (w.drawn v) (sequence_of rest)) (known_is left old.entropies.items known before v all was)
-          (subst (λ (t : OctetSequence). IsRest (net.entropy v) (w.drawn v) t) left_is e.left)
+          (subst (λ (n : ℕ). IsRest (net.entropy v) n (sequence_of rest)) (sym at_rest.1.drawn)
+          (subst (λ (t : OctetSequence). IsRest (net.entropy v) (at_rest.0.drawn v) t) left_is e.left))
       by (inr past) =
           let part = after v rest is in
           let older = before v all was in

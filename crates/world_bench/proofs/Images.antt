@@ -1,8 +1,8 @@
 -- Whatever a disk of a started node may be, it stands for batches that give the node back.
-use Rattle.std.proofs.Common.{◌≡◌, ◌⊎◌, inl, inr, ℕ, Bool, true, false, IsTrue, List, [], sym, ap, subst, Option, Some}
+use Rattle.std.proofs.Common.{◌≡◌, ◌⊎◌, inl, inr, ℕ, Bool, true, false, IsTrue, List, [], sym, ap, subst, ◌∙◌, Option, Some}
 use Rattle.net_model.specs.declared.record.Record.{Record}
 use Rattle.net_model.specs.OctetSequence.{OctetSequence}
-use Rattle.net_model.specs.World.{Network, World, InDoubt}
+use Rattle.net_model.specs.World.{Network, World, InDoubt, Journal}
 use Rattle.net_model.specs.View.{View}
 use Rattle.net_model.specs.Journal.{is_blank}
 use Rattle.net_model.specs.Start.{may_resolve}
@@ -22,6 +22,7 @@ use Rattle.kme_store.specs.declared.post.Post.TheVariants.{On, Off}
 use Rattle.world_lanes.specs.Stands.{IsRunning}
 use Rattle.world_posts.specs.Stands.{HasStory, UpStands, HoldsJournal, MayFind, DownStands, StandingStands, PostStands}
 use Rattle.world_posts.specs.Counts.{disk_in, disk_of}
+use Rattle.world_state.specs.Rests.{KeepsAs, PostRests}
 use Rattle.world_bench.specs.Laid.{IsOnDisk}
 use Rattle.world_bench.specs.Reading.{ReadsDisks}
 use Rattle.world_bench.proofs.Lists.{some_is}
@@ -65,7 +66,24 @@ module _ (net : Network) (w : World) (v : ℕ) (running : IsRunning net w) (star
     standing_gives site view (Down left) d kept disk is i at = down_gives left d i (subst (λ (k : K). image k (moment k) i) (sym (some_is is)) at)
     standing_gives site view Between h kept disk is i at = absurd h
 
-    pub post_gives : {E : Type 0} (left : E → Option OctetSequence) (p : Post K E) → PostStands is_honest moment image left net w v p → IsOnDisk is_honest content moment image p →
+    post_gives : {E : Type 0} (left : E → Option OctetSequence) (p : Post K E) → PostStands is_honest moment image left net w v p → IsOnDisk is_honest content moment image p →
         (disk : K) → disk_of p ≡ Some disk → (i : List ℕ) → image disk (moment disk) i → Gives i
     post_gives left (On m) h kept disk is i at = standing_gives m.site m.view m.standing h.standing kept disk is i at
     post_gives left (Off k entropy) h kept disk is i at = down_gives k h.1 i (subst (λ (x : K). image x (moment x) i) (sym (some_is is)) at)
+
+-- and so where the post rests: what one life keeps is in no journal
+module _ (net : Network) (w : World) (v : ℕ) (started : is_blank (w.journal v) ≡ false) (batches : List ℕ → Option (List (List Record))) (reads : ReadsDisks batches) where
+  given_there : (u : World) → KeepsAs net v u w → (story : List (List Record)) → IsGiven net u v story → IsGiven net w v story
+  given_there u k story g = record {
+    committed = g.committed;
+    may = subst (λ (d : InDoubt). may_resolve d g.committed ≡ true) (sym k.doubt) g.may;
+    given = g.given ∙ sym (k.given g.committed);
+  }
+
+  pub rest_gives : {K E : Type 0} (is_honest : K → Bool) (content : K → List ℕ) (moment : K → ℕ) (image : K → ℕ → List ℕ → Type 0) (left : E → Option OctetSequence) (p : Post K E) →
+      PostRests is_honest moment image left net w v p → IsOnDisk is_honest content moment image p → (disk : K) → disk_of p ≡ Some disk → (i : List ℕ) → image disk (moment disk) i →
+      (story : List (List Record)) × (batches i ≡ Some story) × IsGiven net w v story
+  rest_gives is_honest content moment image left p h kept disk is i at =
+      let u = h.0 in
+      let g = post_gives net u v h.1.running (subst (λ (j : Journal). is_blank j ≡ false) h.1.journal started) batches reads is_honest content moment image left p h.2 kept disk is i at in
+      (g.0, g.1, given_there u h.1 g.0 g.2)

@@ -49,7 +49,7 @@ use Rattle.world_state.proofs.Leases.{manager_lease}
 use Rattle.world_state.proofs.OneLife.{node_quiet, node_below}
 use Rattle.world_state.proofs.OneTallied.{CountsOne, one_post_tallied}
 use Rattle.world_state.proofs.QuietStays.{quiet_stays}
-use Rattle.world_state.proofs.Resting.{rests_after}
+use Rattle.world_state.proofs.Resting.{post_rests, rests_after}
 use Rattle.world_state.proofs.Resumed.{IsAgain, started_as, manager_octets, may_go_on, goes_on_there}
 use Rattle.world_state.proofs.StateGoesOn.{running_on, enabled_of, manager_on}
 use Rattle.world_state.proofs.Takes.{goes_same}
@@ -297,7 +297,7 @@ module _ {K Q E X : Type 0} (is_honest : K → Bool) (moment : K → ℕ) (image
                   running = runs_on;
                   sited = ready.stands.sited ∙ sym (ap site_of (site ∙ h.site));
                   nodes = ap length posts ∙ h.nodes ∙ ready.stands.nodes;
-                  posts = λ u p at. h.posts u p (ap (λ (xs : List (Post K E)). slice_get xs u) (sym posts) ∙ at);
+                  posts = λ u p at. post_rests net u after runs_on is_honest moment image left p (h.posts u p (ap (λ (xs : List (Post K E)). slice_get xs u) (sym posts) ∙ at));
                   sides = kept.sides ∙ sides_mid;
                   wires = λ k x at now.
                       let before = kept.each (place_of k) x now in

@@ -13,7 +13,9 @@ use Rattle.lane_sides.specs.Lane.{LaneForm}
 use Rattle.run_model.specs.Script.{Reports, Ends, asks}
 use Rattle.run_model.specs.Play.{Played, plain, play, is_forged}
 use Rattle.run_acts.specs.Acting.{Begins}
-use Rattle.world_state.specs.Rests.{Rests}
+use Rattle.world_lanes.specs.Stands.{IsRunning}
+use Rattle.world_posts.specs.Stands.{PostStands}
+use Rattle.world_state.specs.Rests.{KeepsAs, PostRests, Rests}
 use Rattle.world_state.specs.Stands.{Stands, place_of}
 use Rattle.world_state.specs.Tallied.{Tallied}
 use Rattle.world_state.specs.declared.state.State.{State}
@@ -47,6 +49,15 @@ module _ {S : Type 0} (R : S → Network → World → Type 0) (T : S → S → 
   pub rests_before : R new net w → T old new net.site [] → Begins R T old new net w (asks asked (λ outcome. []))
   rests_before rests tallied = record { actions = []; is = tt; rests = subst (λ (x : World). R new net x) (sym (stopped net w asked)) rests; tallied = tallied }
 
+-- a post that stands for its node may rest there
+module _ (net : Network) (v : ℕ) (w : World) (running : IsRunning net w) where
+  pub keeps_itself : KeepsAs net v w w
+  keeps_itself = record { running = running; drawn = refl; journal = refl; doubt = refl; given = λ committed. refl }
+
+  pub post_rests : {K E : Type 0} (is_honest : K → Bool) (moment : K → ℕ) (image : K → ℕ → List ℕ → Type 0) (left : E → Option OctetSequence) (p : Post K E) →
+      PostStands is_honest moment image left net w v p → PostRests is_honest moment image left net w v p
+  post_rests is_honest moment image left p stands = (w, keeps_itself, stands)
+
 -- a state with the same parts
 pub record SameParts {K Q E X : Type 0} (old new : State K Q E X) : Type 0 where
   pub site : new.site ≡ old.site
@@ -77,7 +88,7 @@ module _ {K Q E X : Type 0} (is_honest : K → Bool) (moment : K → ℕ) (image
     running = s.running;
     sited = s.sited ∙ sym (ap site_of same.site);
     nodes = ap length same.posts ∙ s.nodes;
-    posts = λ v p at. s.posts v p (ap (λ (xs : List (Post K E)). slice_get xs v) (sym same.posts) ∙ at);
+    posts = λ v p at. post_rests net v w s.running is_honest moment image left p (s.posts v p (ap (λ (xs : List (Post K E)). slice_get xs v) (sym same.posts) ∙ at));
     sides = ap length same.lanes ∙ s.sides;
     wires = λ l side at there. (s.lanes l side at (ap (λ (xs : List (LaneForm X)). slice_get xs (place_of l)) (sym same.lanes) ∙ there)).wire;
     links = ap length same.devices ∙ s.links;

@@ -49,7 +49,7 @@ use Rattle.world_state.proofs.OneTallied.{all_tallied, post_once, posts_one, cou
 use Rattle.world_state.proofs.Others.{each_placed, placed_length}
 use Rattle.world_state.proofs.QuietStays.{quiet_stays}
 use Rattle.world_state.proofs.Receivers.{elsewhere}
-use Rattle.world_state.proofs.Resting.{rests_after}
+use Rattle.world_state.proofs.Resting.{post_rests, rests_after}
 use Rattle.world_state.proofs.StateGoesOn.{running_on, enabled_of, manager_on}
 
 some_is : {A : Type 0} {a b : A} → ◌≡◌ {A = Option A} (Some a) (Some b) → a ≡ b
@@ -284,7 +284,7 @@ module _ {K Q E X : Type 0} (is_honest : K → Bool) (moment : K → ℕ) (image
                 running = running_on net w b ready.stands.running h.may;
                 sited = ready.stands.sited ∙ sym (ap site_of (one.site ∙ h.site));
                 nodes = ap length one.posts ∙ h.nodes ∙ ready.stands.nodes;
-                posts = λ u p at. h.posts u p (ap (λ (xs : List (Post K E)). slice_get xs u) (sym one.posts) ∙ at);
+                posts = λ u p at. post_rests net u after (running_on net w b ready.stands.running h.may) is_honest moment image left p (h.posts u p (ap (λ (xs : List (Post K E)). slice_get xs u) (sym one.posts) ∙ at));
                 sides = sides_same mid new lane side now one ∙ ap length h.lanes ∙ ready.stands.sides;
                 wires = λ k x at at_place. each_side mid new lane side now one (λ m y. is_lane net.site m ≡ true → WireStands frames counted net after m y.wire)
                     (λ there_too. subst (λ (l : Lane). WireStands frames counted net after l now.wire) stands.lane wire) (λ m y apart stood_there there_too. (other_lane m y apart there_too stood_there).wire) k x at_place at;

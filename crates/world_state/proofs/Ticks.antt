@@ -33,6 +33,7 @@ use Rattle.law_ticks.proofs.Planning.{plan_noted, plan_rests, plan_goes}
 use Rattle.run_acts.specs.Quiet.{IsQuiet}
 use Rattle.run_acts.specs.Acting.{IsReady, Begins, Plays}
 use Rattle.world_state.specs.Rests.{Rests}
+use Rattle.world_state.proofs.Resting.{post_rests}
 use Rattle.world_state.specs.Stands.{Stands}
 use Rattle.world_state.specs.Tallied.{Tallied}
 use Rattle.world_state.specs.Sending.{Sending, Puts, Breaks}
@@ -107,7 +108,7 @@ module _ {K Q E X : Type 0} (is_honest : K → Bool) (moment : K → ℕ) (image
     running = h.running;
     sited = h.sited;
     nodes = h.nodes;
-    posts = h.posts;
+    posts = λ v p at. post_rests net v w h.running is_honest moment image left p (h.posts v p at);
     sides = h.sides;
     wires = λ l side at there. (h.lanes l side at there).wire;
     links = h.links;

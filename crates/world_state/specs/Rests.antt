@@ -4,13 +4,27 @@ use Rattle.qkd_base.specs.declared.lane.Lane.{Lane}
 use Rattle.net_model.specs.OctetSequence.{OctetSequence}
 use Rattle.net_model.specs.World.{Network, World}
 use Rattle.net_model.specs.Events.{is_lane}
+use Rattle.net_model.specs.Fold.{view_restarted}
 use Rattle.declared_site.specs.SiteOf.{site_of}
 use Rattle.kme_store.specs.declared.post.Post.{Post}
+use Rattle.law_starts.specs.Starting.{resolved_view}
 use Rattle.lane_sides.specs.Lane.{LaneForm}
 use Rattle.world_lanes.specs.Stands.{IsRunning, WireStands}
 use Rattle.world_posts.specs.Stands.{PostStands}
 use Rattle.world_state.specs.Stands.{place_of}
 use Rattle.world_state.specs.declared.state.State.{State}
+
+-- What a disk and an entropy keep of a node is the same in both worlds. What one life alone keeps may differ: a manager that had no
+-- memory to note what became of its frames doesn't know it.
+pub record KeepsAs (net : Network) (v : ℕ) (u w : World) : Type 0 where
+  pub running : IsRunning net u
+  pub drawn : w.drawn v ≡ u.drawn v
+  pub journal : w.journal v ≡ u.journal v
+  pub doubt : w.in_doubt v ≡ u.in_doubt v
+  pub given : (committed : Bool) → view_restarted (resolved_view net w v committed) ≡ view_restarted (resolved_view net u v committed)
+
+abbrev pub PostRests : {K E : Type 0} → (K → Bool) → (K → ℕ) → (K → ℕ → List ℕ → Type 0) → (E → Option OctetSequence) → Network → World → ℕ → Post K E → Type 0
+PostRests is_honest moment image left net w v p = (u : World) × KeepsAs net v u w × PostStands is_honest moment image left net u v p
 
 -- Each node has its post, each lane its wire and each link its device, as the world has them. What a lane's sender kept of its bytes
 -- says nothing any more.
@@ -19,7 +33,7 @@ pub record Rests {K Q E X : Type 0} (is_honest : K → Bool) (moment : K → ℕ
   pub running : IsRunning net w
   pub sited : net.site ≡ site_of s.site
   pub nodes : length s.posts.items ≡ net.site.nodes
-  pub posts : (v : ℕ) (p : Post K E) → slice_get s.posts.items v ≡ Some p → PostStands is_honest moment image left net w v p
+  pub posts : (v : ℕ) (p : Post K E) → slice_get s.posts.items v ≡ Some p → PostRests is_honest moment image left net w v p
   pub sides : length s.lanes.items ≡ 2 * net.site.links
   pub wires : (l : Lane) (side : LaneForm X) → is_lane net.site l ≡ true → slice_get s.lanes.items (place_of l) ≡ Some side → WireStands frames counted net w l side.wire
   pub links : length s.devices.items ≡ net.site.links
