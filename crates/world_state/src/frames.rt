@@ -24,8 +24,8 @@ use qkd_base::{FrameOctets, Lane, Memory, Octets};
 use run_turns::Delivery;
 use source_devices::{Device, Entropy, Wire};
 
-// A copy of the frame of a number on a lane's wire, if one stands there.
-pub(crate) fn seen<K: Disk + Drop, Q: Device + Drop, E: Entropy + Drop, X: Wire + Drop>(
+/// A copy of the frame of a number on a lane's wire, if one stands there.
+pub fn seen<K: Disk + Drop, Q: Device + Drop, E: Entropy + Drop, X: Wire + Drop>(
     state: &State<K, Q, E, X>,
     lane: &Lane,
     number: u64,

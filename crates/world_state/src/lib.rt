@@ -20,11 +20,12 @@ mod ticking;
 
 pub use asking::ask;
 pub use blocks::take_block;
-pub use frames::pass;
+pub use frames::{pass, seen};
 pub use lanes::put_lanes;
 pub use laws::{law_lane_goes_on, law_quiet_stays, law_state_goes_on, law_tallies_add};
 pub use links::{set_link, with_link};
 pub use lives::{arm, crash};
+pub use places::at;
 pub use progress::Progress;
 pub use reading::{counts, is_up, lane_place, on_wire};
 pub use sending::{put_order, put_repeat};
