@@ -28,7 +28,7 @@ pub use lives::{arm, crash};
 pub use places::at;
 pub use progress::Progress;
 pub use reading::{counts, is_up, lane_place, on_wire};
-pub use sending::{put_order, put_repeat};
+pub use sending::{lease, put_order, put_repeat};
 pub use starting::start;
 pub use state::State;
 pub use tampering::{flip, forge};

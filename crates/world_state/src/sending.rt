@@ -22,8 +22,8 @@ use run_turns::put_item;
 use source_devices::{Device, Entropy, Wire, WireFailed};
 use world_lanes::{again, emit, order_placing, repeat_placing};
 
-// The end below which bytes of a lane that leaves a node may be claimed.
-fn lease<K: Disk + Drop, Q: Device + Drop, E: Entropy + Drop, X: Wire + Drop>(
+/// The end below which bytes of a lane that leaves a node may be claimed.
+pub fn lease<K: Disk + Drop, Q: Device + Drop, E: Entropy + Drop, X: Wire + Drop>(
     state: &State<K, Q, E, X>,
     node: NodeNo,
     lane: Lane,
