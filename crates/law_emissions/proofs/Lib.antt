@@ -1,0 +1,10 @@
+pub mod Each
+pub mod First
+pub mod Lists
+pub mod NoneLeft
+pub mod Orders
+pub mod Planned
+pub mod Repeats
+pub mod Replies
+pub mod Swaps
+pub mod Turns
