@@ -1,7 +1,10 @@
+ghost use Rattle.std.specs.Prelude.{◌≤◌};
+
+use crate::cases::{IMAGES, holds};
 use disk_model::{Arm, Disk, Image, MemDisk};
 use range_journal::{Journal, JournalRefusal, Refused, open, open_at};
 use std::alloc::Global;
-use std::test::Fail;
+use std::process::Abort;
 
 // The batch of one record, a handing to one application.
 const BODY: [u8; 21] = [
@@ -14,59 +17,72 @@ const WRITTEN: [u8; 43] = [
     0, 0, 0, 0, 0, 0, 0x80, 0, 0x80, 0, 0, 0, 0, 0, 0, 1, 0, 0, 0,
 ];
 
-// That disk with other octets in places.
-fn changed(alloc: Global, changes: &[(usize, u8)]) -> Result<Vec<u8>, Fail> {
-    let mut octets = WRITTEN.to_vec(alloc)?;
-    for (place, octet) in changes {
-        if let Some(old) = octets.get_mut(*place) {
-            *old = *octet;
-        }
-    }
-    Ok(octets)
+// That disk with another octet in a place.
+fn changed(place: usize, octet: u8) -> [u8; 43] {
+    let mut octets = WRITTEN;
+    octets[place.min(42)] = octet;
+    octets
 }
 
-fn opened(alloc: Global, octets: &[u8]) -> Result<Journal<MemDisk>, Fail> {
-    let disk = MemDisk::new(alloc, octets, Vec::new(alloc))?;
-    Ok(open(alloc, disk)?)
+fn opened(alloc: Global, octets: &[u8]) -> Option<Journal<MemDisk>> {
+    let Ok(disk) = MemDisk::new(alloc, octets, Vec::new(alloc)) else {
+        return None;
+    };
+    open(alloc, disk).ok()
 }
 
 #[test]
-fn a_batch_is_added(rt: HostRuntime) -> Result<(), Fail> {
-    let journal = opened(rt.alloc(), &[])?;
-    assert_eq!(rt; journal.length(), 17);
-    let journal = journal.append(&BODY).ok().ok_or("not added")?;
-    assert_eq!(rt; journal.length(), 43);
+fn a_batch_is_added(rt: HostRuntime) {
+    let Some(journal) = opened(rt.alloc(), &[]) else {
+        panic!(rt; "not opened");
+    };
+    assert!(rt; journal.length() == 17);
+    let Ok(journal) = journal.append(&BODY) else {
+        panic!(rt; "not added");
+    };
+    assert!(rt; journal.length() == 43);
     let disk = journal.into_disk();
     assert!(rt; disk.content() == WRITTEN.as_slice());
-    Ok(())
 }
 
-// How many batches there are after an append that was cut at that call, with that image; or, where it was not cut, more
-// than there can be.
-fn count_after_cut(alloc: Global, octets: &[u8], call: u32, image: Image) -> Result<usize, Fail> {
-    let disk = MemDisk::new(alloc, octets, Vec::new(alloc))?;
-    let mut journal = open(alloc, disk)?;
+// How many batches a disk has.
+fn count(alloc: Global, disk: MemDisk) -> Option<usize>
+    requires { disk.allowance.used ≤ 12 }
+{
+    match open(alloc, disk) {
+        Ok(journal) => Some(journal.batches().len()),
+        Err(_) => None,
+    }
+}
+
+// How many batches there are after an append that was cut at that call, with that image, where it was cut.
+fn count_after_cut(alloc: Global, octets: &[u8], call: u32, image: Image) -> Option<usize> {
+    let Ok(disk) = MemDisk::new(alloc, octets, Vec::new(alloc)) else {
+        return None;
+    };
+    let Ok(mut journal) = open(alloc, disk) else {
+        return None;
+    };
     journal.arm(Arm::Cut { call, image });
     match journal.append(&BODY) {
-        Err(Refused::Spent(disk)) => Ok(open(alloc, disk)?.batches().len()),
-        _ => Ok(usize::MAX),
+        Err(Refused::Spent(disk)) => count(alloc, disk),
+        _ => None,
     }
 }
 
 #[test]
-fn a_cut_append_leaves_all_or_nothing(rt: HostRuntime) -> Result<(), Fail> {
+fn a_cut_append_leaves_all_or_nothing(rt: HostRuntime) {
     for version in [1, 2] {
-        let octets = changed(rt.alloc(), &[(7, version)])?;
+        let octets = changed(7, version);
         for call in 1..5 {
-            for image in [Image::Lost, Image::Kept, Image::Torn] {
-                let count = count_after_cut(rt.alloc(), &octets, call, image)?;
-                let is_there = call >= 3 && image == Image::Kept;
+            for image in &IMAGES {
+                let count = count_after_cut(rt.alloc(), &octets, call, *image);
+                let is_there = call >= 3 && *image == Image::Kept;
                 let batches = if is_there { 2 } else { 1 };
-                assert_eq!(rt; count, batches, "version {version}, call {call}");
+                holds(&rt, u64::from(call), count == Some(batches));
             }
         }
     }
-    Ok(())
 }
 
 // Opens a disk that is cut at that call, and where it is cut opens it again. The answer is whether it was cut, and how
@@ -76,78 +92,87 @@ fn opened_after_cut(
     octets: &[u8],
     call: u32,
     image: Image,
-) -> Result<(bool, usize), Fail> {
-    let mut disk = MemDisk::new(alloc, octets, Vec::new(alloc))?;
+) -> Option<(bool, usize)> {
+    let Ok(mut disk) = MemDisk::new(alloc, octets, Vec::new(alloc)) else {
+        return None;
+    };
     disk.arm(Arm::Cut { call, image });
     match open(alloc, disk) {
-        Ok(journal) => Ok((false, journal.batches().len())),
-        Err((JournalRefusal::Disk, disk)) => Ok((true, open(alloc, disk)?.batches().len())),
-        Err(_) => Ok((true, usize::MAX)),
+        Ok(journal) => Some((false, journal.batches().len())),
+        Err((JournalRefusal::Disk, disk)) => Some((true, count(alloc, disk)?)),
+        Err(_) => None,
+    }
+}
+
+// Whether an opening that makes so many calls is cut at each of them and no other, and has so many batches at last.
+fn loses_nothing(rt: &impl Abort, alloc: Global, octets: &[u8], calls: u32, batches: usize) {
+    for call in 1..11 {
+        for image in &IMAGES {
+            let found = opened_after_cut(alloc, octets, call, *image);
+            holds(rt, u64::from(call), found == Some((call <= calls, batches)));
+        }
     }
 }
 
 // An opening makes a sync, a len, a read of the header, three reads a batch and one of the last gate. A gate that isn't
 // 00 there is closed and synced, and a blank disk gets its header and is synced.
 #[test]
-fn a_cut_opening_loses_nothing(rt: HostRuntime) -> Result<(), Fail> {
+fn a_cut_opening_loses_nothing(rt: HostRuntime) {
     let alloc = rt.alloc();
-    let blank = Vec::new(alloc);
-    let closed = changed(alloc, &[(7, 1)])?;
-    let odd = changed(alloc, &[(42, 0xee)])?;
-    for (octets, calls, batches) in [(&blank, 5, 0), (&closed, 7, 1), (&odd, 9, 1)] {
-        for call in 1..11 {
-            for image in [Image::Lost, Image::Kept, Image::Torn] {
-                let (cut, count) = opened_after_cut(alloc, octets, call, image)?;
-                assert_eq!(rt; cut, call <= calls, "call {call} of {calls}");
-                assert_eq!(rt; count, batches, "call {call} of {calls}");
-            }
-        }
-    }
-    Ok(())
+    loses_nothing(&rt, alloc, &[], 5, 0);
+    loses_nothing(&rt, alloc, &changed(7, 1), 7, 1);
+    loses_nothing(&rt, alloc, &changed(42, 0xee), 9, 1);
 }
 
 // Why a disk with these octets isn't opened.
-fn refusal(alloc: Global, octets: &[u8]) -> Result<JournalRefusal, Fail> {
-    let disk = MemDisk::new(alloc, octets, Vec::new(alloc))?;
-    let refused = open(alloc, disk).err().ok_or("opened")?;
-    Ok(refused.0)
+fn refusal(alloc: Global, octets: &[u8]) -> Option<JournalRefusal> {
+    let Ok(disk) = MemDisk::new(alloc, octets, Vec::new(alloc)) else {
+        return None;
+    };
+    match open(alloc, disk) {
+        Ok(_) => None,
+        Err((why, _)) => Some(why),
+    }
 }
 
+// A length to which the disk is cut, an octet in a place, and where it is refused.
+const FOREIGN: [(usize, usize, u8, u64); 9] = [
+    (43, 3, 0, 3),
+    (43, 7, 0, 7),
+    (43, 7, 3, 7),
+    (30, 3, 0x4a, 16),
+    (20, 3, 0x4a, 16),
+    (42, 3, 0x4a, 42),
+    (43, 20, 0x16, 43),
+    (43, 20, 0x17, 16),
+    (43, 42, 1, 42),
+];
+
 #[test]
-fn foreign_disks_are_refused_at_their_place(rt: HostRuntime) -> Result<(), Fail> {
-    let alloc = rt.alloc();
-    let cases = [
-        (43, (3, 0), 3),
-        (43, (7, 0), 7),
-        (43, (7, 3), 7),
-        (30, (3, 0x4a), 16),
-        (20, (3, 0x4a), 16),
-        (42, (3, 0x4a), 42),
-        (43, (20, 0x16), 43),
-        (43, (20, 0x17), 16),
-        (43, (42, 1), 42),
-    ];
-    for (length, change, place) in cases {
-        let mut octets = changed(alloc, &[change])?;
-        octets.truncate(length);
-        let why = refusal(alloc, &octets)?;
-        assert_eq!(rt;
-            why,
-            JournalRefusal::Foreign(place),
-            "{length} octets, {change:?}"
+fn foreign_disks_are_refused_at_their_place(rt: HostRuntime) {
+    for (length, place, octet, refused) in &FOREIGN {
+        let octets = changed(*place, *octet);
+        let why = refusal(rt.alloc(), &octets[..(*length).min(43)]);
+        holds(
+            &rt,
+            *refused,
+            why == Some(JournalRefusal::Foreign(*refused)),
         );
     }
-    Ok(())
+}
+
+// A new journal after a batch of so many zeros.
+fn filled(alloc: Global, size: usize) -> Option<Journal<MemDisk>> {
+    let octets = vec![in alloc; 0u8; size].ok()?;
+    opened(alloc, &[])?.append(&octets).ok()
 }
 
 #[test]
-fn a_full_journal_refuses(rt: HostRuntime) -> Result<(), Fail> {
-    let most = vec![in rt.alloc(); 0u8; 33_554_378]?;
-    let journal = opened(rt.alloc(), &[])?
-        .append(&most)
-        .ok()
-        .ok_or("not added")?;
-    assert_eq!(rt; journal.length(), 33_554_400);
+fn a_full_journal_refuses(rt: HostRuntime) {
+    let Some(journal) = filled(rt.alloc(), 33_554_378) else {
+        panic!(rt; "not filled");
+    };
+    assert!(rt; journal.length() == 33_554_400);
     let Err(Refused::Kept(why, journal)) = journal.append(&[0; 28]) else {
         panic!(rt; "added");
     };
@@ -155,33 +180,45 @@ fn a_full_journal_refuses(rt: HostRuntime) -> Result<(), Fail> {
         length: 33_554_400,
         need: 33,
     };
-    assert_eq!(rt; why, full);
-    let journal = journal.append(&[0; 27]).ok().ok_or("not added")?;
-    assert_eq!(rt; journal.length(), 33_554_432);
-    Ok(())
+    assert!(rt; why == full);
+    let Ok(journal) = journal.append(&[0; 27]) else {
+        panic!(rt; "not added");
+    };
+    assert!(rt; journal.length() == 33_554_432);
 }
 
 #[test]
-fn memory_is_there_beforehand(rt: HostRuntime) -> Result<(), Fail> {
-    let mut journal = opened(rt.alloc(), &[])?;
-    journal.room(21)?;
-    let journal = journal.append(&BODY).ok().ok_or("not added")?;
-    assert_eq!(rt; journal.batches().len(), 1);
-    Ok(())
+fn memory_is_there_beforehand(rt: HostRuntime) {
+    let Some(mut journal) = opened(rt.alloc(), &[]) else {
+        panic!(rt; "not opened");
+    };
+    assert!(rt; journal.room(21).is_ok());
+    let Ok(journal) = journal.append(&BODY) else {
+        panic!(rt; "not added");
+    };
+    assert!(rt; journal.batches().len() == 1);
+}
+
+// The disk with that batch, opened behind it.
+fn opened_behind(alloc: Global) -> Option<Journal<MemDisk>> {
+    let Ok(mut disk) = MemDisk::new(alloc, &WRITTEN, Vec::new(alloc)) else {
+        return None;
+    };
+    let Ok(()) = disk.room(43) else {
+        return None;
+    };
+    match disk.len() {
+        Ok(size) if size >= 42 => open_at(alloc, disk, 42).ok(),
+        _ => None,
+    }
 }
 
 // Batches from a later place, behind another header.
 #[test]
-fn a_journal_is_opened_at_a_place(rt: HostRuntime) -> Result<(), Fail> {
-    let alloc = rt.alloc();
-    let mut disk = MemDisk::new(alloc, &WRITTEN, Vec::new(alloc))?;
-    disk.room(43)?;
-    let size = disk.len()?;
-    if size < 42 {
-        return Ok(());
-    }
-    let journal = open_at(alloc, disk, 42)?;
-    assert_eq!(rt; journal.length(), 43);
+fn a_journal_is_opened_at_a_place(rt: HostRuntime) {
+    let Some(journal) = opened_behind(rt.alloc()) else {
+        panic!(rt; "not opened");
+    };
+    assert!(rt; journal.length() == 43);
     assert!(rt; journal.batches().is_empty());
-    Ok(())
 }

@@ -1,14 +1,14 @@
 ghost use Rattle.std.specs.Prelude.{◌≤◌, length, IsTrue};
 ghost use Rattle.std.specs.List.{All};
 ghost use Rattle.journal_records.specs.Grammar.{IsLearned};
+ghost use Rattle.net_model.specs.Formed.{IsWellFormedRecord};
 
 use journal_records::{
     RecordRefusal, read_batch, read_batch_2, respell, spell_batch, spell_batch_2,
 };
 use net_model::{Record, Records};
-use qkd_base::Octets;
+use qkd_base::{Memory, Octets};
 use std::alloc::Global;
-use std::test::Fail;
 
 // A lease, an acknowledged note, a handing, a closed end, a stored note and a bare key, in the first version.
 const FIRST: [u8; 136] = [
@@ -34,33 +34,54 @@ fn is_short(batch: &Records) -> bool
     1 <= batch.len() && batch.len() <= 65535
 }
 
-#[test]
-fn each_kind_is_read_and_spelled(rt: HostRuntime) -> Result<(), Fail> {
-    let alloc = rt.alloc();
-    let first = read_batch(alloc, &FIRST)?;
-    assert_eq!(rt; first.len(), 6);
-    assert!(rt; is_short(&first));
-    let again = spell_batch(alloc, &first)?;
-    assert!(rt; again.as_slice() == FIRST.as_slice());
-    let other = spell_batch_2(alloc, &first)?;
-    assert!(rt; other.as_slice() == SECOND.as_slice());
-    let second = read_batch_2(alloc, &SECOND)?;
-    assert!(rt; is_short(&second));
-    let back = spell_batch(alloc, &second)?;
-    assert!(rt; back.as_slice() == FIRST.as_slice());
-    Ok(())
+// Whether a batch has this spelling in each version.
+fn is_spelled(alloc: Global, batch: &Records, first: &[u8], second: &[u8]) -> bool
+    requires { All IsWellFormedRecord batch.now }
+{
+    if !is_short(batch) {
+        return false;
+    }
+    match spell_batch(alloc, batch) {
+        Ok(octets) if octets.as_slice() == first => {}
+        _ => return false,
+    }
+    match spell_batch_2(alloc, batch) {
+        Ok(octets) => octets.as_slice() == second,
+        Err(_) => false,
+    }
 }
 
-// Why no batch is read in both versions.
-fn refusals(
-    alloc: Global,
-    first: &[u8],
-    second: &[u8],
-) -> Result<(RecordRefusal, RecordRefusal), Fail> {
-    Ok((
-        read_batch(alloc, first).err().ok_or("read")?,
-        read_batch_2(alloc, second).err().ok_or("read")?,
-    ))
+// Whether octets of the two versions are one batch of so many records, as it is read and as it is spelled.
+fn are_one_batch(alloc: Global, first: &[u8], second: &[u8], records: usize) -> bool {
+    let Ok(batch) = read_batch(alloc, first) else {
+        return false;
+    };
+    let Ok(other) = read_batch_2(alloc, second) else {
+        return false;
+    };
+    batch.len() == records
+        && is_spelled(alloc, &batch, first, second)
+        && is_spelled(alloc, &other, first, second)
+}
+
+#[test]
+fn each_kind_is_read_and_spelled(rt: HostRuntime) {
+    assert!(rt; are_one_batch(rt.alloc(), &FIRST, &SECOND, 6));
+}
+
+// Where octets are refused in the first version.
+fn refused(alloc: Global, octets: &[u8]) -> Option<usize> {
+    match read_batch(alloc, octets) {
+        Err(RecordRefusal::NotARecord(place)) => Some(place),
+        _ => None,
+    }
+}
+
+fn refused_2(alloc: Global, octets: &[u8]) -> Option<usize> {
+    match read_batch_2(alloc, octets) {
+        Err(RecordRefusal::NotARecord(place)) => Some(place),
+        _ => None,
+    }
 }
 
 // Where the fields of the six records begin, and where they end.
@@ -85,23 +106,13 @@ fn last_before(fields: &[usize], place: usize) -> usize {
 }
 
 #[test]
-fn a_cut_is_refused_where_its_field_begins(rt: HostRuntime) -> Result<(), Fail> {
+fn a_cut_is_refused_where_its_field_begins(rt: HostRuntime) {
     for cut in 0..111 {
-        let (first, second) = refusals(rt.alloc(), &FIRST[..cut], &SECOND[..cut])?;
-        let wanted = last_before(&FIRST_FIELDS, cut);
-        assert_eq!(rt;
-            first,
-            RecordRefusal::NotARecord(wanted),
-            "first, cut at {cut}"
-        );
-        let wanted = last_before(&SECOND_FIELDS, cut);
-        assert_eq!(rt;
-            second,
-            RecordRefusal::NotARecord(wanted),
-            "second, cut at {cut}"
-        );
+        let place = last_before(&FIRST_FIELDS, cut);
+        assert!(rt; refused(rt.alloc(), &FIRST[..cut]) == Some(place));
+        let place = last_before(&SECOND_FIELDS, cut);
+        assert!(rt; refused_2(rt.alloc(), &SECOND[..cut]) == Some(place));
     }
-    Ok(())
 }
 
 // An octet at a place, and where it is refused.
@@ -128,32 +139,21 @@ const SECOND_CHANGES: [(usize, u8, usize); 6] = [
 ];
 
 #[test]
-fn a_field_that_does_not_fit_is_refused_where_it_begins(rt: HostRuntime) -> Result<(), Fail> {
-    for (place, octet, wanted) in FIRST_CHANGES {
+fn a_field_that_does_not_fit_is_refused_where_it_begins(rt: HostRuntime) {
+    for (place, octet, wanted) in &FIRST_CHANGES {
         let mut octets = FIRST;
-        octets[place.min(135)] = octet;
-        let why = read_batch(rt.alloc(), &octets).err();
-        assert_eq!(rt;
-            why,
-            Some(RecordRefusal::NotARecord(wanted)),
-            "{octet} at {place}"
-        );
+        octets[(*place).min(135)] = *octet;
+        assert!(rt; refused(rt.alloc(), &octets) == Some(*wanted));
     }
-    for (place, octet, wanted) in SECOND_CHANGES {
+    for (place, octet, wanted) in &SECOND_CHANGES {
         let mut octets = SECOND;
-        octets[place.min(110)] = octet;
-        let why = read_batch_2(rt.alloc(), &octets).err();
-        assert_eq!(rt;
-            why,
-            Some(RecordRefusal::NotARecord(wanted)),
-            "{octet} at {place}"
-        );
+        octets[(*place).min(110)] = *octet;
+        assert!(rt; refused_2(rt.alloc(), &octets) == Some(*wanted));
     }
-    Ok(())
 }
 
 // So many handings of one name to one application, spelled one by one in the first version.
-fn handings(alloc: Global, count: u16) -> Result<Vec<u8>, Fail> {
+fn handings(alloc: Global, count: u16) -> Result<Vec<u8>, Memory> {
     let mut octets = count.to_be_bytes().to_vec(alloc)?;
     for _ in 0..count {
         octets.extend_from_slice(&FIRST[30..49])?;
@@ -161,34 +161,46 @@ fn handings(alloc: Global, count: u16) -> Result<Vec<u8>, Fail> {
     Ok(octets)
 }
 
-#[test]
-fn handings_stand_in_runs_of_128(rt: HostRuntime) -> Result<(), Fail> {
-    let alloc = rt.alloc();
-    let cases = [
-        (1, 14, 1, 1),
-        (128, 903, 1, 128),
-        (129, 915, 2, 128),
-        (257, 1816, 3, 128),
-    ];
-    for (count, size, records, names) in cases {
-        let batch = read_batch(alloc, &handings(alloc, count)?)?;
-        assert!(rt; is_short(&batch));
-        let octets = spell_batch_2(alloc, &batch)?;
-        assert_eq!(rt; octets.len(), size, "{count} handings");
-        let head = octets.as_slice().get(..7).ok_or("short")?;
-        assert!(rt;
-            head == [0, records, 5, 0, 7, 0, names].as_slice(),
-            "{count} handings"
-        );
-        let back = read_batch_2(alloc, octets.as_slice())?;
-        assert_eq!(rt; back.len(), usize::from(count));
+// So many handings, as the second version spells them.
+fn handed(alloc: Global, count: u16) -> Option<Octets> {
+    let octets = handings(alloc, count).ok()?;
+    match read_batch(alloc, &octets) {
+        Ok(batch) if is_short(&batch) => spell_batch_2(alloc, &batch).ok(),
+        _ => None,
     }
+}
+
+// How many records octets of the second version are.
+fn count_2(alloc: Global, octets: &[u8]) -> Option<usize> {
+    match read_batch_2(alloc, octets) {
+        Ok(batch) => Some(batch.len()),
+        Err(_) => None,
+    }
+}
+
+// Whether so many handings are so many octets in the second version, which begin with so many runs, the first of so many
+// names, and are read as they were.
+fn is_in_runs(alloc: Global, count: u16, size: usize, runs: u8, names: u8) -> bool {
+    let Some(octets) = handed(alloc, count) else {
+        return false;
+    };
+    let octets = octets.as_slice();
+    octets.len() == size
+        && octets.get(..7) == Some(&[0, runs, 5, 0, 7, 0, names][..])
+        && count_2(alloc, octets) == Some(usize::from(count))
+}
+
+#[test]
+fn handings_stand_in_runs_of_128(rt: HostRuntime) {
+    let alloc = rt.alloc();
+    assert!(rt; is_in_runs(alloc, 1, 14, 1, 1));
+    assert!(rt; is_in_runs(alloc, 128, 903, 1, 128));
+    assert!(rt; is_in_runs(alloc, 129, 915, 2, 128));
+    assert!(rt; is_in_runs(alloc, 257, 1816, 3, 128));
     let run = [
         0, 2, 5, 0, 7, 0, 1, 0, 0, 0, 0, 0, 0, 1, 5, 0, 7, 0, 1, 0, 0, 0, 0, 0, 0, 2,
     ];
-    let why = read_batch_2(alloc, &run).err();
-    assert_eq!(rt; why, Some(RecordRefusal::NotARecord(14)));
-    Ok(())
+    assert!(rt; refused_2(alloc, &run) == Some(14));
 }
 
 // A key's handing to the first application, in both versions.
@@ -199,17 +211,8 @@ const HANDED: [u8; 21] = [
 const HANDED_2: [u8; 14] = [0, 1, 5, 0, 0, 0, 1, 0, 0, 0, 0, 0, 0, 1];
 
 #[test]
-fn a_handing_has_its_octets_in_each_version(rt: HostRuntime) -> Result<(), Fail> {
-    let alloc = rt.alloc();
-    let batch = read_batch(alloc, &HANDED)?;
-    assert!(rt; is_short(&batch));
-    let octets = spell_batch_2(alloc, &batch)?;
-    assert!(rt; octets.as_slice() == HANDED_2.as_slice());
-    let back = read_batch_2(alloc, &HANDED_2)?;
-    assert!(rt; is_short(&back));
-    let again = spell_batch(alloc, &back)?;
-    assert!(rt; again.as_slice() == HANDED.as_slice());
-    Ok(())
+fn a_handing_has_its_octets_in_each_version(rt: HostRuntime) {
+    assert!(rt; are_one_batch(rt.alloc(), &HANDED, &HANDED_2, 1));
 }
 
 // A key that a node has learned, in both versions.
@@ -232,21 +235,39 @@ fn is_learned(batch: &Records) -> bool
     true
 }
 
-#[test]
-fn a_batch_is_spelled_over_one_as_long(rt: HostRuntime) -> Result<(), Fail> {
-    let alloc = rt.alloc();
-    let batch = read_batch(alloc, &LEARNED)?;
-    assert!(rt; is_short(&batch));
-    assert!(rt; is_learned(&batch));
-    let spelled = spell_batch(alloc, &batch)?;
-    assert_eq!(rt; spelled.len(), 39);
+// Spells a batch over octets, where they are as long as its spelling, and says whether it did.
+fn spell_over(alloc: Global, batch: &Records, octets: &mut Octets) -> bool
+    requires { All IsWellFormedRecord batch.now }
+{
+    if !is_short(batch) || !is_learned(batch) {
+        return false;
+    }
+    match spell_batch(alloc, batch) {
+        Ok(spelled) if spelled.len() == octets.len() => {
+            respell(alloc, batch, octets);
+            true
+        }
+        _ => false,
+    }
+}
+
+// The learned key's octets, spelled over as many with zeros in the place of its bytes.
+fn respelled(alloc: Global) -> Option<Octets> {
     let mut zeros = LEARNED;
     zeros[31..].fill(0);
-    let mut octets = Octets::from_slice(alloc, &zeros)?;
-    assert_eq!(rt; octets.len(), 39);
-    respell(alloc, &batch, &mut octets);
+    let mut octets = Octets::from_slice(alloc, &zeros).ok()?;
+    match read_batch(alloc, &LEARNED) {
+        Ok(batch) if spell_over(alloc, &batch, &mut octets) => Some(octets),
+        _ => None,
+    }
+}
+
+#[test]
+fn a_batch_is_spelled_over_one_as_long(rt: HostRuntime) {
+    let alloc = rt.alloc();
+    assert!(rt; are_one_batch(alloc, &LEARNED, &LEARNED, 1));
+    let Some(octets) = respelled(alloc) else {
+        panic!(rt; "not spelled over");
+    };
     assert!(rt; octets.as_slice() == LEARNED.as_slice());
-    let second = spell_batch_2(alloc, &batch)?;
-    assert!(rt; second.as_slice() == LEARNED.as_slice());
-    Ok(())
 }
