@@ -1,0 +1,10 @@
+pub mod Given
+pub mod Values
+pub mod Digits
+pub mod Commands
+pub mod Places
+pub mod FirstWords
+pub mod Declarations
+pub mod Lines
+pub mod Whole
+pub mod Texts

@@ -1,0 +1,33 @@
+//! That a scenario has one spelling: what all texts of one meaning have in common.
+#![tactic(auto)]
+
+ghost use Rattle.std.specs.Prelude.{◌≡◌, ℕ, ◌∷◌, List, Some, Ok};
+ghost use Rattle.std.specs.List.{flat_map};
+ghost use lib.Chars.{codes};
+ghost use Rattle.declared_site.specs.declared.site.Site.{Site};
+ghost use Rattle.scenario_lines.specs.declared.command.Command.{Command};
+ghost use Rattle.scenario_lines.specs.declared.scenario.Scenario.{Scenario};
+ghost use Rattle.scenario_reader.specs.Words.{Word};
+ghost use Rattle.scenario_reader.specs.Line.{command_at};
+ghost use Rattle.scenario_reader.specs.Text.{meaning_of};
+ghost use Rattle.scenario_forms.specs.Form.{one_case, said_by, numbers, of_kind, asking, form};
+ghost use Rattle.scenario_forms.specs.Spelled.{command_words, numbers_in, lines_of};
+
+pub use scenario_spelling;
+
+/// The words that are read as a command are its spelling, but for the case of hexadecimal digits.
+pub fn law_command_is_spelled()
+    ensures { (site : Site) (word : Word) (ws : List Word) (c : Command) → command_at site word ws ≡ Some c → one_case (word ∷ ws) ≡ command_words site c }
+{}
+
+/// The lines of a text that means a scenario are the spelling of that scenario, and stand at its numbers.
+pub fn law_text_is_spelled()
+    ensures lines { (text : List ℕ) (s : Scenario) → meaning_of text ≡ Ok s → form (said_by text) ≡ lines_of s }
+    ensures node_numbers { (text : List ℕ) (s : Scenario) → meaning_of text ≡ Ok s → numbers (of_kind (codes "node") (said_by text)) ≡ s.node_lines }
+    ensures numbers { (text : List ℕ) (s : Scenario) → meaning_of text ≡ Ok s → numbers (asking (said_by text)) ≡ flat_map numbers_in s.entries }
+{}
+
+/// So all texts of one meaning have one form.
+pub fn law_one_meaning_is_one_form()
+    ensures { (text other : List ℕ) (s : Scenario) → meaning_of text ≡ Ok s → meaning_of other ≡ Ok s → form (said_by text) ≡ form (said_by other) }
+{}
