@@ -1,5 +1,5 @@
 -- What a word says is spelled by that word.
-use Rattle.std.proofs.Common.{◌≡◌, ◌∙◌, inl, inr, ◌++◌, append-nil, append_assoc, ℕ, suc, ◌+◌, ◌-◌, ◌<◌, ◌%◌, ◌^◌, ◌==◌, Bool, true, false, not, ◌&&◌, ◌||◌, List, [], ◌∷◌, length, Option, Some, None, refl, sym, ap, subst, arith, rules}
+use Rattle.std.proofs.Common.{◌≡◌, ◌∙◌, inl, inr, ◌++◌, append-nil, append_assoc, ℕ, suc, ◌+◌, ◌<◌, ◌%◌, ◌^◌, ◌==◌, Bool, true, false, not, ◌&&◌, ◌||◌, List, [], ◌∷◌, length, Option, Some, None, refl, sym, ap, subst, arith, rules}
 use Rattle.std.specs.Prelude.{if◌then◌else◌, nat_lt, nat_le, map, is_some, slice_get, unwrap_or}
 use Rattle.std.specs.List.{position_from, list_all, list_any}
 use Rattle.std.proofs.lemmas.List.{map-append}
@@ -28,7 +28,6 @@ use Rattle.scenario_reader.specs.Words.{Word, first_of, one_of, two_of, three_of
 use Rattle.scenario_reader.specs.Fields.{node_of, sae_of, link_of, way_of, lane_of, name_of, stream_of, size_of, ends_named, image_named}
 use Rattle.scenario_reader.specs.Commanding.{names_of, few_names_of, slaves_after, group_of}
 use Rattle.scenario_spelling.specs.Spelling.{node_word, sae_word, way_word, ends_word, image_word, name_word}
-use Rattle.scenario_forms.specs.Form.{low}
 use Rattle.scenario_forms.proofs.Given.{same_some, bound, asserted, guarded, excluded}
 
 -- ---- so many words

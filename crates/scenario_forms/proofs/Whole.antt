@@ -1,5 +1,5 @@
 -- The lines of a whole text: behind `end` they are the spelling of the scenario.
-use Rattle.std.proofs.Common.{◌≡◌, ◌∙◌, ℕ, ◌+◌, Bool, List, [], ◌∷◌, ◌++◌, Option, None, refl, sym, ap, subst, append-nil, append_assoc}
+use Rattle.std.proofs.Common.{◌≡◌, ◌∙◌, ℕ, Bool, List, [], ◌∷◌, ◌++◌, Option, None, refl, sym, ap, subst, append-nil, append_assoc}
 use Rattle.std.specs.Prelude.{map, not}
 use Rattle.std.specs.List.{flat_map}
 use Rattle.std.specs.Str.{bytes_eq}
