@@ -7,7 +7,7 @@ use Rattle.std.proofs.lemmas.Bool.Decides.{nat_tests}
 use Rattle.ordered_entries.specs.Entries.{has_entry, entry_at, IsNextIn, IsLastIn}
 use Rattle.relay_core.specs.Firsts.{IsFirstFrom, IsNoneFrom}
 use Rattle.relay_core.proofs.Firsts.{not_true}
-use Rattle.relay_core.proofs.Names.{eq_same, eq_from}
+use Rattle.relay_core.proofs.Names.{eq_same, eq_from, and_left, and_right}
 use Rattle.resend_window.specs.Catalogued.{groups_at, IsCatalogue}
 
 eq_sym : (a b : ℕ) → (a == b) ≡ (b == a)
@@ -216,3 +216,88 @@ catalogue_same keys place es is none = record { has = λ g p. is.has g p ∙ sym
 
 pub there_at : {A : Type 0} (keys : Option A → List (List ℕ)) (xs : List (Option A)) (p : ℕ) (o : Option A) → slice_get xs p ≡ Some o → groups_at (map keys xs) p ≡ keys o
 there_at keys xs p o h = some_at keys xs p o h
+
+-- one more group of a place, and one less
+
+pub groups_put : (keys : List (List (List ℕ))) (n : ℕ) (gs : List (List ℕ)) (p : ℕ) → n < length keys → groups_at (slice_set keys n gs) p ≡ (if n == p then gs else groups_at keys p)
+groups_put [] n gs p within = absurd (omega arith)
+groups_put (j ∷ keys) zero gs zero within = refl
+groups_put (j ∷ keys) zero gs (suc p) within = sym (ap (λ (b : Bool). if b then gs else groups_at keys p) (zero_suc p))
+groups_put (j ∷ keys) (suc n) gs zero within = sym (ap (λ (b : Bool). if b then gs else j) (suc_zero n))
+groups_put (j ∷ keys) (suc n) gs (suc p) within = groups_put keys n gs p (omega arith) ∙ sym (ap (λ (b : Bool). if b then gs else groups_at keys p) (suc_suc n p))
+
+groups_same : (keys : List (List (List ℕ))) (n p : ℕ) → groups_at (slice_set keys n (groups_at keys n)) p ≡ groups_at keys p
+groups_same [] n p = refl
+groups_same (j ∷ keys) zero zero = refl
+groups_same (j ∷ keys) zero (suc p) = refl
+groups_same (j ∷ keys) (suc n) zero = refl
+groups_same (j ∷ keys) (suc n) (suc p) = groups_same keys n p
+
+groups_within : (keys : List (List (List ℕ))) (p : ℕ) (g : List ℕ) (gs : List (List ℕ)) → groups_at keys p ≡ g ∷ gs → p < length keys
+groups_within [] p g gs h = cc
+groups_within (j ∷ keys) zero g gs h = omega arith
+groups_within (j ∷ keys) (suc p) g gs h = let r = groups_within keys p g gs h in omega arith
+
+bytes_from : (a b : List ℕ) → bytes_eq a b ≡ true → a ≡ b
+bytes_from [] [] h = refl
+bytes_from [] (y ∷ b) h = cc
+bytes_from (x ∷ a) [] h = cc
+bytes_from (x ∷ a) (y ∷ b) h =
+    ap (λ z. z ∷ a) (eq_from x y (and_left (x == y) (bytes_eq a b) h)) ∙ ap (λ zs. y ∷ zs) (bytes_from a b (and_right (x == y) (bytes_eq a b) h))
+
+-- the groups that a place has already
+pub catalogue_kept : (keys : List (List (List ℕ))) (place : ℕ) (gs : List (List ℕ)) (es : List (List ℕ)) → IsCatalogue keys es → groups_at keys place ≡ gs → IsCatalogue (slice_set keys place gs) es
+catalogue_kept keys place gs es is there = record {
+  has = λ g p. is.has g p ∙ sym (ap (list_any (bytes_eq g)) (ap (λ (k : List (List ℕ)). groups_at (slice_set keys place k) p) (sym there) ∙ groups_same keys place p));
+}
+
+pub catalogue_join : (keys : List (List (List ℕ))) (group : List ℕ) (place : ℕ) (old new : List (List ℕ)) → IsCatalogue keys old → place < length keys →
+    ((e : List ℕ) → has_entry new e ≡ (bytes_eq (entry_at group place) e || has_entry old e)) → IsCatalogue (slice_set keys place (group ∷ groups_at keys place)) new
+catalogue_join keys group place old new is within one = record {
+  has = λ g p.
+      one (entry_at g p)
+      ∙ ap (λ (b : Bool). b || has_entry old (entry_at g p)) (entry_eq group g place p)
+      ∙ ap (λ (b : Bool). (bytes_eq group g && (place == p)) || b) (is.has g p)
+      ∙ by g p (place == p) refl
+      ∙ sym (ap (list_any (bytes_eq g)) (groups_put keys place (group ∷ groups_at keys place) p within));
+}
+  where
+    by : (g : List ℕ) (p : ℕ) (b : Bool) → (place == p) ≡ b → ((bytes_eq group g && (place == p)) || list_any (bytes_eq g) (groups_at keys p))
+        ≡ list_any (bytes_eq g) (if place == p then group ∷ groups_at keys place else groups_at keys p)
+    by g p true e =
+        ap (λ (b : Bool). (bytes_eq group g && b) || list_any (bytes_eq g) (groups_at keys p)) e
+        ∙ ap (λ (b : Bool). b || list_any (bytes_eq g) (groups_at keys p)) (and_true (bytes_eq group g) ∙ bytes_sym group g)
+        ∙ ap (λ (q : ℕ). bytes_eq g group || list_any (bytes_eq g) (groups_at keys q)) (sym (eq_from place p e))
+        ∙ sym (ap (λ (b : Bool). list_any (bytes_eq g) (if b then group ∷ groups_at keys place else groups_at keys p)) e)
+    by g p false e =
+        ap (λ (b : Bool). (bytes_eq group g && b) || list_any (bytes_eq g) (groups_at keys p)) e
+        ∙ ap (λ (b : Bool). b || list_any (bytes_eq g) (groups_at keys p)) (and_false (bytes_eq group g))
+        ∙ sym (ap (λ (b : Bool). list_any (bytes_eq g) (if b then group ∷ groups_at keys place else groups_at keys p)) e)
+
+pub catalogue_leave : (keys : List (List (List ℕ))) (group : List ℕ) (rest : List (List ℕ)) (place : ℕ) (old new : List (List ℕ)) → IsCatalogue keys old → groups_at keys place ≡ group ∷ rest →
+    list_any (bytes_eq group) rest ≡ false → ((e : List ℕ) → has_entry new e ≡ (if bytes_eq (entry_at group place) e then false else has_entry old e)) → IsCatalogue (slice_set keys place rest) new
+catalogue_leave keys group rest place old new is there apart one = record {
+  has = λ g p.
+      one (entry_at g p)
+      ∙ ap (λ (b : Bool). if b then false else has_entry old (entry_at g p)) (entry_eq group g place p)
+      ∙ ap (λ (b : Bool). if bytes_eq group g && (place == p) then false else b) (is.has g p)
+      ∙ by g p (place == p) refl
+      ∙ sym (ap (list_any (bytes_eq g)) (groups_put keys place rest p (groups_within keys place group rest there)));
+}
+  where
+    gone : (g : List ℕ) (b : Bool) → bytes_eq g group ≡ b → (if bytes_eq g group then false else (bytes_eq g group || list_any (bytes_eq g) rest)) ≡ list_any (bytes_eq g) rest
+    gone g true q = ap (λ (b : Bool). if b then false else (b || list_any (bytes_eq g) rest)) q ∙ sym (ap (λ (h : List ℕ). list_any (bytes_eq h) rest) (bytes_from g group q) ∙ apart)
+    gone g false q = ap (λ (b : Bool). if b then false else (b || list_any (bytes_eq g) rest)) q
+
+    by : (g : List ℕ) (p : ℕ) (b : Bool) → (place == p) ≡ b → (if bytes_eq group g && (place == p) then false else list_any (bytes_eq g) (groups_at keys p))
+        ≡ list_any (bytes_eq g) (if place == p then rest else groups_at keys p)
+    by g p true e =
+        ap (λ (b : Bool). if bytes_eq group g && b then false else list_any (bytes_eq g) (groups_at keys p)) e
+        ∙ ap (λ (ks : List (List ℕ)). if bytes_eq group g && true then false else list_any (bytes_eq g) ks) (ap (groups_at keys) (sym (eq_from place p e)) ∙ there)
+        ∙ ap (λ (b : Bool). if b then false else list_any (bytes_eq g) (group ∷ rest)) (and_true (bytes_eq group g) ∙ bytes_sym group g)
+        ∙ gone g (bytes_eq g group) refl
+        ∙ sym (ap (λ (b : Bool). list_any (bytes_eq g) (if b then rest else groups_at keys p)) e)
+    by g p false e =
+        ap (λ (b : Bool). if bytes_eq group g && b then false else list_any (bytes_eq g) (groups_at keys p)) e
+        ∙ ap (λ (b : Bool). if b then false else list_any (bytes_eq g) (groups_at keys p)) (and_false (bytes_eq group g))
+        ∙ sym (ap (λ (b : Bool). list_any (bytes_eq g) (if b then rest else groups_at keys p)) e)

@@ -1,6 +1,7 @@
 -- What an order's placing leaves.
-use Rattle.std.proofs.Common.{◌≡◌, ℕ, zero, suc, ◌+◌, ◌-◌, ◌<◌, ◌≤◌, Bool, true, false, ◌||◌, ◌&&◌, List, [], ◌∷◌, ◌++◌, length, take, drop, replicate, refl, sym, ◌∙◌, ap, subst, arith, Option, Some, None, ◌⊎◌, inl, inr}
+use Rattle.std.proofs.Common.{◌≡◌, ℕ, zero, suc, ◌+◌, ◌-◌, ◌<◌, ◌≤◌, ◌^◌, Bool, true, false, ◌||◌, ◌&&◌, List, [], ◌∷◌, ◌++◌, length, take, drop, replicate, refl, sym, ◌∙◌, ap, subst, arith, Option, Some, None, ◌⊎◌, inl, inr}
 use Rattle.std.specs.Prelude.{nat_le, not, is_some, is_none, if◌then◌else◌}
+use Rattle.std.proofs.lemmas.Bool.Decides.{nat_tests}
 use Rattle.std.proofs.lemmas.List.{drop-replicate}
 use Rattle.qkd_base.specs.declared.frame_octets.FrameOctets.{FrameOctets}
 use Rattle.net_model.specs.declared.placing.Placing.{Placing}
@@ -55,23 +56,27 @@ due_none o r t = let e : t - t ≡ 0 = omega arith in ap (λ k. r || (is_none o 
     by false true = refl
     by false false = refl
 
-pub entry_new : (p : Placing) (t : ℕ) (r : Bool) (len : ℕ) (f : FrameOctets) → is_some p.number ≡ not r → take len f.octets ≡ take p.length p.frame.octets →
-    entry_at t (record { lane = p.lane; offset = p.offset; name = p.name; ack_of = p.ack_of; number = p.number; sent = t; due = r; length = len; frame = f }) ≡ entry_of p
-entry_new p t r len f none front =
+pub entry_new : (p : Placing) (x t : ℕ) (r : Bool) (len : ℕ) (f : FrameOctets) → x ≡ p.offset → is_some p.number ≡ not r → take len f.octets ≡ take p.length p.frame.octets →
+    entry_at t (record { lane = p.lane; offset = x; name = p.name; ack_of = p.ack_of; number = p.number; sent = t; due = r; ripe = false; length = len; frame = f }) ≡ entry_of p
+entry_new p x t r len f at none front =
     let a = age_none p.ack_of t in
     let d = due_none p.ack_of r t ∙ none_is p.number r none in
     λ i. record {
       transmission = record { lane = p.lane; item = item_of p.ack_of p.name; received_offset = p.ack_of };
-      offset = p.offset;
+      offset = at i;
       number = p.number;
       age = a i;
       due = d i;
       frame = front i;
     }
 
-pub held_new : (p : Placing) (t : ℕ) (r : Bool) (len : ℕ) (f : FrameOctets) → length p.frame.octets ≡ 600 → f.octets ≡ take len p.frame.octets ++ replicate (600 - len) 0 → len ≤ 600 →
-    IsHeld t (record { lane = p.lane; offset = p.offset; name = p.name; ack_of = p.ack_of; number = p.number; sent = t; due = r; length = len; frame = f })
-held_new p t r len f whole e le =
+not_ripe : (o : Option ℕ) (t : ℕ) → false ≡ (is_none o && nat_le 4 ((t + 1) - t))
+not_ripe None t = grind (arith, nat_tests)
+not_ripe (Some x) t = refl
+
+pub held_new : (p : Placing) (x t : ℕ) (r : Bool) (len : ℕ) (f : FrameOctets) → length p.frame.octets ≡ 600 → f.octets ≡ take len p.frame.octets ++ replicate (600 - len) 0 → len ≤ 600 → x < 2 ^ 64 →
+    IsHeld t (record { lane = p.lane; offset = x; name = p.name; ack_of = p.ack_of; number = p.number; sent = t; due = r; ripe = false; length = len; frame = f })
+held_new p x t r len f whole e le place =
     let size : length (take len p.frame.octets) ≡ len = length_take len p.frame.octets (omega arith) in
     let front = front_kept p.frame.octets f.octets len whole e le in
     let full = ap (λ xs. length xs) front ∙ size in
@@ -79,4 +84,6 @@ held_new p t r len f whole e le =
       sent = omega arith;
       size = full;
       clean = ap (λ (o : List ℕ). let x : FrameOctets = record { octets = o } in x) (e ∙ ap (λ (xs : List ℕ). xs ++ replicate (600 - len) 0) (sym front) ∙ ap (λ k. take len f.octets ++ replicate (600 - k) 0) (sym full));
+      ripe = not_ripe p.ack_of t;
+      place = place;
     }

@@ -12,7 +12,7 @@ use Rattle.qkd_base.specs.declared.lane.Way.TheVariants.{Up, Down}
 use Rattle.qkd_base.specs.declared.frame_octets.FrameOctets.{FrameOctets}
 use Rattle.resend_window.specs.declared.held.Held.{Held}
 use Rattle.resend_window.specs.declared.edit.Query.{Query}
-use Rattle.resend_window.specs.declared.edit.Query.TheVariants.{At, Answering, DataOf}
+use Rattle.resend_window.specs.declared.edit.Query.TheVariants.{At, Answering, DataOf, SentAt}
 use Rattle.resend_window.specs.declared.edit.Edit.{Edit}
 use Rattle.resend_window.specs.declared.edit.Edit.TheVariants.{MarkDue, Renew, Renumber, Remove}
 use Rattle.resend_window.specs.Slots.{passes, is_asked, edit, edited}
@@ -83,42 +83,25 @@ and_false : (b : Bool) → (b && false) ≡ false
 and_false true = refl
 and_false false = refl
 
-held_asked : (q : Query) (l : Lane) (x : ℕ) (n : Name) (o number : Option ℕ) (sent : ℕ) (d : Bool) (size : ℕ) (f : FrameOctets) →
-    (let h : Held = record { lane = l; offset = x; name = n; ack_of = o; number = number; sent = sent; due = d; length = size; frame = f } in list_any (bytes_eq (query_group q)) (held_groups (Some h)) ≡ is_asked q h)
-held_asked (At k y) l x n None number sent d size f = or_none _ ∙ offset_is k l y x
-held_asked (At k y) l x n (Some z) number sent d size f = or_none _ ∙ offset_is k l y x
-held_asked (Answering k y) l x n None number sent d size f = sym (and_false (lane_eq l k))
-held_asked (Answering k y) l x n (Some z) number sent d size f = or_none _ ∙ offset_is k l y z
-held_asked (DataOf k m) l x n None number sent d size f = or_none _ ∙ name_is k l m n
-held_asked (DataOf k m) l x n (Some z) number sent d size f = sym (and_false (lane_eq l k))
+held_asked : (q : Query) (l : Lane) (x : ℕ) (n : Name) (o number : Option ℕ) (sent : ℕ) (d r : Bool) (size : ℕ) (f : FrameOctets) →
+    (let h : Held = record { lane = l; offset = x; name = n; ack_of = o; number = number; sent = sent; due = d; ripe = r; length = size; frame = f } in list_any (bytes_eq (query_group q)) (held_groups (Some h)) ≡ is_asked q h)
+held_asked (At k y) l x n None number sent d r size f = or_none _ ∙ offset_is k l y x
+held_asked (At k y) l x n (Some z) number sent d r size f = or_none _ ∙ offset_is k l y x
+held_asked (Answering k y) l x n None number sent d r size f = sym (and_false (lane_eq l k))
+held_asked (Answering k y) l x n (Some z) number sent d r size f = or_none _ ∙ offset_is k l y z
+held_asked (DataOf k m) l x n None number sent d r size f = or_none _ ∙ name_is k l m n
+held_asked (DataOf k m) l x n (Some z) number sent d r size f = sym (and_false (lane_eq l k))
+held_asked (SentAt tick) l x n None number sent d r size f = or_none _ ∙ and_true (tick == sent) ∙ eq_sym tick sent
+held_asked (SentAt tick) l x n (Some z) number sent d r size f = refl
 
 pub held_are : (q : Query) → AreGroups held_groups (passes (is_asked q)) (query_group q)
 held_are q = record { asked = by; nothing = refl }
   where
     by : (o : Option Held) → list_any (bytes_eq (query_group q)) (held_groups o) ≡ passes (is_asked q) o
     by None = refl
-    by (Some h) = held_asked q h.lane h.offset h.name h.ack_of h.number h.sent h.due h.length h.frame
+    by (Some h) = held_asked q h.lane h.offset h.name h.ack_of h.number h.sent h.due h.ripe h.length h.frame
 
--- a change keeps the groups of what it changes
-
-edit_keeps : (e : Edit) (h : Held) → is_removal e ≡ false → held_groups (edit e h) ≡ held_groups (Some h)
-edit_keeps MarkDue h kept = refl
-edit_keeps (Renew n) h kept = refl
-edit_keeps (Renumber n) h kept = refl
-edit_keeps Remove h kept = cc
-
-pub edited_keeps : (q : Query) (e : Edit) (o : Option Held) → is_removal e ≡ false → held_groups (edited q e o) ≡ held_groups o
-edited_keeps q e None kept = refl
-edited_keeps q e (Some h) kept = by (is_asked q h)
-  where
-    by : (b : Bool) → held_groups (if b then edit e h else Some h) ≡ held_groups (Some h)
-    by true = edit_keeps e h kept
-    by false = refl
-
-pub keys_kept : {A : Type 0} (keys : Option A → List (List ℕ)) (xs : List (Option A)) (p : ℕ) (o new : Option A) → slice_get xs p ≡ Some o → keys new ≡ keys o → map keys (slice_set xs p new) ≡ map keys xs
-keys_kept keys [] p o new there same = cc
-keys_kept keys (x ∷ xs) zero o new there same = let is : x ≡ o = cc in ap (λ k. k ∷ map keys xs) (same ∙ ap keys (sym is))
-keys_kept keys (x ∷ xs) (suc p) o new there same = ap (λ ks. keys x ∷ ks) (keys_kept keys xs p o new there same)
+-- places that have something else
 
 pub keys_set : {A : Type 0} (keys : Option A → List (List ℕ)) (xs : List (Option A)) (p : ℕ) → keys None ≡ [] → map keys (slice_set xs p None) ≡ slice_set (map keys xs) p []
 keys_set keys [] p none = refl

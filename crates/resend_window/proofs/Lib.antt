@@ -8,3 +8,6 @@ pub mod Sorted
 pub mod Dues
 pub mod Catalogues
 pub mod Grouped
+pub mod Listings
+pub mod Alike
+pub mod Ready

@@ -25,7 +25,8 @@ use Rattle.resend_window.specs.declared.edit.Edit.TheVariants.{MarkDue, Renew, R
 use Rattle.resend_window.specs.Kept.{somes}
 use Rattle.resend_window.specs.Held.{entry_at, entries_at, pending_ack, transmission, IsHeld, AreHeld, AreApart, stand_together}
 use Rattle.resend_window.specs.Slots.{is_asked, edited, removed}
-use Rattle.resend_window.specs.Lists.{is_from, IsWindow, is_repeated, renewed_by, value_of}
+use Rattle.resend_window.specs.Lists.{is_from, IsWindow, is_repeated, renewed_by, ripened_at, value_of}
+use Rattle.resend_window.proofs.Ready.{entries_ripened, ripened_apart, planned_held}
 use Rattle.resend_window.proofs.Lists.{somes_changed, somes_removed, somes_push, map_filter, map_append, length_map, map_map, map_same, any_map, any_same}
 
 -- in order, after a change
@@ -113,11 +114,11 @@ somes_left q slots = somes_removed (is_asked q) (removed (is_asked q)) refl (λ 
 
 marked_held : (t : ℕ) (q : Query) (h : Held) → IsHeld t h → IsHeld t (marked q h)
 unfolding marked
-marked_held t q h is = elim (is_asked q h) as (λ b. IsHeld t (if b then record h { due = true } else h)) [ true ↦ record { sent = is.sent; size = is.size; clean = is.clean } | false ↦ is ]
+marked_held t q h is = elim (is_asked q h) as (λ b. IsHeld t (if b then record h { due = true } else h)) [ true ↦ record { sent = is.sent; size = is.size; clean = is.clean; ripe = is.ripe; place = is.place } | false ↦ is ]
 
 numbered_held : (t : ℕ) (q : Query) (n : ℕ) (h : Held) → IsHeld t h → IsHeld t (numbered q n h)
 unfolding numbered
-numbered_held t q n h is = elim (is_asked q h) as (λ b. IsHeld t (if b then record h { number = Some n } else h)) [ true ↦ record { sent = is.sent; size = is.size; clean = is.clean } | false ↦ is ]
+numbered_held t q n h is = elim (is_asked q h) as (λ b. IsHeld t (if b then record h { number = Some n } else h)) [ true ↦ record { sent = is.sent; size = is.size; clean = is.clean; ripe = is.ripe; place = is.place } | false ↦ is ]
 
 marked_apart : (q : Query) (h k : Held) → stand_together (marked q h) (marked q k) ≡ stand_together h k
 unfolding marked
@@ -230,24 +231,24 @@ due_yet : (d : Bool) (m : ℕ) → (d || nat_le 4 (m + 1)) ≡ ((d || nat_le 4 m
 due_yet true m = refl
 due_yet false m = grind (arith, nat_tests)
 
-aged : (t : ℕ) (rs : List Repeat) (l : Lane) (x : ℕ) (n : Name) (o number : Option ℕ) (sent : ℕ) (d : Bool) (size : ℕ) (f : FrameOctets) → sent ≤ t →
-    (let h : Held = record { lane = l; offset = x; name = n; ack_of = o; number = number; sent = sent; due = d; length = size; frame = f } in entry_at (t + 1) (renewed_by (t + 1) rs h) ≡ repeated_by rs (age (entry_at t h)))
-aged t rs l x n None number sent d size f s =
-    let h : Held = record { lane = l; offset = x; name = n; ack_of = None; number = number; sent = sent; due = d; length = size; frame = f } in
+aged : (t : ℕ) (rs : List Repeat) (l : Lane) (x : ℕ) (n : Name) (o number : Option ℕ) (sent : ℕ) (d r : Bool) (size : ℕ) (f : FrameOctets) → sent ≤ t →
+    (let h : Held = record { lane = l; offset = x; name = n; ack_of = o; number = number; sent = sent; due = d; ripe = r; length = size; frame = f } in entry_at (t + 1) (renewed_by (t + 1) rs h) ≡ repeated_by rs (age (entry_at t h)))
+aged t rs l x n None number sent d r size f s =
+    let h : Held = record { lane = l; offset = x; name = n; ack_of = None; number = number; sent = sent; due = d; ripe = r; length = size; frame = f } in
     let e : Entry = age (entry_at t h) in
     let none : (t + 1) - (t + 1) ≡ 0 = omega arith in
     let more : (t + 1) - sent ≡ (t - sent) + 1 = omega arith in
-    elim (is_repeated rs h) as (λ b. entry_at (t + 1) (if b then record h { sent = t + 1; due = false } else h) ≡ (if b then record e { age = 0; due = false } else e)) [
+    elim (is_repeated rs h) as (λ b. entry_at (t + 1) (if b then record h { sent = t + 1; due = false; ripe = false } else h) ≡ (if b then record e { age = 0; due = false } else e)) [
       | true ↦ ap (λ (k : ℕ). record e { age = k; due = nat_le 4 k }) none
       | false ↦ ap (λ (k : ℕ). record e { age = k; due = d || nat_le 4 k }) more ∙ ap (λ (b : Bool). record e { age = (t - sent) + 1; due = b }) (due_yet d (t - sent))
     ]
-aged t rs l x n (Some y) number sent d size f s =
-    let h : Held = record { lane = l; offset = x; name = n; ack_of = Some y; number = number; sent = sent; due = d; length = size; frame = f } in
+aged t rs l x n (Some y) number sent d r size f s =
+    let h : Held = record { lane = l; offset = x; name = n; ack_of = Some y; number = number; sent = sent; due = d; ripe = r; length = size; frame = f } in
     let e : Entry = age (entry_at t h) in
-    elim (is_repeated rs h) as (λ b. entry_at (t + 1) (if b then record h { sent = t + 1; due = false } else h) ≡ (if b then record e { age = 0; due = false } else e)) [ true ↦ refl | false ↦ refl ]
+    elim (is_repeated rs h) as (λ b. entry_at (t + 1) (if b then record h { sent = t + 1; due = false; ripe = false } else h) ≡ (if b then record e { age = 0; due = false } else e)) [ true ↦ refl | false ↦ refl ]
 
 pub entry_aged : (t : ℕ) (rs : List Repeat) (h : Held) → h.sent ≤ t → entry_at (t + 1) (renewed_by (t + 1) rs h) ≡ repeated_by rs (age (entry_at t h))
-entry_aged t rs h s = aged t rs h.lane h.offset h.name h.ack_of h.number h.sent h.due h.length h.frame s
+entry_aged t rs h s = aged t rs h.lane h.offset h.name h.ack_of h.number h.sent h.due h.ripe h.length h.frame s
 
 entries_aged : (t : ℕ) (rs : List Repeat) (hs : List Held) → AreHeld t hs → entries_at (t + 1) (map (renewed_by (t + 1) rs) hs) ≡ map (repeated_by rs) (map age (entries_at t hs))
 entries_aged t rs [] held = refl
@@ -256,30 +257,24 @@ entries_aged t rs (h ∷ hs) held =
     ∙ ap (λ (es : List Entry). repeated_by rs (age (entry_at t h)) ∷ es) (entries_aged t rs hs held.1)
 
 pub planned_value : (t : ℕ) (slots after : List (Option Held)) (ps : List (Option Arrival)) (ws next : List (Option Awaited)) (orders : List Order) (rs : List Repeat) → AreHeld t (somes slots) →
-    somes after ≡ map (renewed_by (t + 1) rs) (somes slots) → map transmission (somes next) ≡ map transmission (somes ws) ++ map transmission_of_order orders →
+    somes after ≡ map (ripened_at (t + 1)) (map (renewed_by (t + 1) rs) (somes slots)) → map transmission (somes next) ≡ map transmission (somes ws) ++ map transmission_of_order orders →
     value_of (t + 1) after ps next ≡ planned orders rs (value_of t slots ps ws)
 planned_value t slots after ps ws next orders rs held e w =
-    ap (λ (es : List Entry). record { window = es; pending_acks = map pending_ack (somes ps); awaiting = map transmission (somes next) }) (ap (λ hs. entries_at (t + 1) hs) e ∙ entries_aged t rs (somes slots) held)
+    ap (λ (es : List Entry). record { window = es; pending_acks = map pending_ack (somes ps); awaiting = map transmission (somes next) }) (ap (λ hs. entries_at (t + 1) hs) e ∙ entries_ripened (t + 1) (t + 1) (map (renewed_by (t + 1) rs) (somes slots)) ∙ entries_aged t rs (somes slots) held)
     ∙ ap (λ (ts : List Transmission). record { window = map (repeated_by rs) (map age (entries_at t (somes slots))); pending_acks = map pending_ack (somes ps); awaiting = ts }) w
 
-renewed_held : (t : ℕ) (rs : List Repeat) (h : Held) → IsHeld t h → IsHeld (t + 1) (renewed_by (t + 1) rs h)
-renewed_held t rs h is = elim (is_repeated rs h) as (λ b. IsHeld (t + 1) (if b then record h { sent = t + 1; due = false } else h)) [
-  | true ↦ record { sent = omega arith; size = is.size; clean = is.clean }
-  | false ↦ record { sent = (let s = is.sent in omega arith); size = is.size; clean = is.clean }
-]
-
 renewed_apart : (t : ℕ) (rs : List Repeat) (h k : Held) → stand_together (renewed_by t rs h) (renewed_by t rs k) ≡ stand_together h k
-renewed_apart t rs h k = elim (is_repeated rs h) as (λ a. stand_together (if a then record h { sent = t; due = false } else h) (renewed_by t rs k) ≡ stand_together h k) [
-  | true ↦ elim (is_repeated rs k) as (λ b. stand_together (record h { sent = t; due = false }) (if b then record k { sent = t; due = false } else k) ≡ stand_together h k) [ true ↦ refl | false ↦ refl ]
-  | false ↦ elim (is_repeated rs k) as (λ b. stand_together h (if b then record k { sent = t; due = false } else k) ≡ stand_together h k) [ true ↦ refl | false ↦ refl ]
+renewed_apart t rs h k = elim (is_repeated rs h) as (λ a. stand_together (if a then record h { sent = t; due = false; ripe = false } else h) (renewed_by t rs k) ≡ stand_together h k) [
+  | true ↦ elim (is_repeated rs k) as (λ b. stand_together (record h { sent = t; due = false; ripe = false }) (if b then record k { sent = t; due = false; ripe = false } else k) ≡ stand_together h k) [ true ↦ refl | false ↦ refl ]
+  | false ↦ elim (is_repeated rs k) as (λ b. stand_together h (if b then record k { sent = t; due = false; ripe = false } else k) ≡ stand_together h k) [ true ↦ refl | false ↦ refl ]
 ]
 
 pub planned_window : (t : ℕ) (slots after : List (Option Held)) (ws next : List (Option Awaited)) (orders : List Order) (rs : List Repeat) (spare now : ℕ) → IsWindow t (somes slots) (somes ws) spare →
-    somes after ≡ map (renewed_by (t + 1) rs) (somes slots) → map transmission (somes next) ≡ map transmission (somes ws) ++ map transmission_of_order orders → now ≡ spare → length orders ≤ spare - length (somes ws) →
+    somes after ≡ map (ripened_at (t + 1)) (map (renewed_by (t + 1) rs) (somes slots)) → map transmission (somes next) ≡ map transmission (somes ws) ++ map transmission_of_order orders → now ≡ spare → length orders ≤ spare - length (somes ws) →
     IsWindow (t + 1) (somes after) (somes next) now
 planned_window t slots after ws next orders rs spare now is e w s room = record {
-  held = subst (AreHeld (t + 1)) (sym e) (held_map t (t + 1) (renewed_by (t + 1) rs) (renewed_held t rs) (somes slots) is.held);
-  apart = subst AreApart (sym e) (apart_map (renewed_by (t + 1) rs) (renewed_apart (t + 1) rs) (somes slots) is.apart);
+  held = subst (AreHeld (t + 1)) (sym (e ∙ map_map (renewed_by (t + 1) rs) (ripened_at (t + 1)) (somes slots))) (held_map t (t + 1) (λ h. ripened_at (t + 1) (renewed_by (t + 1) rs h)) (planned_held t rs) (somes slots) is.held);
+  apart = subst AreApart (sym e) (apart_map (ripened_at (t + 1)) (ripened_apart (t + 1)) (map (renewed_by (t + 1) rs) (somes slots)) (apart_map (renewed_by (t + 1) rs) (renewed_apart (t + 1) rs) (somes slots) is.apart));
   room =
       let r = is.room in
       let a = length_map transmission (somes next) in

@@ -1,11 +1,11 @@
 -- The groups in which frames, acknowledgements and orders are found.
-use Rattle.std.specs.Prelude.{ℕ, Bool, true, false, List, [], ◌∷◌, Option, Some, None}
+use Rattle.std.specs.Prelude.{ℕ, Bool, true, false, List, [], ◌∷◌, ◌++◌, Option, Some, None}
 use Rattle.qkd_base.specs.Lane.{way_number}
 use Rattle.qkd_base.specs.Name.{Name, kind_number}
 use Rattle.qkd_base.specs.declared.lane.Lane.{Lane}
 use Rattle.resend_window.specs.declared.held.Held.{Held}
 use Rattle.resend_window.specs.declared.edit.Query.{Query}
-use Rattle.resend_window.specs.declared.edit.Query.TheVariants.{At, Answering, DataOf}
+use Rattle.resend_window.specs.declared.edit.Query.TheVariants.{At, Answering, DataOf, SentAt}
 use Rattle.resend_window.specs.declared.edit.Edit.{Edit}
 use Rattle.resend_window.specs.declared.edit.Edit.TheVariants.{Remove}
 use Rattle.resend_window.specs.declared.arrival.Arrival.{Arrival}
@@ -37,10 +37,19 @@ name_group tag l n x = tag ∷ l.link ∷ way_number l.way ∷ n.node ∷ kind_n
 
 -- frames
 
+abbrev pub sent_group : ℕ → List ℕ
+sent_group tick = 3 ∷ tick ∷ 0 ∷ 0 ∷ 0 ∷ 0 ∷ 0 ∷ []
+
+-- that of the tick at which it went out, if it is of a fact
+abbrev pub sent_groups : Option ℕ → ℕ → List (List ℕ)
+sent_groups None tick = sent_group tick ∷ []
+sent_groups (Some x) tick = []
+
 abbrev pub query_group : Query → List ℕ
 query_group (At l x) = offset_group 0 l x
 query_group (Answering l x) = offset_group 1 l x
 query_group (DataOf l n) = name_group 2 l n 0
+query_group (SentAt tick) = sent_group tick
 
 abbrev pub item_group : Lane → Name → Option ℕ → List ℕ
 item_group l n None = name_group 2 l n 0
@@ -48,7 +57,7 @@ item_group l n (Some x) = offset_group 1 l x
 
 abbrev pub held_groups : Option Held → List (List ℕ)
 held_groups None = []
-held_groups (Some h) = offset_group 0 h.lane h.offset ∷ item_group h.lane h.name h.ack_of ∷ []
+held_groups (Some h) = sent_groups h.ack_of h.sent ++ offset_group 0 h.lane h.offset ∷ item_group h.lane h.name h.ack_of ∷ []
 
 abbrev pub is_removal : Edit → Bool
 is_removal Remove = true

@@ -1,5 +1,5 @@
 -- What is kept of a frame that was sent, and what it is at a tick.
-use Rattle.std.specs.Prelude.{◌≡◌, ℕ, ◌-◌, ◌≤◌, ◌==◌, ◌&&◌, ◌||◌, nat_le, Bool, false, List, [], ◌∷◌, map, take, length, is_none, if◌then◌else◌}
+use Rattle.std.specs.Prelude.{◌≡◌, ℕ, ◌+◌, ◌-◌, ◌≤◌, ◌<◌, ◌^◌, ◌==◌, ◌&&◌, ◌||◌, nat_le, Bool, false, List, [], ◌∷◌, map, take, length, is_none, if◌then◌else◌}
 use Rattle.std.specs.List.{list_any}
 use Rattle.qkd_base.specs.Lane.{lane_eq}
 use Rattle.qkd_base.specs.Name.{Name}
@@ -26,11 +26,14 @@ entry_at now h =
 abbrev pub entries_at : ℕ → List Held → List Entry
 entries_at now hs = map (entry_at now) hs
 
--- it was sent by now, and the room behind its octets is zero
+-- It was sent by now, the room behind its octets is zero, it is ripe if it is due a tick later by its age, and its offset fits in
+-- 64 bits.
 pub record IsHeld (now : ℕ) (h : Held) : Type 0 where
   pub sent : h.sent ≤ now
   pub size : length (take h.length h.frame.octets) ≡ h.length
   pub clean : h.frame ≡ room_octets (take h.length h.frame.octets)
+  pub ripe : h.ripe ≡ (is_none h.ack_of && nat_le 4 ((now + 1) - h.sent))
+  pub place : h.offset < 2 ^ 64
 
 -- all are
 abbrev pub AreHeld : ℕ → List Held → Type 0
@@ -44,6 +47,10 @@ stand_together h k = lane_eq h.lane k.lane && (h.offset == k.offset)
 abbrev pub AreApart : List Held → Type 0
 AreApart [] = Unit {0}
 AreApart (h ∷ hs) = (list_any (stand_together h) hs ≡ false) × AreApart hs
+
+-- it goes out at the next plan
+abbrev pub is_ready : Held → Bool
+is_ready h = h.due || h.ripe
 
 -- it goes out on this lane at the next tick
 abbrev pub is_next_on : ℕ → Lane → Held → Bool

@@ -6,3 +6,4 @@ pub mod Placed
 pub mod Repeating
 pub mod Catalogued
 pub mod Groups
+pub mod Dues

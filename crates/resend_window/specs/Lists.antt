@@ -1,5 +1,5 @@
 -- What the parts of a window do, over what is left of their lists.
-use Rattle.std.specs.Prelude.{◌≡◌, ℕ, ◌+◌, ◌≤◌, ◌==◌, ◌&&◌, nat_lt, Bool, true, false, List, [], ◌∷◌, ◌++◌, map, filter, length, min, Option, Some, None, if◌then◌else◌, MatchOption, drop}
+use Rattle.std.specs.Prelude.{◌≡◌, ℕ, ◌+◌, ◌≤◌, ◌==◌, ◌&&◌, nat_lt, Bool, true, false, List, [], ◌∷◌, ◌++◌, map, filter, length, min, is_none, Option, Some, None, if◌then◌else◌, MatchOption, drop}
 use Rattle.std.specs.List.{list_any}
 use Rattle.std.specs.Option.{option_map}
 use Rattle.qkd_base.specs.Lane.{lane_eq, reverse_lane}
@@ -47,7 +47,11 @@ abbrev pub is_repeated : List Repeat → Held → Bool
 is_repeated rs h = list_any (λ (x : Repeat). lane_eq x.lane h.lane && (x.offset == h.offset)) rs
 
 abbrev pub renewed_by : ℕ → List Repeat → Held → Held
-renewed_by tick rs h = if is_repeated rs h then record h { sent = tick; due = false } else h
+renewed_by tick rs h = if is_repeated rs h then record h { sent = tick; due = false; ripe = false } else h
+
+-- at a tick those of facts that went out three ticks before become ripe
+abbrev pub ripened_at : ℕ → Held → Held
+ripened_at tick h = if is_none h.ack_of && (h.sent + 3 == tick) then record h { ripe = true } else h
 
 -- the lesser of two numbers, of which either may be wanting
 abbrev pub lesser : Option ℕ → Option ℕ → Option ℕ

@@ -1,14 +1,14 @@
 -- Lists in which items are taken out and changed in place.
-use Rattle.std.specs.Prelude.{◌==◌, ◌&&◌, Bool, true, false, List, Option, Some, None, if◌then◌else◌}
+use Rattle.std.specs.Prelude.{ℕ, ◌==◌, ◌&&◌, is_none, Bool, true, false, List, Option, Some, None, if◌then◌else◌}
 use Rattle.qkd_base.specs.Lane.{lane_eq}
 use Rattle.qkd_base.specs.declared.lane.Lane.{Lane}
 use Rattle.net_model.specs.Item.{item_of, is_data_of}
 use Rattle.net_model.specs.Window.{offset_eq}
 use Rattle.resend_window.specs.declared.held.Held.{Held}
 use Rattle.resend_window.specs.declared.edit.Query.{Query}
-use Rattle.resend_window.specs.declared.edit.Query.TheVariants.{At, Answering, DataOf}
+use Rattle.resend_window.specs.declared.edit.Query.TheVariants.{At, Answering, DataOf, SentAt}
 use Rattle.resend_window.specs.declared.edit.Edit.{Edit}
-use Rattle.resend_window.specs.declared.edit.Edit.TheVariants.{MarkDue, Renew, Renumber, Remove}
+use Rattle.resend_window.specs.declared.edit.Edit.TheVariants.{MarkDue, Renew, Renumber, Ripen, Remove}
 
 -- a test of what is left
 abbrev pub passes : {A : Type 0} → (A → Bool) → Option A → Bool
@@ -19,11 +19,13 @@ abbrev pub is_asked : Query → Held → Bool
 is_asked (At l x) h = lane_eq h.lane l && (h.offset == x)
 is_asked (Answering l x) h = lane_eq h.lane l && offset_eq h.ack_of (Some x)
 is_asked (DataOf l n) h = lane_eq h.lane l && is_data_of n (item_of h.ack_of h.name)
+is_asked (SentAt tick) h = is_none h.ack_of && (h.sent == tick)
 
 abbrev pub edit : Edit → Held → Option Held
 edit MarkDue h = Some (record h { due = true })
-edit (Renew now) h = Some (record h { sent = now; due = false })
+edit (Renew now) h = Some (record h { sent = now; due = false; ripe = false })
 edit (Renumber n) h = Some (record h { number = Some n })
+edit Ripen h = Some (record h { ripe = true })
 edit Remove h = None
 
 -- those that are asked for are changed, or taken out

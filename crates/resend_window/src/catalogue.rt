@@ -1,5 +1,6 @@
 // Places of a list, found by the groups of what is left there.
 ghost use Rattle.std.specs.Prelude.{◌≡◌, ◌<◌, ◌^◌, ◌∷◌, ◌++◌, [], ℕ, List, true, false, IsTrue, IfSome, IfNone, length, slice_set, ◌||◌, if◌then◌else◌};
+ghost use Rattle.std.specs.List.{list_any};
 ghost use Rattle.std.specs.Str.{bytes_eq};
 ghost use Rattle.ordered_entries.specs.Entries.{has_entry, entry_at, IsNextIn, IsLastIn};
 ghost use Rattle.resend_window.specs.Catalogued.{Catalogues, groups_at};
@@ -72,6 +73,22 @@ impl Catalogue {
     {
         take_out(&mut self.entries, first, place);
         take_out(&mut self.entries, second, place);
+    }
+
+    /// Puts a place into one more group.
+    pub fn join(&mut self, group: &Group, place: usize)
+        ensures { (keys : List (List (List ℕ))) → place < length keys → Catalogues keys self.old → Catalogues (slice_set keys place (group.now ∷ groups_at keys place)) self.new }
+    {
+        if !insert(&mut self.entries, group, place) {
+            self.is_whole = false;
+        }
+    }
+
+    /// Takes a place out of the first of its groups.
+    pub fn leave(&mut self, group: &Group, place: usize)
+        ensures { (keys : List (List (List ℕ))) (rest : List (List ℕ)) → groups_at keys place ≡ group.now ∷ rest → list_any (bytes_eq group.now) rest ≡ false → Catalogues keys self.old → Catalogues (slice_set keys place rest) self.new }
+    {
+        take_out(&mut self.entries, group, place);
     }
 
     /// The first place of a group from a place on.

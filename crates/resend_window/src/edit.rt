@@ -4,7 +4,7 @@ ghost use Rattle.resend_window.specs.Slots.{is_asked, edit};
 ghost use Rattle.resend_window.specs.Groups.{query_group};
 
 use crate::catalogue::Group;
-use crate::groups::{name_group, offset_group};
+use crate::groups::{name_group, offset_group, sent_group};
 use crate::held::Held;
 use qkd_base::{KeyName, Lane};
 
@@ -17,6 +17,8 @@ pub enum Query {
     Answering(Lane, u64),
     /// The frames of a fact on a lane.
     DataOf(Lane, KeyName),
+    /// The frames of facts that went out last at a tick.
+    SentAt(u64),
 }
 
 /// What becomes of a frame.
@@ -28,6 +30,8 @@ pub enum Edit {
     Renew(u64),
     /// It has a new number on the wire.
     Renumber(u64),
+    /// At the next plan it is due by its age.
+    Ripen,
     /// It isn't kept any more.
     Remove,
 }
@@ -41,6 +45,7 @@ impl Query {
             Query::At(lane, offset) => offset_group(0, lane, *offset),
             Query::Answering(lane, offset) => offset_group(1, lane, *offset),
             Query::DataOf(lane, name) => name_group(2, lane, name, 0),
+            Query::SentAt(tick) => sent_group(*tick),
         }
     }
 
@@ -54,6 +59,7 @@ impl Query {
             Query::DataOf(lane, name) => {
                 held.lane == lane && held.ack_of.is_none() && held.name == name
             }
+            Query::SentAt(tick) => held.ack_of.is_none() && held.sent == tick,
         }
     }
 }
@@ -69,8 +75,10 @@ impl Edit {
             Edit::Renew(tick) => {
                 next.sent = tick;
                 next.due = false;
+                next.ripe = false;
             }
             Edit::Renumber(number) => next.number = Some(number),
+            Edit::Ripen => next.ripe = true,
             Edit::Remove => return None,
         }
         Some(next)

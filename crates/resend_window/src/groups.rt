@@ -2,7 +2,7 @@
 ghost use Rattle.std.specs.Prelude.{◌≡◌};
 ghost use Rattle.qkd_base.specs.Lane.{way_number};
 ghost use Rattle.qkd_base.specs.Name.{kind_number};
-ghost use Rattle.resend_window.specs.Groups.{offset_group, name_group};
+ghost use Rattle.resend_window.specs.Groups.{offset_group, name_group, sent_group};
 
 use crate::catalogue::Group;
 use qkd_base::{KeyName, Lane, NameKind, Way};
@@ -56,4 +56,11 @@ pub fn name_group(tag: u64, lane: &Lane, name: &KeyName, more: u64) -> Group
         name.count(),
         more,
     ]
+}
+
+/// The group of a tick.
+pub fn sent_group(tick: u64) -> Group
+    ensures { result ≡ sent_group tick }
+{
+    [3, tick, 0, 0, 0, 0, 0]
 }

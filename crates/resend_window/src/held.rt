@@ -2,7 +2,7 @@
 ghost use Rattle.std.specs.Prelude.{◌≡◌, ℕ, ◌+◌, ◌-◌, ◌<◌, ◌≤◌, ◌^◌, ◌&&◌, ◌++◌, take, drop, replicate, length};
 ghost use Rattle.qkd_base.specs.Lane.{reverse_lane, lane_eq};
 ghost use Rattle.net_model.specs.Window.{entry_of, repeat_of};
-ghost use Rattle.resend_window.specs.Held.{entry_at, is_next_on, IsHeld};
+ghost use Rattle.resend_window.specs.Held.{entry_at, is_next_on, is_ready, IsHeld};
 ghost use Rattle.resend_window.specs.Groups.{offset_group, item_group};
 
 use crate::catalogue::Group;
@@ -23,6 +23,8 @@ pub struct Held {
     pub sent: u64,
     /// Whether it is due whatever its age.
     pub due: bool,
+    /// Whether at the next plan it is due by its age.
+    pub ripe: bool,
     pub length: u16,
     pub frame: FrameOctets,
 }
@@ -43,6 +45,13 @@ impl Held {
             None => name_group(2, &self.lane, &self.name, 0),
             Some(offset) => offset_group(1, &self.lane, offset),
         }
+    }
+
+    /// Whether it goes out at the next plan.
+    pub fn is_ready(&self) -> bool
+        ensures { result ≡ is_ready self.now }
+    {
+        self.due || self.ripe
     }
 
     /// The same frame once more.
@@ -105,6 +114,16 @@ fn cleaned(frame: &FrameOctets, size: u16) -> FrameOctets
     room
 }
 
+// The offset of a placing.
+fn offset_of(placing: &Placing) -> u64
+    ensures value { result ≡ placing.now.offset }
+
+    // What holds of every offset.
+    ensures fits { placing.now.offset < 2 ^ 64 }
+{
+    placing.offset
+}
+
 /// What an order's placing leaves at a tick.
 pub fn held_of(placing: &Placing, tick: u64) -> Held
     ensures entry { entry_at tick result ≡ entry_of placing.now }
@@ -118,12 +137,13 @@ pub fn held_of(placing: &Placing, tick: u64) -> Held
     };
     Held {
         lane: placing.lane,
-        offset: placing.offset,
+        offset: offset_of(placing),
         name: placing.name,
         ack_of: placing.ack_of,
         number: placing.number,
         sent: tick,
         due: placing.number.is_none(),
+        ripe: false,
         length,
         frame: cleaned(&placing.frame, length),
     }

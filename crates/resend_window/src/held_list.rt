@@ -1,41 +1,45 @@
 // The frames that are kept.
-ghost use Rattle.std.specs.Prelude.{◌≡◌, ◌+◌, ◌≤◌, ◌<◌, ◌++◌, ◌∷◌, [], Some, None, false, OnOk, map, find};
+ghost use Rattle.std.specs.Prelude.{◌≡◌, ◌+◌, ◌≤◌, ◌<◌, ◌^◌, ◌++◌, ◌∷◌, [], Some, None, false, OnOk, map, find};
 ghost use Rattle.std.specs.List.{list_any};
 ghost use Rattle.std.specs.Option.{option_copied};
 ghost use Rattle.resend_window.specs.Kept.{somes};
 ghost use Rattle.resend_window.specs.Groups.{is_removal};
-ghost use Rattle.resend_window.specs.Lists.{renewed_by};
+ghost use Rattle.resend_window.specs.Lists.{renewed_by, ripened_at, IsLeast};
+ghost use Rattle.resend_window.specs.Held.{AreHeld};
+ghost use Rattle.resend_window.specs.Repeating.{goes_after};
 ghost use Rattle.resend_window.specs.Slots.{is_asked, edited, removed};
 
 use crate::catalogue::Catalogue;
+use crate::due_set::DueSet;
 use crate::edit::{Edit, Query};
 use crate::held::Held;
 use crate::rooms::{compact, has_room, reserve};
-use crate::slots::{change_all, listed, next_slot, remove_all};
+use crate::slots::{all_due, change_all, enlist, listed, next_offset, next_slot, remove_all};
 use net_model::Repeat;
-use qkd_base::Memory;
+use qkd_base::{Lane, Memory};
 use std::alloc::Global;
 use std::marker::Model;
 
-/// Frames in order of completing, with the places of those that were taken out, found by place, by fact and by what they
-/// acknowledge.
+/// Frames in order of completing, with the places of those that were taken out, found by place, by fact, by what they
+/// acknowledge, and by the tick at which a fact's went out last; and those that go out at the next plan, by offset.
 #[derive(Drop)]
 pub struct HeldList {
     items: Vec<Option<Held>>,
     index: Catalogue,
+    dues: DueSet,
 }
 
 impl Model for HeldList {
-    ghost use Rattle.std.specs.Prelude.{◌-◌, map, vec_capacity, vec_len};
-    ghost use Rattle.resend_window.specs.Groups.{HeldItems, held_groups};
+    ghost use Rattle.std.specs.Prelude.{◌-◌, vec_capacity, vec_len};
+    ghost use Rattle.resend_window.specs.Groups.{HeldItems};
 
     ghost Value = { HeldItems };
 
-    ghost use Rattle.resend_window.specs.Catalogued.{Catalogues};
+    ghost use Rattle.resend_window.specs.Dues.{IsListed};
 
     ghost view = { λ l. record { items = l.items.items; spare = vec_capacity l.items - vec_len l.items } };
 
-    ghost invariant = { λ l. Catalogues (map held_groups l.items.items) l.index };
+    ghost invariant = { λ l. IsListed l.items.items l.index l.dues };
 }
 
 impl HeldList {
@@ -46,6 +50,7 @@ impl HeldList {
         HeldList {
             items: Vec::new(alloc),
             index: Catalogue::new(alloc),
+            dues: DueSet::new(alloc),
         }
     }
 
@@ -56,13 +61,7 @@ impl HeldList {
     {
         self.items.clear();
         self.index = Catalogue::new(*self.items.allocator());
-    }
-
-    /// All places.
-    pub fn as_slice(&self) -> &[Option<Held>]
-        ensures { result.now ≡ self.now.items }
-    {
-        &self.items
+        self.dues = DueSet::new(*self.items.allocator());
     }
 
     /// The allocator.
@@ -96,7 +95,13 @@ impl HeldList {
         ensures items { self.new.items ≡ map (edited query.now change.now) self.old.items }
         ensures spare { self.new.spare ≡ self.old.spare }
     {
-        change_all(&mut self.items, &self.index, query, change);
+        change_all(
+            &mut self.items,
+            &mut self.index,
+            &mut self.dues,
+            query,
+            change,
+        );
     }
 
     /// Takes out all frames that are asked for. It takes no memory.
@@ -104,7 +109,7 @@ impl HeldList {
         ensures items { self.new.items ≡ map (removed (is_asked query.now)) self.old.items }
         ensures spare { self.new.spare ≡ self.old.spare }
     {
-        remove_all(&mut self.items, &mut self.index, query);
+        remove_all(&mut self.items, &mut self.index, &mut self.dues, query);
     }
 
     /// The frames that were repeated went out at this tick. It takes no memory.
@@ -117,6 +122,25 @@ impl HeldList {
         }
     }
 
+    /// At a tick the frames of facts that went out three ticks before become ripe.
+    pub fn ripen(&mut self, tick: u64)
+        ensures items { somes self.new.items ≡ map (ripened_at tick) (somes self.old.items) }
+        ensures spare { self.new.spare ≡ self.old.spare }
+    {
+        if 3 <= tick {
+            self.change(&Query::SentAt(tick - 3), &Edit::Ripen);
+        }
+    }
+
+    /// The least offset of a frame that goes out at the next tick on a lane, above an offset.
+    pub fn next_offset(&self, tick: u64, lane: &Lane, after: Option<u64>) -> Option<u64>
+        requires room { tick + 1 < 2 ^ 64 }
+        requires held { AreHeld tick (somes self.now.items) }
+        ensures { IsLeast (goes_after (tick + 1) lane.now after) (somes self.now.items) result }
+    {
+        next_offset(&self.items, &self.dues, tick, lane, after)
+    }
+
     /// One more frame. It takes no memory.
     pub fn push(&mut self, held: Held)
         requires { 0 < self.old.spare }
@@ -124,8 +148,8 @@ impl HeldList {
         ensures spare { self.old.spare ≡ self.new.spare + 1 }
     {
         let place = self.items.len();
-        self.index
-            .add(&held.place_group(), &held.item_group(), place);
+        enlist(&mut self.index, &held, place);
+        self.dues.add(&held);
         self.items.push_reserved(Some(held));
     }
 
@@ -140,6 +164,7 @@ impl HeldList {
         }
         compact(&mut self.items);
         self.index = listed(*self.items.allocator(), &self.items);
+        self.dues = all_due(*self.items.allocator(), &self.items);
         reserve(&mut self.items, more)
     }
 }

@@ -6,6 +6,7 @@ mod arrival_list;
 mod awaited;
 mod awaited_list;
 mod catalogue;
+mod due_set;
 mod edit;
 mod groups;
 mod held;

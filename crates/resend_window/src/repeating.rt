@@ -7,7 +7,6 @@ ghost use Rattle.resend_window.specs.Repeating.{rest_after};
 
 use crate::edit::Query;
 use crate::held_list::HeldList;
-use crate::slots::next_offset;
 use net_model::{Repeat, Repeats};
 use qkd_base::{Items, Lane, Memory};
 
@@ -19,7 +18,7 @@ fn next_repeat(slots: &HeldList, tick: u64, lane: &Lane, after: Option<u64>) -> 
     ensures some { IfSome result (λ r. rest_after (tick + 1) lane.now (somes slots.now.items) after ≡ r ∷ rest_after (tick + 1) lane.now (somes slots.now.items) (Some r.offset)) }
     ensures none { IfNone result (rest_after (tick + 1) lane.now (somes slots.now.items) after ≡ []) }
 {
-    match next_offset(slots.as_slice(), tick, lane, after) {
+    match slots.next_offset(tick, lane, after) {
         None => None,
         Some(offset) => match slots.first(&Query::At(*lane, offset)) {
             None => None,

@@ -1,18 +1,24 @@
 // Frames found, and changed in place.
-ghost use Rattle.std.specs.Prelude.{◌≡◌, ◌+◌, ◌<◌, ◌≤◌, ◌^◌, ℕ, ◌&&◌, nat_le, map, length, IfSome, IfNone, Some, Option, None, List, [], false, slice_get, slice_set};
+ghost use Rattle.std.specs.Prelude.{◌≡◌, ◌+◌, ◌<◌, ◌≤◌, ◌^◌, ◌++◌, ◌∷◌, ℕ, ◌&&◌, nat_le, map, length, IfSome, IfNone, Some, Option, None, List, [], true, false, slice_get, slice_set};
+ghost use Rattle.std.specs.List.{list_any};
+ghost use Rattle.std.specs.Str.{bytes_eq};
 ghost use Rattle.relay_core.specs.Firsts.{IsFirstFrom, IsNoneFrom};
 ghost use Rattle.std.specs.Option.{ForSome};
 ghost use Rattle.resend_window.specs.declared.held.Held.{Held as HeldValue};
-ghost use Rattle.resend_window.specs.Held.{AreHeld, IsHeld};
+ghost use Rattle.resend_window.specs.Held.{AreHeld, IsHeld, is_ready};
+ghost use Rattle.resend_window.specs.declared.edit.Edit.TheVariants.{Renew};
 ghost use Rattle.resend_window.specs.Kept.{somes};
 ghost use Rattle.resend_window.specs.Lists.{IsLeast, lesser};
 ghost use Rattle.resend_window.specs.Repeating.{goes_after, is_above, offset_after};
-ghost use Rattle.resend_window.specs.Slots.{passes, is_asked, edited, removed};
+ghost use Rattle.resend_window.specs.Slots.{passes, is_asked, edit, edited, removed};
 ghost use Rattle.resend_window.specs.Catalogued.{Catalogues, groups_at};
-ghost use Rattle.resend_window.specs.Groups.{held_groups, is_removal};
+ghost use Rattle.resend_window.specs.Groups.{held_groups, sent_group, sent_groups, is_removal};
+ghost use Rattle.resend_window.specs.Dues.{goes_at, HasDues, IsListed, AreAlikeBut, AreAlike};
 
 use crate::catalogue::Catalogue;
+use crate::due_set::DueSet;
 use crate::edit::{Edit, Query};
+use crate::groups::sent_group;
 use crate::held::{Held, is_next_on};
 use qkd_base::Lane;
 use std::alloc::Global;
@@ -78,59 +84,203 @@ fn changed(slot: &Option<Held>, query: &Query, change: &Edit) -> Option<Held>
     }
 }
 
-// Changes the frame at a place.
-fn change_at(slots: &mut [Option<Held>], place: usize, query: &Query, change: &Edit)
-    requires { place < length slots.old }
-    ensures { (slot : Option HeldValue) → slice_get slots.old place ≡ Some slot → slots.new ≡ slice_set slots.old place (edited query.now change.now slot) }
+// Puts a place into the group of the tick at which its frame went out, if it is of a fact.
+fn list_sent(index: &mut Catalogue, ack_of: Option<u64>, sent: u64, place: usize)
+    ensures { (keys : List (List (List ℕ))) → place < length keys → Catalogues keys index.old → Catalogues (slice_set keys place (sent_groups ack_of sent ++ groups_at keys place)) index.new }
 {
-    let next = changed(&slots[place], query, change);
-    slots[place] = next;
+    match ack_of {
+        None => index.join(&sent_group(sent), place),
+        Some(_) => {}
+    }
 }
 
-/// Changes all frames that are asked for, where none is taken out.
-pub fn change_all(slots: &mut [Option<Held>], index: &Catalogue, query: &Query, change: &Edit)
-    requires index { Catalogues (map held_groups slots.old) index.now }
-    requires kept { is_removal change.now ≡ false }
-    ensures slots { slots.new ≡ map (edited query.now change.now) slots.old }
-    ensures index { Catalogues (map held_groups slots.new) index.now }
+// Takes a place out of that group.
+fn unlist_sent(index: &mut Catalogue, ack_of: Option<u64>, sent: u64, place: usize)
+    ensures { (keys : List (List (List ℕ))) (rest : List (List ℕ)) → groups_at keys place ≡ sent_groups ack_of sent ++ rest → list_any (bytes_eq (sent_group sent)) rest ≡ false → Catalogues keys index.old → Catalogues (slice_set keys place rest) index.new }
 {
-    let mut from = 0;
-    while let Some(place) = next_slot(slots, index, query, from) {
-        change_at(slots, place, query, change);
-        from = place + 1;
+    match ack_of {
+        None => index.leave(&sent_group(sent), place),
+        Some(_) => {}
     }
+}
+
+/// Puts one more place, behind the others, into the groups of its frame.
+pub fn enlist(index: &mut Catalogue, held: &Held, place: usize)
+    ensures { (keys : List (List (List ℕ))) → length keys ≡ place → Catalogues keys index.old → Catalogues (keys ++ held_groups (Some held.now) ∷ []) index.new }
+{
+    index.add(&held.place_group(), &held.item_group(), place);
+    list_sent(index, held.ack_of, held.sent, place);
 }
 
 // Takes what is left at a place out of its groups.
 fn unlist(index: &mut Catalogue, slot: &Option<Held>, place: usize)
-    ensures { (keys : List (List (List ℕ))) → groups_at keys place ≡ held_groups slot.now → Catalogues keys index.old → Catalogues (slice_set keys place []) index.new }
+    ensures { (keys : List (List (List ℕ))) → place < length keys → groups_at keys place ≡ held_groups slot.now → Catalogues keys index.old → Catalogues (slice_set keys place []) index.new }
 {
     match slot {
         None => {}
-        Some(held) => index.remove(&held.place_group(), &held.item_group(), place),
+        Some(held) => {
+            unlist_sent(index, held.ack_of, held.sent, place);
+            index.remove(&held.place_group(), &held.item_group(), place);
+        }
+    }
+}
+
+// Puts the place of a frame that went out again into the group of that tick.
+fn renew(index: &mut Catalogue, held: &Held, tick: u64, place: usize)
+    ensures { (keys : List (List (List ℕ))) → place < length keys → groups_at keys place ≡ held_groups (Some held.now) → Catalogues keys index.old → Catalogues (slice_set keys place (held_groups (edit (Renew tick) held.now))) index.new }
+{
+    unlist_sent(index, held.ack_of, held.sent, place);
+    list_sent(index, held.ack_of, tick, place);
+}
+
+// The groups of a frame's place behind a change.
+fn relist(index: &mut Catalogue, held: &Held, change: &Edit, place: usize)
+    requires { is_removal change.now ≡ false }
+    ensures { (keys : List (List (List ℕ))) → place < length keys → groups_at keys place ≡ held_groups (Some held.now) → Catalogues keys index.old → Catalogues (slice_set keys place (held_groups (edit change.now held.now))) index.new }
+{
+    match *change {
+        Edit::Renew(tick) => renew(index, held, tick, place),
+        Edit::MarkDue => {}
+        Edit::Renumber(_) => {}
+        Edit::Ripen => {}
+        Edit::Remove => {}
+    }
+}
+
+// The same of what is left at a place, if it is asked for.
+fn relist_asked(
+    index: &mut Catalogue,
+    slot: &Option<Held>,
+    query: &Query,
+    change: &Edit,
+    place: usize,
+)
+    requires { is_removal change.now ≡ false }
+    ensures { (keys : List (List (List ℕ))) → place < length keys → groups_at keys place ≡ held_groups slot.now → Catalogues keys index.old → Catalogues (slice_set keys place (held_groups (edited query.now change.now slot.now))) index.new }
+{
+    match slot {
+        None => {}
+        Some(held) => {
+            if query.asks(held) {
+                relist(index, held, change, place);
+            }
+        }
+    }
+}
+
+// Whether what is left at a place goes out at the next plan.
+fn is_ready(slot: &Option<Held>) -> bool
+    ensures { result ≡ passes is_ready slot.now }
+{
+    match slot {
+        None => false,
+        Some(held) => held.is_ready(),
+    }
+}
+
+// Whether a frame at an offset of a lane goes out at the next plan.
+fn is_due_at(slots: &[Option<Held>], index: &Catalogue, lane: &Lane, offset: u64) -> bool
+    requires { Catalogues (map held_groups slots.now) index.now }
+    ensures { result ≡ list_any (goes_at lane.now offset) (somes slots.now) }
+{
+    let mut from = 0;
+    while let Some(place) = next_slot(slots, index, &Query::At(*lane, offset), from) {
+        if is_ready(&slots[place]) {
+            return true;
+        }
+        from = place + 1;
+    }
+    false
+}
+
+// Notes whether a frame goes out at an offset of a lane, where nothing else changed.
+fn settle_at(dues: &mut DueSet, slots: &[Option<Held>], index: &Catalogue, lane: &Lane, offset: u64)
+    requires { Catalogues (map held_groups slots.now) index.now }
+    ensures { (before : List (Option HeldValue)) → AreAlikeBut lane.now offset before slots.now → HasDues before dues.old → HasDues slots.now dues.new }
+{
+    let is_due = is_due_at(slots, index, lane, offset);
+    dues.note(lane, offset, is_due);
+}
+
+// The same where a frame stood.
+fn settle(dues: &mut DueSet, slots: &[Option<Held>], index: &Catalogue, stood: &Option<Held>)
+    requires { Catalogues (map held_groups slots.now) index.now }
+    ensures { (before : List (Option HeldValue)) → AreAlike stood.now before slots.now → HasDues before dues.old → HasDues slots.now dues.new }
+{
+    match stood {
+        None => {}
+        Some(held) => settle_at(dues, slots, index, &held.lane, held.offset),
+    }
+}
+
+// Changes the frame at a place.
+fn change_at(
+    slots: &mut [Option<Held>],
+    index: &mut Catalogue,
+    dues: &mut DueSet,
+    place: usize,
+    query: &Query,
+    change: &Edit,
+)
+    requires within { place < length slots.old }
+    requires listed { IsListed slots.old index.old dues.old }
+    requires kept { is_removal change.now ≡ false }
+    ensures slots { (slot : Option HeldValue) → slice_get slots.old place ≡ Some slot → slots.new ≡ slice_set slots.old place (edited query.now change.now slot) }
+    ensures listed { IsListed slots.new index.new dues.new }
+{
+    let stood = slots[place];
+    relist_asked(index, &stood, query, change, place);
+    slots[place] = changed(&stood, query, change);
+    settle(dues, slots, index, &stood);
+}
+
+/// Changes all frames that are asked for, where none is taken out.
+pub fn change_all(
+    slots: &mut [Option<Held>],
+    index: &mut Catalogue,
+    dues: &mut DueSet,
+    query: &Query,
+    change: &Edit,
+)
+    requires listed { IsListed slots.old index.old dues.old }
+    requires kept { is_removal change.now ≡ false }
+    ensures slots { slots.new ≡ map (edited query.now change.now) slots.old }
+    ensures listed { IsListed slots.new index.new dues.new }
+{
+    let mut from = 0;
+    while let Some(place) = next_slot(slots, index, query, from) {
+        change_at(slots, index, dues, place, query, change);
+        from = place + 1;
     }
 }
 
 // Takes out what is left at a place.
-fn remove_at(slots: &mut [Option<Held>], index: &mut Catalogue, place: usize)
+fn remove_at(slots: &mut [Option<Held>], index: &mut Catalogue, dues: &mut DueSet, place: usize)
     requires within { place < length slots.old }
-    requires index { Catalogues (map held_groups slots.old) index.old }
+    requires listed { IsListed slots.old index.old dues.old }
     ensures slots { slots.new ≡ slice_set slots.old place None }
-    ensures index { Catalogues (map held_groups slots.new) index.new }
+    ensures listed { IsListed slots.new index.new dues.new }
 {
-    unlist(index, &slots[place], place);
+    let stood = slots[place];
+    unlist(index, &stood, place);
     slots[place] = None;
+    settle(dues, slots, index, &stood);
 }
 
 /// Takes out all frames that are asked for.
-pub fn remove_all(slots: &mut [Option<Held>], index: &mut Catalogue, query: &Query)
-    requires { Catalogues (map held_groups slots.old) index.old }
+pub fn remove_all(
+    slots: &mut [Option<Held>],
+    index: &mut Catalogue,
+    dues: &mut DueSet,
+    query: &Query,
+)
+    requires { IsListed slots.old index.old dues.old }
     ensures slots { slots.new ≡ map (removed (is_asked query.now)) slots.old }
-    ensures index { Catalogues (map held_groups slots.new) index.new }
+    ensures listed { IsListed slots.new index.new dues.new }
 {
     let mut from = 0;
     while let Some(place) = next_slot(slots, index, query, from) {
-        remove_at(slots, index, place);
+        remove_at(slots, index, dues, place);
         from = place + 1;
     }
 }
@@ -143,10 +293,24 @@ pub fn listed(alloc: Global, slots: &[Option<Held>]) -> Catalogue
     for place in 0..slots.len() {
         match &slots[place] {
             None => {}
-            Some(held) => index.add(&held.place_group(), &held.item_group(), place),
+            Some(held) => enlist(&mut index, held, place),
         }
     }
     index
+}
+
+/// All frames that go out at the next plan.
+pub fn all_due(alloc: Global, slots: &[Option<Held>]) -> DueSet
+    ensures { HasDues slots.now result }
+{
+    let mut dues = DueSet::new(alloc);
+    for slot in slots {
+        match slot {
+            None => {}
+            Some(held) => dues.add(held),
+        }
+    }
+    dues
 }
 
 // Whether an offset is above another one, if there is one.
@@ -188,13 +352,8 @@ fn lesser(one: Option<u64>, other: Option<u64>) -> Option<u64>
     }
 }
 
-/// The least offset of a frame that goes out at the next tick on a lane, above an offset.
-pub fn next_offset(
-    slots: &[Option<Held>],
-    tick: u64,
-    lane: &Lane,
-    after: Option<u64>,
-) -> Option<u64>
+// The least offset of a frame that goes out at the next tick on a lane, above an offset, by the list alone.
+fn walk_offsets(slots: &[Option<Held>], tick: u64, lane: &Lane, after: Option<u64>) -> Option<u64>
     requires room { tick + 1 < 2 ^ 64 }
     requires held { AreHeld tick (somes slots.now) }
     ensures { IsLeast (goes_after (tick + 1) lane.now after) (somes slots.now) result }
@@ -204,4 +363,26 @@ pub fn next_offset(
         least = lesser(least, offset_after(slot, tick, lane, after));
     }
     least
+}
+
+/// The least offset of a frame that goes out at the next tick on a lane, above an offset.
+pub fn next_offset(
+    slots: &[Option<Held>],
+    dues: &DueSet,
+    tick: u64,
+    lane: &Lane,
+    after: Option<u64>,
+) -> Option<u64>
+    requires room { tick + 1 < 2 ^ 64 }
+    requires held { AreHeld tick (somes slots.now) }
+    requires dues { HasDues slots.now dues.now }
+    ensures { IsLeast (goes_after (tick + 1) lane.now after) (somes slots.now) result }
+{
+    if !dues.is_whole {
+        return walk_offsets(slots, tick, lane, after);
+    }
+    match dues.next(lane, after) {
+        None => None,
+        Some(offset) => Some(offset),
+    }
 }

@@ -130,6 +130,7 @@ impl Window {
     {
         self.tick += 1;
         self.slots.renew_all(repeats, self.tick);
+        self.slots.ripen(self.tick);
         self.awaiting.push_all(orders);
     }
 

@@ -2,14 +2,13 @@ use Rattle.std.proofs.Common.{◌≡◌, ℕ, ◌<◌, ◌-◌, length, Option, 
 use Rattle.std.specs.Prelude.{slice_get, map}
 use Rattle.resend_window.specs.declared.held.Held.{Held}
 use Rattle.resend_window.specs.Slots.{edited}
-use Rattle.resend_window.specs.Catalogued.{Catalogues}
-use Rattle.resend_window.specs.Groups.{held_groups}
+use Rattle.resend_window.specs.Dues.{IsListed}
 use Rattle.resend_window.proofs.slots.change_all.Given as goal
 
 abbrev pub invariant-loop-place : goal.invariant-loop-place
 invariant-loop-place l = record {
   same : map (edited l.query l.change) l.slots ≡ map (edited l.query l.change) l.fn.slots;
-  index : Catalogues (map held_groups l.slots) l.index;
+  listed : IsListed l.slots l.index l.dues;
   done : (p : ℕ) (x : Option Held) → p < l.from → slice_get l.slots p ≡ Some x → edited l.query l.change x ≡ x;
 }
 

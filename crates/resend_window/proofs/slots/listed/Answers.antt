@@ -1,4 +1,4 @@
-use Rattle.std.proofs.Common.{◌≡◌, ◌+◌, List, ℕ, Option, [], ◌∷◌, take, length, refl, sym, subst, ap, ◌∙◌, arith}
+use Rattle.std.proofs.Common.{◌≡◌, ◌+◌, ◌++◌, List, ℕ, Option, [], ◌∷◌, take, length, refl, sym, subst, ap, ◌∙◌, arith}
 use Rattle.std.specs.Prelude.{map}
 use Rattle.relay_core.proofs.Firsts.{got}
 use Rattle.resend_window.specs.declared.catalogue.Catalogue.{Catalogue}
@@ -7,7 +7,7 @@ use Rattle.resend_window.specs.Catalogued.{Catalogues}
 use Rattle.resend_window.specs.Groups.{held_groups}
 use Rattle.resend_window.proofs.Edits.{take_more}
 use Rattle.resend_window.proofs.Frames.{length_take, take_long}
-use Rattle.resend_window.proofs.Grouped.{listed_gap, listed_more, keys_length}
+use Rattle.resend_window.proofs.Grouped.{listed_gap, keys_push, keys_length}
 use Rattle.resend_window.proofs.slots.listed.Goals as goal
 use Rattle.resend_window.proofs.slots.listed.Goals.{in-None, in-Some}
 
@@ -24,8 +24,9 @@ loop-place-preserved c =
           (listed_gap held_groups first (take (c.loop-place.place + 1) c.args.slots.now) o c.loop-place.index more (ap held_groups w.in-None.is) c.loop-place.invariant)
       | in-Some w ↦
           subst (λ (i : Catalogue). Catalogues (map held_groups (take (c.loop-place.place + 1) c.args.slots.now)) i) (sym w.index-is)
-          (listed_more held_groups first (take (c.loop-place.place + 1) c.args.slots.now) o w.place_group.result w.item_group.result w.add.new.self more
-          (ap held_groups w.in-Some.is ∙ (let a = sym w.place_group.ensures in let b = sym w.item_group.ensures in λ i. a i ∷ b i ∷ [])) (w.add.ensures (map held_groups first) size c.loop-place.invariant))
+          (subst (λ (ks : List (List (List ℕ))). Catalogues ks w.enlist.new.index)
+          (sym (ap (map held_groups) more ∙ keys_push held_groups first o ∙ ap (λ (q : Option Held). map held_groups first ++ held_groups q ∷ []) w.in-Some.is))
+          (w.enlist.ensures (map held_groups first) size c.loop-place.invariant))
     ]
 
 pub returns : goal.returns

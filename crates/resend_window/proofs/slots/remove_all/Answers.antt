@@ -7,6 +7,9 @@ use Rattle.resend_window.proofs.Lists.{map_set, turn_done, all_done}
 use Rattle.resend_window.proofs.Edits.{removed_again, removed_kept, removed_hit}
 use Rattle.resend_window.proofs.slots.remove_all.Goals as goal
 
+pub next_slot-requires : goal.next_slot-requires
+next_slot-requires c = c.loop-place.invariant.listed.grouped
+
 pub remove_at-requires-clause-within : goal.remove_at-requires-clause-within
 remove_at-requires-clause-within c = get_within c.loop-place.slots c.in-Some.place c.in-Some.ensures.first.item c.in-Some.ensures.first.there
 
@@ -19,7 +22,7 @@ loop-place-preserved c =
       same = ap (map f) e ∙ map_set f c.loop-place.slots c.in-Some.place first.item first.there (removed_again (is_asked c.args.query.now) first.item) ∙ c.loop-place.invariant.same;
       done = turn_done f (passes (is_asked c.args.query.now)) c.loop-place.slots c.remove_at.new.slots c.loop-place.from c.in-Some.place (removed_again (is_asked c.args.query.now))
           (removed_kept (is_asked c.args.query.now)) c.loop-place.invariant.done first e;
-      index = c.remove_at.ensures.index;
+      listed = c.remove_at.ensures.listed;
     }
 
 pub returns-clause-slots : goal.returns-clause-slots

@@ -1,14 +1,30 @@
-use Rattle.std.proofs.Common.{◌≡◌, List, ℕ, refl, sym, subst, ap, ◌∙◌}
-use Rattle.std.specs.Prelude.{map}
+use Rattle.std.proofs.Common.{◌≡◌, List, ℕ, None, ap, sym, subst, ◌∙◌, arith}
+use Rattle.std.specs.Prelude.{map, slice_set}
 use Rattle.relay_core.proofs.Firsts.{got}
 use Rattle.resend_window.specs.Catalogued.{Catalogues}
 use Rattle.resend_window.specs.Groups.{held_groups}
 use Rattle.resend_window.proofs.Catalogues.{there_at}
-use Rattle.resend_window.proofs.Grouped.{keys_set}
+use Rattle.resend_window.proofs.Grouped.{keys_length}
+use Rattle.resend_window.proofs.Listings.{keys_put}
+use Rattle.resend_window.proofs.Alike.{gone_stands, alike_set}
 use Rattle.resend_window.proofs.slots.remove_at.Goals as goal
 
-pub returns-clause-index : goal.returns-clause-index
-returns-clause-index c =
+pub settle-requires : goal.settle-requires
+settle-requires c =
     let there = got c.args.slots.now c.args.place c.index-slots-place.result c.requires.within c.index-slots-place.is in
-    subst (λ (ks : List (List (List ℕ))). Catalogues ks c.unlist.new.index) (sym (keys_set held_groups c.args.slots.now c.args.place refl))
-    (c.unlist.ensures (map held_groups c.args.slots.now) (there_at held_groups c.args.slots.now c.args.place c.index-slots-place.result there ∙ ap held_groups c.index-slots-place.is) c.requires.index)
+    let size = keys_length held_groups c.args.slots.now in
+    let within = c.requires.within in
+    subst (λ (ks : List (List (List ℕ))). Catalogues ks c.unlist.new.index) (sym (keys_put held_groups c.args.slots.now c.args.place None))
+    (c.unlist.ensures (map held_groups c.args.slots.now) (omega arith) (there_at held_groups c.args.slots.now c.args.place c.index-slots-place.result there) c.requires.listed.grouped)
+
+pub returns-clause-listed : goal.returns-clause-listed
+returns-clause-listed c =
+    let there = got c.args.slots.now c.args.place c.index-slots-place.result c.requires.within c.index-slots-place.is in
+    let size = keys_length held_groups c.args.slots.now in
+    let within = c.requires.within in
+    record {
+      grouped =
+          subst (λ (ks : List (List (List ℕ))). Catalogues ks c.unlist.new.index) (sym (keys_put held_groups c.args.slots.now c.args.place None))
+          (c.unlist.ensures (map held_groups c.args.slots.now) (omega arith) (there_at held_groups c.args.slots.now c.args.place c.index-slots-place.result there) c.requires.listed.grouped);
+      going = c.settle.ensures c.args.slots.now (alike_set c.args.slots.now c.args.place c.index-slots-place.result None there (gone_stands c.index-slots-place.result)) c.requires.listed.going;
+    }
