@@ -1,0 +1,9 @@
+pub mod Keys
+pub mod Apart
+pub mod Placing
+pub mod Summing
+pub mod Telling
+pub mod Lining
+pub mod Recording
+pub mod Judging
+pub mod Sound

@@ -1,0 +1,54 @@
+-- What it means that a report is sound.
+use Rattle.std.specs.Prelude.{◌≡◌, ◌≢◌, ℕ, ◌+◌, ◌<◌, ◌≤◌, ◌⊎◌, Bool, true, List, [], take, slice_get, Option, Some}
+use Rattle.qkd_base.specs.declared.lane.Lane.{Lane}
+use Rattle.net_model.specs.declared.counts.Counts4.{Counts4}
+use Rattle.scenario_lines.specs.declared.scenario.Scenario.{Scenario}
+use Rattle.report_items.specs.declared.item.Item.{Item}
+use Rattle.report_items.specs.declared.item.Item.TheVariants as items
+use Rattle.report_items.specs.declared.item.NumberedItem.{NumberedItem}
+use Rattle.run_audit.specs.declared.verdict.Verdict.TheVariants as verdicts
+use Rattle.run_audit.specs.declared.takings.Taking.{Taking}
+use Rattle.run_audit.specs.Tellings.{Telling, tellings, onto, may_have}
+use Rattle.run_audit.specs.Takings.{taking_of}
+use Rattle.run_audit.specs.Ledgers.{is_true_ledger}
+use Rattle.run_audit.specs.Rules.{verdict_of}
+
+-- an audit says yes
+pub record IsSound (s : Scenario) (told : List NumberedItem) : Type 0 where
+  pub first : ℕ
+  pub frames : ℕ
+  pub deliveries : ℕ
+  pub ledgers : ℕ
+  pub verdict : verdict_of s told first ≡ verdicts.Yes frames deliveries ledgers
+
+-- the item at a place
+abbrev pub IsAt : List NumberedItem → ℕ → Item → Type 0
+IsAt told place item = (n : NumberedItem) × (slice_get told place ≡ Some n) × (n.item ≡ item)
+
+-- Of two frames of a lane at two places of the report, either both have one offset and one length, or no byte of the lane is under both.
+abbrev pub FramesAreDisjoint : Type 0
+FramesAreDisjoint = (s : Scenario) (told : List NumberedItem) → IsSound s told → (i j : ℕ) (l : Lane) (m n o p x y : ℕ) → i < j → IsAt told i (items.Sent l m o x) → IsAt told j (items.Sent l n p y) →
+    ((p ≡ o) × (y ≡ x)) ⊎ ((o + x + 8 ≤ p) ⊎ (p + y + 8 ≤ o))
+
+-- No node takes one name twice as a fact, or twice as an acknowledgement.
+abbrev pub NamesAreTakenOnce : Type 0
+NamesAreTakenOnce = (s : Scenario) (told : List NumberedItem) → IsSound s told → (i j : ℕ) (a b : Item) (t : Taking) → i < j → IsAt told i a → IsAt told j b → taking_of s.site.routes a ≡ Some t → taking_of s.site.routes b ≡ Some t → ⊥
+
+-- what all items tell, the last telling first
+abbrev pub all_told : Scenario → List NumberedItem → List Telling
+all_told s told = tellings s (onto [] told)
+
+-- Two tellings of one subject have the same bytes and the same master, and go to two applications; and each goes to one that may have it.
+pub record AreHandedOnce (s : Scenario) (told : List NumberedItem) : Type 0 where
+  pub bytes : (i j : ℕ) (t u : Telling) → i < j → slice_get (all_told s told) i ≡ Some t → slice_get (all_told s told) j ≡ Some u → t.subject ≡ u.subject → t.bytes ≡ u.bytes
+  pub callers : (i j : ℕ) (t u : Telling) (a : ℕ) → i < j → slice_get (all_told s told) i ≡ Some t → slice_get (all_told s told) j ≡ Some u → t.subject ≡ u.subject → t.caller ≡ Some a → u.caller ≡ Some a → ⊥
+  pub masters : (i j : ℕ) (t u : Telling) (a b : ℕ) → i < j → slice_get (all_told s told) i ≡ Some t → slice_get (all_told s told) j ≡ Some u → t.subject ≡ u.subject → t.master ≡ Some a → u.master ≡ Some b → a ≡ b
+  pub entitled : (i : ℕ) (t : Telling) → slice_get (all_told s told) i ≡ Some t → may_have s.site.entitlements t.caller t.master ≡ true
+
+abbrev pub KeysAreHandedOnce : Type 0
+KeysAreHandedOnce = (s : Scenario) (told : List NumberedItem) → IsSound s told → AreHandedOnce s told
+
+-- Each ledger adds up, and is true behind the items before it.
+abbrev pub LedgersAreTrue : Type 0
+LedgersAreTrue = (s : Scenario) (told : List NumberedItem) → IsSound s told → (i : ℕ) (l : Lane) (c : Counts4) → IsAt told i (items.Counted l c) →
+    (c.received ≡ c.unused + c.spent + c.burnt) × (is_true_ledger (onto [] (take i told)) l c ≡ true)

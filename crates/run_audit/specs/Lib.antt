@@ -1,0 +1,10 @@
+pub mod Table
+pub mod Kinds
+pub mod Rows
+pub mod Frames
+pub mod Tellings
+pub mod Takings
+pub mod Ledgers
+pub mod Rules
+pub mod Kept
+pub mod Laws
