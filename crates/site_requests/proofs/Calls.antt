@@ -2,12 +2,13 @@
 use Rattle.std.proofs.Common.{◌≡◌, ◌≤◌, ◌<◌, ℕ, Bool, true, false, ◌&&◌, not, eqb, List, [], ◌∷◌, length, Result, Ok, Err, refl, sym, ap, ◌∙◌, subst, arith, codes}
 use Rattle.std.specs.Prelude.{if◌then◌else◌, nat_lt, ok_or}
 use Rattle.std.specs.List.{list_all}
-use Rattle.std.proofs.lemmas.Bool.{and_from, lt-ltb}
+use Rattle.std.proofs.lemmas.Bool.{and_from, and_parts, lt-ltb}
 use Rattle.net_model.specs.declared.event.Event.{Event}
 use Rattle.net_model.specs.declared.event.Event.TheVariants as events
 use Rattle.net_model.specs.Events.{is_count, is_name, are_slaves, is_valid_event}
 use Rattle.net_model.specs.Streams.{is_size}
 use Rattle.net_model.specs.Step.{is_asked}
+use Rattle.net_model.specs.BlockOrder.{is_block_event}
 use Rattle.net_model.specs.Action.{Ok as Fine, Ask}
 use Rattle.declared_site.specs.declared.site.Site.{Site}
 use Rattle.declared_site.specs.SiteOf.{site_of, IsDeclared}
@@ -31,13 +32,14 @@ use Rattle.site_requests.specs.Speaking.{call_of}
 use Rattle.site_requests.proofs.Numbers.{body_number_right, body_size_right, query_number_right, query_size_right, query_name_right, key_ids_right}
 use Rattle.site_requests.proofs.Slaves.{AreChosen, slaves_chosen, group_right}
 
--- it is none that comes of itself, and in its ranges
+-- it is none that comes of itself, one that a block may ask, and in its ranges
 abbrev IsRight : Site → ℕ → Event → Type 0
-IsRight d v event = ((is_asked event && not (is_plan event)) ≡ true) × (is_valid_event (site_of d) v event ≡ true)
+IsRight d v event = ((is_asked event && not (is_plan event) && is_block_event event) ≡ true) × (is_valid_event (site_of d) v event ≡ true)
 
 right_fits : (d : Site) (v : ℕ) (event : Event) → v < length d.nodes → IsRight d v event → IsFit d (Ask v event Fine)
 right_fits d v event below h =
-    all_four (nat_lt v (length d.nodes)) (is_asked event) (not (is_plan event)) (is_valid_event (site_of d) v event) (lt-ltb v (length d.nodes) below) h.0 h.1
+    all_four (nat_lt v (length d.nodes)) (is_asked event) (not (is_plan event)) (is_valid_event (site_of d) v event) (lt-ltb v (length d.nodes) below)
+    (and_parts (is_asked event && not (is_plan event)) (is_block_event event) h.0).0 h.1
   where
     all_four : (a b c e : Bool) → a ≡ true → (b && c) ≡ true → e ≡ true → (a && b && c && e) ≡ true
     all_four true true true true first both last = refl
@@ -112,12 +114,15 @@ event_right d v g q master slave event within below (enc_body e) = body_right d 
 event_right d v g q master slave event within below (dec_query e) = name_right d v (query_in q.target) master slave event e
 event_right d v g q master slave event within below (dec_body e) = names_right d v q.body master slave event e
 
-pub call_fits : (d : Site) (v : ℕ) (q : HttpRequest) (event : Event) → IsDeclared d → v < length d.nodes → asked d.entitlements v q ≡ Ok event → IsFit d (Ask v event Fine)
-call_fits d v q event declared below e =
+call_right : (d : Site) (v : ℕ) (q : HttpRequest) (event : Event) → IsDeclared d → asked d.entitlements v q ≡ Ok event → IsRight d v event
+call_right d v q event declared e =
     let h = asks_for d.entitlements v q event e in
     let less = h.2 in
     let within = declared.saes in
-    right_fits d v event below (event_right d v d.entitlements q h.0 h.1 event within (omega (arith, within, less)) h.3)
+    event_right d v d.entitlements q h.0 h.1 event within (omega (arith, within, less)) h.3
+
+pub call_fits : (d : Site) (v : ℕ) (q : HttpRequest) (event : Event) → IsDeclared d → v < length d.nodes → asked d.entitlements v q ≡ Ok event → IsFit d (Ask v event Fine)
+call_fits d v q event declared below e = right_fits d v event below (call_right d v q event declared e)
 
 same_call : (x y : Event) → Calls x ≡ Calls y → x ≡ y
 same_call x y e = cc
@@ -127,6 +132,8 @@ pub said_fits : (d : Site) (v : ℕ) (q : HttpRequest) (said : Asked) → IsDecl
 said_fits d v q (sayings.AtOnce answer) declared below e = tt
 said_fits d v q (sayings.Event event) declared below e = by_call (asked d.entitlements v q) refl e
   where
-    by_call : (r : Result Event CallFault) → asked d.entitlements v q ≡ r → Calls event ≡ call_of r → IsFit d (Ask v event Fine)
-    by_call (Ok other) is same = call_fits d v q event declared below (is ∙ ap Ok (same_call other event (sym same)))
+    by_call : (r : Result Event CallFault) → asked d.entitlements v q ≡ r → Calls event ≡ call_of r → IsAskedOf d v (sayings.Event event)
+    by_call (Ok other) is same =
+        let right = call_right d v q event declared (is ∙ ap Ok (same_call other event (sym same))) in
+        (right_fits d v event below right, (and_parts (is_asked event && not (is_plan event)) (is_block_event event) right.0).1)
     by_call (Err fault) is same = absurd cc

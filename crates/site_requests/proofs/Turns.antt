@@ -21,7 +21,7 @@ use Rattle.site_requests.proofs.Existing.{readable}
 -- no reading asks for an event that doesn't
 none_unfit : (d : Site) (v : ℕ) (octets : List ℕ) (event : Event) (r : Result HttpRequest FrontRefusal) → IsDeclared d → v < length d.nodes → ¬ (octets ≡ []) → MayBeRead octets r → IsDecided r →
     IsAskedBy d.entitlements v r (Calls event) → is_fit (site_of d) (Ask v event Fine) ≡ false → ⊥
-none_unfit d v octets event (Ok q) declared below some may decided asked unfit = false≢true (sym unfit ∙ said_fits d v q (sayings.Event event) declared below asked)
+none_unfit d v octets event (Ok q) declared below some may decided asked unfit = false≢true (sym unfit ∙ (said_fits d v q (sayings.Event event) declared below asked).0)
 none_unfit d v octets event (Err refusals.NoRequest) declared below some may decided asked unfit = some may.may
 none_unfit d v octets event (Err refusals.BadHead) declared below some may decided asked unfit = absurd cc
 none_unfit d v octets event (Err refusals.TooManyHeaders) declared below some may decided asked unfit = absurd cc

@@ -1,0 +1,39 @@
+use Rattle.std.proofs.Common.{List, [], ◌∷◌, drop, arith, ◌+◌}
+use Rattle.report_items.specs.declared.item.NumberedItem.{NumberedItem}
+use Rattle.run_model.specs.Play.{numbered}
+use Rattle.run_blocks.specs.declared.done_block.PutFrame.{PutFrame}
+use Rattle.run_tasks.specs.declared.prepared.Place.{Place}
+use Rattle.run_tasks.specs.Reported.{number_in, frames_told}
+use Rattle.run_tasks.proofs.Writes.{told_none, told_on, told_all, told_stop, one_left, none_left}
+use Rattle.run_tasks.proofs.reporting.write_frames.Goals as goal
+
+abbrev said : List Place → PutFrame → List NumberedItem
+said places f = numbered (number_in places f.place) (f.item ∷ [])
+
+pub loop-frame-init : goal.loop-frame-init
+loop-frame-init g c = record {
+  told = told_none c.args.site.now.nodes (g.W.Sink.taken c.args.sink.now) (frames_told c.args.places.now c.args.frames.now);
+  later = omega arith;
+}
+
+pub loop-frame-preserved : goal.loop-frame-preserved
+loop-frame-preserved g c =
+    let wrote = c.in-Ok.ensures.wrote in
+    record {
+      told =
+          told_on c.args.site.now.nodes _ _ _ _ _ _ (frames_told c.args.places.now (drop (c.loop-frame.frame-index + 1) c.args.frames.now))
+          (one_left (said c.args.places.now) c.args.frames.now c.loop-frame.frame-index c.frame-item.result _ c.loop-frame-test.true c.frame-item.is) c.loop-frame.invariant.told
+          (rw c.number_at-number.ensures at wrote);
+      later = omega (arith, c.loop-frame.invariant.later, c.in-Ok.ensures.blame.later);
+    }
+
+pub returns-in-Err-clause-wrote : goal.returns-in-Err-clause-wrote
+returns-in-Err-clause-wrote g c =
+    let wrote = c.in-Err.ensures.wrote in
+    told_stop c.args.site.now.nodes _ _ _ _ _ _ (frames_told c.args.places.now (drop (c.loop-frame.frame-index + 1) c.args.frames.now)) c.in-Err.stop
+    (one_left (said c.args.places.now) c.args.frames.now c.loop-frame.frame-index c.frame-item.result _ c.loop-frame-test.true c.frame-item.is) c.loop-frame.invariant.told
+    (rw c.number_at-number.ensures at wrote)
+
+pub returns-clause-wrote : goal.returns-clause-wrote
+returns-clause-wrote g c =
+    told_all c.args.site.now.nodes _ _ _ _ (none_left (said c.args.places.now) c.args.frames.now c.loop-frame.frame-index c.loop-frame-test.false) c.loop-frame.invariant.told

@@ -1,0 +1,10 @@
+use Rattle.std.proofs.Common.{◌≤◌, drop}
+use Rattle.run_tasks.specs.Reported.{frames_told}
+use Rattle.run_tasks.proofs.Writes.{IsTold}
+use Rattle.run_tasks.proofs.reporting.write_frames.Given as goal
+
+abbrev pub invariant-loop-frame : goal.invariant-loop-frame
+invariant-loop-frame g l = record {
+  told : IsTold l.site.nodes (g.W.Sink.taken l.fn.sink) (g.W.Sink.taken l.sink) (frames_told l.places l.frames) (frames_told l.places (drop l.frame-index l.frames));
+  later : g.W.Sink.faults l.fn.sink ≤ g.W.Sink.faults l.sink;
+}

@@ -1,0 +1,27 @@
+use Rattle.std.proofs.Common.{drop, map, arith, ◌+◌}
+use Rattle.run_tasks.specs.Prepared.{told_item}
+use Rattle.run_tasks.proofs.Writes.{told_none, told_on, told_all, told_stop, one_mapped, none_mapped}
+use Rattle.run_tasks.proofs.reporting.write_told.Goals as goal
+
+pub loop-each-init : goal.loop-each-init
+loop-each-init g c = record {
+  told = told_none c.args.site.now.nodes (g.W.Sink.taken c.args.sink.now) (map told_item c.args.told.now);
+  later = omega arith;
+}
+
+pub loop-each-preserved : goal.loop-each-preserved
+loop-each-preserved g c = record {
+  told =
+      told_on c.args.site.now.nodes _ _ _ _ _ _ (map told_item (drop (c.loop-each.each-index + 1) c.args.told.now))
+      (one_mapped told_item c.args.told.now c.loop-each.each-index c.each-item.result _ c.loop-each-test.true c.each-item.is) c.loop-each.invariant.told c.in-Ok.ensures.wrote;
+  later = omega (arith, c.loop-each.invariant.later, c.in-Ok.ensures.blame.later);
+}
+
+pub returns-in-Err-clause-wrote : goal.returns-in-Err-clause-wrote
+returns-in-Err-clause-wrote g c =
+    told_stop c.args.site.now.nodes _ _ _ _ _ _ (map told_item (drop (c.loop-each.each-index + 1) c.args.told.now)) c.in-Err.stop
+    (one_mapped told_item c.args.told.now c.loop-each.each-index c.each-item.result _ c.loop-each-test.true c.each-item.is) c.loop-each.invariant.told c.in-Err.ensures.wrote
+
+pub returns-clause-wrote : goal.returns-clause-wrote
+returns-clause-wrote g c =
+    told_all c.args.site.now.nodes _ _ _ _ (none_mapped told_item c.args.told.now c.loop-each.each-index c.loop-each-test.false) c.loop-each.invariant.told

@@ -1,0 +1,10 @@
+use Rattle.std.proofs.Common.{◌≤◌, drop, map}
+use Rattle.run_tasks.specs.Prepared.{told_item}
+use Rattle.run_tasks.proofs.Writes.{IsTold}
+use Rattle.run_tasks.proofs.reporting.write_told.Given as goal
+
+abbrev pub invariant-loop-each : goal.invariant-loop-each
+invariant-loop-each g l = record {
+  told : IsTold l.site.nodes (g.W.Sink.taken l.fn.sink) (g.W.Sink.taken l.sink) (map told_item l.told) (map told_item (drop l.each-index l.told));
+  later : g.W.Sink.faults l.fn.sink ≤ g.W.Sink.faults l.sink;
+}

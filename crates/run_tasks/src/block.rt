@@ -1,0 +1,61 @@
+// A block of lines.
+ghost use Rattle.std.specs.Prelude.{◌≡◌, ◌≤◌, ◌∷◌, [], OnOk};
+ghost use Rattle.std.specs.List.{All};
+ghost use Rattle.net_model.specs.World.{Network, World};
+ghost use Rattle.scenario_lines.specs.declared.entry.Entry.TheVariants as entries;
+ghost use Rattle.run_model.specs.Turn.{HttpTexts};
+ghost use Rattle.run_model.specs.Report.{Does};
+ghost use Rattle.run_acts.specs.Acting.{IsReady};
+ghost use Rattle.run_acts.specs.Runnable.{IsBlockLineFor};
+ghost use Rattle.run_lines.specs.Reporting.{IsBlamed};
+ghost use Rattle.run_lines.specs.Running.{IsReadySomewhere};
+ghost use Rattle.run_tasks.specs.Tasks.{RanTasks};
+
+use crate::prepared::{Prepared, prepare};
+use crate::reporting::report;
+use edge_io::Sink;
+use run_acts::Acts;
+use run_blocks::ActsTogether;
+use run_lines::{Requests, Stop};
+use scenario_lines::Lines;
+use std::alloc::Global;
+
+/// Lines of a block are done side by side by so many workers, and then reported: first what was answered without a manager, then the
+/// managers' replies in order of node, last the frames.
+pub fn do_block<S: ActsTogether, H: Requests, W: Sink>(
+    alloc: Global,
+    net: &mut S,
+    requests: &H,
+    workers: u32,
+    lines: Lines,
+    sink: &mut W,
+) -> Result<(), Stop>
+    requires serves { H.serves requests.now (S.site net.old) }
+    requires workers { (1 ≤ workers) × (workers ≤ 32) }
+    requires fit { All (IsBlockLineFor (S.site net.old)) lines }
+    requires ready { IsReadySomewhere S.stands net.old }
+    ensures site { S.site net.new ≡ S.site net.old }
+    ensures armed { S.armed net.new ≡ S.armed net.old }
+    ensures ready { OnOk result (IsReadySomewhere S.stands net.new) }
+    ensures ran { (http : HttpTexts) (n : Network) (w : World) → H.speaks requests.now http → IsReady S.stands net.old n w → RanTasks S.stands S.rests S.tallied (S.site net.old).nodes net.old net.new (W.taken sink.old) (W.taken sink.new) http n workers w (Does (entries.Block lines) ∷ []) result }
+    ensures blame { IsBlamed (W.faults sink.old) (W.faults sink.new) result }
+{
+    let prepared = match prepare(alloc, net, requests, lines) {
+        Ok(prepared) => prepared,
+        Err(_) => return Err(Stop::Memory),
+    };
+    let Prepared { jobs, places, told } = prepared;
+    match net.together(workers, &jobs) {
+        Ok(done) => report(
+            alloc,
+            net.declared(),
+            requests,
+            &jobs,
+            &places,
+            &told,
+            done,
+            sink,
+        ),
+        Err(_) => Err(Stop::Memory),
+    }
+}
