@@ -1,0 +1,3 @@
+pub mod AllDone
+pub mod InOrder
+pub mod Tallied

@@ -1,0 +1,7 @@
+pub mod Adding
+pub mod Frames
+pub mod Noting
+pub mod Putting
+pub mod Recording
+pub mod Sending
+pub mod Wants

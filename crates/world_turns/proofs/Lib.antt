@@ -1,0 +1,8 @@
+pub mod Adding
+pub mod Asked
+pub mod Happening
+pub mod Histories
+pub mod Leasing
+pub mod SoFar
+pub mod Takes
+pub mod Turning

@@ -1,0 +1,4 @@
+pub mod Leases
+pub mod Order
+pub mod Taking
+pub mod Turning
