@@ -1,4 +1,3 @@
-pub mod Blocks
 pub mod Codes
 pub mod Forms
 pub mod Inputs
