@@ -16,7 +16,7 @@ fn reported(alloc: Global, workers: u32, text: &str) -> Result<(Status, String),
     first.drawn = octets(alloc, 2048)?;
     let mut source = source(alloc, text)?;
     let mut sink = MemSink::new(alloc, ROOM, Vec::new(alloc))?;
-    let (status, _) = over(alloc, words.as_str(), first, &mut source, &mut sink)?;
+    let (status, _bench) = over(alloc, words.as_str(), first, &mut source, &mut sink)?;
     Ok((status, String::from_utf8_lossy(alloc, sink.taken())?))
 }
 
