@@ -1,5 +1,5 @@
 -- What becomes of a network that does the jobs of a block in order.
-use Rattle.std.proofs.Common.{◌≡◌, ℕ, ◌≤◌, Bool, List, [], ◌++◌, map, refl, sym, ◌∙◌, ap, subst, append_assoc, Option, Vec, Global, inl, inr}
+use Rattle.std.proofs.Common.{◌≡◌, ℕ, ◌≤◌, Bool, List, ◌++◌, map, sym, ◌∙◌, ap, subst, append_assoc, Option, Vec, Global, inl, inr}
 use Rattle.std.specs.List.{flat_map}
 use Rattle.disk_model.specs.declared.arm.Armings.{Armings}
 use Rattle.net_model.specs.OctetSequence.{OctetSequence}
@@ -15,7 +15,7 @@ use Rattle.run_acts.specs.Acting.{IsReady}
 use Rattle.run_blocks.specs.declared.job.Job.{Job}
 use Rattle.run_blocks.specs.declared.done_block.PutFrame.{PutFrame}
 use Rattle.run_blocks.specs.declared.done_block.Turned.{Turned}
-use Rattle.run_blocks.specs.Together.{put_done, DoesTogether, EndsTogether, LeftTogether}
+use Rattle.run_blocks.specs.Together.{put_done, DoesTogether, LeftTogether}
 use Rattle.law_blocks.proofs.Runs.{run-append}
 use Rattle.law_emissions.specs.Putting.{Putting}
 use Rattle.law_works.specs.InOrder.{in_order, works_of, IsOneBlock}

@@ -1,8 +1,7 @@
 -- Turns of a block's managers, and then frames that are put lane by lane, are a block that is done in order.
-use Rattle.std.proofs.Common.{◌≡◌, ℕ, ◌+◌, ◌≤◌, Bool, List, map, refl, sym, ◌∙◌, ap, subst, arith, Option}
+use Rattle.std.proofs.Common.{◌≡◌, ℕ, ◌+◌, ◌≤◌, Bool, List, sym, ◌∙◌, ap, subst, arith, Option}
 use Rattle.std.specs.List.{flat_map, AllByRecursion}
 use Rattle.qkd_base.specs.Lane.{lane_eq}
-use Rattle.qkd_base.specs.declared.lane.Lane.{Lane}
 use Rattle.disk_model.specs.declared.arm.Armings.{Armings}
 use Rattle.net_model.specs.OctetSequence.{OctetSequence}
 use Rattle.net_model.specs.World.{Network, World}

@@ -6,7 +6,7 @@ use Rattle.net_model.specs.Site.{Site}
 use Rattle.net_model.specs.Action.{Action, Fault}
 use Rattle.net_model.specs.Faults.{disk_faults, entropy_faults, device_faults, wire_faults, armings}
 use Rattle.kme_store.specs.declared.post.Post.{Post}
-use Rattle.world_posts.specs.Counts.{disk_of, entropy_of}
+use Rattle.world_posts.specs.Counts.{entropy_of}
 use Rattle.world_state.specs.Tallied.{Counted, IsArmedBy, PostTallied, Tallied}
 use Rattle.world_state.specs.declared.state.State.{State}
 
