@@ -1,4 +1,3 @@
-pub mod Entries
 pub mod Told
 pub mod Counting
 pub mod Leading

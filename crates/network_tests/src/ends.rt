@@ -26,8 +26,8 @@ const WORDS: &[(&str, Status)] = &[
     ("run 1 ", Status::Usage(2)),
     ("run 1 2 3", Status::Usage(2)),
     ("run 1", Status::Done),
-    ("run 2", Status::Done),
-    ("run 32", Status::Done),
+    ("run 2", Status::Usage(1)),
+    ("run 32", Status::Usage(1)),
 ];
 
 #[test]

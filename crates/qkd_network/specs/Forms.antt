@@ -15,14 +15,10 @@ Asked = Result Words ℕ
 abbrev pub alone : (place : ℕ) → Words → (more : List (List ℕ)) → Asked
 alone place asked more = if length more == 0 then Ok asked else Err place
 
-abbrev pub run_of : Option ℕ → (more : List (List ℕ)) → Asked
-run_of None more = Err 1
-run_of (Some workers) more = alone 2 (Run workers) more
-
--- `run W`: the scenario is run, its blocks by W workers, from 1 to 32
+-- `run 1`: one worker runs the scenario
 unfoldable pub run_form : List (List ℕ) → Asked
 run_form [] = Err 1
-run_form (count ∷ more) = run_of (number_in 1 32 count) more
+run_form (count ∷ more) = if bytes_eq count (codes "1") then alone 2 (Run 1) more else Err 1
 
 abbrev pub load_of : Option ℕ → (more : List (List ℕ)) → Asked
 load_of None more = Err 1
@@ -39,9 +35,9 @@ asked_by (form ∷ words) =
     if bytes_eq form (codes "run") then run_form words else if bytes_eq form (codes "load") then load_form words else Err 0
 
 abbrev pub words_of : Form → Words
-words_of (forms.Run workers) = Run workers
+words_of forms.Run = Run 1
 words_of (forms.Load rounds) = Load rounds
 
-abbrev pub IsInRange : Form → Type 0
-IsInRange (forms.Run workers) = (1 ≤ workers) × (workers ≤ 32)
-IsInRange (forms.Load rounds) = (1 ≤ rounds) × (rounds ≤ 500)
+abbrev pub HasRounds : Form → Type 0
+HasRounds forms.Run = Unit {0}
+HasRounds (forms.Load rounds) = (1 ≤ rounds) × (rounds ≤ 500)

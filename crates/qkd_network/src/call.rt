@@ -9,10 +9,11 @@ ghost use Rattle.qkd_network.specs.Outcome.{Outcome};
 ghost use Rattle.qkd_network.specs.declared.status.Status.TheVariants.{ReadFault, WriteFault};
 
 use crate::Status;
+use crate::blocks::{first_refused, line_of_block};
 use crate::form::{Form, read_form};
 use crate::reading::{ReadRefusal, read_all};
 use bench_loads::run_load;
-use bench_runs::run_scenario;
+use bench_runs::{has_block, run_scenario};
 use disk_model::Disk;
 use edge_io::{Sink, Source};
 use law_fits::law_read_commands_fit;
@@ -22,8 +23,8 @@ use source_devices::{Device, Entropy, Wire};
 use std::alloc::Global;
 use world_bench::Bench;
 
-/// Does what the words ask for. For `run` it reads a scenario from the source to its end, runs it over a new bench, its blocks by so
-/// many workers, and writes its report to the sink, a line at a time. For `load` it runs the generated load of so many rounds, and writes its ledgers and how many
+/// Does what the words ask for. For `run` it reads a scenario from the source to its end, runs it over a new bench, and writes its
+/// report to the sink, a line at a time. For `load` it runs the generated load of so many rounds, and writes its ledgers and how many
 /// keys it handed out; the source is not touched.
 ///
 /// Whatever it is called with, the answer says what was done. On `Usage` that word is the first that fits no form, and nothing was
@@ -55,23 +56,28 @@ pub fn network<
     ensures read_fault { result ≡ ReadFault → Rose (S.faults source.old) (S.faults source.new) }
     ensures write_fault { result ≡ WriteFault → Rose (W.faults sink.old) (W.faults sink.new) }
 {
-    let workers = match read_form(words) {
+    match read_form(words) {
         Err(place) => return Status::Usage(place),
         Ok(Form::Load { rounds }) => {
             return Status::of_run(run_load(alloc, rounds, sink, bench));
         }
-        Ok(Form::Run { workers }) => workers,
-    };
+        Ok(Form::Run) => {}
+    }
     let bytes = match read_all(alloc, source) {
         Err(ReadRefusal::Fault) => return Status::ReadFault,
         Err(ReadRefusal::Memory) => return Status::Memory,
         Ok(bytes) => bytes,
     };
     let scenario = match read_scenario(alloc, bytes.as_slice()) {
-        Err(ScenarioRefusal::BadLine(line)) => return Status::BadLine(line),
+        Err(ScenarioRefusal::BadLine(line)) => {
+            return Status::BadLine(first_refused(line, line_of_block(bytes.as_slice())));
+        }
         Err(ScenarioRefusal::Memory) => return Status::Memory,
         Ok(scenario) => scenario,
     };
+    if has_block(scenario.entries.as_slice()) {
+        return Status::BadLine(line_of_block(bytes.as_slice()));
+    }
     law_read_commands_fit();
-    Status::of_run(run_scenario(alloc, scenario, workers, sink, bench))
+    Status::of_run(run_scenario(alloc, scenario, sink, bench))
 }

@@ -1,6 +1,6 @@
 // The forms of the words.
 ghost use Rattle.std.specs.Prelude.{◌≡◌, ◌≤◌, Ok, Err, MatchResult, IfOk, drop, length};
-ghost use Rattle.qkd_network.specs.Forms.{asked_by, run_form, load_form, words_of, IsInRange};
+ghost use Rattle.qkd_network.specs.Forms.{asked_by, run_form, load_form, words_of, HasRounds};
 
 use qkd_base::Texts;
 use scenario_reader::words::number_in;
@@ -8,8 +8,8 @@ use scenario_reader::words::number_in;
 /// What the words ask for.
 #[derive(Clone, Copy, Debug, PartialEq, Eq)]
 pub enum Form {
-    /// A scenario is run, its blocks by so many workers.
-    Run { workers: u32 },
+    /// A scenario is run by one worker.
+    Run,
     /// The generated load of so many rounds is run.
     Load { rounds: u32 },
 }
@@ -18,7 +18,7 @@ pub enum Form {
 #[tactic(auto, unfolding(crate::specs::Forms::asked_by))]
 pub fn read_form(words: &Texts) -> Result<Form, usize>
     ensures form { MatchResult result (λ form. asked_by words.now ≡ Ok (words_of form)) (λ place. asked_by words.now ≡ Err place) }
-    ensures range { IfOk result IsInRange }
+    ensures rounds { IfOk result HasRounds }
 {
     let Some(first) = words.get(0) else {
         return Err(0);
@@ -37,18 +37,18 @@ pub fn read_form(words: &Texts) -> Result<Form, usize>
 fn run_form(words: &Texts) -> Result<Form, usize>
     requires { 1 ≤ length words.now }
     ensures form { MatchResult result (λ form. run_form (drop 1 words.now) ≡ Ok (words_of form)) (λ place. run_form (drop 1 words.now) ≡ Err place) }
-    ensures range { IfOk result IsInRange }
+    ensures rounds { IfOk result HasRounds }
 {
     let Some(count) = words.get(1) else {
         return Err(1);
     };
-    let Some(workers) = number_in(1, 32, count.as_str().as_bytes()) else {
+    if count.as_str() != "1" {
         return Err(1);
-    };
+    }
     if words.len() > 2 {
         return Err(2);
     }
-    Ok(Form::Run { workers })
+    Ok(Form::Run)
 }
 
 // That of `load`, which is the first word.
@@ -56,7 +56,7 @@ fn run_form(words: &Texts) -> Result<Form, usize>
 fn load_form(words: &Texts) -> Result<Form, usize>
     requires { 1 ≤ length words.now }
     ensures form { MatchResult result (λ form. load_form (drop 1 words.now) ≡ Ok (words_of form)) (λ place. load_form (drop 1 words.now) ≡ Err place) }
-    ensures range { IfOk result IsInRange }
+    ensures rounds { IfOk result HasRounds }
 {
     let Some(count) = words.get(1) else {
         return Err(1);

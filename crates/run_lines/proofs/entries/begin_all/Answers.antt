@@ -1,0 +1,56 @@
+use Rattle.std.proofs.Common.{◌≡◌, ◌∙◌, refl, subst, arith}
+use Rattle.std.proofs.lemmas.Grind.{common_steps}
+use Rattle.run_lines.specs.Commands.{any_texts}
+use Rattle.run_lines.proofs.Going.{Ways}
+use Rattle.run_lines.proofs.Tasking.{DidSo, begins_is, one_begins, none_begins, did_none, did_on, did_one, did_stop, one_stopped, all_ran}
+use Rattle.run_lines.proofs.entries.begin_all.Goals as goal
+
+pub loop-place-init : goal.loop-place-init
+loop-place-init g c =
+    let ways : Ways g.S.Acts.stands g.S.Acts.rests g.S.Acts.tallied = record { rest = g.met.S.Acts.comes_to_rest; none = g.met.S.Acts.none_tallied; more = g.met.S.Acts.more_tallied } in
+    record {
+      site = refl;
+      armed = refl;
+      later = omega arith;
+      did = λ http n w ready. (w, did_none _ _ _ ways _ http n _ _ w _ ready);
+    }
+
+pub begin-requires-clause-ready : goal.begin-requires-clause-ready
+begin-requires-clause-ready g c =
+    let q = c.requires.ready in
+    let at = c.loop-place.invariant.did any_texts q.0 q.1 q.2 in
+    (q.0, at.0, at.1.ready)
+
+pub returns-in-Err-clause-ran : goal.returns-in-Err-clause-ran
+returns-in-Err-clause-ran g c = λ http n w ready.
+    let ways : Ways g.S.Acts.stands g.S.Acts.rests g.S.Acts.tallied = record { rest = g.met.S.Acts.comes_to_rest; none = g.met.S.Acts.none_tallied; more = g.met.S.Acts.more_tallied } in
+    let node : c.unwrap-node.result ≡ c.loop-place.place = grind (arith, common_steps, c.new.ensures, c.unwrap-node.ensures) in
+    let at = c.loop-place.invariant.did http n w ready in
+    let here = subst (DidSo _ _ _ _ _ _ _ http n w _ at.0) (one_begins c.args.node_lines.now c.loop-place.place c.loop-place-test.true) at.1 in
+    let runs = c.in-Err.ensures.runs in
+    let runs_here = rw (c.loop-place.invariant.site, node) at runs in
+    did_stop _ _ _ ways _ http n _ _ _ _ _ _ _ w at.0 _ _ _ here
+    (one_stopped _ _ _ ways _ http n _ _ _ _ _ at.0 _ _ _ _ _ (begins_is http n at.0 _ c.loop-place.place) (runs_here n at.0 at.1.ready))
+
+pub loop-place-preserved : goal.loop-place-preserved
+loop-place-preserved g c =
+    let ways : Ways g.S.Acts.stands g.S.Acts.rests g.S.Acts.tallied = record { rest = g.met.S.Acts.comes_to_rest; none = g.met.S.Acts.none_tallied; more = g.met.S.Acts.more_tallied } in
+    let node : c.unwrap-node.result ≡ c.loop-place.place = grind (arith, common_steps, c.new.ensures, c.unwrap-node.ensures) in
+    record {
+      site = c.in-Ok.ensures.site ∙ c.loop-place.invariant.site;
+      armed = c.in-Ok.ensures.armed ∙ c.loop-place.invariant.armed;
+      later = omega (arith, c.loop-place.invariant.later, c.in-Ok.ensures.blame.later);
+      did = λ http n w ready.
+          let at = c.loop-place.invariant.did http n w ready in
+          let here = subst (DidSo _ _ _ _ _ _ _ http n w _ at.0) (one_begins c.args.node_lines.now c.loop-place.place c.loop-place-test.true) at.1 in
+          let runs = c.in-Ok.ensures.runs in
+          let runs_here = rw (c.loop-place.invariant.site, node) at runs in
+          let f = runs_here n at.0 at.1.ready in
+          (f.plays.after, did_on _ _ _ ways _ http n _ _ _ _ _ _ w at.0 f.plays.after _ _ _ here (did_one _ _ _ ways _ http n _ _ _ _ at.0 _ _ _ _ (begins_is http n at.0 _ c.loop-place.place) f));
+    }
+
+pub returns-clause-ran : goal.returns-clause-ran
+returns-clause-ran g c = λ http n w ready.
+    let ways : Ways g.S.Acts.stands g.S.Acts.rests g.S.Acts.tallied = record { rest = g.met.S.Acts.comes_to_rest; none = g.met.S.Acts.none_tallied; more = g.met.S.Acts.more_tallied } in
+    let at = c.loop-place.invariant.did http n w ready in
+    all_ran _ _ _ ways _ http n (Unit {0}) (tt {0}) _ _ _ _ w at.0 _ (subst (DidSo _ _ _ _ _ _ _ http n w _ at.0) (none_begins c.args.node_lines.now c.loop-place.place c.loop-place-test.false) at.1)

@@ -1,0 +1,19 @@
+use Rattle.std.proofs.Common.{◌≡◌, ◌≤◌, drop}
+use Rattle.net_model.specs.World.{Network, World}
+use Rattle.run_model.specs.Turn.{HttpTexts}
+use Rattle.run_model.specs.Report.{starts_from}
+use Rattle.run_acts.specs.Acting.{IsReady}
+use Rattle.run_lines.proofs.Tasking.{DidSo}
+use Rattle.run_lines.proofs.entries.begin_all.Given as goal
+
+abbrev pub invariant-loop-place : goal.invariant-loop-place
+invariant-loop-place g l =
+    let sited = g.S.Acts.site l.fn.net in
+    record {
+      site : g.S.Acts.site l.net ≡ sited;
+      armed : g.S.Acts.armed l.net ≡ g.S.Acts.armed l.fn.net;
+      later : g.W.Sink.faults l.fn.sink ≤ g.W.Sink.faults l.sink;
+      did : (http : HttpTexts) (n : Network) (w : World) → IsReady g.S.Acts.stands l.fn.net n w → (after : World)
+          × DidSo g.S.Acts.stands g.S.Acts.tallied sited.nodes l.fn.net l.net (g.W.Sink.taken l.fn.sink) (g.W.Sink.taken l.sink) http n w
+          (starts_from 0 l.node_lines) after (starts_from l.place (drop l.place l.node_lines));
+    }

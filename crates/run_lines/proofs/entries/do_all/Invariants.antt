@@ -1,0 +1,29 @@
+use Rattle.std.proofs.Common.{◌≡◌, ◌≤◌, ◌+◌, ◌^◌, length, map}
+use Rattle.std.specs.Prelude.{count_by}
+use Rattle.net_model.specs.World.{Network, World}
+use Rattle.run_model.specs.Report.{Does}
+use Rattle.run_acts.specs.Acting.{IsReady}
+use Rattle.run_lines.proofs.Tasking.{DidSo}
+use Rattle.std.specs.List.{AllByRecursion}
+use Rattle.std.specs.Vec.Iter.{into_iter_items, into_iter_len}
+use Rattle.run_model.specs.Turn.{HttpTexts}
+use Rattle.run_acts.specs.Runnable.{arms_a_disk}
+use Rattle.run_lines.specs.Running.{IsReadySomewhere}
+use Rattle.run_lines.specs.Tasks.{IsLineFor}
+use Rattle.run_lines.proofs.entries.do_all.Given as goal
+
+abbrev pub invariant-loop-entry : goal.invariant-loop-entry
+invariant-loop-entry g l =
+    let sited = g.S.Acts.site l.fn.net in
+    let left = into_iter_items l.entry-iterator in
+    record {
+      site : g.S.Acts.site l.net ≡ sited;
+      long : into_iter_len l.entry-iterator ≡ length left;
+      few : g.S.Acts.armed l.net + count_by arms_a_disk left ≤ 2 ^ 32;
+      fit : AllByRecursion (IsLineFor sited) left;
+      ready : IsReadySomewhere g.S.Acts.stands l.net;
+      later : g.W.Sink.faults l.fn.sink ≤ g.W.Sink.faults l.sink;
+      did : (http : HttpTexts) (n : Network) (w : World) → g.H.Requests.speaks l.requests http → IsReady g.S.Acts.stands l.fn.net n w → (after : World)
+          × DidSo g.S.Acts.stands g.S.Acts.tallied sited.nodes l.fn.net l.net (g.W.Sink.taken l.fn.sink) (g.W.Sink.taken l.sink) http n w
+          (map Does (into_iter_items l.initial.entry-iterator)) after (map Does left);
+    }
