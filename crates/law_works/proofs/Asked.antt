@@ -1,23 +1,28 @@
 -- What jobs ask of a manager are its turns.
-use Rattle.std.proofs.Common.{◌≡◌, ℕ, zero, suc, ◌+◌, ◌<◌, ◌≤◌, ◌%◌, Bool, true, false, ◌&&◌, List, [], ◌∷◌, ◌++◌, length, map, refl, sym, ◌∙◌, ap, arith, Option, Some, None}
+use Rattle.std.proofs.Common.{◌≡◌, ℕ, zero, suc, ◌+◌, ◌<◌, ◌≤◌, ◌%◌, Bool, true, false, ◌&&◌, List, [], ◌∷◌, ◌++◌, length, map, refl, sym, ◌∙◌, subst, arith, Option, Some, None}
 use Rattle.std.specs.Prelude.{◌==◌, slice_get, if◌then◌else◌}
 use Rattle.std.specs.List.{list_all}
-use Rattle.net_model.specs.Site.{Site}
+use Rattle.std.proofs.lemmas.List.Folds.{list_all-map}
+use Rattle.net_model.specs.Site.{Site, count_up}
 use Rattle.net_model.specs.World.{Network}
 use Rattle.net_model.specs.Action.{Action, Ask, Deliver}
-use Rattle.net_model.specs.BlockOrder.{is_turn_of}
+use Rattle.net_model.specs.BlockOrder.{IsMerge, is_turn_of}
 use Rattle.run_model.specs.Play.{plain}
 use Rattle.run_model.specs.Works.{Work, actions_in, flat, plain_work}
 use Rattle.run_blocks.specs.declared.job.Job.{Job}
-use Rattle.run_blocks.specs.Jobs.{asked_for, turn_for, asked_by, asked_in_order}
+use Rattle.run_blocks.specs.Jobs.{asked_for, turn_for, asked_by}
 use Rattle.law_records.proofs.Base.{and_left, and_right, and_both}
 use Rattle.law_lanes.proofs.Lists.{all_both}
 use Rattle.law_emissions.specs.Remaining.{AreTurns}
 use Rattle.law_works.proofs.Histories.{AreOfNodes}
+use Rattle.law_works.proofs.Merges.{merge_holds}
 
 module _ (s : Site) (v : ℕ) where
+  abbrev is_turn : Work → Bool
+  is_turn x = is_turn_of s v x.action
+
   abbrev are_turns : List Work → Bool
-  are_turns h = list_all (is_turn_of s v) (actions_in h)
+  are_turns h = list_all is_turn h
 
   both_turns : (xs ys : List Work) → are_turns xs ≡ true → are_turns ys ≡ true → are_turns (xs ++ ys) ≡ true
   both_turns [] ys h k = k
@@ -54,32 +59,55 @@ module _ (s : Site) (v : ℕ) where
   plain_turns [] = refl
   plain_turns (x ∷ h) = let one = plain_turn x.action in let rest = plain_turns h in λ i. one i && rest i
 
-  turns_of_jobs : (jobs : List Job) (h : List Work) → map plain_work h ≡ asked_in_order s v jobs → are_turns h ≡ true
-  turns_of_jobs jobs h e = sym (plain_turns h) ∙ ap are_turns e ∙ asked_turns 1 0 0 jobs
+  all_turns_of : (workers : ℕ) (jobs : List Job) (ks : List ℕ) → list_all are_turns (map (λ k. asked_by s workers k v 0 jobs) ks) ≡ true
+  all_turns_of workers jobs [] = refl
+  all_turns_of workers jobs (k ∷ ks) =
+      and_both (are_turns (asked_by s workers k v 0 jobs)) (list_all are_turns (map (λ k. asked_by s workers k v 0 jobs) ks)) (asked_turns workers k 0 jobs) (all_turns_of workers jobs ks)
 
-module _ (net : Network) (jobs : List Job) where
+  turns_of_jobs : (workers : ℕ) (jobs : List Job) (h : List Work) → IsMerge (map (λ k. asked_by s workers k v 0 jobs) (count_up workers)) (map plain_work h) →
+      list_all (is_turn_of s v) (actions_in h) ≡ true
+  turns_of_jobs workers jobs h merged =
+      list_all-map (is_turn_of s v) (λ (x : Work). x.action) h ∙ sym (plain_turns h)
+      ∙ merge_holds is_turn (map (λ k. asked_by s workers k v 0 jobs) (count_up workers)) (map plain_work h) merged (all_turns_of workers jobs (count_up workers))
+
+module _ (net : Network) (workers : ℕ) (jobs : List Job) where
+  -- what a node's manager did is what the workers ask of it
+  abbrev pub IsAsked : ℕ → List Work → Type 0
+  IsAsked v h = IsMerge (map (λ k. asked_by net.site workers k v 0 jobs) (count_up workers)) (map plain_work h)
+
+  -- from a node on
   abbrev pub AreAsked : ℕ → List (List Work) → Type 0
-  AreAsked v hs = (i : ℕ) (h : List Work) → slice_get hs i ≡ Some h → map plain_work h ≡ asked_in_order net.site (v + i) jobs
+  AreAsked v hs = (i : ℕ) (h : List Work) → slice_get hs i ≡ Some h → IsAsked (v + i) h
 
-  later_asked : (v : ℕ) (h : List Work) (hs : List (List Work)) → AreAsked v (h ∷ hs) → AreAsked (v + 1) hs
-  later_asked v h hs asked i k at = asked (suc i) k at ∙ ap (λ (n : ℕ). asked_in_order net.site n jobs) (next v i)
+  pub are_asked : (hs : List (List Work)) → ((v : ℕ) (h : List Work) → slice_get hs v ≡ Some h → IsAsked v h) → AreAsked 0 hs
+  are_asked hs asked i h at = subst (λ (n : ℕ). IsAsked n h) (none_more i) (asked i h at)
+    where
+      none_more : (i : ℕ) → i ≡ 0 + i
+      none_more i = omega arith
+
+  pub first_asked : (v : ℕ) (h : List Work) (hs : List (List Work)) → AreAsked v (h ∷ hs) → IsAsked v h
+  first_asked v h hs asked = subst (λ (n : ℕ). IsAsked n h) (here v) (asked zero h refl)
+    where
+      here : (v : ℕ) → v + 0 ≡ v
+      here v = omega arith
+
+  pub later_asked : (v : ℕ) (h : List Work) (hs : List (List Work)) → AreAsked v (h ∷ hs) → AreAsked (v + 1) hs
+  later_asked v h hs asked i k at = subst (λ (n : ℕ). IsAsked n k) (next v i) (asked (suc i) k at)
     where
       next : (v i : ℕ) → v + suc i ≡ v + 1 + i
       next v i = omega arith
 
   pub of_nodes : (hs : List (List Work)) (v : ℕ) → AreAsked v hs → AreOfNodes net v hs
   of_nodes [] v asked = tt
-  of_nodes (h ∷ hs) v asked =
-      (turns_of_jobs net.site v jobs h (asked zero h refl ∙ ap (λ (n : ℕ). asked_in_order net.site n jobs) (here v)), of_nodes hs (v + 1) (later_asked v h hs asked))
-    where
-      here : (v : ℕ) → v + 0 ≡ v
-      here v = omega arith
+  of_nodes (h ∷ hs) v asked = (turns_of_jobs net.site v workers jobs h (first_asked v h hs asked), of_nodes hs (v + 1) (later_asked v h hs asked))
 
 module _ (net : Network) where
   turns_at : (v : ℕ) → v < net.site.nodes → (h : List Work) → list_all (is_turn_of net.site v) (actions_in h) ≡ true → AreTurns net h
   turns_at v node [] turns = tt
-  turns_at v node (x ∷ h) turns =
-      ((v, node, and_left (is_turn_of net.site v x.action) (are_turns net.site v h) turns), turns_at v node h (and_right (is_turn_of net.site v x.action) (are_turns net.site v h) turns))
+  turns_at v node (x ∷ h) turns = (
+    (v, node, and_left (is_turn_of net.site v x.action) (list_all (is_turn_of net.site v) (actions_in h)) turns),
+    turns_at v node h (and_right (is_turn_of net.site v x.action) (list_all (is_turn_of net.site v) (actions_in h)) turns),
+  )
 
   pub all_turns : (hs : List (List Work)) (v : ℕ) → v + length hs ≤ net.site.nodes → AreOfNodes net v hs → AreTurns net (flat hs)
   all_turns [] v few nodes = tt

@@ -1,5 +1,5 @@
 -- What is done in order is a block of the network.
-use Rattle.std.proofs.Common.{◌≡◌, ℕ, ◌+◌, true, List, [], ◌∷◌, ◌++◌, length, map, refl, sym, ◌∙◌, ap, subst, arith}
+use Rattle.std.proofs.Common.{◌≡◌, ℕ, true, List, [], ◌∷◌, ◌++◌, length, map, refl, sym, ◌∙◌, ap, subst, arith}
 use Rattle.std.specs.Prelude.{◌==◌, filter, count_by}
 use Rattle.std.specs.List.{list_all}
 use Rattle.std.proofs.lemmas.List.{length-map}
@@ -18,7 +18,6 @@ use Rattle.net_model.specs.Step.{run}
 use Rattle.run_model.specs.Works.{Work, Works, actions_in, parts, flat}
 use Rattle.run_acts.specs.Quiet.{IsQuiet}
 use Rattle.run_blocks.specs.declared.job.Job.{Job}
-use Rattle.run_blocks.specs.Jobs.{asked_in_order}
 use Rattle.law_blocks.proofs.Chains.{kept}
 use Rattle.law_blocks.proofs.Runs.{run-append}
 use Rattle.law_blocks.proofs.Views.{same_for}
@@ -29,7 +28,7 @@ use Rattle.law_emissions.specs.Remaining.{Remains, AreTurns}
 use Rattle.law_emissions.proofs.First.{claims_come_first}
 use Rattle.law_emissions.proofs.Turns.{turns_leave}
 use Rattle.law_works.specs.InOrder.{turns_over, IsInOrder, works_of}
-use Rattle.law_works.proofs.Asked.{of_nodes, all_turns}
+use Rattle.law_works.proofs.Asked.{are_asked, of_nodes, all_turns}
 use Rattle.law_works.proofs.Claims.{emissions, claims_are, claims_on_lane, claims_lanes, claims_each, claims_by_lane, AreOnLanes}
 use Rattle.law_works.proofs.Claimed.{fresh, no_more, claims_claimed}
 use Rattle.law_works.proofs.Counting.{count-append}
@@ -46,8 +45,8 @@ lanes_wanted : (ps : List Putting) → map (λ (p : Putting). lane_of p.emission
 lanes_wanted [] = refl
 lanes_wanted (p ∷ ps) = ap (λ (ls : List Lane). lane_of p.emission ∷ ls) (lanes_wanted ps)
 
-module _ (net : Network) (network : IsNetwork net) (w : World) (c : Conserved net w) (quiet : IsQuiet w) (jobs : List Job) (histories : List (List Work)) (ps : List Putting)
-    (h : IsInOrder net w jobs histories ps) where
+module _ (net : Network) (network : IsNetwork net) (workers : ℕ) (w : World) (c : Conserved net w) (quiet : IsQuiet w) (jobs : List Job) (histories : List (List Work)) (ps : List Putting)
+    (h : IsInOrder net workers w jobs histories ps) where
   abbrev pub turned : World
   turned = turns_over net w histories
 
@@ -64,10 +63,7 @@ module _ (net : Network) (network : IsNetwork net) (w : World) (c : Conserved ne
   p = parts works
 
   of : AreOfNodes net 0 histories
-  of = of_nodes net jobs histories 0 (λ i x at. h.asked i x at ∙ ap (λ (n : ℕ). asked_in_order net.site n jobs) (none_more i))
-    where
-      none_more : (i : ℕ) → i ≡ 0 + i
-      none_more i = omega arith
+  of = of_nodes net workers jobs histories 0 (are_asked net workers jobs histories h.merged)
 
   pub are_turns : AreTurns net (flat histories)
   are_turns = let size = h.nodes in all_turns net histories 0 (omega (arith, size)) of

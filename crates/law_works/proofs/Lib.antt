@@ -8,6 +8,7 @@ pub mod Differing
 pub mod Faults
 pub mod Found
 pub mod Histories
+pub mod Merges
 pub mod Merging
 pub mod Once
 pub mod OneBlock

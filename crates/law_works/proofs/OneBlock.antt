@@ -6,7 +6,7 @@ use Rattle.net_model.specs.World.{Network, World, Transmission}
 use Rattle.net_model.specs.Premises.{IsNetwork}
 use Rattle.net_model.specs.Invariant.{Conserved}
 use Rattle.net_model.specs.Action.{Action}
-use Rattle.net_model.specs.BlockOrder.{completions, block_actions, IsBlock, IsMerge}
+use Rattle.net_model.specs.BlockOrder.{completions, block_actions, IsBlock}
 use Rattle.net_model.specs.Step.{run}
 use Rattle.run_model.specs.Works.{Work, Works, actions_in, parts, flat, done_from, claimed, block_run}
 use Rattle.run_model.specs.Block.{puts_of}
@@ -24,14 +24,13 @@ use Rattle.law_emissions.specs.Putting.{Putting, one_by_one, claims_of, puts_in}
 use Rattle.law_works.specs.InOrder.{turns_over, in_order, IsInOrder, works_of, IsOneBlock}
 use Rattle.law_works.proofs.Block.{are_turns, alone, conserved, first, on_declared, after_claims, each_claim, all_orders, all_frames, is_block}
 use Rattle.law_works.proofs.Faults.{others, same_others, disks_same, entropies_same, devices_same, wires_same, armed_same}
-use Rattle.law_works.proofs.Merging.{in_order_is_a_merge}
 use Rattle.law_works.proofs.PutFor.{put_for}
 use Rattle.law_works.proofs.Puts.{puts}
 use Rattle.law_works.proofs.Quiet.{turns_away, ones_away, quiet_after, none_far}
 use Rattle.law_works.proofs.Runs.{flat_actions}
 
 module _ (net : Network) (network : IsNetwork net) (workers : ℕ) (some : 1 ≤ workers) (w : World) (c : Conserved net w) (quiet : IsQuiet w) (jobs : List Job) (histories : List (List Work))
-    (ps : List Putting) (h : IsInOrder net w jobs histories ps) where
+    (ps : List Putting) (h : IsInOrder net workers w jobs histories ps) where
   abbrev start : World
   start = turns_over net w histories
 
@@ -54,14 +53,14 @@ module _ (net : Network) (network : IsNetwork net) (workers : ℕ) (some : 1 ≤
   ends = completions net
 
   block : IsBlock net w (parts done)
-  block = is_block net network w c quiet jobs histories ps h
+  block = is_block net network workers w c quiet jobs histories ps h
 
   -- the world after the frames
   abbrev last : World
   last = run net start ones
 
   last_is : last ≡ run net (run net start claims) frames
-  last_is = (first net network w c quiet jobs histories ps h).same ∙ run-append net claims frames start
+  last_is = (first net network workers w c quiet jobs histories ps h).same ∙ run-append net claims frames start
 
   is_run : block_run net done ≡ all ++ claims ++ frames ++ ends
   unfolding block_run block_actions
@@ -80,12 +79,12 @@ module _ (net : Network) (network : IsNetwork net) (workers : ℕ) (some : 1 ≤
   done_all =
       subst (IsDone net) (sym last_is) (record {
         orders = λ l. ap (λ (f : Lane → List Transmission). f l) (orders_stay net frames (run net start claims) (block.puts))
-            ∙ all_claimed net claims start (each_claim net network w c quiet jobs histories ps h) (all_orders net network w c quiet jobs histories ps h) l;
-        puts = all_put net frames (run net start claims) (block.puts) (all_frames net network w c quiet jobs histories ps h);
+            ∙ all_claimed net claims start (each_claim net network workers w c quiet jobs histories ps h) (all_orders net network workers w c quiet jobs histories ps h) l;
+        puts = all_put net frames (run net start claims) (block.puts) (all_frames net network workers w c quiet jobs histories ps h);
       })
 
   last_conserved : Conserved net last
-  last_conserved = kept net network ones start (conserved net network w c quiet jobs histories ps h) h.puts
+  last_conserved = kept net network ones start (conserved net network workers w c quiet jobs histories ps h) h.puts
 
   abbrev IsAway : ℕ → Action → Type 0
   IsAway u a = touches_node net.site a u ≡ false
@@ -94,8 +93,8 @@ module _ (net : Network) (network : IsNetwork net) (workers : ℕ) (some : 1 ≤
   far u e =
       ap (λ (x : World). x.placings u) (sym (run-append net all ones w))
       ∙ none_far net network (all ++ ones) w c (runs-append net all ones w h.turns h.puts) quiet u
-      (all_both (IsAway u) all ones (turns_away net network u e (flat histories) (are_turns net network w c quiet jobs histories ps h))
-      (ones_away net network u e ps start (on_declared net network w c quiet jobs histories ps h)))
+      (all_both (IsAway u) all ones (turns_away net network u e (flat histories) (are_turns net network workers w c quiet jobs histories ps h))
+      (ones_away net network u e ps start (on_declared net network workers w c quiet jobs histories ps h)))
 
   is_quiet : IsQuiet (run net w (in_order net w histories ps))
   is_quiet = subst IsQuiet (sym in_order_last) (quiet_after net network last last_conserved done_all (completions_run net last done_all) far)
@@ -105,21 +104,21 @@ module _ (net : Network) (network : IsNetwork net) (workers : ℕ) (some : 1 ≤
 
   reported : puts_of (done_from net (claimed net w done) (puts_in (one_by_one net start ps))) ≡ puts_of (done_from net start (one_by_one net start ps))
   reported =
-      ap (λ (x : World). puts_of (done_from net x (puts_in (one_by_one net start ps)))) (after_claims net network w c quiet jobs histories ps h)
-      ∙ (first net network w c quiet jobs histories ps h).reported
+      ap (λ (x : World). puts_of (done_from net x (puts_in (one_by_one net start ps)))) (after_claims net network workers w c quiet jobs histories ps h)
+      ∙ (first net network workers w c quiet jobs histories ps h).reported
 
   are : AreWorks net workers w jobs done
   are = record {
     whole = refl;
     block = block;
-    merged = λ v x at. subst (IsMerge _) (sym (h.asked v x at)) (in_order_is_a_merge net.site workers v jobs some);
-    put = put_for net network w c quiet jobs histories ps h;
+    merged = h.merged;
+    put = put_for net network workers some w c quiet jobs histories ps h;
   }
 
   pub one_block : IsOneBlock net workers w jobs histories ps
   one_block = record {
     are = are;
-    turns = (alone net network w c quiet jobs histories ps h).same;
+    turns = (alone net network workers w c quiet jobs histories ps h).same;
     reported = reported;
     after = same_world;
     quiet = is_quiet;

@@ -1,9 +1,9 @@
 -- Each line of a block has one turn at most, of one node.
-use Rattle.std.proofs.Common.{◌≡◌, ℕ, zero, suc, ◌+◌, ◌<◌, ◌≤◌, ◌%◌, Bool, true, false, ◌&&◌, List, [], ◌∷◌, ◌++◌, map, refl, sym, ◌∙◌, ap, arith, Option, Some, None}
+use Rattle.std.proofs.Common.{◌≡◌, ℕ, ◌+◌, ◌<◌, ◌≤◌, ◌%◌, Bool, true, false, ◌&&◌, List, [], ◌∷◌, ◌++◌, map, refl, sym, ◌∙◌, ap, arith, Option, Some, None}
 use Rattle.std.specs.Prelude.{◌==◌, count_by, if◌then◌else◌}
 use Rattle.std.proofs.Math.Bool.{and-false}
 use Rattle.std.proofs.Math.Nat.{mod-lt}
-use Rattle.net_model.specs.Site.{Site, receiver}
+use Rattle.net_model.specs.Site.{Site, receiver, count_up}
 use Rattle.net_model.specs.World.{Network, World}
 use Rattle.net_model.specs.Action.{Action, Ask, Deliver}
 use Rattle.net_model.specs.BlockOrder.{is_block_event, is_turn_of}
@@ -13,8 +13,10 @@ use Rattle.run_blocks.specs.declared.job.Job.{Job}
 use Rattle.run_blocks.specs.Jobs.{asked_for, turn_for, asked_by, asked_in_order}
 use Rattle.law_records.proofs.Base.{and_left, eq_from, not_false, when_true}
 use Rattle.law_blocks.proofs.Counting.{one_if, count_more}
-use Rattle.law_works.proofs.Asked.{AreAsked}
+use Rattle.law_works.proofs.Asked.{IsAsked, AreAsked, first_asked, later_asked}
 use Rattle.law_works.proofs.Counting.{count-append, count-map, one_false, at_most_one}
+use Rattle.law_works.proofs.Merges.{same_count}
+use Rattle.law_works.proofs.Merging.{in_order_is_a_merge}
 
 abbrev pub is_of : ℕ → Work → Bool
 is_of q x = x.place == q
@@ -110,50 +112,39 @@ module _ (s : Site) where
             omega (arith, first, later, none)
       ] refl
 
-module _ (net : Network) (jobs : List Job) (q : ℕ) where
+module _ (net : Network) (workers : ℕ) (some : 1 ≤ workers) (jobs : List Job) (q : ℕ) where
   abbrev has_turn : ℕ → Bool
   has_turn v = turn_at net.site v 0 q jobs
 
-  count_history : (v : ℕ) (h : List Work) → map plain_work h ≡ asked_in_order net.site v jobs → count_by (is_of q) h ≡ one_if (has_turn v)
-  count_history v h e =
-      sym (count-map (is_of q) plain_work h) ∙ ap (count_by (is_of q)) e ∙ count_asked net.site v 0 q jobs
+  -- a merge holds each place as often as the order of place does
+  count_history : (v : ℕ) (h : List Work) → IsAsked net workers jobs v h → count_by (is_of q) h ≡ one_if (has_turn v)
+  count_history v h asked =
+      sym (count-map (is_of q) plain_work h)
+      ∙ same_count (is_of q) (map (λ k. asked_by net.site workers k v 0 jobs) (count_up workers)) (map plain_work h) (asked_in_order net.site v jobs) asked
+      (in_order_is_a_merge net.site workers v jobs some) ∙ count_asked net.site v 0 q jobs
 
-  abbrev AreOf : ℕ → List (List Work) → Type 0
-  AreOf v [] = Unit {0}
-  AreOf v (h ∷ hs) = (map plain_work h ≡ asked_in_order net.site v jobs) × AreOf (v + 1) hs
-
-  none_elsewhere : (hs : List (List Work)) (v u : ℕ) → u < v → has_turn u ≡ true → AreOf v hs → count_by (is_of q) (flat hs) ≡ 0
+  none_elsewhere : (hs : List (List Work)) (v u : ℕ) → u < v → has_turn u ≡ true → AreAsked net workers jobs v hs → count_by (is_of q) (flat hs) ≡ 0
   none_elsewhere [] v u less h of = refl
   none_elsewhere (x ∷ hs) v u less h of =
       let both = count-append (is_of q) x (flat hs) in
-      let here = count_history v x of.0 in
+      let here = count_history v x (first_asked net workers jobs v x hs of) in
       let none = one_false (has_turn v) (not_false (has_turn v) (λ e. let is = at_one_node net.site v u 0 q jobs e h in absurd (omega (arith, less, is)))) in
-      let rest = none_elsewhere hs (v + 1) u (omega (arith, less)) h of.1 in
+      let rest = none_elsewhere hs (v + 1) u (omega (arith, less)) h (later_asked net workers jobs v x hs of) in
       omega (arith, both, here, none, rest)
 
-  place_once : (hs : List (List Work)) (v : ℕ) → AreOf v hs → count_by (is_of q) (flat hs) ≤ 1
+  place_once : (hs : List (List Work)) (v : ℕ) → AreAsked net workers jobs v hs → count_by (is_of q) (flat hs) ≤ 1
   place_once [] v of = omega arith
   place_once (x ∷ hs) v of =
       let both = count-append (is_of q) x (flat hs) in
-      let here = count_history v x of.0 in
+      let here = count_history v x (first_asked net workers jobs v x hs of) in
+      let later = later_asked net workers jobs v x hs of in
       elim (has_turn v) as (λ t. has_turn v ≡ t → count_by (is_of q) (flat (x ∷ hs)) ≤ 1) [
-        | true ↦ λ e. let few = at_most_one (has_turn v) in let rest = none_elsewhere hs (v + 1) v (omega arith) e of.1 in omega (arith, both, here, few, rest)
-        | false ↦ λ e. let none = one_false (has_turn v) e in let rest = place_once hs (v + 1) of.1 in omega (arith, both, here, none, rest)
+        | true ↦ λ e. let few = at_most_one (has_turn v) in let rest = none_elsewhere hs (v + 1) v (omega arith) e later in omega (arith, both, here, few, rest)
+        | false ↦ λ e. let none = one_false (has_turn v) e in let rest = place_once hs (v + 1) later in omega (arith, both, here, none, rest)
       ] refl
 
-  are_of : (hs : List (List Work)) (v : ℕ) → AreAsked net jobs v hs → AreOf v hs
-  are_of [] v asked = tt
-  are_of (h ∷ hs) v asked =
-      (asked zero h refl ∙ ap (λ (n : ℕ). asked_in_order net.site n jobs) (here v), are_of hs (v + 1) (λ i x at. asked (suc i) x at ∙ ap (λ (n : ℕ). asked_in_order net.site n jobs) (next v i)))
-    where
-      here : (v : ℕ) → v + 0 ≡ v
-      here v = omega arith
-
-      next : (v i : ℕ) → v + suc i ≡ v + 1 + i
-      next v i = omega arith
-
-  pub places_once : (hs : List (List Work)) → AreAsked net jobs 0 hs → count_by (is_of q) (flat hs) ≤ 1
-  places_once hs asked = place_once hs 0 (are_of hs 0 asked)
+  pub places_once : (hs : List (List Work)) → AreAsked net workers jobs 0 hs → count_by (is_of q) (flat hs) ≤ 1
+  places_once hs asked = place_once hs 0 asked
 
 pub done_places : (net : Network) (q : ℕ) (works : List Work) (w : World) → count_by (λ (d : Done). is_of q d.work) (done_from net w works) ≡ count_by (is_of q) works
 unfolding done_from

@@ -1,5 +1,5 @@
 -- Each frame that a plan of a line wants put is put once for that line.
-use Rattle.std.proofs.Common.{◌≡◌, ℕ, zero, suc, ◌+◌, ◌<◌, ◌≤◌, Bool, true, false, ◌&&◌, List, [], ◌∷◌, length, map, refl, sym, ◌∙◌, ap, subst, arith, Some}
+use Rattle.std.proofs.Common.{◌≡◌, ℕ, zero, suc, ◌<◌, ◌≤◌, Bool, true, false, ◌&&◌, List, [], ◌∷◌, length, map, refl, sym, ◌∙◌, ap, subst, arith, Some}
 use Rattle.std.specs.Prelude.{◌==◌, filter, count_by, slice_get}
 use Rattle.std.specs.List.{list_all, AllByRecursion}
 use Rattle.std.proofs.lemmas.List.Folds.{list_all-map}
@@ -17,7 +17,6 @@ use Rattle.net_model.specs.Step.{run}
 use Rattle.run_model.specs.Works.{Work, Works, Done, flat, done_from, turns_done, claimed, wanted_put, is_put_of, are_put}
 use Rattle.run_acts.specs.Quiet.{IsQuiet}
 use Rattle.run_blocks.specs.declared.job.Job.{Job}
-use Rattle.run_blocks.specs.Jobs.{asked_in_order}
 use Rattle.run_blocks.specs.Together.{turn_done}
 use Rattle.law_records.proofs.Base.{and_right, and_both, eq_same}
 use Rattle.law_blocks.proofs.Counting.{one_if, count_more}
@@ -25,7 +24,7 @@ use Rattle.law_lanes.proofs.Lists.{all_at, all_from}
 use Rattle.law_ticks.specs.Sending.{orders_in, repeats_in, repeated, IsEmission}
 use Rattle.law_emissions.specs.Putting.{Putting, lane_of, is_wanted, wanted_by, one_by_one, claims_of, puts_in}
 use Rattle.law_works.specs.InOrder.{turns_over, IsInOrder, works_of}
-use Rattle.law_works.proofs.Asked.{AreAsked}
+use Rattle.law_works.proofs.Asked.{are_asked}
 use Rattle.law_works.proofs.Block.{are_turns, alone, conserved, remains, after_claims, outgoing_after}
 use Rattle.law_works.proofs.Claims.{emissions, claims_are}
 use Rattle.law_works.proofs.Claimed.{IsMore, no_more, claims_claimed}
@@ -82,8 +81,8 @@ module _ (place : ℕ) (e : Emission) where
       let rest = is_wanted_there done i d at in
       omega (arith, both, rest)
 
-module _ (net : Network) (network : IsNetwork net) (w : World) (c : Conserved net w) (quiet : IsQuiet w) (jobs : List Job) (histories : List (List Work)) (ps : List Putting)
-    (h : IsInOrder net w jobs histories ps) where
+module _ (net : Network) (network : IsNetwork net) (workers : ℕ) (some : 1 ≤ workers) (w : World) (c : Conserved net w) (quiet : IsQuiet w) (jobs : List Job) (histories : List (List Work)) (ps : List Putting)
+    (h : IsInOrder net workers w jobs histories ps) where
   abbrev start : World
   start = turns_over net w histories
 
@@ -99,17 +98,11 @@ module _ (net : Network) (network : IsNetwork net) (w : World) (c : Conserved ne
   abbrev todo : List Emission
   todo = emissions ps
 
-  are_asked : AreAsked net jobs 0 histories
-  are_asked i x at = h.asked i x at ∙ ap (λ (n : ℕ). asked_in_order net.site n jobs) (none_more i)
-    where
-      none_more : (i : ℕ) → i ≡ 0 + i
-      none_more i = omega arith
-
   once : AllByRecursion (λ (d : Done). AreOnce (wanted_put d.outcome)) all
-  once = turns_once net network (flat histories) w c (are_turns net network w c quiet jobs histories ps h) h.turns
+  once = turns_once net network (flat histories) w c (are_turns net network workers w c quiet jobs histories ps h) h.turns
 
   one_place : (place : ℕ) → count_by (is_for place) all ≤ 1
-  one_place place = let same = done_places net place (flat histories) w in let few = places_once net jobs place histories are_asked in omega (arith, same, few)
+  one_place place = let same = done_places net place (flat histories) w in let few = places_once net workers some jobs place histories (are_asked net workers jobs histories h.merged) in omega (arith, same, few)
 
   wanted_once : (i : ℕ) (d : Done) → slice_get all i ≡ Some d → (k : ℕ) (e : Emission) → slice_get (wanted_put d.outcome) k ≡ Some e →
       count_by (is_wanted_as d.work.place e) (wanted_by all) ≡ 1
@@ -139,19 +132,19 @@ module _ (net : Network) (network : IsNetwork net) (w : World) (c : Conserved ne
   framed : (i : ℕ) (r : Repeat) → slice_get todo i ≡ Some (Again r) → Framed (start.frames r.lane) r.offset
   framed i r at =
       again_framed net start (sender net.site r.lane) r
-      (all_at (λ (e : Emission). IsEmission net start (sender net.site (lane_of e)) e) todo i (Again r) (remains net network w c quiet jobs histories ps h).each at)
+      (all_at (λ (e : Emission). IsEmission net start (sender net.site (lane_of e)) e) todo i (Again r) (remains net network workers w c quiet jobs histories ps h).each at)
 
   all_below : (l : Lane) → AreBelow (length (start.frames l)) (map (repeated (start.frames l)) (filter (λ (r : Repeat). lane_eq r.lane l) (repeats_in todo)))
   all_below l =
-      subst (AreBelow (length (start.frames l))) ((remains net network w c quiet jobs histories ps h).outgoing l)
+      subst (AreBelow (length (start.frames l))) ((remains net network workers w c quiet jobs histories ps h).outgoing l)
       (all_from (λ (o : Outgoing). o.frame < length (start.frames l)) (start.outgoing l) (λ n o at.
-      let r = ((conserved net network w c quiet jobs histories ps h).wired l).put n o at in slice_get_within (start.frames l) o.frame r.0 r.1))
+      let r = ((conserved net network workers w c quiet jobs histories ps h).wired l).put n o at in slice_get_within (start.frames l) o.frame r.0 r.1))
 
   put_counted : (place : ℕ) (e : Emission) → count_by (is_put_of after place e) frames ≡ count_by (is_one net start.frames after place e) ps
   put_counted place e =
       puts_counted net start.frames after place e ps start
-      (all_known net start.frames after todo (outgoing_after net network w c quiet jobs histories ps h) more_frames framed)
-      (λ l. record { more = no_more (start.frames l); before = _; is = outgoing_after net network w c quiet jobs histories ps h l; below = all_below l })
+      (all_known net start.frames after todo (outgoing_after net network workers w c quiet jobs histories ps h) more_frames framed)
+      (λ l. record { more = no_more (start.frames l); before = _; is = outgoing_after net network workers w c quiet jobs histories ps h l; below = all_below l })
 
   put_once : (i : ℕ) (d : Done) → slice_get all i ≡ Some d → (k : ℕ) (e : Emission) → slice_get (wanted_put d.outcome) k ≡ Some e →
       (count_by (is_put_of after d.work.place e) frames == 1) ≡ true
@@ -176,5 +169,5 @@ module _ (net : Network) (network : IsNetwork net) (w : World) (c : Conserved ne
 
   pub put_for : are_put (claimed net w done) (flat (turns_done net w done)) done.puts ≡ true
   put_for =
-      sym (by_turns (claimed net w done) (flat (turns_done net w done))) ∙ ap (list_all (is_put_for (claimed net w done))) (alone net network w c quiet jobs histories ps h).same
-      ∙ by_turns (claimed net w done) all ∙ ap (λ (x : World). are_put x all frames) (after_claims net network w c quiet jobs histories ps h) ∙ put_after
+      sym (by_turns (claimed net w done) (flat (turns_done net w done))) ∙ ap (list_all (is_put_for (claimed net w done))) (alone net network workers w c quiet jobs histories ps h).same
+      ∙ by_turns (claimed net w done) all ∙ ap (λ (x : World). are_put x all frames) (after_claims net network workers w c quiet jobs histories ps h) ∙ put_after

@@ -2,16 +2,17 @@
 use Rattle.std.specs.Prelude.{◌≡◌, ℕ, true, List, ◌++◌, map, slice_get, length, Some, None}
 use Rattle.std.specs.List.{list_all}
 use Rattle.qkd_base.specs.declared.lane.Lane.{Lane}
+use Rattle.net_model.specs.Site.{count_up}
 use Rattle.net_model.specs.World.{Network, World}
 use Rattle.net_model.specs.Action.{Action}
 use Rattle.net_model.specs.Step.{run, IsRun}
-use Rattle.net_model.specs.BlockOrder.{is_by_lane, is_wire_answer, completions}
+use Rattle.net_model.specs.BlockOrder.{IsMerge, is_by_lane, is_wire_answer, completions}
 use Rattle.net_model.specs.Faults.{disk_faults, entropy_faults, device_faults, wire_faults, armings}
 use Rattle.run_model.specs.Works.{Work, Works, actions_in, flat, plain_work, done_from, turns_done, claimed, block_run}
 use Rattle.run_model.specs.Block.{puts_of}
 use Rattle.run_acts.specs.Quiet.{IsQuiet}
 use Rattle.run_blocks.specs.declared.job.Job.{Job}
-use Rattle.run_blocks.specs.Jobs.{asked_in_order}
+use Rattle.run_blocks.specs.Jobs.{asked_by}
 use Rattle.run_blocks.specs.Together.{AreWorks, turn_done}
 use Rattle.law_emissions.specs.Putting.{Putting, lane_of, wanted_by, is_wanted, one_by_one, claims_of, puts_in}
 use Rattle.law_emissions.specs.Remaining.{AreTheSame}
@@ -25,11 +26,11 @@ abbrev pub in_order : Network → World → List (List Work) → List Putting �
 in_order net w histories ps =
     actions_in (flat histories) ++ actions_in (one_by_one net (turns_over net w histories) ps) ++ completions net
 
--- For each node its manager did what the jobs ask of it, in order of place. Then, lane by lane, the frames that the plans want put were put or refused, on
--- each lane in the order in which they are wanted.
-pub record IsInOrder (net : Network) (w : World) (jobs : List Job) (histories : List (List Work)) (ps : List Putting) : Type 0 where
+-- Node by node each manager did what so many workers ask of it: its history is a merge of what they ask, each in order of place. Then, lane by lane, the frames
+-- that the plans want put were put or refused, on each lane in the order in which they are wanted.
+pub record IsInOrder (net : Network) (workers : ℕ) (w : World) (jobs : List Job) (histories : List (List Work)) (ps : List Putting) : Type 0 where
   pub nodes : length histories ≡ net.site.nodes
-  pub asked : (v : ℕ) (h : List Work) → slice_get histories v ≡ Some h → map plain_work h ≡ asked_in_order net.site v jobs
+  pub merged : (v : ℕ) (h : List Work) → slice_get histories v ≡ Some h → IsMerge (map (λ k. asked_by net.site workers k v 0 jobs) (count_up workers)) (map plain_work h)
   pub turns : IsRun net w (actions_in (flat histories))
   pub wanted : AreTheSame (map is_wanted ps) (wanted_by (done_from net w (flat histories)))
   pub by_lane : is_by_lane (map (λ (p : Putting). lane_of p.emission) ps) ≡ true

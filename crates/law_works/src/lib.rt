@@ -1,4 +1,4 @@
-//! Laws of a block that is done in order: it is what any number of workers may do.
+//! Laws of a block that is done in order, node by node and then lane by lane: it is what its workers may do.
 #![tactic(auto)]
 
 ghost use Rattle.std.specs.Prelude.{◌≡◌, ◌≤◌, ℕ, List, map, true};
@@ -21,10 +21,11 @@ pub fn law_in_order_is_a_merge()
         IsMerge (map (λ k. asked_by site workers k v 0 jobs) (count_up workers)) (asked_in_order site v jobs) }
 {}
 
-/// What is done in order of node, of place and of lane is a block that so many workers may do. Premises: the network is one, quiet
-/// before, and all that is conserved holds; the jobs are ones that a block may hold.
+/// What is done in order of node, by each manager in any merge of what the workers ask of it, and then in order of lane is a block that
+/// these workers may do. Premises: the network is one, quiet before, and all that is conserved holds; the jobs are ones that a block may
+/// hold.
 pub fn law_in_order_is_one_block()
     ensures { (net : Network) (workers : ℕ) (w : World) (jobs : List JobValue) (histories : List (List Work)) (ps : List Putting) → 1 ≤ workers →
-        IsNetwork net → Conserved net w → IsQuiet w → list_all (is_job net.site) jobs ≡ true → IsInOrder net w jobs histories ps →
+        IsNetwork net → Conserved net w → IsQuiet w → list_all (is_job net.site) jobs ≡ true → IsInOrder net workers w jobs histories ps →
         IsOneBlock net workers w jobs histories ps }
 {}
