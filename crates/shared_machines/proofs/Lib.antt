@@ -1,0 +1,9 @@
+pub mod Zips
+pub mod Places
+pub mod Closing
+pub mod Going
+pub mod Ready
+pub mod Opening
+pub mod Merging
+pub mod Kept
+pub mod Ending

@@ -1,0 +1,4 @@
+pub mod Asked
+pub mod Served
+pub mod Seats
+pub mod Shares

@@ -1,0 +1,18 @@
+//! Several workers call several machines at the same time, each machine one call at a time.
+#![tactic(auto)]
+
+mod call;
+mod gates;
+mod pass;
+mod rooms;
+mod rows;
+mod stations;
+#[cfg(test)]
+mod tests;
+mod together;
+
+pub use block_run;
+pub use call::Call;
+pub use pass::Shift;
+pub use together::work_together;
+pub use turnstile;
