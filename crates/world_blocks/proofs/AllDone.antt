@@ -58,13 +58,13 @@ module _ {K Q E X : Type 0} (is_honest : K → Bool) (moment : K → ℕ) (image
       ))
 
   module _ (some : 1 ≤ workers) (old mid new : State K Q E X) (taken : Turns) (ready : IsReady StandsHere old net w)
-      (took : TookTurns is_honest moment image left told frames counted disk_count armed entropy_count device_count wire_count old mid net w jobs taken) where
+      (took : TookTurns is_honest moment image left told frames counted disk_count armed entropy_count device_count wire_count old mid net w workers jobs taken) where
     abbrev begun : World
-    begun = start is_honest moment image left told frames counted disk_count armed entropy_count device_count wire_count old mid net w jobs taken ready took
+    begun = start is_honest moment image left told frames counted disk_count armed entropy_count device_count wire_count old mid net w workers jobs taken ready took
 
     module _ (ps : List Putting) (are : ArePut net begun taken.done.items ps) where
       one : IsOneBlock net workers w jobs took.histories ps
-      one = is_one_block is_honest moment image left told frames counted disk_count armed entropy_count device_count wire_count old mid net w jobs taken ready took workers some ps are
+      one = is_one_block is_honest moment image left told frames counted disk_count armed entropy_count device_count wire_count old mid net w workers jobs taken ready took some ps are
 
       abbrev all : List Action
       all = actions_in (flat took.histories)
@@ -88,7 +88,7 @@ module _ {K Q E X : Type 0} (is_honest : K → Bool) (moment : K → ℕ) (image
     module _ (leases : List ℕ) (turns : List Turned) (same_leases : leases ≡ taken.leases.items) (same_turns : turns ≡ taken.done.items) where
       may_put : MayPut is_honest moment image left told frames counted mid net begun leases turns
       may_put =
-          may_put_over is_honest moment image left told frames counted disk_count armed entropy_count device_count wire_count old mid net w jobs taken ready took leases turns same_leases same_turns
+          may_put_over is_honest moment image left told frames counted disk_count armed entropy_count device_count wire_count old mid net w workers jobs taken ready took leases turns same_leases same_turns
 
       pub all_done : (reported : Vec PutFrame Global) →
           ((n : Network) (x : World) → MayPut is_honest moment image left told frames counted mid n x leases turns →

@@ -1,5 +1,5 @@
 -- Turns of a block's managers, and then frames that are put lane by lane, are a block that is done in order.
-use Rattle.std.proofs.Common.{◌≡◌, ℕ, ◌+◌, ◌≤◌, Bool, List, sym, ◌∙◌, ap, subst, arith, Option}
+use Rattle.std.proofs.Common.{◌≡◌, ℕ, ◌≤◌, Bool, List, sym, ◌∙◌, ap, subst, arith, Option}
 use Rattle.std.specs.List.{flat_map, AllByRecursion}
 use Rattle.qkd_base.specs.Lane.{lane_eq}
 use Rattle.disk_model.specs.declared.arm.Armings.{Armings}
@@ -10,7 +10,6 @@ use Rattle.run_model.specs.Works.{Work, Done, flat, done_from}
 use Rattle.run_acts.specs.Acting.{IsReady}
 use Rattle.run_blocks.specs.declared.job.Job.{Job}
 use Rattle.run_blocks.specs.declared.done_block.Turned.{Turned}
-use Rattle.run_blocks.specs.Jobs.{asked_in_order}
 use Rattle.law_lanes.proofs.Lists.{all_kept}
 use Rattle.law_ticks.specs.Quiet.{IsQuiet as IsQuietNetwork}
 use Rattle.law_ticks.proofs.Lists.{all_mapped, all_weaker}
@@ -19,7 +18,7 @@ use Rattle.law_emissions.specs.Remaining.{Remains, AreTheSame, AreTurns}
 use Rattle.law_emissions.proofs.Lists.{all_by_lane}
 use Rattle.law_emissions.proofs.Turns.{turns_leave}
 use Rattle.law_works.specs.InOrder.{turns_over, IsInOrder, IsOneBlock}
-use Rattle.law_works.proofs.Asked.{of_nodes, all_turns}
+use Rattle.law_works.proofs.Asked.{are_asked, of_nodes, all_turns}
 use Rattle.law_works.proofs.OneBlock.{one_block}
 use Rattle.world_state.specs.Stands.{Stands}
 use Rattle.world_state.specs.declared.state.State.{State}
@@ -37,9 +36,9 @@ is_leased w leases (New o) h = h
 
 module _ {K Q E X : Type 0} (is_honest : K → Bool) (moment : K → ℕ) (image : K → ℕ → List ℕ → Type 0) (left : E → Option OctetSequence) (told : Q → Option OctetSequence)
     (frames : X → Option (List (List ℕ))) (counted : X → ℕ) (disk_count : K → ℕ) (armed : K → Armings) (entropy_count : E → ℕ) (device_count : Q → ℕ) (wire_count : X → ℕ)
-    (old mid : State K Q E X) (net : Network) (w : World) (jobs : List Job) (taken : Turns)
+    (old mid : State K Q E X) (net : Network) (w : World) (workers : ℕ) (jobs : List Job) (taken : Turns)
     (ready : IsReady (Stands is_honest moment image left told frames counted) old net w)
-    (took : TookTurns is_honest moment image left told frames counted disk_count armed entropy_count device_count wire_count old mid net w jobs taken) where
+    (took : TookTurns is_honest moment image left told frames counted disk_count armed entropy_count device_count wire_count old mid net w workers jobs taken) where
   abbrev works : List Work
   works = flat took.histories
 
@@ -60,10 +59,7 @@ module _ {K Q E X : Type 0} (is_honest : K → Bool) (moment : K → ℕ) (image
   are_turns =
       let size = took.nodes in
       all_turns net took.histories 0 (omega (arith, size))
-      (of_nodes net jobs took.histories 0 (λ i x at. took.asked i x at ∙ ap (λ (n : ℕ). asked_in_order net.site n jobs) (none_more i)))
-    where
-      none_more : (i : ℕ) → i ≡ 0 + i
-      none_more i = omega arith
+      (of_nodes net workers jobs took.histories 0 (are_asked net workers jobs took.histories took.merged))
 
   -- what remains, in any order that is the turns' on each lane
   remain : (wants : List (ℕ × Emission)) → AreTheSame wants (wanted_by done) → Remains net start (emissions wants)
@@ -95,10 +91,10 @@ module _ {K Q E X : Type 0} (is_honest : K → Bool) (moment : K → ℕ) (image
       subst (λ (ls : List ℕ). MayPut is_honest moment image left told frames counted mid net start ls replies) (sym same_leases)
       (subst (λ (ts : List Turned). MayPut is_honest moment image left told frames counted mid net start taken.leases.items ts) (sym same_replies) may_put)
 
-  is_in_order : (ps : List Putting) → ArePut net start turns ps → IsInOrder net w jobs took.histories ps
+  is_in_order : (ps : List Putting) → ArePut net start turns ps → IsInOrder net workers w jobs took.histories ps
   is_in_order ps are = record {
     nodes = took.nodes;
-    asked = took.asked;
+    merged = took.merged;
     turns = took.turns;
     wanted = λ l. ap (wants_on l) are.wanted' ∙ wanted_same l;
     by_lane = are.by_lane;
@@ -106,6 +102,6 @@ module _ {K Q E X : Type 0} (is_honest : K → Bool) (moment : K → ℕ) (image
     puts = are.puts;
   }
 
-  pub is_one_block : (workers : ℕ) → 1 ≤ workers → (ps : List Putting) → ArePut net start turns ps → IsOneBlock net workers w jobs took.histories ps
-  is_one_block workers some ps are =
+  pub is_one_block : 1 ≤ workers → (ps : List Putting) → ArePut net start turns ps → IsOneBlock net workers w jobs took.histories ps
+  is_one_block some ps are =
       one_block net ready.stands.running.network workers some w ready.stands.running.conserved ready.quiet jobs took.histories ps (is_in_order ps are)

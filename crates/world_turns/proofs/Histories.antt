@@ -5,15 +5,12 @@ use Rattle.std.specs.List.{flat_map}
 use Rattle.std.specs.Option.{option_map}
 use Rattle.std.proofs.lemmas.List.{length-map}
 use Rattle.std.proofs.lemmas.Option.{slice_get-map, slice_get_within}
-use Rattle.net_model.specs.Site.{Site, count_up}
+use Rattle.net_model.specs.Site.{count_up}
 use Rattle.net_model.specs.World.{Network, World}
 use Rattle.net_model.specs.Step.{step, run}
 use Rattle.run_model.specs.Works.{Work, Done, actions_in, done_from, flat, plain_work}
-use Rattle.run_blocks.specs.declared.job.Job.{Job}
-use Rattle.run_blocks.specs.Jobs.{asked_in_order}
 use Rattle.law_records.proofs.Base.{split, slice_get-append_left, slice_get-append_right}
 use Rattle.law_blocks.proofs.Runs.{run_none, run_one}
-use Rattle.world_turns.specs.Turning.{all_asked}
 
 -- what comes of turns and of those after them
 pub done-append : (net : Network) (w : World) (xs ys : List Work) →
@@ -109,26 +106,25 @@ some_is h = cc
 
 -- so turns that are all that is asked for, node by node, are a history of each node
 
-pub record AreHistories (s : Site) (jobs : List Job) (works : List Work) : Type 0 where
+pub record AreHistories (n : ℕ) (asked_of : ℕ → List Work) (works : List Work) : Type 0 where
   pub histories : List (List Work)
   pub whole : flat histories ≡ works
-  pub nodes : length histories ≡ s.nodes
-  pub asked : (v : ℕ) (h : List Work) → slice_get histories v ≡ Some h → map plain_work h ≡ asked_in_order s v jobs
+  pub nodes : length histories ≡ n
+  pub asked : (v : ℕ) (h : List Work) → slice_get histories v ≡ Some h → map plain_work h ≡ asked_of v
 
-pub histories_of : (s : Site) (jobs : List Job) (works : List Work) → map plain_work works ≡ all_asked s jobs → AreHistories s jobs works
-histories_of s jobs works h =
-    let asked : ℕ → List Work = λ v. asked_in_order s v jobs in
-    let p : Pieces plain_work (map asked (count_up s.nodes)) works = pieces plain_work (map asked (count_up s.nodes)) works (h ∙ sym (flat_of asked (count_up s.nodes))) in
-    let long : length p.parts ≡ s.nodes =
-    sym (length-map p.parts (map plain_work)) ∙ ap (λ (xs : List (List Work)). length xs) p.are ∙ length-map (count_up s.nodes) asked ∙ length-count_up s.nodes in
+pub histories_of : (n : ℕ) (asked_of : ℕ → List Work) (works : List Work) → map plain_work works ≡ flat_map asked_of (count_up n) → AreHistories n asked_of works
+histories_of n asked_of works h =
+    let p : Pieces plain_work (map asked_of (count_up n)) works = pieces plain_work (map asked_of (count_up n)) works (h ∙ sym (flat_of asked_of (count_up n))) in
+    let long : length p.parts ≡ n =
+    sym (length-map p.parts (map plain_work)) ∙ ap (λ (xs : List (List Work)). length xs) p.are ∙ length-map (count_up n) asked_of ∙ length-count_up n in
     record {
       histories = p.parts;
       whole = p.whole;
       nodes = long;
       asked = λ v x at.
           let within = slice_get_within p.parts v x at in
-          let below : v < s.nodes = omega (arith, within, long) in
+          let below : v < n = omega (arith, within, long) in
           some_is
           (sym (slice_get-map (map plain_work) p.parts v ∙ ap (option_map (map plain_work)) at) ∙ ap (λ (xs : List (List Work)). slice_get xs v) p.are
-          ∙ slice_get-map asked (count_up s.nodes) v ∙ ap (option_map asked) (counted_at s.nodes v below));
+          ∙ slice_get-map asked_of (count_up n) v ∙ ap (option_map asked_of) (counted_at n v below));
     }

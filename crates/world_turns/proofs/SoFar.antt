@@ -1,17 +1,18 @@
 -- Turns that were taken so far, and those that are to come.
-use Rattle.std.proofs.Common.{◌≡◌, ℕ, ◌*◌, Bool, true, List, [], ◌∷◌, ◌++◌, length, map, take, drop, refl, sym, ap, subst, ◌∙◌, append_assoc, append-nil, Option, Some, None}
+use Rattle.std.proofs.Common.{◌≡◌, ℕ, ◌*◌, ◌≤◌, Bool, true, List, [], ◌∷◌, ◌++◌, length, map, take, drop, refl, sym, ap, subst, ◌∙◌, append_assoc, append-nil, Option, Some, None}
 use Rattle.std.specs.Prelude.{slice_get}
-use Rattle.std.specs.List.{AllByRecursion}
+use Rattle.std.specs.List.{flat_map, AllByRecursion}
 use Rattle.std.proofs.lemmas.Grind.{flat_map-append}
 use Rattle.std.proofs.lemmas.List.{map-append}
 use Rattle.disk_model.specs.declared.arm.Armings.{Armings}
 use Rattle.net_model.specs.OctetSequence.{OctetSequence}
-use Rattle.net_model.specs.Site.{Site}
+use Rattle.net_model.specs.Site.{Site, count_up}
 use Rattle.net_model.specs.World.{Network, World}
 use Rattle.net_model.specs.Premises.{IsNetwork}
 use Rattle.net_model.specs.Invariant.{Conserved}
 use Rattle.net_model.specs.Action.{Environment, Action, Ok, Outcome, Replies, is_shown, environment_of}
 use Rattle.net_model.specs.Step.{step, is_enabled, run, IsRun}
+use Rattle.net_model.specs.BlockOrder.{IsMerge}
 use Rattle.net_model.specs.Tick.{Emission}
 use Rattle.declared_site.specs.SiteOf.{site_of}
 use Rattle.run_acts.specs.Acting.{IsReady}
@@ -20,11 +21,12 @@ use Rattle.run_model.specs.Works.{Work, Done, actions_in, flat, plain_work, done
 use Rattle.run_blocks.specs.declared.job.Job.{Job}
 use Rattle.run_blocks.specs.declared.job.Job.TheVariants as jobs
 use Rattle.run_blocks.specs.declared.done_block.Turned.{Turned}
-use Rattle.run_blocks.specs.Jobs.{is_job}
+use Rattle.run_blocks.specs.Jobs.{is_job, asked_by, asked_in_order}
 use Rattle.run_blocks.specs.Together.{turned, turn_done}
 use Rattle.law_records.proofs.Base.{and_left}
 use Rattle.law_blocks.proofs.Runs.{one_more, nothing_runs, run_none, run_one, runs-append, run-append}
 use Rattle.law_emissions.specs.Putting.{wanted_by}
+use Rattle.law_works.proofs.Merging.{in_order_is_a_merge}
 use Rattle.world_state.specs.Stands.{Stands}
 use Rattle.world_state.specs.Tallied.{Tallied}
 use Rattle.world_state.specs.declared.state.State.{State}
@@ -92,11 +94,11 @@ module _ (net : Network) (w : World) (network : IsNetwork net) (c : Conserved ne
 
 module _ {K Q E X : Type 0} (is_honest : K → Bool) (moment : K → ℕ) (image : K → ℕ → List ℕ → Type 0) (left : E → Option OctetSequence) (told : Q → Option OctetSequence)
     (frames : X → Option (List (List ℕ))) (counted : X → ℕ) (disk_count : K → ℕ) (armed : K → Armings) (entropy_count : E → ℕ) (device_count : Q → ℕ) (wire_count : X → ℕ) where
-  -- from a quiet network on these turns were taken, with these replies and these leases, and those are to come
-  pub record SoFar (old now : State K Q E X) (net : Network) (w : World) (all : List Job) (rest : List Next) (done : List Turned) (leases : List ℕ) : Type 0 where
+  -- From a quiet network on these turns were taken, with these replies and these leases, and those are to come. Together they are taken in an order that is given.
+  pub record SoFar (old now : State K Q E X) (net : Network) (w : World) (all : List Job) (order : List Work) (rest : List Next) (done : List Turned) (leases : List ℕ) : Type 0 where
     pub works : List Work
     pub is : IsRun net w (actions_in works)
-    pub asked : map plain_work works ++ map (work_of all) rest ≡ all_asked net.site all
+    pub asked : map plain_work works ++ map (work_of all) rest ≡ order
     pub said : map turned done ≡ map turn_done (done_from net w works)
     pub stands : Stands is_honest moment image left told frames counted now net (run net w (actions_in works))
     pub tallied : Tallied disk_count armed entropy_count device_count wire_count old now net.site (actions_in works)
@@ -115,9 +117,9 @@ module _ {K Q E X : Type 0} (is_honest : K → Bool) (moment : K → ℕ) (image
   unfolding done_from
   none_said net w = refl
 
-  pub far_none : (s : State K Q E X) (net : Network) (w : World) (all : List Job) (rest : List Next) (leases : List ℕ) → Stands is_honest moment image left told frames counted s net w →
-      ((v : ℕ) → w.placings v ≡ []) → map (work_of all) rest ≡ all_asked net.site all → length leases ≡ 2 * net.site.links → AreDue net w all rest → SoFar s s net w all rest [] leases
-  far_none s net w all rest leases stands noted asked sides due =
+  pub far_none : (s : State K Q E X) (net : Network) (w : World) (all : List Job) (order : List Work) (rest : List Next) (leases : List ℕ) → Stands is_honest moment image left told frames counted s net w →
+      ((v : ℕ) → w.placings v ≡ []) → map (work_of all) rest ≡ order → length leases ≡ 2 * net.site.links → AreDue net w all rest → SoFar s s net w all order rest [] leases
+  far_none s net w all order rest leases stands noted asked sides due =
       let same : w ≡ run net w [] = sym (run_none net w) in
       record {
         works = [];
@@ -134,8 +136,8 @@ module _ {K Q E X : Type 0} (is_honest : K → Bool) (moment : K → ℕ) (image
 
   -- one more is taken
 
-  module _ (old mid : State K Q E X) (net : Network) (w : World) (all : List Job) (next : Next) (rest : List Next) (done : List Turned) (leases : List ℕ)
-      (so : SoFar old mid net w all (next ∷ rest) done leases) (new : State K Q E X) (reply : Turned) (now : List ℕ)
+  module _ (old mid : State K Q E X) (net : Network) (w : World) (all : List Job) (order : List Work) (next : Next) (rest : List Next) (done : List Turned) (leases : List ℕ)
+      (so : SoFar old mid net w all order (next ∷ rest) done leases) (new : State K Q E X) (reply : Turned) (now : List ℕ)
       (took : TookNext is_honest moment image left told frames counted disk_count armed entropy_count device_count wire_count mid new net (run net w (actions_in so.works)) all next reply leases now) where
     abbrev here : World
     here = run net w (actions_in so.works)
@@ -170,7 +172,7 @@ module _ {K Q E X : Type 0} (is_honest : K → Bool) (moment : K → ℕ) (image
     same_work : plain_work x ≡ work_of all next
     same_work i = record { place = next.place; action = (plain_asked job took.turn.environment ∙ sym (ap action_at took.there)) i }
 
-    asked_more : map plain_work works ++ map (work_of all) rest ≡ all_asked net.site all
+    asked_more : map plain_work works ++ map (work_of all) rest ≡ order
     asked_more =
         ap (λ (ys : List Work). ys ++ map (work_of all) rest) (map-append plain_work so.works (x ∷ []) ∙ ap (λ (y : Work). map plain_work so.works ++ y ∷ []) same_work)
         ∙ append_assoc (map plain_work so.works) (work_of all next ∷ []) (map (work_of all) rest) ∙ so.asked
@@ -200,7 +202,7 @@ module _ {K Q E X : Type 0} (is_honest : K → Bool) (moment : K → ℕ) (image
     leases_more =
         leased_more net here so.stands.running.network so.stands.running.conserved job took.turn.environment reply.reply enabled took.fit took.turn.said leases now so.sides next.place wants so.leased took.wrote
 
-    pub far_more : SoFar old new net w all rest (done ++ reply ∷ []) now
+    pub far_more : SoFar old new net w all order rest (done ++ reply ∷ []) now
     far_more = record {
       works = works;
       is = runs;
@@ -219,12 +221,11 @@ module _ {K Q E X : Type 0} (is_honest : K → Bool) (moment : K → ℕ) (image
 
   -- all were taken
 
-  module _ (old new : State K Q E X) (net : Network) (w : World) (all : List Job) (taken : Turns) (so : SoFar old new net w all [] taken.done.items taken.leases.items) where
-    asked_all : map plain_work so.works ≡ all_asked net.site all
-    asked_all = sym (append-nil (map plain_work so.works)) ∙ so.asked
-
-    h : AreHistories net.site all so.works
-    h = histories_of net.site all so.works asked_all
+  module _ (old new : State K Q E X) (net : Network) (w : World) (all : List Job) (order : List Work) (taken : Turns) (so : SoFar old new net w all order [] taken.done.items taken.leases.items)
+      (workers : ℕ) where
+    -- but for the outside's answers they are those that were to come
+    pub far_asked : map plain_work so.works ≡ order
+    far_asked = sym (append-nil (map plain_work so.works)) ∙ so.asked
 
     record AreTaken (works : List Work) : Type 0 where
       turns : IsRun net w (actions_in works)
@@ -234,38 +235,51 @@ module _ {K Q E X : Type 0} (is_honest : K → Bool) (moment : K → ℕ) (image
       leased : AllByRecursion (LeasedAt net (run net w (actions_in works)) taken.leases.items) (wanted_by (done_from net w works))
       noted : (v : ℕ) → (run net w (actions_in works)).placings v ≡ []
 
-    are_taken : AreTaken (flat h.histories)
-    are_taken =
-        subst AreTaken (sym h.whole) (record { turns = so.is; said = so.said; stands = so.stands; tallied = so.tallied; leased = so.leased; noted = so.noted })
+    are_taken : AreTaken so.works
+    are_taken = record { turns = so.is; said = so.said; stands = so.stands; tallied = so.tallied; leased = so.leased; noted = so.noted }
 
-    pub far_all : TookTurns is_honest moment image left told frames counted disk_count armed entropy_count device_count wire_count old new net w all taken
-    far_all =
-        let t = are_taken in
+    abbrev Took : Type 0
+    Took = TookTurns is_honest moment image left told frames counted disk_count armed entropy_count device_count wire_count old new net w workers all taken
+
+    -- what the workers ask of a node's manager, merged
+    abbrev IsMerged : ℕ → List Work → Type 0
+    IsMerged v works = IsMerge (map (λ k. asked_by net.site workers k v 0 all) (count_up workers)) works
+
+    pub far_all : (histories : List (List Work)) → flat histories ≡ so.works → length histories ≡ net.site.nodes →
+        ((v : ℕ) (h : List Work) → slice_get histories v ≡ Some h → IsMerged v (map plain_work h)) → Took
+    far_all histories whole nodes merged =
+        let t : AreTaken (flat histories) = subst AreTaken (sym whole) are_taken in
         record {
-          histories = h.histories;
-          nodes = h.nodes;
-          asked = h.asked;
+          histories = histories;
+          nodes = nodes;
+          merged = merged;
           turns = t.turns;
           said = t.said;
           stands = t.stands;
           tallied = t.tallied;
-          leased = all_leases net (run net w (actions_in (flat h.histories))) taken.leases.items (wanted_by (done_from net w (flat h.histories))) t.leased;
+          leased = all_leases net (run net w (actions_in (flat histories))) taken.leases.items (wanted_by (done_from net w (flat histories))) t.leased;
           noted = t.noted;
         }
 
+    -- taken node by node
+    pub far_merged : (asked_of : ℕ → List Work) → order ≡ flat_map asked_of (count_up net.site.nodes) → ((v : ℕ) → IsMerged v (asked_of v)) → Took
+    far_merged asked_of by_node merged =
+        let h : AreHistories net.site.nodes asked_of so.works = histories_of net.site.nodes asked_of so.works (far_asked ∙ by_node) in
+        far_all h.histories h.whole h.nodes (λ v x at. subst (IsMerged v) (sym (h.asked v x at)) (merged v))
+
   -- ---- as the loop has them
 
-  pub far_init : (s : State K Q E X) (net : Network) (w : World) (all : List Job) (order : List Next) (done : List Turned) (leases : List ℕ) →
-      IsReady (Stands is_honest moment image left told frames counted) s net w → map (work_of all) order ≡ all_asked (site_of s.site) all → length leases ≡ length s.lanes.items → AreDue net w all order → done ≡ [] →
-      SoFar s s net w all order done leases
-  far_init s net w all order done leases ready asked sides due none =
-      subst (λ (ds : List Turned). SoFar s s net w all order ds leases) (sym none)
-      (far_none s net w all order leases ready.stands ready.quiet.noted (asked ∙ ap (λ (x : Site). all_asked x all) (sym ready.stands.sited)) (sides ∙ ready.stands.sides) due)
+  pub far_init : (s : State K Q E X) (net : Network) (w : World) (all : List Job) (nexts : List Next) (done : List Turned) (leases : List ℕ) →
+      IsReady (Stands is_honest moment image left told frames counted) s net w → map (work_of all) nexts ≡ all_asked (site_of s.site) all → length leases ≡ length s.lanes.items → AreDue net w all nexts → done ≡ [] →
+      SoFar s s net w all (all_asked net.site all) nexts done leases
+  far_init s net w all nexts done leases ready asked sides due none =
+      subst (λ (ds : List Turned). SoFar s s net w all (all_asked net.site all) nexts ds leases) (sym none)
+      (far_none s net w all (all_asked net.site all) nexts leases ready.stands ready.quiet.noted (asked ∙ ap (λ (x : Site). all_asked x all) (sym ready.stands.sited)) (sides ∙ ready.stands.sides) due)
 
-  module _ (old mid : State K Q E X) (net : Network) (w : World) (all : List Job) (order : List Next) (done : List Turned) (leases : List ℕ) (so : SoFar old mid net w all order done leases)
-      (next : Next) (rest : List Next) (same : order ≡ next ∷ rest) where
-    ahead : SoFar old mid net w all (next ∷ rest) done leases
-    ahead = subst (λ (ns : List Next). SoFar old mid net w all ns done leases) same so
+  module _ (old mid : State K Q E X) (net : Network) (w : World) (all : List Job) (order : List Work) (nexts : List Next) (done : List Turned) (leases : List ℕ)
+      (so : SoFar old mid net w all order nexts done leases) (next : Next) (rest : List Next) (same : nexts ≡ next ∷ rest) where
+    ahead : SoFar old mid net w all order (next ∷ rest) done leases
+    ahead = subst (λ (ns : List Next). SoFar old mid net w all order ns done leases) same so
 
     pub far_due : (n : Network) × (u : World) × Stands is_honest moment image left told frames counted mid n u × IsDue n u all next
     far_due = (net, run net w (actions_in ahead.works), ahead.stands, ahead.due.0)
@@ -273,18 +287,22 @@ module _ {K Q E X : Type 0} (is_honest : K → Bool) (moment : K → ℕ) (image
     pub far_step : (new : State K Q E X) (reply : Turned) (given now : List ℕ) (n : ℕ) (done' : List Turned) → given ≡ leases → n ≡ length leases →
         ((n : Network) (u : World) → Stands is_honest moment image left told frames counted mid n u → IsDue n u all next →
         TookNext is_honest moment image left told frames counted disk_count armed entropy_count device_count wire_count mid new n u all next reply given now) →
-        done' ≡ done ++ reply ∷ [] → SoFar old new net w all rest done' (take n (now ++ drop (length now) leases))
+        done' ≡ done ++ reply ∷ [] → SoFar old new net w all order rest done' (take n (now ++ drop (length now) leases))
     far_step new reply given now n done' gives size took more =
         let here = run net w (actions_in ahead.works) in
         let k : TookNext is_honest moment image left told frames counted disk_count armed entropy_count device_count wire_count mid new net here all next reply leases now =
         subst (λ (ls : List ℕ). TookNext is_honest moment image left told frames counted disk_count armed entropy_count device_count wire_count mid new net here all next reply ls now) gives
         (took net here ahead.stands ahead.due.0) in
-        let far = far_more old mid net w all next rest done leases ahead new reply now k in
+        let far = far_more old mid net w all order next rest done leases ahead new reply now k in
         let long : length now ≡ n = far.sides ∙ sym so.sides ∙ sym size in
-        subst (λ (ds : List Turned). SoFar old new net w all rest ds (take n (now ++ drop (length now) leases))) (sym more)
-        (subst (SoFar old new net w all rest (done ++ reply ∷ [])) (sym (written_back n now leases long)) far)
+        subst (λ (ds : List Turned). SoFar old new net w all order rest ds (take n (now ++ drop (length now) leases))) (sym more)
+        (subst (SoFar old new net w all order rest (done ++ reply ∷ [])) (sym (written_back n now leases long)) far)
 
-  pub far_done : (old new : State K Q E X) (net : Network) (w : World) (all : List Job) (order : List Next) (taken : Turns) → SoFar old new net w all order taken.done.items taken.leases.items → length order ≡ 0 →
-      TookTurns is_honest moment image left told frames counted disk_count armed entropy_count device_count wire_count old new net w all taken
-  far_done old new net w all order taken so none =
-      far_all old new net w all taken (subst (λ (ns : List Next). SoFar old new net w all ns taken.done.items taken.leases.items) (no_more order none) so)
+  -- in order of place they are what any number of workers may ask
+  pub far_done : (old new : State K Q E X) (net : Network) (w : World) (workers : ℕ) (all : List Job) (nexts : List Next) (taken : Turns) → 1 ≤ workers →
+      SoFar old new net w all (all_asked net.site all) nexts taken.done.items taken.leases.items → length nexts ≡ 0 →
+      TookTurns is_honest moment image left told frames counted disk_count armed entropy_count device_count wire_count old new net w workers all taken
+  far_done old new net w workers all nexts taken some so none =
+      far_merged old new net w all (all_asked net.site all) taken
+      (subst (λ (ns : List Next). SoFar old new net w all (all_asked net.site all) ns taken.done.items taken.leases.items) (no_more nexts none) so) workers
+      (λ v. asked_in_order net.site v all) refl (λ v. in_order_is_a_merge net.site workers v all some)

@@ -4,15 +4,17 @@ use Rattle.std.specs.List.{AllByRecursion}
 use Rattle.disk_model.specs.declared.arm.Armings.{Armings}
 use Rattle.net_model.specs.declared.reply.Reply.{Reply}
 use Rattle.net_model.specs.OctetSequence.{OctetSequence}
+use Rattle.net_model.specs.Site.{count_up}
 use Rattle.net_model.specs.World.{Network, World}
 use Rattle.net_model.specs.Action.{Environment, Replies}
 use Rattle.net_model.specs.Step.{step, run, IsStep, IsRun}
+use Rattle.net_model.specs.BlockOrder.{IsMerge}
 use Rattle.net_model.specs.Tick.{Emission}
 use Rattle.run_model.specs.Works.{Work, actions_in, flat, plain_work, done_from}
 use Rattle.law_emissions.specs.Putting.{wanted_by}
 use Rattle.run_blocks.specs.declared.job.Job.{Job}
 use Rattle.run_blocks.specs.declared.done_block.Turned.{Turned}
-use Rattle.run_blocks.specs.Jobs.{is_job, asked_in_order}
+use Rattle.run_blocks.specs.Jobs.{is_job, asked_by}
 use Rattle.run_blocks.specs.Together.{turned, turn_done}
 use Rattle.world_state.specs.Stands.{Stands}
 use Rattle.world_state.specs.Tallied.{Tallied}
@@ -54,15 +56,15 @@ pub record TookNext {K Q E X : Type 0} (is_honest : K → Bool) (moment : K → 
   pub place : done.place ≡ next.place
   pub wrote : WroteFor net (step net w (asked_with job turn.environment)).0 (planner job done.reply) before now
 
--- All turns that the jobs ask for: each manager's history, in order of place; the replies; and of each new order that the plans want put the
--- end below which bytes of its lane may be claimed.
+-- All turns that so many workers ask for: each manager's history, which is a merge of what they ask of it; the replies; and of each new order
+-- that the plans want put the end below which bytes of its lane may be claimed.
 pub record TookTurns {K Q E X : Type 0} (is_honest : K → Bool) (moment : K → ℕ) (image : K → ℕ → List ℕ → Type 0) (left : E → Option OctetSequence)
     (told : Q → Option OctetSequence) (frames : X → Option (List (List ℕ))) (counted : X → ℕ)
     (disk_count : K → ℕ) (armed : K → Armings) (entropy_count : E → ℕ) (device_count : Q → ℕ) (wire_count : X → ℕ)
-    (old new : State K Q E X) (net : Network) (w : World) (all : List Job) (taken : Turns) : Type 0 where
+    (old new : State K Q E X) (net : Network) (w : World) (workers : ℕ) (all : List Job) (taken : Turns) : Type 0 where
   pub histories : List (List Work)
   pub nodes : length histories ≡ net.site.nodes
-  pub asked : (v : ℕ) (h : List Work) → slice_get histories v ≡ Some h → map plain_work h ≡ asked_in_order net.site v all
+  pub merged : (v : ℕ) (h : List Work) → slice_get histories v ≡ Some h → IsMerge (map (λ k. asked_by net.site workers k v 0 all) (count_up workers)) (map plain_work h)
   pub turns : IsRun net w (actions_in (flat histories))
   pub said : map turned taken.done.items ≡ map turn_done (done_from net w (flat histories))
   pub stands : Stands is_honest moment image left told frames counted new net (run net w (actions_in (flat histories)))

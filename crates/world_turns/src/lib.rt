@@ -8,5 +8,6 @@ mod taking;
 mod turn;
 mod turns;
 
+pub use next::Next;
 pub use taking::take_turns;
 pub use turns::Turns;

@@ -1,5 +1,5 @@
 // The managers take their turns.
-ghost use Rattle.std.specs.Prelude.{◌≡◌, true, IfOk, OnErr};
+ghost use Rattle.std.specs.Prelude.{◌≡◌, ◌≤◌, ℕ, true, IfOk, OnErr};
 ghost use Rattle.std.specs.List.{list_all, All};
 ghost use Rattle.declared_site.specs.SiteOf.{site_of};
 ghost use Rattle.net_model.specs.World.{Network, World};
@@ -50,8 +50,8 @@ fn take<K: Disk + Drop, Q: Device + Drop, E: Entropy + Drop, X: Wire + Drop>(
     }
 }
 
-/// The managers take the turns that a block's jobs ask for, in order of node and of place. An `Err` is want of memory, and leaves
-/// the state as it was: nobody was asked.
+/// The managers take the turns that a block's jobs ask for, in order of node and of place, which is what any number of workers may
+/// ask. An `Err` is want of memory, and leaves the state as it was: nobody was asked.
 pub fn take_turns<K: Disk + Drop, Q: Device + Drop, E: Entropy + Drop, X: Wire + Drop>(
     alloc: Global,
     state: &mut State<K, Q, E, X>,
@@ -62,8 +62,8 @@ pub fn take_turns<K: Disk + Drop, Q: Device + Drop, E: Entropy + Drop, X: Wire +
     requires ready { (net : Network) × (w : World) × IsReady (Stands K.is_honest K.moment K.image E.left Q.told X.frames X.counted) state.old net w }
     ensures site { state.new.site ≡ state.old.site }
     ensures armed { most_armed K.armings state.new.posts.items ≡ most_armed K.armings state.old.posts.items }
-    ensures done { IfOk result (λ turns. (net : Network) (w : World) → IsReady (Stands K.is_honest K.moment K.image E.left Q.told X.frames X.counted) state.old net w
-        → TookTurns K.is_honest K.moment K.image E.left Q.told X.frames X.counted K.faults K.armings E.faults Q.faults X.faults state.old state.new net w jobs.now turns) }
+    ensures done { IfOk result (λ turns. (net : Network) (w : World) (workers : ℕ) → 1 ≤ workers → IsReady (Stands K.is_honest K.moment K.image E.left Q.told X.frames X.counted) state.old net w
+        → TookTurns K.is_honest K.moment K.image E.left Q.told X.frames X.counted K.faults K.armings E.faults Q.faults X.faults state.old state.new net w workers jobs.now turns) }
     ensures left { OnErr result (state.new ≡ state.old) }
 {
     let mut order = in_order(alloc, state, jobs)?;

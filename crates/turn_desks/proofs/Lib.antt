@@ -1,0 +1,4 @@
+pub mod Going
+pub mod State
+pub mod Takes
+pub mod Writing
