@@ -17,7 +17,7 @@ use Rattle.run_model.specs.Course.{Run, tasks_of}
 use Rattle.run_model.specs.Headline as headline
 use Rattle.run_acts.specs.Acting.{IsReady}
 use Rattle.run_lines.specs.Running.{StopsAs}
-use Rattle.run_lines.specs.Tasks.{RanTasks}
+use Rattle.run_tasks.specs.Tasks.{RanTasks}
 use Rattle.run_lines.specs.declared.stop.Stop.{Stop}
 use Rattle.run_lines.specs.declared.stop.Stop.TheVariants as stops
 use Rattle.law_courses.specs.Seen.{IsTold}
@@ -57,7 +57,7 @@ module _ {K Q E X S : Type 0} (is_honest : K → Bool) (content : K → List ℕ
   rests_in s net w (Ok done) h = comes_to_rest is_honest moment image left told frames counted net w (part s) h.stands
   rests_in s net w (Err stop) h = h
 
-  pub headlines : {T : Type 0} (old stayed new : Bench K Q E X) (begin end : S) (scenario : Scenario) (before after : Option (List ℕ)) (result : Result T Stop) →
+  pub headlines : {T : Type 0} (old stayed new : Bench K Q E X) (begin end : S) (scenario : Scenario) (workers : ℕ) (before after : Option (List ℕ)) (result : Result T Stop) →
       ((layers : Layers) (sources : Sources) (scenario : Scenario) (workers : ℕ) (stop : headline.Stop) (seen : Seen) (old new : Bench K Q E X) (before after : Option (List ℕ)) (done : List Performed) →
       IsOver is_honest content moment image left told frames counted disk_count armed entropy_count device_count wire_count old new layers sources scenario done seen →
       IsRunOf layers.http (network_on told left old scenario.site) workers first (tasks_of scenario) done →
@@ -65,13 +65,13 @@ module _ {K Q E X S : Type 0} (is_honest : K → Bool) (content : K → List ℕ
       HeadlineOver told left old (Run workers) stop layers sources scenario seen before after) →
       IsNew is_honest moment image left told frames old → IsDeclared scenario.site → IsLaidOut old stayed scenario.site (part begin) →
       ((http : HttpTexts) → IsTextsOf scenario.site.nodes scenario.site.entitlements http →
-      RanTasks Standing Resting Told scenario.site.nodes begin end before after http (network_on told left old scenario.site) first (tasks_of scenario) result) →
+      RanTasks Standing Resting Told scenario.site.nodes begin end before after http (network_on told left old scenario.site) workers first (tasks_of scenario) result) →
       IsPutBack is_honest content moment image (part end) stayed new →
-      HasHeadlines is_honest content moment image left told frames counted disk_count armed entropy_count device_count wire_count old new (Run 1) scenario before after (ended result)
-  headlines old stayed new begin end scenario before after result law fresh declared laid ran back = λ layers sources seen sealing speaks reads devices entropies shows.
+      HasHeadlines is_honest content moment image left told frames counted disk_count armed entropy_count device_count wire_count old new (Run workers) scenario before after (ended result)
+  headlines old stayed new begin end scenario workers before after result law fresh declared laid ran back = λ layers sources seen sealing speaks reads devices entropies shows.
       let net = network_on told left old scenario.site in
       let r = ran layers.http speaks in
-      law layers sources scenario 1 (ended result) seen old new before after r.done
+      law layers sources scenario workers (ended result) seen old new before after r.done
       record {
         fresh = fresh;
         declared = declared;

@@ -3,6 +3,6 @@
 
 mod running;
 
-pub use run_lines::{Stop, has_block};
+pub use run_lines::Stop;
 pub use running::run_scenario;
 pub use world_bench::Bench;

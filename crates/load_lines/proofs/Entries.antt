@@ -1,11 +1,43 @@
 -- Entries of a load.
-use Rattle.std.proofs.Common.{◌≡◌, true, false, List, [], ◌∷◌, refl}
-use Rattle.std.specs.List.{list_all}
+use Rattle.std.proofs.Common.{◌≡◌, true, false, List, [], ◌∷◌, refl, subst}
+use Rattle.std.specs.List.{All, AllByRecursion, list_all}
+use Rattle.std.proofs.lemmas.List.Elements.{All-head, All-tail}
+use Rattle.declared_site.specs.declared.site.Site.{Site as Declared}
+use Rattle.declared_site.specs.SiteOf.{site_of}
+use Rattle.net_model.specs.Site.{Site}
+use Rattle.net_model.specs.World.{Network, World}
+use Rattle.scenario_lines.specs.declared.line.Line.{Line}
 use Rattle.scenario_lines.specs.declared.entry.Entry.{Entry}
 use Rattle.scenario_lines.specs.declared.entry.Entry.TheVariants as entries
-use Rattle.run_lines.specs.Tasks.{has_block}
+use Rattle.run_model.specs.Turn.{HttpTexts}
+use Rattle.run_model.specs.Lines.{script_of}
+use Rattle.run_model.specs.Report.{Does}
+use Rattle.run_acts.specs.Runnable.{IsEntryFor}
+use Rattle.run_tasks.proofs.Tasking.{IsTask, line_is}
 use Rattle.law_records.proofs.Base.{and_left, and_right}
 use Rattle.law_loads.specs.Kinds.{is_of_load, is_load_entry}
+use Rattle.load_lines.specs.Entries.{has_block, IsLineFor}
+
+-- an entry that the site has is a line, and asks for the line's script
+pub record IsLine (http : HttpTexts) (net : Network) (w : World) (site : Site) (entry : Entry) : Type 0 where
+  pub line : Line
+  pub is : entry ≡ entries.Line line
+  pub task : IsTask http net 1 w (Does entry) line.number (script_of http site line.command)
+
+pub entry_is : (http : HttpTexts) (net : Network) (w : World) (d : Declared) (entry : Entry) → net.site ≡ site_of d → IsLineFor d entry → IsLine http net w (site_of d) entry
+entry_is http net w d (entries.Line line) sited fit = record {
+  line = line;
+  is = refl;
+  task = subst (λ (s : Site). IsTask http net 1 w (Does (entries.Line line)) line.number (script_of http s line.command)) sited (line_is http net 1 w line);
+}
+entry_is http net w d (entries.Block lines) sited fit = absurd fit
+
+-- entries that fit a site, and of which none is a block, are lines that fit it
+pub all_lines : (d : Declared) (list : List Entry) → All (IsEntryFor d) list → has_block list ≡ false → AllByRecursion (IsLineFor d) list
+all_lines d [] fit none = tt
+all_lines d (entries.Line line ∷ list) fit none =
+    (All-head (IsEntryFor d) (entries.Line line) list fit, all_lines d list (All-tail (IsEntryFor d) (entries.Line line) list fit) none)
+all_lines d (entries.Block lines ∷ list) fit none = absurd cc
 
 -- none of them is a block
 pub no_block : (list : List Entry) → list_all is_load_entry list ≡ true → has_block list ≡ false

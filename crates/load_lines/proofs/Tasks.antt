@@ -22,7 +22,7 @@ use Rattle.run_lines.specs.Reporting.{Wrote}
 use Rattle.run_lines.specs.Running.{StopsAs}
 use Rattle.run_lines.proofs.Taking.{took_on, first_none, first_within, first_after}
 use Rattle.run_lines.proofs.Going.{Ways, stops_as}
-use Rattle.run_lines.proofs.Tasking.{IsTask}
+use Rattle.run_tasks.proofs.Tasking.{IsTask}
 use Rattle.law_blocks.proofs.Runs.{run_none, run-append}
 use Rattle.law_headline.proofs.Plays.{play_is_run}
 use Rattle.law_loads.specs.Ledgers.{ledgers_of}
@@ -159,7 +159,7 @@ module _ {S : Type 0} (Stands Rests : S → Network → World → Type 0) (Talli
         keys = subst (λ (zs : List Action). AreHanded net w zs z) (sym (acts_on net p.done q.done)) (both_handed net w xs ys x y z p.keys later masters slaves);
       }
 
-  pub went_one : (a b : S) (r t : Option (List ℕ)) (w : World) (task : Task) (tasks : List Task) (number : ℕ) (script : Script) (handed : Handed) → IsTask http net w task number script →
+  pub went_one : (a b : S) (r t : Option (List ℕ)) (w : World) (task : Task) (tasks : List Task) (number : ℕ) (script : Script) (handed : Handed) → IsTask http net 1 w task number script →
       (f : Finishes Stands Tallied nodes a b r t number net w script handed) → Went Stands Tallied nodes a b r t http net w (task ∷ tasks) f.plays.after tasks handed
   went_one a b r t w task tasks number script handed is f =
       let actions = f.plays.actions in
@@ -181,7 +181,7 @@ module _ {S : Type 0} (Stands Rests : S → Network → World → Type 0) (Talli
 
   -- ---- where it stops
 
-  pub one_stopped : (a b : S) (r t : Option (List ℕ)) (w : World) (task : Task) (tasks : List Task) (number : ℕ) (script : Script) (stop : Stop) → IsTask http net w task number script →
+  pub one_stopped : (a b : S) (r t : Option (List ℕ)) (w : World) (task : Task) (tasks : List Task) (number : ℕ) (script : Script) (stop : Stop) → IsTask http net 1 w task number script →
       Stops Rests Tallied nodes a b r t number net w script stop → Stopped Rests Tallied nodes a b r t http net w (task ∷ tasks) stop
   one_stopped a b r t w task tasks number script stop is s =
       let d = Acts s.actions in

@@ -36,5 +36,6 @@ pub use laws::{
     law_names_are_taken_once,
 };
 pub use report_items;
+pub use rows::is_on_link;
 pub use scenario_lines;
 pub use verdict::Verdict;

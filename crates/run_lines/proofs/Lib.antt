@@ -8,7 +8,6 @@ pub mod Turns
 pub mod Passing
 pub mod Settles
 pub mod Turning
-pub mod Tasking
 pub mod Calm
 pub mod AllLanes
 pub mod Wires

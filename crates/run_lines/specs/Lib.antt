@@ -4,4 +4,3 @@ pub mod Running
 pub mod Counting
 pub mod Answering
 pub mod Commands
-pub mod Tasks

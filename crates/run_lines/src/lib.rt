@@ -4,7 +4,6 @@
 mod asking;
 mod blocks;
 mod commands;
-mod entries;
 mod forging;
 mod frames;
 mod http_lines;
@@ -19,7 +18,6 @@ mod stop;
 pub use asking::{ask, ledger, tick};
 pub use blocks::bits;
 pub use commands::command;
-pub use entries::{has_block, run_entries};
 pub use forging::forge;
 pub use frames::{flip, pass};
 pub use http_lines::http;

@@ -2,6 +2,10 @@
 #![tactic(auto)]
 
 #[cfg(test)]
+mod frame_lines;
+#[cfg(test)]
+mod lines;
+#[cfg(test)]
 mod load;
 #[cfg(test)]
 mod reports;

@@ -6,7 +6,7 @@ use Rattle.declared_site.specs.SiteOf.{site_of}
 use Rattle.declared_site.specs.declared.site.Site.{Site}
 use Rattle.run_acts.specs.Acting.{IsReady}
 use Rattle.run_acts.specs.Runnable.{IsEntryFor}
-use Rattle.run_lines.specs.Tasks.{RanTasks}
+use Rattle.run_tasks.specs.Tasks.{RanTasks}
 use Rattle.run_model.specs.Report.{tasks}
 use Rattle.world_state.specs.Armed.{most_armed}
 use Rattle.site_requests.specs.Speaking.{IsTextsOf}
@@ -79,7 +79,7 @@ returns-clause-headline g c =
     inr (headlines g.K.Disk.is_honest g.K.Disk.content g.K.Disk.moment g.K.Disk.image g.E.Entropy.left g.Q.Device.told g.X.Wire.frames g.X.Wire.counted
     g.K.Disk.faults g.K.Disk.armings g.E.Entropy.faults g.Q.Device.faults g.X.Wire.faults
     (λ (r : Running-here). r.state)
-    c.args.bench.now c.lay_out.new.bench c.put_back.new.bench c.new-running.result c.run_entries-result.new.net c.args.scenario
+    c.args.bench.now c.lay_out.new.bench c.put_back.new.bench c.new-running.result c.run_entries-result.new.net c.args.scenario c.args.workers
     (g.W.Sink.taken c.args.sink.now) (g.W.Sink.taken c.run_entries-result.new.sink) c.run_entries-result.result c.law_bench_headline.ensures.run
     c.requires.fresh c.requires.runnable.site
     (subst (λ (x : State-here). IsLaidOut c.args.bench.now c.lay_out.new.bench c.args.scenario.site x) (sym c.new-running.ensures) laid)
@@ -88,13 +88,13 @@ returns-clause-headline g c =
     (λ (r : Running-here). Rests g.K.Disk.is_honest g.K.Disk.moment g.K.Disk.image g.E.Entropy.left g.Q.Device.told g.X.Wire.frames g.X.Wire.counted r.state)
     (λ (a b : Running-here). Tallied g.K.Disk.faults g.K.Disk.armings g.E.Entropy.faults g.Q.Device.faults g.X.Wire.faults a.state b.state)
     c.args.scenario.site.nodes c.new-running.result c.run_entries-result.new.net (g.W.Sink.taken c.args.sink.now) (g.W.Sink.taken c.run_entries-result.new.sink)
-    http net first (tasks numbers c.args.scenario.entries) c.run_entries-result.result)
+    http net c.args.workers first (tasks numbers c.args.scenario.entries) c.run_entries-result.result)
     c.as_slice.ensures
     (subst (λ (d : Site). RanTasks (λ (r : Running-here). Stands g.K.Disk.is_honest g.K.Disk.moment g.K.Disk.image g.E.Entropy.left g.Q.Device.told g.X.Wire.frames g.X.Wire.counted r.state)
     (λ (r : Running-here). Rests g.K.Disk.is_honest g.K.Disk.moment g.K.Disk.image g.E.Entropy.left g.Q.Device.told g.X.Wire.frames g.X.Wire.counted r.state)
     (λ (a b : Running-here). Tallied g.K.Disk.faults g.K.Disk.armings g.E.Entropy.faults g.Q.Device.faults g.X.Wire.faults a.state b.state)
     d.nodes c.new-running.result c.run_entries-result.new.net (g.W.Sink.taken c.args.sink.now) (g.W.Sink.taken c.run_entries-result.new.sink)
-    http net first (tasks c.as_slice.result.now c.args.scenario.entries) c.run_entries-result.result)
+    http net c.args.workers first (tasks c.as_slice.result.now c.args.scenario.entries) c.run_entries-result.result)
     sited
     (c.run_entries-result.ensures.ran http net first
     (subst (λ ns. IsTextsOf ns c.in-Ok.requests.api.entitlements http) (sym c.in-Ok.ensures.nodes)

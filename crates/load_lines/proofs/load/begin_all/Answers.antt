@@ -3,7 +3,7 @@ use Rattle.std.proofs.lemmas.Grind.{common_steps}
 use Rattle.run_model.specs.Report.{Task}
 use Rattle.run_lines.specs.Commands.{any_texts}
 use Rattle.run_lines.proofs.Going.{Ways}
-use Rattle.run_lines.proofs.Tasking.{begins_is, one_begins, none_begins}
+use Rattle.run_tasks.proofs.Tasking.{begins_is, one_begins, none_begins}
 use Rattle.load_lines.specs.Counting.{no_keys}
 use Rattle.load_lines.proofs.Hearing.{begins_silent, silent_finishes, silent_stops}
 use Rattle.load_lines.proofs.Tasks.{went_none, went_on, went_one, went_as, went_stop, one_stopped}
@@ -33,7 +33,7 @@ returns-in-Err-clause-ran g c = λ http n w last taken ready.
     let runs = c.in-Err.ensures.runs in
     let runs_here = rw (c.loop-place.invariant.site, node) at runs in
     went_stop _ _ _ ways _ http n _ _ _ taken taken taken w at.0 _ _ _ no_keys here
-    (one_stopped _ _ _ ways _ http n _ _ taken taken at.0 _ _ _ _ _ (begins_is http n at.0 _ c.loop-place.place)
+    (one_stopped _ _ _ ways _ http n _ _ taken taken at.0 _ _ _ _ _ (begins_is http n 1 at.0 _ c.loop-place.place)
     (silent_stops g.S.Acts.stands g.S.Acts.rests g.S.Acts.tallied _ _ _ _ n at.0 taken None None _ _ (begins_silent n at.0 c.loop-place.place) (runs_here n at.0 at.1.ready)))
 
 pub loop-place-preserved : goal.loop-place-preserved
@@ -52,7 +52,7 @@ loop-place-preserved g c =
           let silent = silent_finishes g.S.Acts.stands g.S.Acts.rests g.S.Acts.tallied _ _ _ _ n at.0 taken None None _ (begins_silent n at.0 c.loop-place.place) f in (
             silent.plays.after,
             went_on _ _ _ ways _ http n _ _ _ taken taken taken w at.0 silent.plays.after _ _ _ no_keys no_keys no_keys refl refl here
-                (went_one _ _ _ ways _ http n _ _ taken taken at.0 _ _ _ _ no_keys (begins_is http n at.0 _ c.loop-place.place) silent),
+                (went_one _ _ _ ways _ http n _ _ taken taken at.0 _ _ _ _ no_keys (begins_is http n 1 at.0 _ c.loop-place.place) silent),
           );
     }
 

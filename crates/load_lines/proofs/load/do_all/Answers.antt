@@ -4,12 +4,12 @@ use Rattle.std.specs.Vec.Iter.{into_iter_items}
 use Rattle.declared_site.specs.SiteOf.{site_of}
 use Rattle.scenario_lines.specs.declared.entry.Entry.{Entry}
 use Rattle.run_model.specs.Report.{Does}
-use Rattle.run_lines.specs.Tasks.{IsLineFor}
 use Rattle.run_lines.proofs.Going.{Ways}
-use Rattle.run_lines.proofs.Tasking.{entry_is, is_none}
+use Rattle.run_tasks.proofs.Tasking.{is_none}
 use Rattle.law_loads.specs.Kinds.{is_load_entry}
 use Rattle.load_lines.specs.declared.handed.Handed.{Handed}
-use Rattle.load_lines.proofs.Entries.{first_load, more_load}
+use Rattle.load_lines.specs.Entries.{IsLineFor}
+use Rattle.load_lines.proofs.Entries.{entry_is, first_load, more_load}
 use Rattle.load_lines.proofs.Tasks.{went_none, went_on, went_one, went_as, went_stop, went_short, one_stopped}
 use Rattle.load_lines.proofs.load.do_all.Goals as goal
 

@@ -6,8 +6,8 @@ use Rattle.run_model.specs.Turn.{HttpTexts}
 use Rattle.run_model.specs.Report.{Does}
 use Rattle.run_acts.specs.Acting.{IsReady}
 use Rattle.run_lines.specs.Running.{IsReadySomewhere}
-use Rattle.run_lines.specs.Tasks.{IsLineFor}
 use Rattle.law_loads.specs.Kinds.{is_load_entry}
+use Rattle.load_lines.specs.Entries.{IsLineFor}
 use Rattle.load_lines.specs.Leading.{Went}
 use Rattle.load_lines.proofs.load.do_all.Given as goal
 

@@ -3,9 +3,8 @@ use Rattle.std.specs.Prelude.{None}
 use Rattle.run_model.specs.Report.{Does}
 use Rattle.run_lines.specs.Commands.{any_texts}
 use Rattle.run_lines.proofs.Going.{Ways}
-use Rattle.run_lines.proofs.Tasking.{all_lines}
 use Rattle.load_lines.specs.Counting.{no_keys}
-use Rattle.load_lines.proofs.Entries.{no_block}
+use Rattle.load_lines.proofs.Entries.{all_lines, no_block}
 use Rattle.load_lines.proofs.Keys.{none_more}
 use Rattle.load_lines.proofs.Tasks.{went_on, went_stop, load_stopped, load_done}
 use Rattle.load_lines.proofs.load.run_load.Goals as goal
