@@ -1,0 +1,5 @@
+pub mod FirstLines
+pub mod Taking
+pub mod Distinct
+pub mod LongTexts
+pub mod Meant
