@@ -26,8 +26,18 @@ const WORDS: &[(&str, Status)] = &[
     ("run 1 ", Status::Usage(2)),
     ("run 1 2 3", Status::Usage(2)),
     ("run 1", Status::Done),
-    ("run 2", Status::Usage(1)),
-    ("run 32", Status::Usage(1)),
+    ("run 2", Status::Done),
+    ("run 32", Status::Done),
+    ("audit 1", Status::Usage(1)),
+    ("bound", Status::Usage(1)),
+    ("bound 0 02 0000000000000000", Status::Usage(1)),
+    ("bound 01", Status::Usage(2)),
+    ("bound 01 0g 0000000000000000", Status::Usage(2)),
+    ("bound 01 01 0000000000000000", Status::Usage(2)),
+    ("bound aF Af 0000000000000000", Status::Usage(2)),
+    ("bound 01 02", Status::Usage(3)),
+    ("bound 01 02 000000000000000", Status::Usage(3)),
+    ("bound 01 02 0000000000000000 1", Status::Usage(4)),
 ];
 
 #[test]

@@ -6,6 +6,8 @@ mod bench;
 #[cfg(test)]
 mod blocks;
 #[cfg(test)]
+mod bounds;
+#[cfg(test)]
 mod crashes;
 #[cfg(test)]
 mod cuts;

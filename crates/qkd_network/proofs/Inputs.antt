@@ -4,8 +4,7 @@ use Rattle.std.specs.Prelude.{◌⊎◌, Option, None, Some}
 use Rattle.std.proofs.lemmas.List.{take-append-le, append-nil}
 use Rattle.scenario_reader.specs.Line.{nothing_read}
 use Rattle.scenario_reader.specs.Text.{meaning_of, text_limit, parts_from, parts_of}
-use Rattle.qkd_network.specs.Blocks.{lines_before, line_of_block}
-use Rattle.qkd_network.specs.Inputs.{ReadsWhole, IsInput}
+use Rattle.source_answers.specs.Inputs.{ReadsWhole, IsInput}
 
 -- no more than one octet past the limit is looked at
 same_front : (bytes rest : List ℕ) → (rest ≡ []) ⊎ (text_limit < length bytes) → take (text_limit + 1) (bytes ++ rest) ≡ take (text_limit + 1) bytes
@@ -17,10 +16,9 @@ pub record Read (left : Option (List ℕ)) (bytes : List ℕ) : Type 0 where
   pub input : List ℕ
   pub input_is : IsInput left input
   pub means : meaning_of input ≡ meaning_of bytes
-  pub block : line_of_block input ≡ line_of_block bytes
 
 pub read_of : (left rest : Option (List ℕ)) (bytes : List ℕ) → ReadsWhole left rest bytes → Read left bytes
-read_of None rest bytes r = record { input = bytes; input_is = tt; means = refl; block = refl }
+read_of None rest bytes r = record { input = bytes; input_is = tt; means = refl }
 read_of (Some all) None bytes r = absurd r.0
 read_of (Some all) (Some rest) bytes r =
     let same = ap (take (text_limit + 1)) r.0 ∙ same_front bytes rest r.1 in
@@ -28,5 +26,4 @@ read_of (Some all) (Some rest) bytes r =
       input = all;
       input_is = refl;
       means = ap (λ (text : List ℕ). parts_from text_limit 1 nothing_read (parts_of text)) same;
-      block = ap (λ (text : List ℕ). lines_before (parts_of text) + 1) same;
     }

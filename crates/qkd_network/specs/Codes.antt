@@ -4,6 +4,8 @@ use Rattle.std.specs.Fmt.{decimal}
 use lib.Chars.{codes}
 use Rattle.run_lines.specs.declared.stop.Stop.{Stop}
 use Rattle.run_lines.specs.declared.stop.Stop.TheVariants as stops
+use Rattle.source_answers.specs.declared.ended.Ended.{Ended}
+use Rattle.source_answers.specs.declared.ended.Ended.TheVariants as ends
 use Rattle.qkd_network.specs.declared.status.Status.{Status}
 use Rattle.qkd_network.specs.declared.status.Status.TheVariants.{Done, Usage, BadLine, ReadFault, WriteFault, ForgedMatch, Memory}
 
@@ -31,3 +33,11 @@ status_of (Ok done) = Done
 status_of (Err stops.WriteFault) = WriteFault
 status_of (Err stops.Memory) = Memory
 status_of (Err (stops.Forged line)) = ForgedMatch line
+
+-- that of an answer
+abbrev pub answered_as : Ended → Status
+answered_as ends.Done = Done
+answered_as (ends.BadLine n) = BadLine n
+answered_as ends.ReadFault = ReadFault
+answered_as ends.WriteFault = WriteFault
+answered_as ends.Memory = Memory

@@ -1,68 +1,86 @@
 -- What the top call answers, and what it did.
-use Rattle.std.specs.Prelude.{◌≡◌, ◌⊎◌, ℕ, min, true, false, List, Option, Ok, Err}
+use Rattle.std.specs.Prelude.{◌≡◌, ◌⊎◌, ℕ, List, Option, Ok, Err}
 use Rattle.scenario_lines.specs.declared.scenario.Scenario.{Scenario}
 use Rattle.scenario_reader.specs.Text.{meaning_of}
-use Rattle.run_lines.specs.Tasks.{has_block}
 use Rattle.run_model.specs.Course.{Words, Run, Load}
 use Rattle.run_model.specs.Load.{load_scenario}
 use Rattle.run_model.specs.Headline as headline
-use Rattle.qkd_network.specs.Blocks.{line_of_block}
-use Rattle.qkd_network.specs.Forms.{asked_by}
-use Rattle.qkd_network.specs.Inputs.{WasRead, IsInput}
+use Rattle.word_forms.specs.Forms.{Runs, Bounds, Audits, asked_by}
+use Rattle.source_answers.specs.Inputs.{WasRead, IsInput}
+use Rattle.source_answers.specs.Answers.{Bounded, Audited}
+use Rattle.source_answers.specs.declared.ended.Ended.{Ended}
+use Rattle.qkd_network.specs.Codes.{answered_as}
 use Rattle.qkd_network.specs.declared.status.Status.{Status}
 use Rattle.qkd_network.specs.declared.status.Status.TheVariants.{Done, Usage, BadLine, ReadFault, WriteFault, ForgedMatch, Memory}
 
--- the words are a form
+-- they ask for a run
 abbrev pub IsForm : List (List ℕ) → Type 0
-IsForm words = (asked : Words) × (asked_by words ≡ Ok asked)
+IsForm words = (asked : Words) × (asked_by words ≡ Ok (Runs asked))
 
 -- they ask for a scenario to be run
 abbrev pub AsksRun : List (List ℕ) → Type 0
-AsksRun words = (workers : ℕ) × (asked_by words ≡ Ok (Run workers))
+AsksRun words = (workers : ℕ) × (asked_by words ≡ Ok (Runs (Run workers)))
 
--- The source was read whole, and what it had is a scenario without blocks. That was run as the words ask, ended so, and what `Runs` says holds of it.
-pub record HasRun (Runs : Words → Scenario → headline.Stop → Type 0) (words : List (List ℕ)) (left rest : Option (List ℕ)) (stop : headline.Stop) : Type 0 where
+-- The source was read whole, and what it had is a scenario. That was run as the words ask, ended so, and what `Ran` says holds of it.
+pub record HasRun (Ran : Words → Scenario → headline.Stop → Type 0) (words : List (List ℕ)) (left rest : Option (List ℕ)) (stop : headline.Stop) : Type 0 where
   pub workers : ℕ
-  pub form : asked_by words ≡ Ok (Run workers)
+  pub form : asked_by words ≡ Ok (Runs (Run workers))
   pub read : WasRead left rest
   pub input : List ℕ
   pub input_is : IsInput left input
   pub scenario : Scenario
   pub means : meaning_of input ≡ Ok scenario
-  pub lines : has_block scenario.entries ≡ false
-  pub runs : Runs (Run workers) scenario stop
+  pub runs : Ran (Run workers) scenario stop
 
--- the generated load was run, ended so, and what `Runs` says holds of it; the source was not touched
-pub record HasLoaded {S : Type 0} (Runs : Words → Scenario → headline.Stop → Type 0) (words : List (List ℕ)) (old new : S) (stop : headline.Stop) : Type 0 where
+-- the generated load was run, ended so, and what `Ran` says holds of it; the source was not touched
+pub record HasLoaded {S : Type 0} (Ran : Words → Scenario → headline.Stop → Type 0) (words : List (List ℕ)) (old new : S) (stop : headline.Stop) : Type 0 where
   pub rounds : ℕ
-  pub form : asked_by words ≡ Ok (Load rounds)
+  pub form : asked_by words ≡ Ok (Runs (Load rounds))
   pub source : new ≡ old
-  pub runs : Runs (Load rounds) (load_scenario rounds) stop
+  pub runs : Ran (Load rounds) (load_scenario rounds) stop
 
 -- the one or the other was done
 abbrev pub HasDone : {S : Type 0} → (S → Option (List ℕ)) → (Words → Scenario → headline.Stop → Type 0) → List (List ℕ) → (old new : S) → headline.Stop → Type 0
-HasDone left Runs words old new stop = HasRun Runs words (left old) (left new) stop ⊎ HasLoaded Runs words old new stop
+HasDone left Ran words old new stop = HasRun Ran words (left old) (left new) stop ⊎ HasLoaded Ran words old new stop
 
--- the first line that the grammar of scenarios refuses, or one before it that opens a block
-abbrev pub IsRefused : List ℕ → ℕ → Type 0
-IsRefused input n =
-    ((line : ℕ) × (meaning_of input ≡ Err line) × (n ≡ min line (line_of_block input))) ⊎
-    ((scenario : Scenario) × (meaning_of input ≡ Ok scenario) × (has_block scenario.entries ≡ true) × (n ≡ line_of_block input))
-
--- line n is the first of the source's that is refused
+-- line n is the first of the source's that the grammar of scenarios refuses
 pub record IsBadLine (left : Option (List ℕ)) (n : ℕ) : Type 0 where
   pub input : List ℕ
   pub input_is : IsInput left input
-  pub refused : IsRefused input n
+  pub refused : meaning_of input ≡ Err n
 
 -- By the status. Where nothing was run, sink and bench are as they were, and where the words are no form the source is too.
-abbrev pub Outcome : {S W B : Type 0} → (S → Option (List ℕ)) → (Words → Scenario → headline.Stop → Type 0) → Status → List (List ℕ) → (old new : S) → (before after : W) → (given back : B) → Type 0
-Outcome left Runs Done words old new before after given back = HasDone left Runs words old new headline.Done
-Outcome left Runs (Usage i) words old new before after given back = (asked_by words ≡ Err i) × (new ≡ old) × (after ≡ before) × (back ≡ given)
-Outcome left Runs (BadLine n) words old new before after given back =
+abbrev pub RunOutcome : {S W B : Type 0} → (S → Option (List ℕ)) → (Words → Scenario → headline.Stop → Type 0) → Status → List (List ℕ) → (old new : S) → (before after : W) → (given back : B) → Type 0
+RunOutcome left Ran Done words old new before after given back = HasDone left Ran words old new headline.Done
+RunOutcome left Ran (Usage i) words old new before after given back = (asked_by words ≡ Err i) × (new ≡ old) × (after ≡ before) × (back ≡ given)
+RunOutcome left Ran (BadLine n) words old new before after given back =
     AsksRun words × WasRead (left old) (left new) × IsBadLine (left old) n × (after ≡ before) × (back ≡ given)
-Outcome left Runs ReadFault words old new before after given back = AsksRun words × (after ≡ before) × (back ≡ given)
-Outcome left Runs WriteFault words old new before after given back = HasDone left Runs words old new headline.WriteFault
-Outcome left Runs (ForgedMatch n) words old new before after given back = HasDone left Runs words old new (headline.ForgedMatch n)
-Outcome left Runs Memory words old new before after given back =
-    (IsForm words × (after ≡ before) × (back ≡ given)) ⊎ HasDone left Runs words old new headline.Memory
+RunOutcome left Ran ReadFault words old new before after given back = AsksRun words × (after ≡ before) × (back ≡ given)
+RunOutcome left Ran WriteFault words old new before after given back = HasDone left Ran words old new headline.WriteFault
+RunOutcome left Ran (ForgedMatch n) words old new before after given back = HasDone left Ran words old new (headline.ForgedMatch n)
+RunOutcome left Ran Memory words old new before after given back =
+    (IsForm words × (after ≡ before) × (back ≡ given)) ⊎ HasDone left Ran words old new headline.Memory
+
+-- They ask how many keys give two texts a difference. That was answered from the source alone; sink and bench are as they were but for the answer.
+pub record HasAnswered {S W B : Type 0} (left : S → Option (List ℕ)) (taken : W → Option (List ℕ)) (status : Status) (words : List (List ℕ)) (old new : S) (before after : W) (given back : B) : Type 0 where
+  pub a : List ℕ
+  pub b : List ℕ
+  pub difference : ℕ
+  pub form : asked_by words ≡ Ok (Bounds a b difference)
+  pub ended : Ended
+  pub is : status ≡ answered_as ended
+  pub bounded : Bounded a b difference (left old) (left new) (taken before) (taken after) before after ended
+  pub bench : back ≡ given
+
+-- They ask for an audit. That was answered from the source alone; sink and bench are as they were but for the answer.
+pub record HasAudited {S W B : Type 0} (left : S → Option (List ℕ)) (taken : W → Option (List ℕ)) (status : Status) (words : List (List ℕ)) (old new : S) (before after : W) (given back : B) : Type 0 where
+  pub form : asked_by words ≡ Ok Audits
+  pub ended : Ended
+  pub is : status ≡ answered_as ended
+  pub audited : Audited (left old) (left new) (taken before) (taken after) before after ended
+  pub bench : back ≡ given
+
+-- one of these
+abbrev pub Outcome : {S W B : Type 0} → (S → Option (List ℕ)) → (W → Option (List ℕ)) → (Words → Scenario → headline.Stop → Type 0) → Status → List (List ℕ) → (old new : S) → (before after : W) → (given back : B) → Type 0
+Outcome left taken Ran status words old new before after given back =
+    RunOutcome left Ran status words old new before after given back ⊎ (HasAnswered left taken status words old new before after given back ⊎ HasAudited left taken status words old new before after given back)

@@ -9,29 +9,30 @@ ghost use Rattle.qkd_network.specs.Outcome.{Outcome};
 ghost use Rattle.qkd_network.specs.declared.status.Status.TheVariants.{ReadFault, WriteFault};
 
 use crate::Status;
-use crate::blocks::{first_refused, line_of_block};
-use crate::form::{Form, read_form};
-use crate::reading::{ReadRefusal, read_all};
 use bench_loads::run_load;
-use bench_runs::{has_block, run_scenario};
+use bench_runs::run_scenario;
 use disk_model::Disk;
 use edge_io::{Sink, Source};
 use law_fits::law_read_commands_fit;
 use qkd_base::Texts;
 use scenario_reader::{ScenarioRefusal, read_scenario};
+use source_answers::{ReadRefusal, answer_audit, answer_bound, read_all};
 use source_devices::{Device, Entropy, Wire};
 use std::alloc::Global;
+use word_forms::{Form, read_form};
 use world_bench::Bench;
 
-/// Does what the words ask for. For `run` it reads a scenario from the source to its end, runs it over a new bench, and writes its
-/// report to the sink, a line at a time. For `load` it runs the generated load of so many rounds, and writes its ledgers and how many
-/// keys it handed out; the source is not touched.
+/// Does what the words ask for. For `run` it reads a scenario from the source to its end, runs it over a new bench, its blocks by so
+/// many workers, and writes its report to the sink, a line at a time. For `load` it runs the generated load of so many rounds, and writes its ledgers and how many
+/// keys it handed out; the source is not touched. For `bound` it reads keys from the source, and writes how many of them give the hashes
+/// of two different texts a difference, behind how many can. For `audit` it reads a scenario and the report of a run of it, and writes
+/// what the audit says. The bench is not touched by these two.
 ///
 /// Whatever it is called with, the answer says what was done. On `Usage` that word is the first that fits no form, and nothing was
 /// touched. On `BadLine` that line is the first that is refused; nothing is judged before the source was read to its end or past the
 /// limit of a scenario, and sink and bench are as they were. On `Done`, `WriteFault`, `ForgedMatch` and `Memory` the headline holds of
 /// the run, whole or up to where it ended: of the report that the sink took, of the frames on the wires, of what stands on the disks,
-/// of keys and of lane bytes, of faults and of armings. `Memory` may also come before the first line, with sink and bench untouched.
+/// of keys and of lane bytes, of faults and of armings; of an answer about keys the sink took the whole line, or a first part. `Memory` may also come before the first line, with sink and bench untouched.
 /// The bench has all its parts back at the end.
 pub fn network<
     S: Source,
@@ -49,35 +50,34 @@ pub fn network<
 ) -> Status
     requires fresh { IsNew K.is_honest K.moment K.image E.left Q.told X.frames bench.old }
     requires unarmed { All (λ k. (K.armings k).count ≡ 0) bench.old.disks.items }
-    ensures outcome { Outcome (λ s. S.left s) (λ asked scenario stop.
+    ensures outcome { Outcome (λ s. S.left s) (λ k. W.taken k) (λ asked scenario stop.
         HasHeadlines K.is_honest K.content K.moment K.image E.left Q.told X.frames X.counted K.faults K.armings E.faults Q.faults X.faults bench.old bench.new asked scenario (W.taken sink.old) (W.taken sink.new) stop)
         result words.now source.old source.new sink.old sink.new bench.old bench.new }
     ensures whole { IsWhole bench.new }
     ensures read_fault { result ≡ ReadFault → Rose (S.faults source.old) (S.faults source.new) }
     ensures write_fault { result ≡ WriteFault → Rose (W.faults sink.old) (W.faults sink.new) }
 {
-    match read_form(words) {
+    let workers = match read_form(words) {
         Err(place) => return Status::Usage(place),
         Ok(Form::Load { rounds }) => {
             return Status::of_run(run_load(alloc, rounds, sink, bench));
         }
-        Ok(Form::Run) => {}
-    }
+        Ok(Form::Bound { a, b, difference }) => {
+            return Status::of_answer(answer_bound(alloc, &a, &b, difference, source, sink));
+        }
+        Ok(Form::Audit) => return Status::of_answer(answer_audit(alloc, source, sink)),
+        Ok(Form::Run { workers }) => workers,
+    };
     let bytes = match read_all(alloc, source) {
         Err(ReadRefusal::Fault) => return Status::ReadFault,
         Err(ReadRefusal::Memory) => return Status::Memory,
         Ok(bytes) => bytes,
     };
     let scenario = match read_scenario(alloc, bytes.as_slice()) {
-        Err(ScenarioRefusal::BadLine(line)) => {
-            return Status::BadLine(first_refused(line, line_of_block(bytes.as_slice())));
-        }
+        Err(ScenarioRefusal::BadLine(line)) => return Status::BadLine(line),
         Err(ScenarioRefusal::Memory) => return Status::Memory,
         Ok(scenario) => scenario,
     };
-    if has_block(scenario.entries.as_slice()) {
-        return Status::BadLine(line_of_block(bytes.as_slice()));
-    }
     law_read_commands_fit();
-    Status::of_run(run_scenario(alloc, scenario, sink, bench))
+    Status::of_run(run_scenario(alloc, scenario, workers, sink, bench))
 }

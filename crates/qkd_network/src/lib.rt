@@ -1,10 +1,7 @@
 //! The top call: what the words ask for is done over a bench.
 #![tactic(auto)]
 
-mod blocks;
 mod call;
-mod form;
-mod reading;
 mod status;
 
 pub use call::network;

@@ -1,5 +1,6 @@
 // How the program ended.
 use run_lines::Stop;
+use source_answers::Ended;
 use std::fmt;
 
 /// How the program ended.
@@ -23,7 +24,7 @@ pub enum Status {
 
 impl Status {
     ghost use Rattle.std.specs.Prelude.{◌≡◌};
-    ghost use Rattle.qkd_network.specs.Codes.{code_of, status_of};
+    ghost use Rattle.qkd_network.specs.Codes.{code_of, status_of, answered_as};
 
     /// The exit status.
     pub fn code(self) -> u8
@@ -49,6 +50,19 @@ impl Status {
             Err(Stop::WriteFault) => Status::WriteFault,
             Err(Stop::Forged(line)) => Status::ForgedMatch(line),
             Err(Stop::Memory) => Status::Memory,
+        }
+    }
+
+    // That of an answer.
+    pub(crate) fn of_answer(ended: Ended) -> Self
+        ensures { result ≡ answered_as ended }
+    {
+        match ended {
+            Ended::Done => Status::Done,
+            Ended::BadLine(line) => Status::BadLine(line),
+            Ended::ReadFault => Status::ReadFault,
+            Ended::WriteFault => Status::WriteFault,
+            Ended::Memory => Status::Memory,
         }
     }
 }

@@ -15,6 +15,9 @@ pub enum Request {
 // A word that no form has stands for one that is too long or no text.
 const FAULTY: &str = "\u{fffd}";
 
+// The octets of the longest word that a form has: a text of 600 octets in hexadecimal digits.
+const WORD_LIMIT: usize = 1200;
+
 // The text of a word's octets.
 fn text(alloc: Global, octets: &[u8]) -> Result<Text, Memory> {
     let string = match str::from_utf8(octets) {
@@ -26,7 +29,7 @@ fn text(alloc: Global, octets: &[u8]) -> Result<Text, Memory> {
 
 // The word at a place, if there is one.
 fn word_at(rt: &HostRuntime, place: usize) -> Result<Option<Text>, Memory> {
-    let mut buffer = [0u8; 64];
+    let mut buffer = [0u8; WORD_LIMIT];
     match rt.arg(place, &mut buffer) {
         Err(FillError::NotPresent) => Ok(None),
         Err(FillError::TooLong) => Ok(Some(text(rt.alloc(), FAULTY.as_bytes())?)),

@@ -1,8 +1,8 @@
 // The source, read whole.
 ghost use Rattle.std.specs.Prelude.{◌≤◌, IfOk, IsErrOf};
 ghost use Rattle.qkd_base.specs.Faults.{Rose};
-ghost use Rattle.qkd_network.specs.declared.reading.ReadRefusal.TheVariants.{Fault};
-ghost use Rattle.qkd_network.specs.Inputs.{ReadsWhole};
+ghost use Rattle.source_answers.specs.declared.reading.ReadRefusal.TheVariants.{Fault};
+ghost use Rattle.source_answers.specs.Inputs.{ReadsWhole};
 
 use edge_io::{Failed, Source};
 use qkd_base::Octets;

@@ -1,0 +1,85 @@
+-- What the words ask for, or the place of the first word that fits no form.
+use Rattle.std.specs.Prelude.{ℕ, ◌≡◌, ◌≤◌, ◌==◌, if◌then◌else◌, List, [], ◌∷◌, length, take, Option, Some, None, Result, Ok, Err}
+use Rattle.std.specs.Str.{bytes_eq}
+use lib.Chars.{codes}
+use Rattle.run_model.specs.Course.{Words, Run, Load}
+use Rattle.scenario_reader.specs.Words.{number_in}
+use Rattle.bound_texts.specs.Words.{number_of, text_of}
+use Rattle.word_forms.specs.declared.form.Form.{Form}
+use Rattle.word_forms.specs.declared.form.Form.TheVariants as forms
+
+-- what the words ask for: a run, how many keys give two texts a difference of hashes, or an audit of a report
+pub data Wanted : Type 0 where
+  Runs : Words → Wanted
+  Bounds : (a b : List ℕ) → (difference : ℕ) → Wanted
+  Audits : Wanted
+
+-- that, or the place from 0 of the first word that fits no form; where one is missing, their number
+abbrev pub Asked : Type 0
+Asked = Result Wanted ℕ
+
+-- behind the words of a form nothing may stand
+abbrev pub alone : (place : ℕ) → Wanted → (more : List (List ℕ)) → Asked
+alone place asked more = if length more == 0 then Ok asked else Err place
+
+abbrev pub run_of : Option ℕ → (more : List (List ℕ)) → Asked
+run_of None more = Err 1
+run_of (Some workers) more = alone 2 (Runs (Run workers)) more
+
+-- `run W`: the scenario is run, its blocks by W workers, from 1 to 32
+unfoldable pub run_form : List (List ℕ) → Asked
+run_form [] = Err 1
+run_form (count ∷ more) = run_of (number_in 1 32 count) more
+
+abbrev pub load_of : Option ℕ → (more : List (List ℕ)) → Asked
+load_of None more = Err 1
+load_of (Some rounds) more = alone 2 (Runs (Load rounds)) more
+
+-- `load N`: the generated load of N rounds, from 1 to 500
+unfoldable pub load_form : List (List ℕ) → Asked
+load_form [] = Err 1
+load_form (count ∷ more) = load_of (number_in 1 500 count) more
+
+abbrev pub difference_of : (a b : List ℕ) → Option ℕ → (more : List (List ℕ)) → Asked
+difference_of a b None more = Err 3
+difference_of a b (Some difference) more = alone 4 (Bounds a b difference) more
+
+unfoldable pub third_form : (a b : List ℕ) → List (List ℕ) → Asked
+third_form a b [] = Err 3
+third_form a b (word ∷ more) = difference_of a b (number_of word) more
+
+abbrev pub second_of : (a : List ℕ) → Option (List ℕ) → (more : List (List ℕ)) → Asked
+second_of a None more = Err 2
+second_of a (Some b) more = if bytes_eq a b then Err 2 else third_form a b more
+
+unfoldable pub second_form : (a : List ℕ) → List (List ℕ) → Asked
+second_form a [] = Err 2
+second_form a (word ∷ more) = second_of a (text_of word) more
+
+abbrev pub first_of : Option (List ℕ) → (more : List (List ℕ)) → Asked
+first_of None more = Err 1
+first_of (Some a) more = second_form a more
+
+-- `bound HEXA HEXB HEXD`: two different texts of 1 to 600 octets, and a difference of 16 digits, in hexadecimal digits
+unfoldable pub bound_form : List (List ℕ) → Asked
+bound_form [] = Err 1
+bound_form (word ∷ more) = first_of (text_of word) more
+
+unfoldable pub asked_by : List (List ℕ) → Asked
+asked_by [] = Err 0
+asked_by (form ∷ words) =
+    if bytes_eq form (codes "run") then run_form words else if bytes_eq form (codes "load") then load_form words
+    else if bytes_eq form (codes "bound") then bound_form words
+    else if bytes_eq form (codes "audit") then alone 1 Audits words else Err 0
+
+abbrev pub wanted_of : Form → Wanted
+wanted_of (forms.Run workers) = Runs (Run workers)
+wanted_of (forms.Load rounds) = Runs (Load rounds)
+wanted_of forms.Audit = Audits
+wanted_of (forms.Bound a b difference) = Bounds (take a.size a.octets) (take b.size b.octets) difference
+
+abbrev pub IsInRange : Form → Type 0
+IsInRange (forms.Run workers) = (1 ≤ workers) × (workers ≤ 32)
+IsInRange (forms.Load rounds) = (1 ≤ rounds) × (rounds ≤ 500)
+IsInRange forms.Audit = Unit {0}
+IsInRange (forms.Bound a b difference) = ¬ (take a.size a.octets ≡ take b.size b.octets)

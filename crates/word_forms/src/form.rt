@@ -1,0 +1,141 @@
+// The forms of the words.
+ghost use Rattle.std.specs.Prelude.{◌≡◌, ◌≤◌, Ok, Err, MatchResult, IfOk, drop, take, length, slice_get};
+ghost use Rattle.std.specs.Option.{option_map, option_and_then};
+ghost use Rattle.bound_texts.specs.Words.{number_of, text_of};
+ghost use Rattle.word_forms.specs.Forms.{asked_by, run_form, load_form, bound_form, second_form, third_form, wanted_of, IsInRange};
+
+use bound_texts::{ShortText, number};
+use qkd_base::Texts;
+use scenario_reader::words::number_in;
+
+/// What the words ask for.
+#[derive(Clone, Copy)]
+pub enum Form {
+    /// A scenario is run, its blocks by so many workers.
+    Run {
+        workers: u32,
+    },
+    /// The generated load of so many rounds is run.
+    Load {
+        rounds: u32,
+    },
+    /// Keys are counted that give two different texts a difference of hashes.
+    Bound {
+        a: ShortText,
+        b: ShortText,
+        difference: u64,
+    },
+    /// The report of a scenario is audited.
+    Audit,
+}
+
+/// What the words ask for, or the place of the first word that fits no form, or their number if one is missing.
+#[tactic(auto, unfolding(crate::specs::Forms::asked_by))]
+pub fn read_form(words: &Texts) -> Result<Form, usize>
+    ensures form { MatchResult result (λ form. asked_by words.now ≡ Ok (wanted_of form)) (λ place. asked_by words.now ≡ Err place) }
+    ensures range { IfOk result IsInRange }
+{
+    let Some(first) = words.get(0) else {
+        return Err(0);
+    };
+    if first.as_str() == "run" {
+        return run_form(words);
+    }
+    if first.as_str() == "load" {
+        return load_form(words);
+    }
+    if first.as_str() == "bound" {
+        return bound_form(words);
+    }
+    if first.as_str() == "audit" {
+        return if words.len() > 1 {
+            Err(1)
+        } else {
+            Ok(Form::Audit)
+        };
+    }
+    Err(0)
+}
+
+// That of `run`, which is the first word.
+#[tactic(auto, unfolding(crate::specs::Forms::run_form))]
+fn run_form(words: &Texts) -> Result<Form, usize>
+    requires { 1 ≤ length words.now }
+    ensures form { MatchResult result (λ form. run_form (drop 1 words.now) ≡ Ok (wanted_of form)) (λ place. run_form (drop 1 words.now) ≡ Err place) }
+    ensures range { IfOk result IsInRange }
+{
+    let Some(count) = words.get(1) else {
+        return Err(1);
+    };
+    let Some(workers) = number_in(1, 32, count.as_str().as_bytes()) else {
+        return Err(1);
+    };
+    if words.len() > 2 {
+        return Err(2);
+    }
+    Ok(Form::Run { workers })
+}
+
+// That of `load`, which is the first word.
+#[tactic(auto, unfolding(crate::specs::Forms::load_form))]
+fn load_form(words: &Texts) -> Result<Form, usize>
+    requires { 1 ≤ length words.now }
+    ensures form { MatchResult result (λ form. load_form (drop 1 words.now) ≡ Ok (wanted_of form)) (λ place. load_form (drop 1 words.now) ≡ Err place) }
+    ensures range { IfOk result IsInRange }
+{
+    let Some(count) = words.get(1) else {
+        return Err(1);
+    };
+    let Some(rounds) = number_in(1, 500, count.as_str().as_bytes()) else {
+        return Err(1);
+    };
+    if words.len() > 2 {
+        return Err(2);
+    }
+    Ok(Form::Load { rounds })
+}
+
+// The text that a word is.
+fn text_at(words: &Texts, place: usize) -> Option<ShortText>
+    ensures { option_map (λ t. take t.size t.octets) result ≡ option_and_then text_of (slice_get words.now place) }
+{
+    match words.get(place) {
+        None => None,
+        Some(word) => ShortText::read(word.as_str().as_bytes()),
+    }
+}
+
+// The number that a word is.
+fn number_at(words: &Texts, place: usize) -> Option<u64>
+    ensures { result ≡ option_and_then number_of (slice_get words.now place) }
+{
+    match words.get(place) {
+        None => None,
+        Some(word) => number(word.as_str().as_bytes()),
+    }
+}
+
+// That of `bound`, which is the first word.
+#[tactic(auto, unfolding(crate::specs::Forms::bound_form, crate::specs::Forms::second_form, crate::specs::Forms::third_form))]
+fn bound_form(words: &Texts) -> Result<Form, usize>
+    requires { 1 ≤ length words.now }
+    ensures form { MatchResult result (λ form. bound_form (drop 1 words.now) ≡ Ok (wanted_of form)) (λ place. bound_form (drop 1 words.now) ≡ Err place) }
+    ensures range { IfOk result IsInRange }
+{
+    let Some(a) = text_at(words, 1) else {
+        return Err(1);
+    };
+    let Some(b) = text_at(words, 2) else {
+        return Err(2);
+    };
+    if a.as_slice() == b.as_slice() {
+        return Err(2);
+    }
+    let Some(difference) = number_at(words, 3) else {
+        return Err(3);
+    };
+    if words.len() > 4 {
+        return Err(4);
+    }
+    Ok(Form::Bound { a, b, difference })
+}
