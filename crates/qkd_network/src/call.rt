@@ -23,17 +23,17 @@ use word_forms::{Form, read_form};
 use world_bench::Bench;
 
 /// Does what the words ask for. For `run` it reads a scenario from the source to its end, runs it over a new bench, its blocks by so
-/// many workers, and writes its report to the sink, a line at a time. For `load` it runs the generated load of so many rounds, and writes its ledgers and how many
-/// keys it handed out; the source is not touched. For `bound` it reads keys from the source, and writes how many of them give the hashes
-/// of two different texts a difference, behind how many can. For `audit` it reads a scenario and the report of a run of it, and writes
-/// what the audit says. The bench is not touched by these two.
+/// many workers, and writes its report to the sink, a line at a time. For `load` it runs the generated load of so many rounds, and writes
+/// its ledgers and how many keys it handed out; the source is not touched. For `bound` it reads keys from the source, and writes how many
+/// of them give the hashes of two different texts a difference, behind how many can. For `audit` it reads a scenario and the report of a
+/// run of it, and writes what the audit says. The bench is not touched by these two.
 ///
 /// Whatever it is called with, the answer says what was done. On `Usage` that word is the first that fits no form, and nothing was
 /// touched. On `BadLine` that line is the first that is refused; nothing is judged before the source was read to its end or past the
 /// limit of a scenario, and sink and bench are as they were. On `Done`, `WriteFault`, `ForgedMatch` and `Memory` the headline holds of
 /// the run, whole or up to where it ended: of the report that the sink took, of the frames on the wires, of what stands on the disks,
-/// of keys and of lane bytes, of faults and of armings; of an answer about keys the sink took the whole line, or a first part. `Memory` may also come before the first line, with sink and bench untouched.
-/// The bench has all its parts back at the end.
+/// of keys and of lane bytes, of faults and of armings; of an answer about keys the sink took the whole line, or a first part. `Memory`
+/// may also come before the first line, with sink and bench untouched. The bench has all its parts back at the end.
 pub fn network<
     S: Source,
     W: Sink,
