@@ -1,0 +1,5 @@
+pub mod Reasons
+pub mod Responding
+pub mod Going
+pub mod Ending
+pub mod Visits

@@ -1,0 +1,103 @@
+-- A connection: what its octets mean, what is written to them, and how it ends (ETSI GS QKD 014 V1.1.1, section 5; RFC 9112, sections 9.3 and 9.6).
+use Rattle.std.specs.Prelude.{◌≡◌, ℕ, ◌+◌, ◌≤◌, ◌<◌, Bool, true, false, List, [], ◌∷◌, ◌++◌, length, take, Option, Some, None, Ok, Err, IsSome}
+use Rattle.std.specs.List.{flat_map, AllByRecursion}
+use Rattle.std.specs.Io.KnownBytes.{Consumes, Appends}
+use Rattle.qkd_base.specs.Faults.{Rose}
+use Rattle.edge_io.specs.declared.ended.Ended.{Ended}
+use Rattle.edge_io.specs.declared.ended.Ended.TheVariants as endings
+use Rattle.sae_entitlements.specs.Grants.{Grants}
+use Rattle.http_front.specs.Front.{IsRefused}
+use Rattle.http_front.specs.Reading.{IsMeant, IsEnd}
+use Rattle.http_front.specs.declared.refusal.FrontRefusal.TheVariants.{NoRequest}
+use Rattle.kme_serve.specs.declared.turn.Turn.{Turn}
+use Rattle.kme_serve.specs.Exchange.{Front, Exchange, event_of, IsTurnOf, answer_to, text_of, asks_close, closes}
+use Rattle.kme_serve.specs.Turns.{TakesAll}
+
+-- ---- what octets mean
+
+-- The octets are what was read in these exchanges, one behind the other, and then rest. What is no request stays in the rest.
+abbrev pub AreExchanges : List ℕ → List Exchange → (rest : List ℕ) → Type 0
+AreExchanges octets [] rest = rest ≡ octets
+AreExchanges octets (x ∷ xs) rest = (behind : List ℕ) × IsMeant octets behind x.read × AreExchanges behind xs rest
+
+-- what is no request for the input's end comes only there
+abbrev pub IsFinal : Front → Option (List ℕ) → Type 0
+IsFinal (Ok request) left = Unit {0}
+IsFinal (Err refusal) left = IsEnd refusal left
+
+-- ---- a connection at a moment
+
+-- what its source has left, what its sink took, how often each failed, and the pass of the manager's caller
+pub record Moment (P : Type 0) : Type 0 where
+  pub left : Option (List ℕ)
+  pub taken : Option (List ℕ)
+  pub read_faults : ℕ
+  pub write_faults : ℕ
+  pub pass : P
+
+-- a count rose, or stands
+abbrev pub RoseOnly : (failed : Bool) → (before after : ℕ) → Type 0
+RoseOnly true before after = (before ≤ after) × Rose before after
+RoseOnly false before after = after ≡ before
+
+abbrev pub is_read_fault : Ended → Bool
+is_read_fault endings.ReadFault = true
+is_read_fault ended = false
+
+abbrev pub is_write_fault : Ended → Bool
+is_write_fault endings.WriteFault = true
+is_write_fault ended = false
+
+-- ---- how it ends
+
+abbrev pub listed : Option Exchange → List Exchange
+listed None = []
+listed (Some x) = x ∷ []
+
+module _ (nodes : List (List ℕ)) (g : Grants) (node : ℕ) where
+  -- the connection stays open behind its response
+  abbrev pub IsOpen : Exchange → Type 0
+  IsOpen x = (asks_close x.read ≡ false) × IsSome (answer_to nodes g node x)
+
+  -- the texts of such responses
+  abbrev pub texts_of : List Exchange → List ℕ
+  texts_of answered = flat_map (text_of nodes g node false) answered
+
+  -- How a connection ends behind so many responses that leave it open: by the last exchange, if there is one, of whose response so much is written.
+  -- Closed: nothing more came, or the last response closes it and was written whole.
+  -- ReadFault: nothing more could be read. WriteFault: the last response could not be written whole.
+  -- Memory: it was wanting before the manager was asked, or behind its last turn.
+  abbrev pub EndsBy : Ended → (before : ℕ) → Option Exchange → (rest : List ℕ) → (left : Option (List ℕ)) → (written : List ℕ) → Type 0
+  EndsBy endings.Closed before None rest left written = IsRefused rest NoRequest × IsEnd NoRequest left × (written ≡ [])
+  EndsBy endings.Closed before (Some x) rest left written =
+      (closes before x.read ≡ true) × IsSome (answer_to nodes g node x) × IsFinal x.read left × (written ≡ text_of nodes g node true x)
+  EndsBy endings.ReadFault before None rest left written = written ≡ []
+  EndsBy endings.ReadFault before (Some x) rest left written = ⊥
+  EndsBy endings.WriteFault before None rest left written = ⊥
+  EndsBy endings.WriteFault before (Some x) rest left written =
+      IsSome (answer_to nodes g node x) × IsFinal x.read left × ((n : ℕ) × (written ≡ take n (text_of nodes g node (closes before x.read) x)))
+  EndsBy endings.Memory before None rest left written = written ≡ []
+  EndsBy endings.Memory before (Some x) rest left written = IsSome x.turn × (written ≡ [])
+
+  -- From one moment to the other a connection is served to its end, behind so many responses and with these octets kept.
+  pub record IsServed {P : Type 0} (Answers : P → Turn → P → Type 0) (seen : P → ℕ) (count : ℕ) (kept : List ℕ) (before after : Moment P) (ended : Ended) : Type 0 where
+    -- the octets that came
+    pub octets : List ℕ
+    pub consumed : Consumes before.left after.left octets
+    -- the exchanges that leave the connection open, and the one by which it ends, if there is one
+    pub answered : List Exchange
+    pub last : Option Exchange
+    pub rest : List ℕ
+    pub means : AreExchanges (kept ++ octets) (answered ++ listed last) rest
+    pub stays_open : AllByRecursion IsOpen answered
+    pub few : count + length answered < 1000
+    -- the manager was asked once for each event that is asked for, in this order, and nothing else
+    pub events : AllByRecursion (λ x. IsTurnOf (event_of g node x.read) x.turn) (answered ++ listed last)
+    pub turns : TakesAll Answers seen before.pass (answered ++ listed last) after.pass
+    -- the responses were written in this order, and of the last one so much
+    pub written : List ℕ
+    pub appended : Appends before.taken after.taken (texts_of answered ++ written)
+    pub ends : EndsBy ended (count + length answered) last rest after.left written
+    -- faults
+    pub read_faults : RoseOnly (is_read_fault ended) before.read_faults after.read_faults
+    pub write_faults : RoseOnly (is_write_fault ended) before.write_faults after.write_faults

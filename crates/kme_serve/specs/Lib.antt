@@ -1,0 +1,5 @@
+pub mod Exchange
+pub mod Turns
+pub mod Connection
+pub mod Steps
+pub mod Door

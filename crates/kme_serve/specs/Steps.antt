@@ -1,0 +1,82 @@
+-- What the parts of one exchange do.
+use Rattle.std.specs.Prelude.{◌≡◌, ◌⊎◌, ℕ, Bool, true, false, List, ◌++◌, Option, Some, None, Result, Ok, Err, IsSome}
+use Rattle.std.specs.Io.KnownBytes.{Consumes, Appends}
+use Rattle.edge_io.specs.Writes.{AppendsPrefix}
+use Rattle.edge_io.specs.declared.ended.Ended.{Ended}
+use Rattle.edge_io.specs.declared.ended.Ended.TheVariants as endings
+use Rattle.sae_entitlements.specs.Grants.{Grants}
+use Rattle.http_front.specs.Reading.{IsMeant}
+use Rattle.http_front.specs.Response.{response_text}
+use Rattle.http_front.specs.declared.refusal.FrontRefusal.{FrontRefusal}
+use Rattle.http_front.specs.declared.refusal.FrontRefusal.TheVariants as refusals
+use Rattle.qkd014_api.specs.Texts.{error_response}
+use Rattle.qkd014_api.specs.Fronts.{front_message}
+use Rattle.http_front.specs.declared.request.HttpRequest.{HttpRequest}
+use Rattle.http_front.specs.declared.response.HttpResponse.{HttpResponse}
+use Rattle.qkd014_api.specs.Answers.{Answer}
+use Rattle.qkd014_api.specs.declared.fault.CallRefusal.{CallRefusal}
+use Rattle.qkd014_api.specs.declared.fault.CallRefusal.TheVariants as calls
+use Rattle.kme_serve.specs.declared.turn.Turn.{Turn}
+use Rattle.kme_serve.specs.Exchange.{Exchange, event_of, IsTurnOf, answer_at, answer_to, text_of, response_with, closes}
+use Rattle.kme_serve.specs.Turns.{Takes}
+use Rattle.kme_serve.specs.Connection.{Moment, RoseOnly, IsServed}
+
+-- a text was written; or not: a prefix of it where the sink failed, and nothing where memory was wanting
+abbrev pub IsWritten : {T : Type 0} → Option (List ℕ) → Option (List ℕ) → (faults_before faults_after : ℕ) → List ℕ → Result T Ended → Type 0
+IsWritten before after faults_before faults_after text (Ok done) = Appends before after text × (faults_after ≡ faults_before)
+IsWritten before after faults_before faults_after text (Err endings.WriteFault) = AppendsPrefix before after text × RoseOnly true faults_before faults_after
+IsWritten before after faults_before faults_after text (Err endings.Memory) = (after ≡ before) × (faults_after ≡ faults_before)
+IsWritten before after faults_before faults_after text (Err ended) = ⊥
+
+-- a fault is answered at once by its response, which says whether the connection closes behind it; for want of memory it isn't
+abbrev pub IsAtOnce : {E : Type 0} → CallRefusal → (close : Bool) → Result HttpResponse E → Type 0
+IsAtOnce (calls.Answer response) close (Ok result) = result ≡ record response { close = close }
+IsAtOnce (calls.Answer response) close (Err e) = ⊥
+IsAtOnce calls.Memory close (Ok result) = ⊥
+IsAtOnce calls.Memory close (Err e) = Unit {0}
+
+-- nothing is written for this cause
+abbrev pub IsUnanswered : FrontRefusal → (cause : FrontRefusal) → Option (List ℕ) → Option (List ℕ) → Type 0
+IsUnanswered refusal cause before after = (refusal ≡ cause) × (after ≡ before)
+
+-- How a connection ends for what is no request: by the end of the input, by a fault, or behind the response with its message.
+abbrev pub IsRefusedBy : FrontRefusal → Option (List ℕ) → Option (List ℕ) → (faults_before faults_after : ℕ) → Ended → Type 0
+IsRefusedBy refusal before after faults_before faults_after endings.Closed =
+    (IsUnanswered refusal refusals.NoRequest before after ⊎ ((text : List ℕ) × (front_message refusal ≡ Some text) × Appends before after (response_text (error_response 400 text true))))
+    × (faults_after ≡ faults_before)
+IsRefusedBy refusal before after faults_before faults_after endings.ReadFault = IsUnanswered refusal refusals.ReadFault before after × (faults_after ≡ faults_before)
+IsRefusedBy refusal before after faults_before faults_after endings.WriteFault =
+    ((text : List ℕ) × (front_message refusal ≡ Some text) × AppendsPrefix before after (response_text (error_response 400 text true))) × RoseOnly true faults_before faults_after
+IsRefusedBy refusal before after faults_before faults_after endings.Memory = (¬ (refusal ≡ refusals.ReadFault)) × (after ≡ before) × (faults_after ≡ faults_before)
+
+module _ (nodes : List (List ℕ)) (g : Grants) (node : ℕ) where
+  -- the response to a request, behind a turn where it asks for one; or memory was wanting, before the manager was asked or behind its turn
+  abbrev pub IsResponseTo : {E : Type 0} → HttpRequest → (close : Bool) → Option Turn → Result HttpResponse E → Type 0
+  IsResponseTo request close turn (Ok response) =
+      IsTurnOf (event_of g node (Ok request)) turn × ((answer : Answer) × (answer_at nodes g node (Ok request) turn ≡ Some answer) × (response ≡ response_with close answer))
+  IsResponseTo request close turn (Err memory) = (turn ≡ None) ⊎ (IsTurnOf (event_of g node (Ok request)) turn × IsSome turn)
+
+  module _ {P : Type 0} (Answers : P → Turn → P → Type 0) (seen : P → ℕ) where
+    pub record IsAnswered {E : Type 0} (request : HttpRequest) (close : Bool) (before after : P) (result : Result HttpResponse E) : Type 0 where
+      pub turn : Option Turn
+      pub takes : Takes Answers seen before turn after
+      pub response : IsResponseTo request close turn result
+
+    -- one exchange, behind which the connection stays open
+    pub record StaysOpen (count : ℕ) (kept kept_after : List ℕ) (before after : Moment P) : Type 0 where
+      pub octets : List ℕ
+      pub consumed : Consumes before.left after.left octets
+      pub exchange : Exchange
+      pub means : IsMeant (kept ++ octets) kept_after exchange.read
+      pub stays : closes count exchange.read ≡ false
+      pub answered : IsSome (answer_to nodes g node exchange)
+      pub event : IsTurnOf (event_of g node exchange.read) exchange.turn
+      pub takes : Takes Answers seen before.pass exchange.turn after.pass
+      pub appended : Appends before.taken after.taken (text_of nodes g node false exchange)
+      pub read_faults : after.read_faults ≡ before.read_faults
+      pub write_faults : after.write_faults ≡ before.write_faults
+
+    -- the connection stays open behind an exchange, or is served to its end
+    abbrev pub Goes : {T : Type 0} → (count : ℕ) → (kept kept_after : List ℕ) → (before after : Moment P) → Result T Ended → Type 0
+    Goes count kept kept_after before after (Ok done) = StaysOpen count kept kept_after before after
+    Goes count kept kept_after before after (Err ended) = IsServed nodes g node Answers seen count kept before after ended

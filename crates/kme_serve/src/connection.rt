@@ -1,0 +1,50 @@
+// A connection.
+ghost use Rattle.std.specs.Prelude.{◌≡◌, ◌+◌, ◌<◌, ◌≤◌, [], Ok};
+ghost use Rattle.http_front.specs.declared.request.HttpRequest.{HttpRequest as RequestValue};
+ghost use Rattle.net_model.specs.declared.event.Event.{Event as EventValue};
+ghost use Rattle.qkd014_api.specs.Calls.{asked};
+ghost use Rattle.kme_serve.specs.Connection.{IsServed};
+
+use crate::Managers;
+use crate::exchange::exchange;
+use edge_io::{Ended, Sink, Source};
+use qkd_base::{NodeNo, Octets};
+use qkd014_api::Api;
+use std::alloc::Global;
+use std::sync::Wait;
+
+/// Serves one connection to the manager of a node, and answers how it ended (ETSI GS QKD 014 V1.1.1, section 5, over RFC
+/// 9112). Requests are read from the source, one after another, and each is answered before the next one is read. The
+/// connection closes at the end of the input, behind octets that are no request, behind a request that closes it, and
+/// behind the 1,000th response. After a fault, or for want of memory, nothing more is read or written.
+pub fn serve_connection<R: Wait, M: Managers, S: Source, W: Sink>(
+    rt: &R,
+    alloc: Global,
+    managers: &M,
+    api: &Api,
+    pass: &mut M::Pass,
+    node: NodeNo,
+    source: &mut S,
+    sink: &mut W,
+) -> Ended
+    requires fits { M.fits managers.now pass.old }
+    requires budget { 1000 ≤ M.budget managers.now node pass.old }
+    requires takes { (q : RequestValue) (event : EventValue) → asked api.now.entitlements node q ≡ Ok event → M.takes managers.now node event }
+    ensures fits { M.fits managers.now pass.new }
+    ensures budget { M.budget managers.now node pass.old ≤ M.budget managers.now node pass.new + 1000 }
+    ensures served { IsServed api.now.nodes api.now.entitlements node (M.answers managers.now node) (M.seen managers.now node) 0 []
+        (record { left = S.left source.old; taken = W.taken sink.old; read_faults = S.faults source.old; write_faults = W.faults sink.old; pass = pass.old })
+        (record { left = S.left source.new; taken = W.taken sink.new; read_faults = S.faults source.new; write_faults = W.faults sink.new; pass = pass.new })
+        result }
+{
+    let mut kept = Octets::new(alloc);
+    let mut count = 0;
+    'exchanges: loop {
+        match exchange(
+            rt, alloc, managers, api, pass, node, source, &mut kept, sink, count,
+        ) {
+            Ok(()) => count += 1,
+            Err(ended) => return ended,
+        }
+    }
+}
