@@ -10,3 +10,4 @@ mod unheard;
 
 pub use laws::law_load_is_reported;
 pub use load::run_load;
+pub use unheard::Unheard;

@@ -1,10 +1,8 @@
 //! What a block of lines asks of a network that does them side by side.
 #![tactic(auto)]
 
-mod acts_together;
 mod done_block;
 mod job;
 
-pub use acts_together::ActsTogether;
 pub use done_block::{DoneBlock, PutFrame, Turned};
 pub use job::Job;

@@ -6,3 +6,4 @@ pub mod Merged
 pub mod Asked
 pub mod Items
 pub mod Ran
+pub mod Allowing

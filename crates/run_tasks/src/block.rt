@@ -1,5 +1,5 @@
 // A block of lines.
-ghost use Rattle.std.specs.Prelude.{◌≡◌, ◌≤◌, ◌∷◌, [], OnOk};
+ghost use Rattle.std.specs.Prelude.{◌≡◌, ◌≤◌, ◌∷◌, [], ℕ, OnOk};
 ghost use Rattle.std.specs.List.{All};
 ghost use Rattle.net_model.specs.World.{Network, World};
 ghost use Rattle.scenario_lines.specs.declared.entry.Entry.TheVariants as entries;
@@ -7,6 +7,7 @@ ghost use Rattle.run_model.specs.Turn.{HttpTexts};
 ghost use Rattle.run_model.specs.Report.{Does};
 ghost use Rattle.run_acts.specs.Acting.{IsReady};
 ghost use Rattle.run_acts.specs.Runnable.{IsBlockLineFor};
+ghost use Rattle.run_blocks.specs.Doing.{MayTogether, DidTogether};
 ghost use Rattle.run_lines.specs.Reporting.{IsBlamed};
 ghost use Rattle.run_lines.specs.Running.{IsReadySomewhere};
 ghost use Rattle.run_tasks.specs.Tasks.{RanTasks};
@@ -14,23 +15,33 @@ ghost use Rattle.run_tasks.specs.Tasks.{RanTasks};
 use crate::prepared::{Prepared, prepare};
 use crate::reporting::report;
 use edge_io::Sink;
+use qkd_base::Memory;
 use run_acts::Acts;
-use run_blocks::ActsTogether;
+use run_blocks::{DoneBlock, Job};
 use run_lines::{Requests, Stop};
 use scenario_lines::Lines;
 use std::alloc::Global;
 
-/// Lines of a block are done side by side by so many workers, and then reported: first what was answered without a manager, then the
-/// managers' replies in order of node, last the frames.
-pub fn do_block<S: ActsTogether, H: Requests, W: Sink>(
+/// Lines of a block are done side by side by so many workers, as `together` has them do it, and then reported: first what was answered
+/// without a manager, then the managers' replies in order of node, last the frames.
+pub fn do_block<
+    S: Acts,
+    T: Fn(&mut S, u32, &[Job]) -> Result<DoneBlock, Memory>,
+    H: Requests,
+    W: Sink,
+>(
     alloc: Global,
     net: &mut S,
     requests: &H,
+    together: &T,
     workers: u32,
     lines: Lines,
     sink: &mut W,
 ) -> Result<(), Stop>
     requires serves { H.serves requests.now (S.site net.old) }
+    requires able { (s : _) (workers : ℕ) (jobs : _) → MayTogether S.site S.stands s.now workers jobs.now → T.pre together.now s workers jobs }
+    requires does { (s : _) (workers : ℕ) (jobs result after : _) → MayTogether S.site S.stands s.now workers jobs.now → T.post together.now s workers jobs result after
+        → DidTogether S.site S.stands S.rests S.tallied S.armed s.now after.now workers jobs.now result }
     requires workers { (1 ≤ workers) × (workers ≤ 32) }
     requires fit { All (IsBlockLineFor (S.site net.old)) lines }
     requires ready { IsReadySomewhere S.stands net.old }
@@ -45,7 +56,7 @@ pub fn do_block<S: ActsTogether, H: Requests, W: Sink>(
         Err(_) => return Err(Stop::Memory),
     };
     let Prepared { jobs, places, told } = prepared;
-    match net.together(workers, &jobs) {
+    match together(net, workers, &jobs) {
         Ok(done) => report(
             alloc,
             net.declared(),

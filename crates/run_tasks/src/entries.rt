@@ -7,15 +7,16 @@ ghost use Rattle.run_model.specs.Turn.{HttpTexts};
 ghost use Rattle.run_model.specs.Report.{starts_from, tasks, Does};
 ghost use Rattle.run_acts.specs.Acting.{IsReady};
 ghost use Rattle.run_acts.specs.Runnable.{IsEntryFor, arms_a_disk};
+ghost use Rattle.run_blocks.specs.Doing.{MayTogether, DidTogether};
 ghost use Rattle.run_lines.specs.Reporting.{IsBlamed};
 ghost use Rattle.run_lines.specs.Running.{IsReadySomewhere};
 ghost use Rattle.run_tasks.specs.Tasks.{RanTasks};
 
 use crate::block::do_block;
 use edge_io::Sink;
-use qkd_base::NodeNo;
+use qkd_base::{Memory, NodeNo};
 use run_acts::Acts;
-use run_blocks::ActsTogether;
+use run_blocks::{DoneBlock, Job};
 use run_lines::{Requests, Stop, begin, command};
 use scenario_lines::{Entries, Entry, Line};
 use std::alloc::Global;
@@ -46,16 +47,20 @@ fn begin_all<S: Acts, W: Sink>(
 }
 
 // Does an entry: a line, or a block of lines that so many workers do.
-fn do_entry<S: ActsTogether, H: Requests, W: Sink>(
+fn do_entry<S: Acts, T: Fn(&mut S, u32, &[Job]) -> Result<DoneBlock, Memory>, H: Requests, W: Sink>(
     alloc: Global,
     net: &mut S,
     requests: &H,
+    together: &T,
     workers: u32,
     entry: Entry,
     sink: &mut W,
 ) -> Result<(), Stop>
     requires declared { IsDeclared (S.site net.old) }
     requires serves { H.serves requests.now (S.site net.old) }
+    requires able { (s : _) (workers : ℕ) (jobs : _) → MayTogether S.site S.stands s.now workers jobs.now → T.pre together.now s workers jobs }
+    requires does { (s : _) (workers : ℕ) (jobs result after : _) → MayTogether S.site S.stands s.now workers jobs.now → T.post together.now s workers jobs result after
+        → DidTogether S.site S.stands S.rests S.tallied S.armed s.now after.now workers jobs.now result }
     requires workers { (1 ≤ workers) × (workers ≤ 32) }
     requires fit { IsEntryFor (S.site net.old) entry }
     requires ready { IsReadySomewhere S.stands net.old }
@@ -74,31 +79,36 @@ fn do_entry<S: ActsTogether, H: Requests, W: Sink>(
             } = line;
             command(alloc, net, requests, number, asked, sink)
         }
-        Entry::Block(lines) => do_block(alloc, net, requests, workers, lines, sink),
+        Entry::Block(lines) => do_block(alloc, net, requests, together, workers, lines, sink),
     }
 }
 
 // Does the entries in order.
-fn do_all<S: ActsTogether, H: Requests, W: Sink>(
+fn do_all<S: Acts, T: Fn(&mut S, u32, &[Job]) -> Result<DoneBlock, Memory>, H: Requests, W: Sink>(
     alloc: Global,
     net: &mut S,
     requests: &H,
+    together: &T,
     workers: u32,
     list: Entries,
     sink: &mut W,
 ) -> Result<(), Stop>
     requires declared { IsDeclared (S.site net.old) }
     requires serves { H.serves requests.now (S.site net.old) }
+    requires able { (s : _) (workers : ℕ) (jobs : _) → MayTogether S.site S.stands s.now workers jobs.now → T.pre together.now s workers jobs }
+    requires does { (s : _) (workers : ℕ) (jobs result after : _) → MayTogether S.site S.stands s.now workers jobs.now → T.post together.now s workers jobs result after
+        → DidTogether S.site S.stands S.rests S.tallied S.armed s.now after.now workers jobs.now result }
     requires workers { (1 ≤ workers) × (workers ≤ 32) }
     requires fit { All (IsEntryFor (S.site net.old)) list }
     requires ready { IsReadySomewhere S.stands net.old }
     requires few { S.armed net.old + count_by arms_a_disk list ≤ 2 ^ 32 }
     ensures site { S.site net.new ≡ S.site net.old }
+    ensures ready { OnOk result (IsReadySomewhere S.stands net.new) }
     ensures ran { (http : HttpTexts) (n : Network) (w : World) → H.speaks requests.now http → IsReady S.stands net.old n w → RanTasks S.stands S.rests S.tallied (S.site net.old).nodes net.old net.new (W.taken sink.old) (W.taken sink.new) http n workers w (map Does list) result }
     ensures blame { IsBlamed (W.faults sink.old) (W.faults sink.new) result }
 {
     for entry in list.into_vec() {
-        match do_entry(alloc, net, requests, workers, entry, sink) {
+        match do_entry(alloc, net, requests, together, workers, entry, sink) {
             Ok(()) => {}
             Err(stop) => return Err(stop),
         }
@@ -107,11 +117,17 @@ fn do_all<S: ActsTogether, H: Requests, W: Sink>(
 }
 
 /// Runs a scenario: starts the declared nodes in order, each reported under the number of its line, and then does the entries,
-/// each block by so many workers. What they name is declared, and 2^32 of them at most arm a disk.
-pub fn run_entries<S: ActsTogether, H: Requests, W: Sink>(
+/// each block by so many workers, as `together` has them do it. What they name is declared, and 2^32 of them at most arm a disk.
+pub fn run_entries<
+    S: Acts,
+    T: Fn(&mut S, u32, &[Job]) -> Result<DoneBlock, Memory>,
+    H: Requests,
+    W: Sink,
+>(
     alloc: Global,
     net: &mut S,
     requests: &H,
+    together: &T,
     workers: u32,
     node_lines: &[u32],
     list: Entries,
@@ -120,16 +136,20 @@ pub fn run_entries<S: ActsTogether, H: Requests, W: Sink>(
     requires declared { IsDeclared (S.site net.old) }
     requires nodes { length node_lines.now ≤ length (S.site net.old).nodes }
     requires serves { H.serves requests.now (S.site net.old) }
+    requires able { (s : _) (workers : ℕ) (jobs : _) → MayTogether S.site S.stands s.now workers jobs.now → T.pre together.now s workers jobs }
+    requires does { (s : _) (workers : ℕ) (jobs result after : _) → MayTogether S.site S.stands s.now workers jobs.now → T.post together.now s workers jobs result after
+        → DidTogether S.site S.stands S.rests S.tallied S.armed s.now after.now workers jobs.now result }
     requires workers { (1 ≤ workers) × (workers ≤ 32) }
     requires fit { All (IsEntryFor (S.site net.old)) list }
     requires ready { IsReadySomewhere S.stands net.old }
     requires few { S.armed net.old + count_by arms_a_disk list ≤ 2 ^ 32 }
     ensures site { S.site net.new ≡ S.site net.old }
+    ensures ready { OnOk result (IsReadySomewhere S.stands net.new) }
     ensures ran { (http : HttpTexts) (n : Network) (w : World) → H.speaks requests.now http → IsReady S.stands net.old n w → RanTasks S.stands S.rests S.tallied (S.site net.old).nodes net.old net.new (W.taken sink.old) (W.taken sink.new) http n workers w (tasks node_lines.now list) result }
     ensures blame { IsBlamed (W.faults sink.old) (W.faults sink.new) result }
 {
     match begin_all(alloc, net, node_lines, sink) {
-        Ok(()) => do_all(alloc, net, requests, workers, list, sink),
+        Ok(()) => do_all(alloc, net, requests, together, workers, list, sink),
         Err(stop) => Err(stop),
     }
 }
