@@ -78,7 +78,7 @@ pub length-count_up : (n : ℕ) → length (count_up n) ≡ n
 length-count_up zero = refl
 length-count_up (suc n) = let e = length-count_up n in let a = length-append (count_up n) (n ∷ []) in omega (arith, e, a)
 
-counted_at : (n v : ℕ) → v < n → slice_get (count_up n) v ≡ Some v
+pub counted_at : (n v : ℕ) → v < n → slice_get (count_up n) v ≡ Some v
 counted_at zero v h = absurd (omega (arith, h))
 counted_at (suc n) v h = elim (split v n) as (λ s. slice_get (count_up n ++ n ∷ []) v ≡ Some v) [
   | inl below ↦ slice_get-append_left (count_up n) (n ∷ []) v (before v n (length (count_up n)) below (length-count_up n)) ∙ counted_at n v below

@@ -1,5 +1,3 @@
-pub mod Adding
-pub mod Asked
 pub mod Happening
 pub mod Histories
 pub mod Leasing

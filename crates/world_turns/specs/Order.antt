@@ -1,24 +1,12 @@
 -- The turns that are to come.
-use Rattle.std.specs.Prelude.{◌≡◌, ℕ, true, List, [], ◌∷◌, slice_get, Option, Some, None, MatchOption}
+use Rattle.std.specs.Prelude.{◌≡◌, ℕ, true, List, slice_get, Option, Some, None}
 use Rattle.std.specs.List.{AllByRecursion}
-use Rattle.net_model.specs.Site.{Site}
 use Rattle.net_model.specs.World.{Network, World}
-use Rattle.net_model.specs.Action.{Ok}
 use Rattle.run_blocks.specs.declared.job.Job.{Job}
 use Rattle.run_blocks.specs.declared.job.Job.TheVariants as jobs
-use Rattle.run_blocks.specs.Jobs.{asked_for, is_job, turn_for}
+use Rattle.run_blocks.specs.Jobs.{is_job}
 use Rattle.world_state.specs.Frames.{IsOnWire}
 use Rattle.world_turns.specs.declared.next.Next.{Next}
-use Rattle.world_turns.specs.Turning.{asked_with}
-
--- it is the turn of the node's manager that the job asks for
-pub record IsTurn (s : Site) (node place : ℕ) (job : Job) (next : Next) : Type 0 where
-  pub at : next.place ≡ place
-  pub is : turn_for s node place (asked_for job) ≡ record { place = place; action = asked_with job Ok } ∷ []
-
--- if the job asks for one
-abbrev pub MayBeTurn : Site → (node place : ℕ) → Job → Option Next → Type 0
-MayBeTurn s node place job next = MatchOption next (turn_for s node place (asked_for job) ≡ []) (IsTurn s node place job)
 
 -- a frame that comes has these octets
 abbrev pub HasOctets : Network → World → Job → Option (List ℕ) → Type 0

@@ -1,13 +1,8 @@
-//! The managers' turns in a block of lines, over the state of a run.
+//! What the managers' turns in a block of lines are, over the state of a run, and what becomes of the network by them.
 #![tactic(auto)]
 
-mod leases;
 mod next;
-mod order;
-mod taking;
-mod turn;
 mod turns;
 
 pub use next::Next;
-pub use taking::take_turns;
 pub use turns::Turns;

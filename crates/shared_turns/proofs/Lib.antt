@@ -1,0 +1,14 @@
+pub mod Asking
+pub mod Coming
+pub mod Counting
+pub mod Ending
+pub mod Lasts
+pub mod Mixing
+pub mod Nodes
+pub mod Replaying
+pub mod Requests
+pub mod Sent
+pub mod Serving
+pub mod Shifts
+pub mod Taken
+pub mod Written
