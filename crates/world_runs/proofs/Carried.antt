@@ -1,6 +1,7 @@
 -- What is done to a part is done to the whole that stands for what its part does.
-use Rattle.std.proofs.Common.{ℕ, ◌≤◌, List, inl, inr}
+use Rattle.std.proofs.Common.{ℕ, List, inl, inr}
 use Rattle.std.specs.Prelude.{Result, Ok, Err, IfOk, OnErr}
+use Rattle.declared_site.specs.declared.site.Site.{Site as Declared}
 use Rattle.net_model.specs.Site.{Site}
 use Rattle.net_model.specs.World.{Network, World}
 use Rattle.net_model.specs.Action.{Action, Outcome}
@@ -9,6 +10,7 @@ use Rattle.run_model.specs.Script.{Script}
 use Rattle.run_acts.specs.Acting.{IsReady, Does, Begins, Plays}
 use Rattle.run_blocks.specs.declared.done_block.DoneBlock.{DoneBlock}
 use Rattle.run_blocks.specs.declared.job.Job.{Job}
+use Rattle.run_blocks.specs.Doing.{MayTogether, DidTogether}
 use Rattle.run_blocks.specs.Together.{DoesTogether, LeftTogether}
 
 module _ {S T : Type 0} (part : T → S) (R : S → Network → World → Type 0) where
@@ -50,22 +52,39 @@ module _ {S T : Type 0} (part : T → S) (R : S → Network → World → Type 0
     err_out L (Ok a) script h = tt
     err_out L (Err e) script h = λ net w ready. let b = h net w (ready_in old net w ready) in record { actions = b.actions; is = b.is; rests = b.rests; tallied = b.tallied }
 
-    -- a block
-    pub together_out : {E : Type 0} (r : Result DoneBlock E) (workers : ℕ) (jobs : List Job) → 1 ≤ workers →
-        IfOk r (λ done. (net : Network) (w : World) (workers : ℕ) → 1 ≤ workers → IsReady R (part old) net w → DoesTogether R G (part old) (part new) net workers w jobs done) →
-        IfOk r (λ done. (net : Network) (w : World) → IsReady Whole old net w → DoesTogether Whole Told old new net workers w jobs done)
-    together_out (Ok done) workers jobs some h = λ net w ready.
-        let b = h net w workers some (ready_in old net w ready) in
-        record { works = b.works; are = b.are; turns = b.turns; frames = b.frames; ready = ready_out new net _ b.ready; tallied = b.tallied }
-    together_out (Err e) workers jobs some h = tt
-
     left_whole : (L : S → Network → World → Type 0) (net : Network) (workers : ℕ) (w : World) (jobs : List Job) → LeftTogether L G (part old) (part new) net workers w jobs →
         LeftTogether (λ t. L (part t)) Told old new net workers w jobs
     left_whole L net workers w jobs (inl before) = inl before
     left_whole L net workers w jobs (inr b) = inr (record { works = b.works; are = b.are; rests = b.rests; tallied = b.tallied })
 
-    pub together_left : (L : S → Network → World → Type 0) {A E : Type 0} (r : Result A E) (workers : ℕ) (jobs : List Job) → 1 ≤ workers →
-        OnErr r ((net : Network) (w : World) (workers : ℕ) → 1 ≤ workers → IsReady R (part old) net w → LeftTogether L G (part old) (part new) net workers w jobs) →
+    -- a block
+
+    done_whole : {F : Type 0} (r : Result DoneBlock F) (workers : ℕ) (jobs : List Job) →
+        IfOk r (λ done. (net : Network) (w : World) → IsReady R (part old) net w → DoesTogether R G (part old) (part new) net workers w jobs done) →
+        IfOk r (λ done. (net : Network) (w : World) → IsReady Whole old net w → DoesTogether Whole Told old new net workers w jobs done)
+    done_whole (Ok done) workers jobs h = λ net w ready.
+        let b = h net w (ready_in old net w ready) in
+        record { works = b.works; are = b.are; turns = b.turns; frames = b.frames; ready = ready_out new net _ b.ready; tallied = b.tallied }
+    done_whole (Err e) workers jobs h = tt
+
+    ended_whole : (L : S → Network → World → Type 0) {F : Type 0} (r : Result DoneBlock F) (workers : ℕ) (jobs : List Job) →
+        OnErr r ((net : Network) (w : World) → IsReady R (part old) net w → LeftTogether L G (part old) (part new) net workers w jobs) →
         OnErr r ((net : Network) (w : World) → IsReady Whole old net w → LeftTogether (λ t. L (part t)) Told old new net workers w jobs)
-    together_left L (Ok a) workers jobs some h = tt
-    together_left L (Err e) workers jobs some h = λ net w ready. left_whole L net workers w jobs (h net w workers some (ready_in old net w ready))
+    ended_whole L (Ok done) workers jobs h = tt
+    ended_whole L (Err e) workers jobs h = λ net w ready. left_whole L net workers w jobs (h net w (ready_in old net w ready))
+
+    pub together_out : (site : S → Declared) (L : S → Network → World → Type 0) (armed : S → ℕ) {F : Type 0} (r : Result DoneBlock F) (workers : ℕ) (jobs : List Job) →
+        DidTogether site R L G armed (part old) (part new) workers jobs r →
+        DidTogether (λ t. site (part t)) Whole (λ t. L (part t)) Told (λ t. armed (part t)) old new workers jobs r
+    together_out site L armed r workers jobs h =
+        record { sited = h.sited; armed_as = h.armed_as; done = done_whole r workers jobs h.done; left = ended_whole L r workers jobs h.left }
+
+  -- and what may be done to the whole may be done to the part
+  pub together_in : (site : S → Declared) (t : T) (workers : ℕ) (jobs : List Job) → MayTogether (λ t. site (part t)) Whole t workers jobs → MayTogether site R (part t) workers jobs
+  together_in site t workers jobs h = record {
+    some = h.some;
+    few = h.few;
+    fit = h.fit;
+    there = λ net w ready. h.there net w (ready_out t net w ready);
+    ready = (h.ready.0, h.ready.1, ready_in t h.ready.0 h.ready.1 h.ready.2);
+  }

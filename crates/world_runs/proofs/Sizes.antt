@@ -1,5 +1,5 @@
 -- A state that stands or rests somewhere has as many parts as its site says.
-use Rattle.std.proofs.Common.{◌≡◌, ◌⊎◌, inl, inr, ℕ, ◌*◌, ◌≤◌, Bool, List, ap, ◌∙◌, Option}
+use Rattle.std.proofs.Common.{inl, inr, ℕ, ◌*◌, Bool, List, ap, ◌∙◌, Option}
 use Rattle.std.specs.Prelude.{Result, Ok, Err, IfOk, OnErr}
 use Rattle.disk_model.specs.declared.arm.Armings.{Armings}
 use Rattle.net_model.specs.OctetSequence.{OctetSequence}
@@ -32,16 +32,16 @@ module _ {K Q E X : Type 0} (is_honest : K → Bool) (moment : K → ℕ) (image
   }
 
   module _ (disk_count : K → ℕ) (armed : K → Armings) (entropy_count : E → ℕ) (device_count : Q → ℕ) (wire_count : X → ℕ) (old new : State K Q E X) (net : Network) (w : World) (workers : ℕ)
-      (jobs : List Job) (some : 1 ≤ workers) (ready : IsReady (Stands is_honest moment image left told frames counted) old net w) where
+      (jobs : List Job) (ready : IsReady (Stands is_honest moment image left told frames counted) old net w) where
     sized_left : LeftTogether (Rests is_honest moment image left told frames counted) (Tallied disk_count armed entropy_count device_count wire_count) old new net workers w jobs → IsSized new
     sized_left (inl before) = sized_resting new net w before.0
     sized_left (inr b) = sized_resting new net _ b.rests
 
     -- behind a block
     pub sized_together : {F : Type 0} (r : Result DoneBlock F) →
-        IfOk r (λ done. (net : Network) (w : World) (workers : ℕ) → 1 ≤ workers → IsReady (Stands is_honest moment image left told frames counted) old net w →
+        IfOk r (λ done. (net : Network) (w : World) → IsReady (Stands is_honest moment image left told frames counted) old net w →
         DoesTogether (Stands is_honest moment image left told frames counted) (Tallied disk_count armed entropy_count device_count wire_count) old new net workers w jobs done) →
-        OnErr r ((net : Network) (w : World) (workers : ℕ) → 1 ≤ workers → IsReady (Stands is_honest moment image left told frames counted) old net w →
+        OnErr r ((net : Network) (w : World) → IsReady (Stands is_honest moment image left told frames counted) old net w →
         LeftTogether (Rests is_honest moment image left told frames counted) (Tallied disk_count armed entropy_count device_count wire_count) old new net workers w jobs) → IsSized new
-    sized_together (Ok done) does left_so = sized_standing new net _ (does net w workers some ready).ready.stands
-    sized_together (Err e) does left_so = sized_left (left_so net w workers some ready)
+    sized_together (Ok done) does left_so = sized_standing new net _ (does net w ready).ready.stands
+    sized_together (Err e) does left_so = sized_left (left_so net w ready)

@@ -1,5 +1,5 @@
 -- What a state rests in, and what is told of no action and of actions in a row.
-use Rattle.std.proofs.Common.{◌≡◌, ℕ, Bool, List, [], ◌++◌, Option}
+use Rattle.std.proofs.Common.{ℕ, Bool, List, [], ◌++◌, Option}
 use Rattle.disk_model.specs.declared.arm.Armings.{Armings}
 use Rattle.net_model.specs.Site.{Site}
 use Rattle.net_model.specs.OctetSequence.{OctetSequence}

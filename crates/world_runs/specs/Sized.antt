@@ -1,5 +1,5 @@
 -- A state has a post for each node of its site, and two lanes and a device for each link.
-use Rattle.std.specs.Prelude.{◌≡◌, ℕ, ◌*◌, length}
+use Rattle.std.specs.Prelude.{◌≡◌, ◌*◌, length}
 use Rattle.declared_site.specs.SiteOf.{site_of}
 use Rattle.world_state.specs.declared.state.State.{State}
 

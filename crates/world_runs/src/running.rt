@@ -14,7 +14,6 @@ use net_model::{Counts4, Event, Reply};
 use qkd_base::{Items, Lane, LinkNo, Memory, NodeNo};
 use report_items::{Item, StartResult};
 use run_acts::{Acts, Tampered};
-use run_blocks::{ActsTogether, DoneBlock, Job};
 use run_turns::{BlockTake, Delivery};
 use source_devices::{Device, Entropy, Wire};
 use world_state::State;
@@ -124,13 +123,4 @@ impl<K: Disk + Drop, Q: Device + Drop, E: Entropy + Drop, X: Wire + Drop> Acts
     ghost none_tallied = { λ s net w stands. no_tally K.is_honest K.moment K.image E.left Q.told X.frames X.counted net w K.faults K.armings E.faults Q.faults X.faults s.state stands };
 
     ghost more_tallied = { λ a b c sited xs ys first then. added K.faults K.armings E.faults Q.faults X.faults sited a.state b.state c.state xs ys first then };
-}
-
-impl<K: Disk + Drop, Q: Device + Drop, E: Entropy + Drop, X: Wire + Drop> ActsTogether
-    for Running<K, Q, E, X> {
-    // One thread does what so many workers may do.
-    fn together(&mut self, _workers: u32, jobs: &[Job]) -> Result<DoneBlock, Memory> {
-        let alloc = *self.state.posts.allocator();
-        world_blocks::together(alloc, &mut self.state, jobs)
-    }
 }
