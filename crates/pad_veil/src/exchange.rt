@@ -6,8 +6,8 @@ ghost use Rattle.pad_veil.specs.Veil.{exchanged, veil};
 
 use crate::SealedFrame;
 
-// Lays octets over the first bytes (one-time pad). It takes off those that were laid over them.
-fn lay_over(bytes: &mut [u8], octets: &[u8])
+/// Lays octets over the first bytes, each by xor (one-time pad). Laid over them once more, they are taken off.
+pub fn lay_over(bytes: &mut [u8], octets: &[u8])
     requires { length octets.now ≤ length bytes.old }
     ensures { bytes.new ≡ masked bytes.old octets.now }
 {

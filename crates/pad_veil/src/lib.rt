@@ -11,6 +11,7 @@ mod tests;
 mod veil;
 mod veil_refusal;
 
+pub use exchange::lay_over;
 pub use hop_frames;
 pub use laws::law_every_key_fits;
 pub use qkd_base;

@@ -1,0 +1,4 @@
+pub mod Collecting
+pub mod Octets
+pub mod Opening
+pub mod Sums
