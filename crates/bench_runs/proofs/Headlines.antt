@@ -1,6 +1,6 @@
 -- From what the calls of a run say to its headline.
-use Rattle.std.proofs.Common.{◌≡◌, ℕ, Bool, List, Option, Result, Ok, Err}
-use Rattle.std.specs.Prelude.{MatchResult}
+use Rattle.std.proofs.Common.{◌≡◌, ℕ, Bool, List, Option, Result, Ok, Err, subst}
+use Rattle.std.specs.Prelude.{MatchResult, OnOk}
 use Rattle.net_model.specs.OctetSequence.{OctetSequence}
 use Rattle.net_model.specs.World.{Network, World, first}
 use Rattle.net_model.specs.Site.{Site}
@@ -11,12 +11,12 @@ use Rattle.scenario_lines.specs.declared.scenario.Scenario.{Scenario}
 use Rattle.report_items.specs.Texts.{report_text}
 use Rattle.run_model.specs.Turn.{HttpTexts}
 use Rattle.run_model.specs.Play.{Played, Whole}
-use Rattle.run_model.specs.Report.{Performed, IsRunOf, report}
+use Rattle.run_model.specs.Report.{Task, Performed, IsRunOf, report, actions_of}
 use Rattle.run_model.specs.Bench.{Layers, Sources, Seen}
 use Rattle.run_model.specs.Course.{Run, tasks_of}
 use Rattle.run_model.specs.Headline as headline
 use Rattle.run_acts.specs.Acting.{IsReady}
-use Rattle.run_lines.specs.Running.{StopsAs}
+use Rattle.run_lines.specs.Running.{StopsAs, IsReadySomewhere}
 use Rattle.run_tasks.specs.Tasks.{RanTasks}
 use Rattle.run_lines.specs.declared.stop.Stop.{Stop}
 use Rattle.run_lines.specs.declared.stop.Stop.TheVariants as stops
@@ -52,6 +52,32 @@ module _ {K Q E X S : Type 0} (is_honest : K → Bool) (content : K → List ℕ
 
   abbrev Told : S → S → Site → List Action → Type 0
   Told a b = Tallied disk_count armed entropy_count device_count wire_count (part a) (part b)
+
+  left_of : {T : Type 0} (s : S) (net : Network) (w : World) (result : Result T Stop) → MatchResult result (λ answer. IsReady Standing s net w) (λ stop. Resting s net w) →
+      MatchResult result (λ answer. IsReady (Stands is_honest moment image left told frames counted) (part s) net w) (λ stop. Rests is_honest moment image left told frames counted (part s) net w)
+  left_of s net w (Ok done) h = record { stands = h.stands; quiet = h.quiet }
+  left_of s net w (Err stop) h = h
+
+  -- the run, of the states alone
+  pub of_states : {T : Type 0} (begin end : S) (b e : State K Q E X) → part begin ≡ b → part end ≡ e → (nodes : List (List ℕ)) (before after : Option (List ℕ)) (http : HttpTexts) (net : Network) (workers : ℕ) (w : World)
+      (tasks : List Task) (result : Result T Stop) → RanTasks Standing Resting Told nodes begin end before after http net workers w tasks result →
+      RanTasks (Stands is_honest moment image left told frames counted) (Rests is_honest moment image left told frames counted) (Tallied disk_count armed entropy_count device_count wire_count) nodes b e before after
+      http net workers w tasks result
+  of_states begin end b e begins ends nodes before after http net workers w tasks result r = record {
+    done = r.done;
+    is = r.is;
+    left = subst (λ (s : State K Q E X). MatchResult result (λ answer. IsReady (Stands is_honest moment image left told frames counted) s net (report http net w tasks r.done).world)
+        (λ stop. Rests is_honest moment image left told frames counted s net (report http net w tasks r.done).world)) ends (left_of end net (report http net w tasks r.done).world result r.left);
+    tallied = subst (λ (s : State K Q E X). Tallied disk_count armed entropy_count device_count wire_count b s net.site (actions_of net r.done)) ends
+        (subst (λ (s : State K Q E X). Tallied disk_count armed entropy_count device_count wire_count s (part end) net.site (actions_of net r.done)) begins r.tallied);
+    told = r.told;
+  }
+
+  -- it stands for some network and world where the run came to its end
+  pub ready_after : {T : Type 0} (end : S) (e : State K Q E X) → part end ≡ e → (result : Result T Stop) → OnOk result (IsReadySomewhere Standing end) →
+      OnOk result ((net : Network) × (w : World) × Stands is_honest moment image left told frames counted e net w)
+  ready_after end e ends (Ok done) h = (h.0, h.1, subst (λ (s : State K Q E X). Stands is_honest moment image left told frames counted s h.0 h.1) ends h.2.stands)
+  ready_after end e ends (Err stop) h = h
 
   rests_in : {T : Type 0} (s : S) (net : Network) (w : World) (result : Result T Stop) → MatchResult result (λ answer. IsReady Standing s net w) (λ stop. Resting s net w) → Resting s net w
   rests_in s net w (Ok done) h = comes_to_rest is_honest moment image left told frames counted net w (part s) h.stands

@@ -1,17 +1,15 @@
 -- The parts of a run have room where they came from, and no disk was armed before it.
-use Rattle.std.proofs.Common.{◌≡◌, ℕ, zero, suc, ◌+◌, ◌*◌, ◌≤◌, Bool, List, [], ◌∷◌, ◌++◌, map, length, take, drop, refl, sym, ap, ◌∙◌, arith, Option, Some}
+use Rattle.std.proofs.Common.{◌≡◌, ℕ, zero, suc, ◌*◌, ◌≤◌, Bool, List, [], ◌∷◌, ◌++◌, map, length, take, drop, refl, sym, ap, ◌∙◌, arith, Some}
 use Rattle.std.specs.Prelude.{max}
 use Rattle.std.specs.List.{All}
 use Rattle.std.proofs.lemmas.List.{length-map, length-append, length-drop, map-id}
-use Rattle.net_model.specs.World.{Network, World, first}
-use Rattle.net_model.specs.OctetSequence.{OctetSequence}
+use Rattle.net_model.specs.World.{first}
 use Rattle.net_model.specs.Premises.{IsSite}
 use Rattle.declared_site.specs.SiteOf.{site_of, IsDeclared}
 use Rattle.declared_site.specs.declared.site.Site.{Site as Declared}
 use Rattle.declared_site.proofs.Sites.{is_site}
 use Rattle.disk_model.specs.declared.arm.Armings.{Armings}
 use Rattle.run_acts.specs.Quiet.{IsQuiet}
-use Rattle.kme_store.specs.declared.post.Post.{Post}
 use Rattle.world_state.specs.Armed.{most_armed}
 use Rattle.world_state.specs.declared.state.State.{State}
 use Rattle.lane_sides.specs.Lane.{LaneForm}

@@ -1,20 +1,29 @@
 -- What comes of a scenario that is run over a bench.
 use Rattle.std.specs.Prelude.{◌≡◌, ℕ, Bool, List, Option, Result, Ok, Err}
 use Rattle.net_model.specs.OctetSequence.{OctetSequence}
+use Rattle.net_model.specs.World.{first}
 use Rattle.disk_model.specs.declared.arm.Armings.{Armings}
 use Rattle.hop_frames.specs.Sealing.{hop_sealing}
 use Rattle.scenario_lines.specs.declared.scenario.Scenario.{Scenario}
+use Rattle.run_model.specs.Turn.{HttpTexts}
 use Rattle.run_model.specs.Bench.{Layers, Sources, Seen}
-use Rattle.run_model.specs.Course.{Words}
+use Rattle.run_model.specs.Course.{Words, tasks_of}
 use Rattle.run_model.specs.Headline as headline
 use Rattle.run_lines.specs.declared.stop.Stop.{Stop}
 use Rattle.run_lines.specs.declared.stop.Stop.TheVariants as stops
+use Rattle.run_tasks.specs.Tasks.{RanTasks}
 use Rattle.site_requests.specs.Speaking.{IsTextsOf}
-use Rattle.world_bench.specs.New.{AreKnown}
+use Rattle.world_state.specs.Rests.{Rests}
+use Rattle.world_state.specs.Stands.{Stands}
+use Rattle.world_state.specs.Tallied.{Tallied}
+use Rattle.world_state.specs.declared.state.State.{State}
+use Rattle.world_bench.specs.Laid.{IsLaidOut, HasRoomFor}
+use Rattle.world_bench.specs.New.{AreKnown, network_on}
 use Rattle.world_bench.specs.Over.{HeadlineOver}
 use Rattle.world_bench.specs.Reading.{ReadsDisks}
 use Rattle.world_bench.specs.Seen.{IsSeenOn}
 use Rattle.world_bench.specs.declared.bench.Bench.{Bench}
+use Rattle.world_runs.specs.Sized.{IsSized}
 
 -- how the run ended
 abbrev pub ended : {T : Type 0} → Result T Stop → headline.Stop
@@ -28,6 +37,21 @@ pub record WasLeft {K Q E X W T : Type 0} (old new : Bench K Q E X) (before afte
   pub wanting : result ≡ Err stops.Memory
   pub bench : new ≡ old
   pub sink : after ≡ before
+
+-- A scenario was run out of a bench: its parts were laid out, in whatever network stands over them the run was that of its tasks, and the parts of the state that
+-- this led to are not yet put back.
+pub record RanOut {K Q E X T : Type 0} (is_honest : K → Bool) (moment : K → ℕ) (image : K → ℕ → List ℕ → Type 0) (left : E → Option OctetSequence)
+    (told : Q → Option OctetSequence) (frames : X → Option (List (List ℕ))) (counted : X → ℕ)
+    (disk_count : K → ℕ) (armed : K → Armings) (entropy_count : E → ℕ) (device_count : Q → ℕ) (wire_count : X → ℕ)
+    (old stayed : Bench K Q E X) (workers : ℕ) (scenario : Scenario) (before after : Option (List ℕ)) (state : State K Q E X) (ended : Result T Stop) : Type 0 where
+  pub begin : State K Q E X
+  pub laid : IsLaidOut old stayed scenario.site begin
+  pub ran : (http : HttpTexts) → IsTextsOf scenario.site.nodes scenario.site.entitlements http →
+      RanTasks (Stands is_honest moment image left told frames counted) (Rests is_honest moment image left told frames counted) (Tallied disk_count armed entropy_count device_count wire_count)
+      scenario.site.nodes begin state before after http (network_on told left old scenario.site) workers first (tasks_of scenario) ended
+  pub sized : IsSized state
+  pub sited : state.site ≡ scenario.site
+  pub room : HasRoomFor stayed state
 
 -- The headline holds of the run, which is over what the bench's parts told, with whatever is known of their octets and whatever is seen of them after it. Premises:
 -- frames are hop frames, requests over HTTP have the site's texts, and the batches of a disk are what is read from it.

@@ -8,22 +8,32 @@ ghost use Rattle.world_bench.specs.Laid.{IsWhole};
 ghost use Rattle.world_bench.specs.New.{IsNew};
 ghost use Rattle.bench_runs.specs.Running.{HasHeadlines, WasLeft, ended};
 
+use crate::Left;
+use crate::out::run_out;
 use disk_model::Disk;
-use edge_io::Sink;
-use hop_frames::frames_of_a_network;
+use edge_io::{Gate, Sink};
 use run_lines::Stop;
-use run_tasks::run_entries;
 use scenario_lines::Scenario;
-use site_requests::SiteRequests;
 use source_devices::{Device, Entropy, Wire};
 use std::alloc::Global;
-use world_bench::{Bench, law_bench_headline, lay_out, put_back};
-use world_runs::Running;
+use std::sync::Wait;
+use std::thread::Threads;
+use world_bench::{Bench, law_bench_headline, put_back};
 
-/// Runs a scenario over a new bench, its blocks by so many workers, and reports it to the sink. The bench has all its parts back at the
-/// end. Where memory is wanting before the first line, bench and sink are as they were.
-pub fn run_scenario<K: Disk + Drop, Q: Device + Drop, E: Entropy + Drop, X: Wire + Drop, W: Sink>(
+/// Runs a scenario over a new bench, its blocks by so many workers, each of whom the gate can hold, and reports it to the sink. The
+/// bench has all its parts back at the end. Where memory is wanting before the first line, bench and sink are as they were.
+pub fn run_scenario<
+    R: Threads + Wait + Sync,
+    G: Gate,
+    K: Disk + Drop + Send,
+    Q: Device + Drop + Send,
+    E: Entropy + Drop + Send,
+    X: Wire + Drop + Send,
+    W: Sink,
+>(
+    rt: &R,
     alloc: Global,
+    gate: &G,
     scenario: Scenario,
     workers: u32,
     sink: &mut W,
@@ -38,31 +48,13 @@ pub fn run_scenario<K: Disk + Drop, Q: Device + Drop, E: Entropy + Drop, X: Wire
     ensures whole { IsWhole bench.new }
     ensures blame { IsBlamed (W.faults sink.old) (W.faults sink.new) result }
 {
-    let Scenario {
-        site,
-        node_lines,
-        entries,
-    } = scenario;
-    let requests = match SiteRequests::new(alloc, &site) {
-        Err(_) => return Err(Stop::Memory),
-        Ok(requests) => requests,
-    };
-    let state = match lay_out(alloc, bench, site) {
-        Err(_) => return Err(Stop::Memory),
-        Ok(state) => state,
-    };
-    frames_of_a_network();
-    let mut running = Running::new(state);
-    let result = run_entries(
-        alloc,
-        &mut running,
-        &requests,
-        workers,
-        node_lines.as_slice(),
-        entries,
-        sink,
-    );
-    put_back(running.into_state(), bench);
-    law_bench_headline::<K, Q, E, X>();
-    result
+    match run_out(rt, alloc, gate, scenario, workers, sink, bench) {
+        Err(_) => Err(Stop::Memory),
+        Ok(left) => {
+            let Left { state, ended } = left;
+            put_back(state, bench);
+            law_bench_headline::<K, Q, E, X>();
+            ended
+        }
+    }
 }

@@ -1,112 +1,23 @@
 -- The answers of a run over a bench.
-use Rattle.std.proofs.Common.{◌≡◌, inr, ℕ, ◌*◌, List, refl, sym, ap, subst, ◌∙◌, arith}
-use Rattle.std.specs.List.{All}
-use Rattle.net_model.specs.World.{first}
-use Rattle.declared_site.specs.SiteOf.{site_of}
-use Rattle.declared_site.specs.declared.site.Site.{Site}
-use Rattle.run_acts.specs.Acting.{IsReady}
-use Rattle.run_acts.specs.Runnable.{IsEntryFor}
-use Rattle.run_tasks.specs.Tasks.{RanTasks}
-use Rattle.run_model.specs.Report.{tasks}
-use Rattle.world_state.specs.Armed.{most_armed}
-use Rattle.site_requests.specs.Speaking.{IsTextsOf}
-use Rattle.world_state.specs.Rests.{Rests}
-use Rattle.world_state.specs.Stands.{Stands}
-use Rattle.world_state.specs.Tallied.{Tallied}
+use Rattle.std.proofs.Common.{inr}
 use Rattle.world_state.specs.declared.state.State.{State}
-use Rattle.world_bench.specs.Laid.{IsLaidOut, IsPutBack}
-use Rattle.world_bench.specs.New.{network_on}
-use Rattle.world_bench.proofs.Firsts.{stands_first}
-use Rattle.world_runs.specs.declared.running.Running.{Running}
 use Rattle.bench_runs.proofs.Headlines.{headlines}
-use Rattle.bench_runs.proofs.Rooms.{none_armed, first_is_quiet, whole_again}
+use Rattle.bench_runs.proofs.Rooms.{whole_again}
 use Rattle.bench_runs.proofs.running.run_scenario.Goals as goal
 
-pub new-running-requires-clause-sized : goal.new-running-requires-clause-sized
-new-running-requires-clause-sized g c =
-    let laid = c.in-Ok-lay_out.ensures.laid in
-    let s = stands_first g.K.Disk.is_honest g.K.Disk.moment g.K.Disk.image g.E.Entropy.left g.Q.Device.told g.X.Wire.frames g.X.Wire.counted g.met.X.Wire.all_counted
-    c.args.bench.now c.lay_out.new.bench c.requires.fresh c.args.scenario.site c.requires.runnable.site c.frames_of_a_network.ensures c.in-Ok-lay_out.state laid in
-    record {
-      nodes = s.nodes ∙ ap (λ (d : Site). (site_of d).nodes) (sym laid.sited);
-      sides = s.sides ∙ ap (λ (d : Site). 2 * (site_of d).links) (sym laid.sited);
-      links = s.links ∙ ap (λ (d : Site). (site_of d).links) (sym laid.sited);
-    }
-
-pub run_entries-result-requires-clause-fit : goal.run_entries-result-requires-clause-fit
-run_entries-result-requires-clause-fit g c =
-    let sited = ap (λ (s : State g.row.K.Denot g.row.Q.Denot g.row.E.Denot g.row.X.Denot). s.site) c.new-running.ensures ∙ c.in-Ok-lay_out.ensures.laid.sited in
-    subst (λ (d : Site). All (IsEntryFor d) c.args.scenario.entries) (sym sited) c.requires.runnable.entries
-
-pub run_entries-result-requires-clause-ready : goal.run_entries-result-requires-clause-ready
-run_entries-result-requires-clause-ready g c =
-    let net = network_on g.Q.Device.told g.E.Entropy.left c.args.bench.now c.args.scenario.site in
-    let s = stands_first g.K.Disk.is_honest g.K.Disk.moment g.K.Disk.image g.E.Entropy.left g.Q.Device.told g.X.Wire.frames g.X.Wire.counted g.met.X.Wire.all_counted
-    c.args.bench.now c.lay_out.new.bench c.requires.fresh c.args.scenario.site c.requires.runnable.site c.frames_of_a_network.ensures c.in-Ok-lay_out.state c.in-Ok-lay_out.ensures.laid in (
-      net,
-      first,
-      record {
-        stands = subst (λ (x : State g.row.K.Denot g.row.Q.Denot g.row.E.Denot g.row.X.Denot). Stands g.K.Disk.is_honest g.K.Disk.moment g.K.Disk.image g.E.Entropy.left g.Q.Device.told g.X.Wire.frames g.X.Wire.counted x net first)
-            (sym c.new-running.ensures) s;
-        quiet = first_is_quiet;
-      },
-    )
-
-pub run_entries-result-requires-clause-few : goal.run_entries-result-requires-clause-few
-run_entries-result-requires-clause-few g c =
-    let nodes = (site_of c.args.scenario.site).nodes in
-    let none : most_armed g.K.Disk.armings c.new-running.result.state.posts.items ≡ 0 =
-    ap (λ (s : State g.row.K.Denot g.row.Q.Denot g.row.E.Denot g.row.X.Denot). most_armed g.K.Disk.armings s.posts.items) c.new-running.ensures ∙
-    ap (most_armed g.K.Disk.armings) c.in-Ok-lay_out.ensures.laid.posts ∙
-    none_armed g.K.Disk.armings nodes nodes c.args.bench.now.disks.items c.args.bench.now.entropies.items c.requires.unarmed in
-    omega (arith, none, c.requires.runnable.arms)
-
-pub returns-clause-headline : goal.returns-clause-headline
-returns-clause-headline g c =
+pub returns-in-Ok-clause-headline : goal.returns-in-Ok-clause-headline
+returns-in-Ok-clause-headline g c =
     let State-here = State g.row.K.Denot g.row.Q.Denot g.row.E.Denot g.row.X.Denot in
-    let Running-here = Running g.row.K.Denot g.row.Q.Denot g.row.E.Denot g.row.X.Denot g.K.Disk g.Q.Device g.E.Entropy g.X.Wire in
-    let net = network_on g.Q.Device.told g.E.Entropy.left c.args.bench.now c.args.scenario.site in
-    let laid = c.in-Ok-lay_out.ensures.laid in
-    let stands = stands_first g.K.Disk.is_honest g.K.Disk.moment g.K.Disk.image g.E.Entropy.left g.Q.Device.told g.X.Wire.frames g.X.Wire.counted g.met.X.Wire.all_counted
-    c.args.bench.now c.lay_out.new.bench c.requires.fresh c.args.scenario.site c.requires.runnable.site c.frames_of_a_network.ensures c.in-Ok-lay_out.state laid in
-    let ready : IsReady (λ (r : Running-here). Stands g.K.Disk.is_honest g.K.Disk.moment g.K.Disk.image g.E.Entropy.left g.Q.Device.told g.X.Wire.frames g.X.Wire.counted r.state)
-    c.new-running.result net first = record {
-      stands = subst (λ (x : State-here). Stands g.K.Disk.is_honest g.K.Disk.moment g.K.Disk.image g.E.Entropy.left g.Q.Device.told g.X.Wire.frames g.X.Wire.counted x net first)
-          (sym c.new-running.ensures) stands;
-      quiet = first_is_quiet;
-    } in
-    let sited : c.new-running.result.state.site ≡ c.args.scenario.site = ap (λ (s : State-here). s.site) c.new-running.ensures ∙ laid.sited in
+    let r = c.in-Ok.ensures.ran in
     inr (headlines g.K.Disk.is_honest g.K.Disk.content g.K.Disk.moment g.K.Disk.image g.E.Entropy.left g.Q.Device.told g.X.Wire.frames g.X.Wire.counted
     g.K.Disk.faults g.K.Disk.armings g.E.Entropy.faults g.Q.Device.faults g.X.Wire.faults
-    (λ (r : Running-here). r.state)
-    c.args.bench.now c.lay_out.new.bench c.put_back.new.bench c.new-running.result c.run_entries-result.new.net c.args.scenario c.args.workers
-    (g.W.Sink.taken c.args.sink.now) (g.W.Sink.taken c.run_entries-result.new.sink) c.run_entries-result.result c.law_bench_headline.ensures.run
-    c.requires.fresh c.requires.runnable.site
-    (subst (λ (x : State-here). IsLaidOut c.args.bench.now c.lay_out.new.bench c.args.scenario.site x) (sym c.new-running.ensures) laid)
-    (λ http speaks.
-    subst (λ (numbers : List ℕ). RanTasks (λ (r : Running-here). Stands g.K.Disk.is_honest g.K.Disk.moment g.K.Disk.image g.E.Entropy.left g.Q.Device.told g.X.Wire.frames g.X.Wire.counted r.state)
-    (λ (r : Running-here). Rests g.K.Disk.is_honest g.K.Disk.moment g.K.Disk.image g.E.Entropy.left g.Q.Device.told g.X.Wire.frames g.X.Wire.counted r.state)
-    (λ (a b : Running-here). Tallied g.K.Disk.faults g.K.Disk.armings g.E.Entropy.faults g.Q.Device.faults g.X.Wire.faults a.state b.state)
-    c.args.scenario.site.nodes c.new-running.result c.run_entries-result.new.net (g.W.Sink.taken c.args.sink.now) (g.W.Sink.taken c.run_entries-result.new.sink)
-    http net c.args.workers first (tasks numbers c.args.scenario.entries) c.run_entries-result.result)
-    c.as_slice.ensures
-    (subst (λ (d : Site). RanTasks (λ (r : Running-here). Stands g.K.Disk.is_honest g.K.Disk.moment g.K.Disk.image g.E.Entropy.left g.Q.Device.told g.X.Wire.frames g.X.Wire.counted r.state)
-    (λ (r : Running-here). Rests g.K.Disk.is_honest g.K.Disk.moment g.K.Disk.image g.E.Entropy.left g.Q.Device.told g.X.Wire.frames g.X.Wire.counted r.state)
-    (λ (a b : Running-here). Tallied g.K.Disk.faults g.K.Disk.armings g.E.Entropy.faults g.Q.Device.faults g.X.Wire.faults a.state b.state)
-    d.nodes c.new-running.result c.run_entries-result.new.net (g.W.Sink.taken c.args.sink.now) (g.W.Sink.taken c.run_entries-result.new.sink)
-    http net c.args.workers first (tasks c.as_slice.result.now c.args.scenario.entries) c.run_entries-result.result)
-    sited
-    (c.run_entries-result.ensures.ran http net first
-    (subst (λ ns. IsTextsOf ns c.in-Ok.requests.api.entitlements http) (sym c.in-Ok.ensures.nodes)
-    (subst (λ gr. IsTextsOf c.args.scenario.site.nodes gr http) (sym c.in-Ok.ensures.entitlements) speaks))
-    ready)))
-    (subst (λ (x : State-here). IsPutBack g.K.Disk.is_honest g.K.Disk.content g.K.Disk.moment g.K.Disk.image x c.lay_out.new.bench c.put_back.new.bench)
-    c.into_state.ensures.state c.put_back.ensures))
+    (λ (s : State-here). s)
+    c.args.bench.now c.run_out.new.bench c.put_back.new.bench r.begin c.in-Ok.left.state c.args.scenario c.args.workers
+    (g.W.Sink.taken c.args.sink.now) (g.W.Sink.taken c.run_out.new.sink) c.in-Ok.left.ended c.law_bench_headline.ensures.run
+    c.requires.fresh c.requires.runnable.site r.laid r.ran c.put_back.ensures)
 
-pub returns-clause-whole : goal.returns-clause-whole
-returns-clause-whole g c =
-    let State-here = State g.row.K.Denot g.row.Q.Denot g.row.E.Denot g.row.X.Denot in
-    let laid = subst (λ (x : State-here). IsLaidOut c.args.bench.now c.lay_out.new.bench c.args.scenario.site x) (sym c.new-running.ensures) c.in-Ok-lay_out.ensures.laid in
-    whole_again g.K.Disk.is_honest g.K.Disk.content g.K.Disk.moment g.K.Disk.image c.args.bench.now c.lay_out.new.bench c.put_back.new.bench c.args.scenario.site
-    c.new-running.result.state c.into_state.result c.requires.runnable.site c.requires.fresh.whole laid c.into_state.ensures.sized
-    (ap (λ (s : State-here). s.site) c.into_state.ensures.state ∙ c.run_entries-result.ensures.site ∙ laid.sited) c.put_back.ensures
+pub returns-in-Ok-clause-whole : goal.returns-in-Ok-clause-whole
+returns-in-Ok-clause-whole g c =
+    let r = c.in-Ok.ensures.ran in
+    whole_again g.K.Disk.is_honest g.K.Disk.content g.K.Disk.moment g.K.Disk.image c.args.bench.now c.run_out.new.bench c.put_back.new.bench c.args.scenario.site
+    r.begin c.in-Ok.left.state c.requires.runnable.site c.requires.fresh.whole r.laid r.sized r.sited c.put_back.ensures

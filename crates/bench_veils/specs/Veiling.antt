@@ -1,0 +1,52 @@
+-- What comes of a scenario that is run over a bench, and whose wires are veiled.
+use Rattle.std.specs.Prelude.{◌≡◌, ℕ, List, Option, None, Result, Ok, Err}
+use Rattle.net_model.specs.OctetSequence.{OctetSequence}
+use Rattle.disk_model.specs.declared.arm.Armings.{Armings}
+use Rattle.hop_frames.specs.Sealing.{hop_sealing}
+use Rattle.scenario_lines.specs.declared.scenario.Scenario.{Scenario}
+use Rattle.run_model.specs.Play.{Ending, Whole}
+use Rattle.run_model.specs.Bench.{Layers, Sources, Seen}
+use Rattle.run_model.specs.Course.{Run, Course, last_world, lines_played}
+use Rattle.run_model.specs.Headline.{Took, TookFirst}
+use Rattle.run_model.specs.Headline as headline
+use Rattle.site_requests.specs.Speaking.{IsTextsOf}
+use Rattle.world_bench.specs.New.{AreKnown}
+use Rattle.world_bench.specs.Over.{HeadlineOver}
+use Rattle.world_bench.specs.Reading.{ReadsDisks}
+use Rattle.world_bench.specs.Seen.{IsSeenOn}
+use Rattle.world_bench.specs.declared.bench.Bench.{Bench}
+use Rattle.law_veils.specs.Other.{EveryKeyFits}
+use Rattle.run_lines.specs.declared.stop.Stop.{Stop}
+use Rattle.bench_runs.specs.Running.{ended}
+use Rattle.lane_veils.specs.Lanes.{veil_line, Tells}
+
+-- Where a run stopped short the call ended so, and the sink was not touched. Where all lines were done it was told the line.
+abbrev pub Ends : {T U W : Type 0} → (W → Option (List ℕ)) → (ran : Result T Stop) → (line : List ℕ) → (before after : W) → (final : Result U Stop) → Type 0
+Ends taken (Ok done) line before after final = Tells taken final before after line
+Ends taken (Err stop) line before after final = (ended final ≡ ended {T = Unit {0}} (Err stop)) × (after ≡ before)
+
+-- Where all lines are done the sink took exactly the line of the veil, and where it failed a first part of it. At a forged match and for want of
+-- memory it was not touched.
+abbrev pub IsVeilTold : {W : Type 0} → (W → Option (List ℕ)) → headline.Stop → Ending → Course → (before after : W) → Type 0
+IsVeilTold taken headline.Done ending c before after = Took (taken before) (taken after) (veil_line c.net (last_world c))
+IsVeilTold taken headline.WriteFault ending c before after = (ending ≡ Whole) × TookFirst (taken before) (taken after) (veil_line c.net (last_world c))
+IsVeilTold taken headline.Memory ending c before after = after ≡ before
+IsVeilTold taken (headline.ForgedMatch line) ending c before after = after ≡ before
+IsVeilTold taken headline.ListenFault ending c before after = ⊥
+
+-- The headline of the run with one worker holds, but that no sink took its report. Every other key fits the wires that it left, and the sink took the line.
+pub record IsVeiled {K Q E X W : Type 0} (told : Q → Option OctetSequence) (left : E → Option OctetSequence) (old : Bench K Q E X) (taken : W → Option (List ℕ))
+    (stop : headline.Stop) (layers : Layers) (sources : Sources) (scenario : Scenario) (seen : Seen) (before after : W) : Type 0 where
+  pub run : HeadlineOver told left old (Run 1) stop layers sources scenario seen None None
+  pub fits : EveryKeyFits run.0.course.net (last_world run.0.course)
+  pub line : IsVeilTold taken stop (lines_played layers scenario run.0.course).ending run.0.course before after
+
+-- Whatever is known of the octets of the bench's parts and whatever is seen of them after it. Premises: frames are hop frames, requests over HTTP have
+-- the site's texts, and the batches of a disk are what is read from it.
+abbrev pub HasVeiled : {K Q E X W : Type 0} → (K → ℕ) → (K → ℕ → List ℕ → Type 0) → (E → Option OctetSequence) → (Q → Option OctetSequence) → (X → Option (List (List ℕ))) →
+    (K → ℕ) → (K → Armings) → (E → ℕ) → (Q → ℕ) → (X → ℕ) → (W → Option (List ℕ)) → (old new : Bench K Q E X) → Scenario → (before after : W) → headline.Stop → Type 0
+HasVeiled moment image left told frames disk_count armed entropy_count device_count wire_count taken old new scenario before after stop =
+    (layers : Layers) (sources : Sources) (seen : Seen) → layers.sealing ≡ hop_sealing → IsTextsOf scenario.site.nodes scenario.site.entitlements layers.http → ReadsDisks layers.batches →
+    AreKnown told old.devices.items sources.devices → AreKnown left old.entropies.items sources.entropies →
+    IsSeenOn moment image left frames disk_count armed entropy_count device_count wire_count old new seen →
+    IsVeiled told left old taken stop layers sources scenario seen before after
