@@ -7,21 +7,28 @@ use edge_io::MemSink;
 use qkd_base::Memory;
 use qkd_network::Status;
 use std::alloc::Global;
+use std::sync::Wait;
 use std::test::Fail;
+use std::thread::Threads;
 
-// How a run by so many workers ends, and its report.
-fn reported(alloc: Global, workers: u32, text: &str) -> Result<(Status, String), Memory> {
+/// How a run by so many workers ends, and its report.
+pub fn reported<R: Threads + Wait + Sync>(
+    rt: &R,
+    alloc: Global,
+    workers: u32,
+    text: &str,
+) -> Result<(Status, String), Memory> {
     let words = format!(in alloc; "run {workers}")?;
     let mut first = FirstParts::new(alloc, 8)?;
     first.drawn = octets(alloc, 2048)?;
     let mut source = source(alloc, text)?;
     let mut sink = MemSink::new(alloc, ROOM, Vec::new(alloc))?;
-    let (status, _bench) = over(alloc, words.as_str(), first, &mut source, &mut sink)?;
+    let (status, _bench) = over(rt, alloc, words.as_str(), first, &mut source, &mut sink)?;
     Ok((status, String::from_utf8_lossy(alloc, sink.taken())?))
 }
 
-// The number of the line that a report's line is about, and the rest of it.
-fn parted(line: &str) -> (u32, &str) {
+/// The number of the line that a report's line is about, and the rest of it.
+pub fn parted(line: &str) -> (u32, &str) {
     match line.split_once(' ') {
         None => (0, line),
         Some((number, rest)) => (number.parse::<u32>().unwrap_or(0), rest),
@@ -49,8 +56,8 @@ fn is_merge(report: &str, first: u32, workers: u32) -> bool {
     true
 }
 
-// Forty keys that are ready at both ends, and a block in which the master takes each.
-fn forty(alloc: Global) -> Result<String, Memory> {
+/// Forty keys that are ready at both ends, and a block in which the master takes each.
+pub fn forty(alloc: Global) -> Result<String, Memory> {
     let mut text = String::from_str(
         alloc,
         "node A\nnode B\nlink A B\nsae alice A\nsae bob B\nallow alice bob\nbits 0 both 8\nfill alice bob 256 40\nsettle 10\ntogether\n",
@@ -62,8 +69,8 @@ fn forty(alloc: Global) -> Result<String, Memory> {
     Ok(text)
 }
 
-// Whether the lines of a report that hand keys hand those of count 1 to 40, one after another.
-fn hands_all(alloc: Global, report: &str) -> Result<bool, Memory> {
+/// Whether the lines of a report that hand keys hand those of count 1 to 40, one after another.
+pub fn hands_all(alloc: Global, report: &str) -> Result<bool, Memory> {
     let mut count = 0u32;
     for line in report.split('\n') {
         let (_, said) = parted(line);
@@ -83,7 +90,7 @@ fn each_key_is_handed_to_one_line(rt: HostRuntime) -> Result<(), Fail> {
     let alloc = rt.alloc();
     let text = forty(alloc)?;
     for workers in [1u32, 2, 4, 7, 32] {
-        let (status, report) = reported(alloc, workers, text.as_str())?;
+        let (status, report) = reported(&rt, alloc, workers, text.as_str())?;
         assert_eq!(rt; status, Status::Done, "{workers}");
         assert!(rt; hands_all(alloc, report.as_str())?, "{workers}");
         assert!(rt; is_merge(report.as_str(), 11, workers), "{workers}");
@@ -121,7 +128,7 @@ fn a_block_is_reported_in_its_order(rt: HostRuntime) -> Result<(), Fail> {
     let lines = spelled(alloc, MIXED)?;
     let wanted = spelled(alloc, MIXED_REPORT)?;
     let text = format!(in alloc; "{base}{lines}")?;
-    let (status, report) = reported(alloc, 1, text.as_str())?;
+    let (status, report) = reported(&rt, alloc, 1, text.as_str())?;
     assert_eq!(rt; status, Status::Done);
     let (_, block) = report.as_str().split_once("\n12 ").unwrap_or(("", ""));
     let found = format!(in alloc; "12 {block}")?;
@@ -147,7 +154,7 @@ fn refused_blocks_do_nothing(rt: HostRuntime) -> Result<(), Fail> {
     let base = base_text(alloc)?;
     for (lines, number) in REFUSED {
         let text = format!(in alloc; "{base}{lines}")?;
-        let (status, report) = reported(alloc, 2, text.as_str())?;
+        let (status, report) = reported(&rt, alloc, 2, text.as_str())?;
         assert_eq!(rt; status, Status::BadLine(*number), "{lines}");
         assert_eq!(rt; report.as_str(), "", "{lines}");
     }

@@ -50,7 +50,7 @@ fn keys_are_counted(rt: HostRuntime) -> Result<(), Fail> {
         let mut source = source(alloc, keys)?;
         let mut sink = MemSink::new(alloc, ROOM, Vec::new(alloc))?;
         let first = FirstParts::new(alloc, 2)?;
-        let (found, bench) = over(alloc, words, first, &mut source, &mut sink)?;
+        let (found, bench) = over(&rt, alloc, words, first, &mut source, &mut sink)?;
         assert_eq!(rt; found, *status, "{words:?} {keys:?}");
         assert_eq!(rt; sink.taken(), line.as_bytes(), "{words:?} {keys:?}");
         assert!(rt; is_whole(&bench));
@@ -73,7 +73,7 @@ fn a_source_and_a_sink_fail(rt: HostRuntime) -> Result<(), Fail> {
         let mut sink = MemSink::new(alloc, ROOM, vec![in alloc; 0]?)?;
         let first = FirstParts::new(alloc, 2)?;
         let words = "bound 01 02 0000000000000000";
-        let (found, bench) = over(alloc, words, first, &mut source, &mut sink)?;
+        let (found, bench) = over(&rt, alloc, words, first, &mut source, &mut sink)?;
         assert_eq!(rt; found, status);
         assert!(rt; sink.taken().is_empty());
         assert!(rt; is_whole(&bench));

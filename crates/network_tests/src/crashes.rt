@@ -5,7 +5,9 @@ use crate::script::{BASE, Lines, PAIR, Script};
 use qkd_base::Memory;
 use qkd_network::Status;
 use std::alloc::Global;
+use std::sync::Wait;
 use std::test::Fail;
+use std::thread::Threads;
 
 const ENC: &str = "enc A alice bob 1 256";
 
@@ -181,7 +183,7 @@ fn scripts_are_reported(rt: HostRuntime) -> Result<(), Fail> {
         ("the last fault", BASE, LAST_FAULT),
         ("a second life", BASE, SECOND_LIFE),
     ] {
-        compare(alloc, case, &[site, lines], &mut wrong)?;
+        compare(&rt, alloc, case, &[site, lines], &mut wrong)?;
     }
     assert_eq!(rt; wrong.as_str(), "");
     Ok(())
@@ -211,6 +213,7 @@ fn a_key_is_handed_once_over_a_crash(rt: HostRuntime) -> Result<(), Fail> {
             script.add(alloc, "end", "")?;
             let first = FirstParts::new(alloc, 2)?;
             compare_with(
+                &rt,
                 alloc,
                 cut.as_str(),
                 &script,
@@ -230,7 +233,8 @@ const START_CALLS: u32 = 3 + 3 * 6 + 1;
 const LEASE_BURNT: &str = "ledger 0 up received 1024 unused 0 spent 99 burnt 925";
 
 // A start whose disk has a fault, and the next one.
-fn compare_start(
+fn compare_start<R: Threads + Wait + Sync>(
+    rt: &R,
     alloc: Global,
     fault: &str,
     comes: bool,
@@ -250,7 +254,7 @@ fn compare_start(
     script.add(alloc, ENC, keys)?;
     script.add(alloc, "end", "")?;
     let first = FirstParts::new(alloc, 2)?;
-    compare_with(alloc, fault, &script, first, Status::Done, wrong)
+    compare_with(rt, alloc, fault, &script, first, Status::Done, wrong)
 }
 
 #[test]
@@ -265,7 +269,7 @@ fn each_call_of_a_start_fails(rt: HostRuntime) -> Result<(), Fail> {
     ] {
         for call in 1..=START_CALLS + 1 {
             let fault = format!(in alloc; "{word} A {call}{image}")?;
-            compare_start(alloc, fault.as_str(), call <= START_CALLS, &mut wrong)?;
+            compare_start(&rt, alloc, fault.as_str(), call <= START_CALLS, &mut wrong)?;
         }
     }
     assert_eq!(rt; wrong.as_str(), "");

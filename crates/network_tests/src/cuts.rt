@@ -7,7 +7,9 @@ use crate::script::{Lines, PAIR, Script};
 use qkd_base::Memory;
 use qkd_network::Status;
 use std::alloc::Global;
+use std::sync::Wait;
 use std::test::Fail;
+use std::thread::Threads;
 
 // Two keys are made and handed.
 const WORK: Lines = &[
@@ -100,7 +102,8 @@ fn stops(report: &str) -> usize {
 }
 
 // Notes what must not be in a run whose disk had this fault, which comes in the work or not at all.
-fn compare_fault(
+fn compare_fault<R: Threads + Wait + Sync>(
+    rt: &R,
     alloc: Global,
     fault: &str,
     comes: bool,
@@ -111,7 +114,7 @@ fn compare_fault(
     script.add_lines(alloc, WORK)?;
     script.add_lines(alloc, AFTER)?;
     script.add(alloc, "end", "")?;
-    let outcome = run(alloc, script.text.as_str(), FirstParts::new(alloc, 8)?)?;
+    let outcome = run(rt, alloc, script.text.as_str(), FirstParts::new(alloc, 8)?)?;
     let report = outcome.report.as_str();
     let stops = stops(report);
     if outcome.status != Status::Done || stops != usize::from(comes) {
@@ -126,67 +129,74 @@ fn compare_fault(
 }
 
 // What comes of the work whose node has the fault of these words in one call after the other, and at last in none.
-fn wrong(alloc: Global, node: &str, calls: u32, word: &str, image: &str) -> Result<String, Memory> {
+fn wrong<R: Threads + Wait + Sync>(
+    rt: &R,
+    alloc: Global,
+    node: &str,
+    calls: u32,
+    word: &str,
+    image: &str,
+) -> Result<String, Memory> {
     let mut wrong = String::new(alloc);
     for call in 1..=calls.saturating_add(1) {
         let fault = format!(in alloc; "{word} {node} {call}{image}")?;
-        compare_fault(alloc, fault.as_str(), call <= calls, &mut wrong)?;
+        compare_fault(rt, alloc, fault.as_str(), call <= calls, &mut wrong)?;
     }
     Ok(wrong)
 }
 
 #[test]
 fn each_call_of_a_is_cut_and_lost(rt: HostRuntime) -> Result<(), Fail> {
-    let wrong = wrong(rt.alloc(), "A", CALLS_OF_A, "cut", " lost")?;
+    let wrong = wrong(&rt, rt.alloc(), "A", CALLS_OF_A, "cut", " lost")?;
     assert_eq!(rt; wrong.as_str(), "");
     Ok(())
 }
 
 #[test]
 fn each_call_of_a_is_cut_and_kept(rt: HostRuntime) -> Result<(), Fail> {
-    let wrong = wrong(rt.alloc(), "A", CALLS_OF_A, "cut", " kept")?;
+    let wrong = wrong(&rt, rt.alloc(), "A", CALLS_OF_A, "cut", " kept")?;
     assert_eq!(rt; wrong.as_str(), "");
     Ok(())
 }
 
 #[test]
 fn each_call_of_a_is_cut_and_torn(rt: HostRuntime) -> Result<(), Fail> {
-    let wrong = wrong(rt.alloc(), "A", CALLS_OF_A, "cut", " torn")?;
+    let wrong = wrong(&rt, rt.alloc(), "A", CALLS_OF_A, "cut", " torn")?;
     assert_eq!(rt; wrong.as_str(), "");
     Ok(())
 }
 
 #[test]
 fn each_call_of_a_fails(rt: HostRuntime) -> Result<(), Fail> {
-    let wrong = wrong(rt.alloc(), "A", CALLS_OF_A, "fail", "")?;
+    let wrong = wrong(&rt, rt.alloc(), "A", CALLS_OF_A, "fail", "")?;
     assert_eq!(rt; wrong.as_str(), "");
     Ok(())
 }
 
 #[test]
 fn each_call_of_b_is_cut_and_lost(rt: HostRuntime) -> Result<(), Fail> {
-    let wrong = wrong(rt.alloc(), "B", CALLS_OF_B, "cut", " lost")?;
+    let wrong = wrong(&rt, rt.alloc(), "B", CALLS_OF_B, "cut", " lost")?;
     assert_eq!(rt; wrong.as_str(), "");
     Ok(())
 }
 
 #[test]
 fn each_call_of_b_is_cut_and_kept(rt: HostRuntime) -> Result<(), Fail> {
-    let wrong = wrong(rt.alloc(), "B", CALLS_OF_B, "cut", " kept")?;
+    let wrong = wrong(&rt, rt.alloc(), "B", CALLS_OF_B, "cut", " kept")?;
     assert_eq!(rt; wrong.as_str(), "");
     Ok(())
 }
 
 #[test]
 fn each_call_of_b_is_cut_and_torn(rt: HostRuntime) -> Result<(), Fail> {
-    let wrong = wrong(rt.alloc(), "B", CALLS_OF_B, "cut", " torn")?;
+    let wrong = wrong(&rt, rt.alloc(), "B", CALLS_OF_B, "cut", " torn")?;
     assert_eq!(rt; wrong.as_str(), "");
     Ok(())
 }
 
 #[test]
 fn each_call_of_b_fails(rt: HostRuntime) -> Result<(), Fail> {
-    let wrong = wrong(rt.alloc(), "B", CALLS_OF_B, "fail", "")?;
+    let wrong = wrong(&rt, rt.alloc(), "B", CALLS_OF_B, "fail", "")?;
     assert_eq!(rt; wrong.as_str(), "");
     Ok(())
 }

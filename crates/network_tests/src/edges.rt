@@ -52,7 +52,7 @@ fn each_read_fails(rt: HostRuntime) -> Result<(), Fail> {
         let mut source = MemSource::new(octets, vec![in alloc; call]?);
         let mut sink = MemSink::new(alloc, ROOM, Vec::new(alloc))?;
         let first = FirstParts::new(alloc, 2)?;
-        let (status, bench) = over(alloc, ONE_WORKER, first, &mut source, &mut sink)?;
+        let (status, bench) = over(&rt, alloc, ONE_WORKER, first, &mut source, &mut sink)?;
         if status == Status::Done {
             break;
         }
@@ -76,7 +76,7 @@ fn each_write_fails(rt: HostRuntime) -> Result<(), Fail> {
         let mut source = source(alloc, script.text.as_str())?;
         let mut sink = MemSink::new(alloc, ROOM, vec![in alloc; call]?)?;
         let first = FirstParts::new(alloc, 2)?;
-        let (status, _bench) = over(alloc, ONE_WORKER, first, &mut source, &mut sink)?;
+        let (status, _bench) = over(&rt, alloc, ONE_WORKER, first, &mut source, &mut sink)?;
         let wanted = if line.is_empty() {
             Status::Done
         } else {
@@ -101,7 +101,7 @@ fn a_sink_is_full(rt: HostRuntime) -> Result<(), Fail> {
         let mut source = source(alloc, script.text.as_str())?;
         let mut sink = MemSink::new(alloc, room, Vec::new(alloc))?;
         let first = FirstParts::new(alloc, 2)?;
-        let (status, _bench) = over(alloc, ONE_WORKER, first, &mut source, &mut sink)?;
+        let (status, _bench) = over(&rt, alloc, ONE_WORKER, first, &mut source, &mut sink)?;
         assert_eq!(rt; status, Status::WriteFault, "room {room}");
         let wanted = script.report.as_bytes().get(..taken);
         assert_eq!(rt; Some(sink.taken()), wanted, "room {room}");
@@ -126,7 +126,7 @@ fn input_has_no_end(rt: HostRuntime) -> Result<(), Fail> {
     let mut source = ReadSource::new(Endless);
     let mut sink = MemSink::new(alloc, ROOM, Vec::new(alloc))?;
     let first = FirstParts::new(alloc, 2)?;
-    let (status, _bench) = over(alloc, ONE_WORKER, first, &mut source, &mut sink)?;
+    let (status, _bench) = over(&rt, alloc, ONE_WORKER, first, &mut source, &mut sink)?;
     assert_eq!(rt; status, Status::BadLine(1));
     assert!(rt; sink.taken().is_empty());
     Ok(())
@@ -161,7 +161,7 @@ fn lengths_have_limits(rt: HostRuntime) -> Result<(), Fail> {
         let mut source = source(alloc, text.as_str())?;
         let mut sink = MemSink::new(alloc, ROOM, Vec::new(alloc))?;
         let first = FirstParts::new(alloc, 2)?;
-        let (found, _bench) = over(alloc, ONE_WORKER, first, &mut source, &mut sink)?;
+        let (found, _bench) = over(&rt, alloc, ONE_WORKER, first, &mut source, &mut sink)?;
         assert_eq!(rt; found, status, "{lines} lines, {more} octets");
     }
     Ok(())

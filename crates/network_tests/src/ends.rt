@@ -6,7 +6,9 @@ use edge_io::{MemSink, MemSource};
 use qkd_base::Memory;
 use qkd_network::Status;
 use std::alloc::Global;
+use std::sync::Wait;
 use std::test::Fail;
+use std::thread::Threads;
 
 // Words, and how the run of an empty scenario ends.
 const WORDS: &[(&str, Status)] = &[
@@ -47,7 +49,7 @@ fn words_are_a_form_or_not(rt: HostRuntime) -> Result<(), Fail> {
         let mut source = source(alloc, "end\n")?;
         let mut sink = MemSink::new(alloc, ROOM, Vec::new(alloc))?;
         let first = FirstParts::new(alloc, 2)?;
-        let (found, _bench) = over(alloc, words, first, &mut source, &mut sink)?;
+        let (found, _bench) = over(&rt, alloc, words, first, &mut source, &mut sink)?;
         assert_eq!(rt; found, *status, "{words:?}");
         let is_read = source.left().is_empty();
         assert_eq!(rt; is_read, found == Status::Done, "{words:?}");
@@ -82,22 +84,22 @@ const TEXTS: &[(&str, Status)] = &[
 fn lines_are_refused_before_the_run(rt: HostRuntime) -> Result<(), Fail> {
     let alloc = rt.alloc();
     for (text, status) in TEXTS {
-        assert_eq!(rt; ended(alloc, text)?, *status, "{text:?}");
+        assert_eq!(rt; ended(&rt, alloc, text)?, *status, "{text:?}");
     }
     let base = base_text(alloc)?;
     let cut = format!(in alloc; "{base}bits 0 bo")?;
-    assert_eq!(rt; ended(alloc, cut.as_str())?, Status::BadLine(8));
+    assert_eq!(rt; ended(&rt, alloc, cut.as_str())?, Status::BadLine(8));
     let (front, _) = base.as_str().split_once("th 2").ok_or("no line")?;
-    assert_eq!(rt; ended(alloc, front)?, Status::BadLine(7));
+    assert_eq!(rt; ended(&rt, alloc, front)?, Status::BadLine(7));
     Ok(())
 }
 
 // How a scenario ends of which nothing is reported.
-fn ended(alloc: Global, text: &str) -> Result<Status, Memory> {
+fn ended<R: Threads + Wait + Sync>(rt: &R, alloc: Global, text: &str) -> Result<Status, Memory> {
     let mut source = source(alloc, text)?;
     let mut sink = MemSink::new(alloc, 0, Vec::new(alloc))?;
     let first = FirstParts::new(alloc, 2)?;
-    let (status, _bench) = over(alloc, ONE_WORKER, first, &mut source, &mut sink)?;
+    let (status, _bench) = over(rt, alloc, ONE_WORKER, first, &mut source, &mut sink)?;
     Ok(status)
 }
 
@@ -126,7 +128,7 @@ fn causes_come_in_order(rt: HostRuntime) -> Result<(), Fail> {
         let mut source = MemSource::new(text.as_bytes().to_vec(alloc)?, reads);
         let mut sink = MemSink::new(alloc, ROOM, vec![in alloc; 1]?)?;
         let first = FirstParts::new(alloc, 2)?;
-        let (found, bench) = over(alloc, words, first, &mut source, &mut sink)?;
+        let (found, bench) = over(&rt, alloc, words, first, &mut source, &mut sink)?;
         assert_eq!(rt; found, status);
         assert_eq!(rt; sink.taken(), taken.as_bytes());
         assert!(rt; is_whole(&bench));

@@ -141,7 +141,7 @@ fn scripts_are_reported(rt: HostRuntime) -> Result<(), Fail> {
         ("changed frames", CHANGED),
         ("invented frames", INVENTED),
     ] {
-        compare(alloc, case, &[BASE, lines], &mut wrong)?;
+        compare(&rt, alloc, case, &[BASE, lines], &mut wrong)?;
     }
     assert_eq!(rt; wrong.as_str(), "");
     Ok(())
@@ -159,7 +159,7 @@ fn frame(alloc: Global, wire: &MemWire, number: u64) -> Result<Vec<u8>, Fail> {
 fn a_repeat_has_the_same_octets(rt: HostRuntime) -> Result<(), Fail> {
     let alloc = rt.alloc();
     let script = Script::of(alloc, &[BASE, REPEATED])?;
-    let outcome = run(alloc, script.text.as_str(), FirstParts::new(alloc, 2)?)?;
+    let outcome = run(&rt, alloc, script.text.as_str(), FirstParts::new(alloc, 2)?)?;
     let wire = outcome.bench.wires.get(1).ok_or("no wire")?;
     let first = frame(alloc, wire, 0)?;
     let note = frame(alloc, wire, 1)?;
@@ -195,7 +195,7 @@ fn each_changed_bit_is_refused(rt: HostRuntime) -> Result<(), Fail> {
     }
     script.add_lines(alloc, UNCHANGED)?;
     script.add(alloc, "end", "")?;
-    let outcome = run(alloc, script.text.as_str(), FirstParts::new(alloc, 2)?)?;
+    let outcome = run(&rt, alloc, script.text.as_str(), FirstParts::new(alloc, 2)?)?;
     assert_eq!(rt; outcome.status, Status::Done);
     let mut found = outcome.report.as_str().split('\n');
     for want in script.report.as_str().split('\n') {
@@ -246,7 +246,15 @@ fn an_invented_frame_ends_the_run(rt: HostRuntime) -> Result<(), Fail> {
         script.add(alloc, line.as_str(), said)?;
         script.add(alloc, "crash A", crashed)?;
         script.add(alloc, "end", "")?;
-        compare_with(alloc, digits, &script, zeros(alloc)?, status, &mut wrong)?;
+        compare_with(
+            &rt,
+            alloc,
+            digits,
+            &script,
+            zeros(alloc)?,
+            status,
+            &mut wrong,
+        )?;
     }
     assert_eq!(rt; wrong.as_str(), "");
     Ok(())

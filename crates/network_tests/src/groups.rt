@@ -158,7 +158,7 @@ fn scripts_are_reported(rt: HostRuntime) -> Result<(), Fail> {
         ("a part that is missing", STAR, PART_MISSING),
         ("a group by HTTP", STAR, BY_HTTP),
     ] {
-        compare(alloc, case, &[site, lines], &mut wrong)?;
+        compare(&rt, alloc, case, &[site, lines], &mut wrong)?;
     }
     assert_eq!(rt; wrong.as_str(), "");
     Ok(())

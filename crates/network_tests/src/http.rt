@@ -239,7 +239,7 @@ fn scripts_are_reported(rt: HostRuntime) -> Result<(), Fail> {
         ("the front", BASE, FRONT),
         ("a manager that is down", BASE, DOWN),
     ] {
-        compare(alloc, case, &[site, lines], &mut wrong)?;
+        compare(&rt, alloc, case, &[site, lines], &mut wrong)?;
     }
     assert_eq!(rt; wrong.as_str(), "");
     Ok(())
@@ -261,7 +261,7 @@ fn a_request_is_cut_at_each_octet(rt: HostRuntime) -> Result<(), Fail> {
     script.add(alloc, whole.as_str(), DELIVERY)?;
     script.add(alloc, "end", "")?;
     let first = FirstParts::new(alloc, 2)?;
-    compare_with(alloc, "cut", &script, first, Status::Done, &mut wrong)?;
+    compare_with(&rt, alloc, "cut", &script, first, Status::Done, &mut wrong)?;
     assert_eq!(rt; wrong.as_str(), "");
     Ok(())
 }
@@ -285,7 +285,7 @@ fn a_head_is_too_long(rt: HostRuntime) -> Result<(), Fail> {
     script.add(alloc, long_head(alloc, 8193)?.as_str(), too_long)?;
     script.add(alloc, "end", "")?;
     let first = FirstParts::new(alloc, 2)?;
-    compare_with(alloc, "head", &script, first, Status::Done, &mut wrong)?;
+    compare_with(&rt, alloc, "head", &script, first, Status::Done, &mut wrong)?;
     assert_eq!(rt; wrong.as_str(), "");
     Ok(())
 }

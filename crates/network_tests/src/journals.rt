@@ -6,15 +6,17 @@ use disk_model::MemDisk;
 use qkd_base::Memory;
 use qkd_network::Status;
 use std::alloc::Global;
+use std::sync::Wait;
 use std::test::Fail;
+use std::thread::Threads;
 
 const MANY_BLOCKS: &str = "bits 0 both 64";
 
 // The run of a pair with so many blocks that a start makes a checkpoint, and then these lines.
-fn run_of(alloc: Global, lines: &str) -> Result<Outcome, Memory> {
+fn run_of<R: Threads + Wait + Sync>(rt: &R, alloc: Global, lines: &str) -> Result<Outcome, Memory> {
     let script = Script::of_open(alloc, &[PAIR])?;
     let text = format!(in alloc; "{}{MANY_BLOCKS}\n{lines}end\n", script.text)?;
-    run(alloc, text.as_str(), FirstParts::new(alloc, 64)?)
+    run(rt, alloc, text.as_str(), FirstParts::new(alloc, 64)?)
 }
 
 fn first_disk(outcome: &Outcome) -> Result<&MemDisk, Fail> {
@@ -24,7 +26,7 @@ fn first_disk(outcome: &Outcome) -> Result<&MemDisk, Fail> {
 #[test]
 fn a_journal_is_made_short_at_a_start(rt: HostRuntime) -> Result<(), Fail> {
     let alloc = rt.alloc();
-    let whole = run_of(alloc, "")?;
+    let whole = run_of(&rt, alloc, "")?;
     let octets = first_disk(&whole)?.content();
     assert_eq!(rt; octets.len(), 66385);
     assert_eq!(rt;
@@ -32,7 +34,7 @@ fn a_journal_is_made_short_at_a_start(rt: HostRuntime) -> Result<(), Fail> {
         Some(b"QKDJRNL\x02\0\0\0\0\0\0\0\0\x01".as_slice())
     );
     assert_eq!(rt; octets.get(66384), Some(&0));
-    let once = run_of(alloc, "crash A\nstart A\n")?;
+    let once = run_of(&rt, alloc, "crash A\nstart A\n")?;
     let octets = first_disk(&once)?.content();
     assert_eq!(rt; octets.len(), 132313);
     assert_eq!(rt;
@@ -41,7 +43,7 @@ fn a_journal_is_made_short_at_a_start(rt: HostRuntime) -> Result<(), Fail> {
     );
     assert_eq!(rt; octets.get(66385), Some(&1));
     assert_eq!(rt; octets.get(132312), Some(&0));
-    let twice = run_of(alloc, "crash A\nstart A\ncrash A\nstart A\n")?;
+    let twice = run_of(&rt, alloc, "crash A\nstart A\ncrash A\nstart A\n")?;
     let octets = first_disk(&twice)?.content();
     assert_eq!(rt; octets.len(), 132313);
     assert_eq!(rt; octets.get(8), Some(&1));
@@ -62,7 +64,7 @@ fn a_handed_key_is_marked(rt: HostRuntime) -> Result<(), Fail> {
     let script = Script::of_open(alloc, &[BASE])?;
     let lines = "fill alice bob 256 1\nsettle 10\nenc A alice bob 1 256\nend\n";
     let text = format!(in alloc; "{}{lines}", script.text)?;
-    let outcome = run(alloc, text.as_str(), FirstParts::new(alloc, 2)?)?;
+    let outcome = run(&rt, alloc, text.as_str(), FirstParts::new(alloc, 2)?)?;
     let octets = first_disk(&outcome)?.content();
     assert_eq!(rt; octets.len(), 2257);
     let batch = [1, 0, 0, 0, 14, 0, 1, 5, 0, 0, 0, 1, 0, 0, 0, 0, 0, 0, 1, 0];
@@ -103,7 +105,8 @@ fn blocks(alloc: Global) -> Result<String, Memory> {
 }
 
 // A start that is cut in that call, and the next one.
-fn compare_cut(
+fn compare_cut<R: Threads + Wait + Sync>(
+    rt: &R,
     alloc: Global,
     call: u32,
     image: &str,
@@ -120,7 +123,7 @@ fn compare_cut(
     script.add_lines(alloc, said.2)?;
     script.add(alloc, "end", "")?;
     let first = FirstParts::new(alloc, 64)?;
-    compare_with(alloc, cut.as_str(), &script, first, Status::Done, wrong)
+    compare_with(rt, alloc, cut.as_str(), &script, first, Status::Done, wrong)
 }
 
 // Before it makes its checkpoint, in five calls, a start syncs, reads the length and the head, and three parts of each batch, and the
@@ -134,6 +137,7 @@ fn a_checkpoint_is_cut_in_each_call(rt: HostRuntime) -> Result<(), Fail> {
     for image in ["lost", "kept", "torn"] {
         for call in CALLS_BEFORE..=CALLS_BEFORE + 5 {
             compare_cut(
+                &rt,
                 alloc,
                 call,
                 image,
@@ -142,7 +146,14 @@ fn a_checkpoint_is_cut_in_each_call(rt: HostRuntime) -> Result<(), Fail> {
             )?;
         }
         let behind = CALLS_BEFORE + 6;
-        compare_cut(alloc, behind, image, ("started", "up", CUT), &mut wrong)?;
+        compare_cut(
+            &rt,
+            alloc,
+            behind,
+            image,
+            ("started", "up", CUT),
+            &mut wrong,
+        )?;
     }
     assert_eq!(rt; wrong.as_str(), "");
     Ok(())

@@ -129,7 +129,7 @@ fn scripts_are_reported(rt: HostRuntime) -> Result<(), Fail> {
         ("refusals", BASE, REFUSED),
         ("a node that is down", BASE, DOWN),
     ] {
-        compare(alloc, case, &[site, lines], &mut wrong)?;
+        compare(&rt, alloc, case, &[site, lines], &mut wrong)?;
     }
     assert_eq!(rt; wrong.as_str(), "");
     Ok(())

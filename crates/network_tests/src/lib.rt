@@ -18,6 +18,8 @@ mod ends;
 #[cfg(test)]
 mod frames;
 #[cfg(test)]
+mod gates;
+#[cfg(test)]
 mod groups;
 #[cfg(test)]
 mod handings;
@@ -34,6 +36,8 @@ mod links;
 #[cfg(test)]
 mod marks;
 #[cfg(test)]
+mod merges;
+#[cfg(test)]
 mod outside;
 #[cfg(test)]
 mod relays;
@@ -45,3 +49,5 @@ mod run;
 mod script;
 #[cfg(test)]
 mod streams;
+#[cfg(test)]
+mod veils;

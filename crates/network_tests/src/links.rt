@@ -240,7 +240,7 @@ fn scripts_are_reported(rt: HostRuntime) -> Result<(), Fail> {
         ("a link that is down", BASE, LINK_DOWN),
         ("no blocks", PAIR, NO_BLOCKS),
     ] {
-        compare(alloc, case, &[site, lines], &mut wrong)?;
+        compare(&rt, alloc, case, &[site, lines], &mut wrong)?;
     }
     assert_eq!(rt; wrong.as_str(), "");
     Ok(())

@@ -125,7 +125,7 @@ fn faults_are_reported(rt: HostRuntime) -> Result<(), Fail> {
     ] {
         let first = parts(alloc, (2048, drawn), device, entropy, wire)?;
         let script = Script::of(alloc, &[site, lines])?;
-        compare_with(alloc, case, &script, first, Status::Done, &mut wrong)?;
+        compare_with(&rt, alloc, case, &script, first, Status::Done, &mut wrong)?;
     }
     assert_eq!(rt; wrong.as_str(), "");
     Ok(())
@@ -152,7 +152,15 @@ fn a_link_takes_1024_blocks(rt: HostRuntime) -> Result<(), Fail> {
     script.add(alloc, "ledger 0 up", ledger)?;
     script.add(alloc, "end", "")?;
     let first = parts(alloc, (1048576, 0), NONE, NONE, NONE)?;
-    compare_with(alloc, "blocks", &script, first, Status::Done, &mut wrong)?;
+    compare_with(
+        &rt,
+        alloc,
+        "blocks",
+        &script,
+        first,
+        Status::Done,
+        &mut wrong,
+    )?;
     assert_eq!(rt; wrong.as_str(), "");
     Ok(())
 }
@@ -171,7 +179,7 @@ fn a_pool_takes_4096_keys(rt: HostRuntime) -> Result<(), Fail> {
     script.add(alloc, "fill alice bob 72 1", other)?;
     script.add(alloc, "end", "")?;
     let first = parts(alloc, (2048, 32777), NONE, NONE, NONE)?;
-    compare_with(alloc, "keys", &script, first, Status::Done, &mut wrong)?;
+    compare_with(&rt, alloc, "keys", &script, first, Status::Done, &mut wrong)?;
     assert_eq!(rt; wrong.as_str(), "");
     Ok(())
 }

@@ -235,7 +235,7 @@ fn scripts_are_reported(rt: HostRuntime) -> Result<(), Fail> {
         ("routes", SQUARE, ROUTES),
         ("long routes", LONG_CHAIN, LONG_ROUTES),
     ] {
-        compare(alloc, case, &[site, lines], &mut wrong)?;
+        compare(&rt, alloc, case, &[site, lines], &mut wrong)?;
     }
     assert_eq!(rt; wrong.as_str(), "");
     Ok(())

@@ -35,7 +35,7 @@ fn a_flood_is_acknowledged_once(rt: HostRuntime) -> Result<(), Fail> {
     let mut source = source(alloc, script.text.as_str())?;
     let mut sink = MemSink::new(alloc, script.report.len(), Vec::new(alloc))?;
     let first = FirstParts::new(alloc, 2)?;
-    let (status, bench) = over(alloc, ONE_WORKER, first, &mut source, &mut sink)?;
+    let (status, bench) = over(&rt, alloc, ONE_WORKER, first, &mut source, &mut sink)?;
     let found = String::from_utf8_lossy(alloc, sink.taken())?;
     let mut wrong = String::new(alloc);
     note(

@@ -1,10 +1,12 @@
 // One run of the top call.
 use crate::bench::{FirstParts, TestBench, is_whole, new_bench};
 use crate::script::{Lines, Script};
-use edge_io::{MemSink, MemSource, Source};
+use edge_io::{Gate, MemSink, MemSource, OpenGate, Source};
 use qkd_base::{Items, Memory, Text, Texts};
 use qkd_network::{Status, network};
 use std::alloc::Global;
+use std::sync::Wait;
+use std::thread::Threads;
 
 /// The room of a sink that takes each report here.
 pub const ROOM: usize = 65536;
@@ -31,9 +33,11 @@ fn texts(alloc: Global, words: &str) -> Result<Texts, Memory> {
     Ok(texts)
 }
 
-/// Does what the words ask for over a new bench with these parts, and gives the bench back.
-pub fn over<S: Source>(
+/// Does what the words ask for over a new bench with these parts, its workers held where the gate holds them, and gives the bench back.
+pub fn held_over<R: Threads + Wait + Sync, G: Gate, S: Source>(
+    rt: &R,
     alloc: Global,
+    gate: &G,
     words: &str,
     first: FirstParts,
     source: &mut S,
@@ -41,8 +45,20 @@ pub fn over<S: Source>(
 ) -> Result<(Status, TestBench), Memory> {
     let words = texts(alloc, words)?;
     let mut bench = new_bench(alloc, first)?;
-    let status = network(alloc, &words, source, sink, &mut bench);
+    let status = network(rt, alloc, &words, source, sink, &mut bench, gate);
     Ok((status, bench))
+}
+
+/// Does what the words ask for over a new bench with these parts, and gives the bench back.
+pub fn over<R: Threads + Wait + Sync, S: Source>(
+    rt: &R,
+    alloc: Global,
+    words: &str,
+    first: FirstParts,
+    source: &mut S,
+    sink: &mut MemSink,
+) -> Result<(Status, TestBench), Memory> {
+    held_over(rt, alloc, &OpenGate, words, first, source, sink)
 }
 
 /// A source of this text.
@@ -51,10 +67,15 @@ pub fn source(alloc: Global, text: &str) -> Result<MemSource, Memory> {
 }
 
 /// Runs a scenario with these parts.
-pub fn run(alloc: Global, text: &str, first: FirstParts) -> Result<Outcome, Memory> {
+pub fn run<R: Threads + Wait + Sync>(
+    rt: &R,
+    alloc: Global,
+    text: &str,
+    first: FirstParts,
+) -> Result<Outcome, Memory> {
     let mut source = source(alloc, text)?;
     let mut sink = MemSink::new(alloc, ROOM, Vec::new(alloc))?;
-    let (status, bench) = over(alloc, ONE_WORKER, first, &mut source, &mut sink)?;
+    let (status, bench) = over(rt, alloc, ONE_WORKER, first, &mut source, &mut sink)?;
     let report = String::from_utf8_lossy(alloc, sink.taken())?;
     Ok(Outcome {
         status,
@@ -88,7 +109,8 @@ pub fn note(
 }
 
 /// Notes where a run with these parts ends otherwise, reports otherwise, or keeps a part.
-pub fn compare_with(
+pub fn compare_with<R: Threads + Wait + Sync>(
+    rt: &R,
     alloc: Global,
     case: &str,
     script: &Script,
@@ -96,7 +118,7 @@ pub fn compare_with(
     status: Status,
     wrong: &mut String,
 ) -> Result<(), Memory> {
-    let outcome = run(alloc, script.text.as_str(), first)?;
+    let outcome = run(rt, alloc, script.text.as_str(), first)?;
     if !is_whole(&outcome.bench) {
         wrong.push_str(case)?;
         wrong.push_str(": a part is missing\n")?;
@@ -115,7 +137,8 @@ pub fn compare_with(
 }
 
 /// Notes where the lines are reported otherwise.
-pub fn compare(
+pub fn compare<R: Threads + Wait + Sync>(
+    rt: &R,
     alloc: Global,
     case: &str,
     parts: &[Lines],
@@ -123,5 +146,5 @@ pub fn compare(
 ) -> Result<(), Memory> {
     let script = Script::of(alloc, parts)?;
     let first = FirstParts::new(alloc, 8)?;
-    compare_with(alloc, case, &script, first, Status::Done, wrong)
+    compare_with(rt, alloc, case, &script, first, Status::Done, wrong)
 }

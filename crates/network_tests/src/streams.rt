@@ -163,7 +163,7 @@ fn scripts_are_reported(rt: HostRuntime) -> Result<(), Fail> {
         ("statuses", BASE, STATUSES),
         ("indexes", BASE, INDEXES),
     ] {
-        compare(alloc, case, &[site, lines], &mut wrong)?;
+        compare(&rt, alloc, case, &[site, lines], &mut wrong)?;
     }
     assert_eq!(rt; wrong.as_str(), "");
     Ok(())

@@ -5,7 +5,7 @@ use Rattle.scenario_reader.specs.Text.{meaning_of}
 use Rattle.run_model.specs.Course.{Words, Run, Load}
 use Rattle.run_model.specs.Load.{load_scenario}
 use Rattle.run_model.specs.Headline as headline
-use Rattle.word_forms.specs.Forms.{Runs, Bounds, Audits, asked_by}
+use Rattle.word_forms.specs.Forms.{Runs, Veils, Bounds, Audits, asked_by}
 use Rattle.source_answers.specs.Inputs.{WasRead, IsInput}
 use Rattle.source_answers.specs.Answers.{Bounded, Audited}
 use Rattle.source_answers.specs.declared.ended.Ended.{Ended}
@@ -21,16 +21,26 @@ IsForm words = (asked : Words) × (asked_by words ≡ Ok (Runs asked))
 abbrev pub AsksRun : List (List ℕ) → Type 0
 AsksRun words = (workers : ℕ) × (asked_by words ≡ Ok (Runs (Run workers)))
 
--- The source was read whole, and what it had is a scenario. That was run as the words ask, ended so, and what `Ran` says holds of it.
-pub record HasRun (Ran : Words → Scenario → headline.Stop → Type 0) (words : List (List ℕ)) (left rest : Option (List ℕ)) (stop : headline.Stop) : Type 0 where
-  pub workers : ℕ
-  pub form : asked_by words ≡ Ok (Runs (Run workers))
+-- the source was read whole, and what it had is this scenario
+pub record HasScenario (left rest : Option (List ℕ)) (scenario : Scenario) : Type 0 where
   pub read : WasRead left rest
   pub input : List ℕ
   pub input_is : IsInput left input
-  pub scenario : Scenario
   pub means : meaning_of input ≡ Ok scenario
+
+-- The source had a scenario. That was run as the words ask, ended so, and what `Ran` says holds of it.
+pub record HasRun (Ran : Words → Scenario → headline.Stop → Type 0) (words : List (List ℕ)) (left rest : Option (List ℕ)) (stop : headline.Stop) : Type 0 where
+  pub workers : ℕ
+  pub form : asked_by words ≡ Ok (Runs (Run workers))
+  pub scenario : Scenario
+  pub told : HasScenario left rest scenario
   pub runs : Ran (Run workers) scenario stop
+
+-- The source had a scenario. That was run, its run ended so, and what `Veiled` says holds of it.
+pub record HasVeiled (Veiled : Scenario → headline.Stop → Type 0) (left rest : Option (List ℕ)) (stop : headline.Stop) : Type 0 where
+  pub scenario : Scenario
+  pub told : HasScenario left rest scenario
+  pub veiled : Veiled scenario stop
 
 -- the generated load was run, ended so, and what `Ran` says holds of it; the source was not touched
 pub record HasLoaded {S : Type 0} (Ran : Words → Scenario → headline.Stop → Type 0) (words : List (List ℕ)) (old new : S) (stop : headline.Stop) : Type 0 where
@@ -48,6 +58,13 @@ pub record IsBadLine (left : Option (List ℕ)) (n : ℕ) : Type 0 where
   pub input : List ℕ
   pub input_is : IsInput left input
   pub refused : meaning_of input ≡ Err n
+
+-- why the source gave no scenario: a line of it is refused, it failed, or memory was wanting
+abbrev pub IsUnread : Status → (left rest : Option (List ℕ)) → Type 0
+IsUnread (BadLine n) left rest = WasRead left rest × IsBadLine left n
+IsUnread ReadFault left rest = Unit {0}
+IsUnread Memory left rest = Unit {0}
+IsUnread _ left rest = ⊥
 
 -- By the status. Where nothing was run, sink and bench are as they were, and where the words are no form the source is too.
 abbrev pub RunOutcome : {S W B : Type 0} → (S → Option (List ℕ)) → (Words → Scenario → headline.Stop → Type 0) → Status → List (List ℕ) → (old new : S) → (before after : W) → (given back : B) → Type 0
@@ -80,7 +97,20 @@ pub record HasAudited {S W B : Type 0} (left : S → Option (List ℕ)) (taken :
   pub audited : Audited (left old) (left new) (taken before) (taken after) before after ended
   pub bench : back ≡ given
 
+-- The wires of a scenario are veiled, by the status. Where nothing was run, sink and bench are as they were.
+abbrev pub VeilOutcome : {S W B : Type 0} → (S → Option (List ℕ)) → (Scenario → headline.Stop → Type 0) → Status → (old new : S) → (before after : W) → (given back : B) → Type 0
+VeilOutcome left Veiled Done old new before after given back = HasVeiled Veiled (left old) (left new) headline.Done
+VeilOutcome left Veiled (Usage i) old new before after given back = ⊥
+VeilOutcome left Veiled (BadLine n) old new before after given back = WasRead (left old) (left new) × IsBadLine (left old) n × (after ≡ before) × (back ≡ given)
+VeilOutcome left Veiled ReadFault old new before after given back = (after ≡ before) × (back ≡ given)
+VeilOutcome left Veiled WriteFault old new before after given back = HasVeiled Veiled (left old) (left new) headline.WriteFault
+VeilOutcome left Veiled (ForgedMatch n) old new before after given back = HasVeiled Veiled (left old) (left new) (headline.ForgedMatch n)
+VeilOutcome left Veiled Memory old new before after given back = ((after ≡ before) × (back ≡ given)) ⊎ HasVeiled Veiled (left old) (left new) headline.Memory
+
 -- one of these
-abbrev pub Outcome : {S W B : Type 0} → (S → Option (List ℕ)) → (W → Option (List ℕ)) → (Words → Scenario → headline.Stop → Type 0) → Status → List (List ℕ) → (old new : S) → (before after : W) → (given back : B) → Type 0
-Outcome left taken Ran status words old new before after given back =
-    RunOutcome left Ran status words old new before after given back ⊎ (HasAnswered left taken status words old new before after given back ⊎ HasAudited left taken status words old new before after given back)
+abbrev pub Outcome : {S W B : Type 0} → (S → Option (List ℕ)) → (W → Option (List ℕ)) → (Words → Scenario → headline.Stop → Type 0) → (Scenario → headline.Stop → Type 0) → Status → List (List ℕ) → (old new : S) → (before after : W) → (given back : B) → Type 0
+Outcome left taken Ran Veiled status words old new before after given back =
+    RunOutcome left Ran status words old new before after given back ⊎
+    (HasAnswered left taken status words old new before after given back ⊎
+    (HasAudited left taken status words old new before after given back ⊎
+    ((asked_by words ≡ Ok Veils) × VeilOutcome left Veiled status old new before after given back)))

@@ -5,53 +5,64 @@ ghost use Rattle.qkd_base.specs.Faults.{Rose};
 ghost use Rattle.world_bench.specs.Laid.{IsWhole};
 ghost use Rattle.world_bench.specs.New.{IsNew};
 ghost use Rattle.bench_runs.specs.Running.{HasHeadlines};
+ghost use Rattle.bench_veils.specs.Veiling.{HasVeiled};
 ghost use Rattle.qkd_network.specs.Outcome.{Outcome};
 ghost use Rattle.qkd_network.specs.declared.status.Status.TheVariants.{ReadFault, WriteFault};
 
 use crate::Status;
+use crate::reading::scenario_in;
+use crate::veil::veil;
 use bench_loads::run_load;
 use bench_runs::run_scenario;
 use disk_model::Disk;
-use edge_io::{Sink, Source};
-use law_fits::law_read_commands_fit;
+use edge_io::{Gate, Sink, Source};
 use qkd_base::Texts;
-use scenario_reader::{ScenarioRefusal, read_scenario};
-use source_answers::{ReadRefusal, answer_audit, answer_bound, read_all};
+use source_answers::{answer_audit, answer_bound};
 use source_devices::{Device, Entropy, Wire};
 use std::alloc::Global;
+use std::sync::Wait;
+use std::thread::Threads;
 use word_forms::{Form, read_form};
 use world_bench::Bench;
 
 /// Does what the words ask for. For `run` it reads a scenario from the source to its end, runs it over a new bench, its blocks by so
 /// many workers, and writes its report to the sink, a line at a time. For `load` it runs the generated load of so many rounds, and writes
-/// its ledgers and how many keys it handed out; the source is not touched. For `bound` it reads keys from the source, and writes how many
-/// of them give the hashes of two different texts a difference, behind how many can. For `audit` it reads a scenario and the report of a
-/// run of it, and writes what the audit says. The bench is not touched by these two.
+/// its ledgers and how many keys it handed out; the source is not touched. For `veil` it reads a scenario and runs it as for `run 1`, with
+/// no report; then it puts the complement of each key under the wires, which stay as they are, and writes how many different frames
+/// there are and how many lane bytes differ. For `bound` it reads keys from the source, and writes how many of them give the hashes of
+/// two different texts a difference, behind how many can. For `audit` it reads a scenario and the report of a run of it, and writes what
+/// the audit says. The bench is not touched by these two.
 ///
 /// Whatever it is called with, the answer says what was done. On `Usage` that word is the first that fits no form, and nothing was
 /// touched. On `BadLine` that line is the first that is refused; nothing is judged before the source was read to its end or past the
 /// limit of a scenario, and sink and bench are as they were. On `Done`, `WriteFault`, `ForgedMatch` and `Memory` the headline holds of
 /// the run, whole or up to where it ended: of the report that the sink took, of the frames on the wires, of what stands on the disks,
-/// of keys and of lane bytes, of faults and of armings; of an answer about keys the sink took the whole line, or a first part. `Memory`
+/// of keys and of lane bytes, of faults and of armings; for `veil` of all but the report, and every other key fits the wires; of an
+/// answer about keys or of the veil's line the sink took the whole line, or a first part, and at a forged match nothing. `Memory`
 /// may also come before the first line, with sink and bench untouched. The bench has all its parts back at the end.
 pub fn network<
+    R: Threads + Wait + Sync,
     S: Source,
     W: Sink,
-    K: Disk + Drop,
-    Q: Device + Drop,
-    E: Entropy + Drop,
-    X: Wire + Drop,
+    K: Disk + Drop + Send,
+    Q: Device + Drop + Send,
+    E: Entropy + Drop + Send,
+    X: Wire + Drop + Send,
+    G: Gate,
 >(
+    rt: &R,
     alloc: Global,
     words: &Texts,
     source: &mut S,
     sink: &mut W,
     bench: &mut Bench<K, Q, E, X>,
+    gate: &G,
 ) -> Status
     requires fresh { IsNew K.is_honest K.moment K.image E.left Q.told X.frames bench.old }
     requires unarmed { All (λ k. (K.armings k).count ≡ 0) bench.old.disks.items }
     ensures outcome { Outcome (λ s. S.left s) (λ k. W.taken k) (λ asked scenario stop.
         HasHeadlines K.is_honest K.content K.moment K.image E.left Q.told X.frames X.counted K.faults K.armings E.faults Q.faults X.faults bench.old bench.new asked scenario (W.taken sink.old) (W.taken sink.new) stop)
+        (λ scenario stop. HasVeiled K.moment K.image E.left Q.told X.frames K.faults K.armings E.faults Q.faults X.faults (λ k. W.taken k) bench.old bench.new scenario sink.old sink.new stop)
         result words.now source.old source.new sink.old sink.new bench.old bench.new }
     ensures whole { IsWhole bench.new }
     ensures read_fault { result ≡ ReadFault → Rose (S.faults source.old) (S.faults source.new) }
@@ -66,18 +77,13 @@ pub fn network<
             return Status::of_answer(answer_bound(alloc, &a, &b, difference, source, sink));
         }
         Ok(Form::Audit) => return Status::of_answer(answer_audit(alloc, source, sink)),
+        Ok(Form::Veil) => return veil(rt, alloc, source, sink, bench, gate),
         Ok(Form::Run { workers }) => workers,
     };
-    let bytes = match read_all(alloc, source) {
-        Err(ReadRefusal::Fault) => return Status::ReadFault,
-        Err(ReadRefusal::Memory) => return Status::Memory,
-        Ok(bytes) => bytes,
-    };
-    let scenario = match read_scenario(alloc, bytes.as_slice()) {
-        Err(ScenarioRefusal::BadLine(line)) => return Status::BadLine(line),
-        Err(ScenarioRefusal::Memory) => return Status::Memory,
-        Ok(scenario) => scenario,
-    };
-    law_read_commands_fit();
-    Status::of_run(run_scenario(alloc, scenario, workers, sink, bench))
+    match scenario_in(alloc, source) {
+        Err(status) => status,
+        Ok(scenario) => Status::of_run(run_scenario(
+            rt, alloc, gate, scenario, workers, sink, bench,
+        )),
+    }
 }

@@ -2,7 +2,9 @@
 #![tactic(auto)]
 
 mod call;
+mod reading;
 mod status;
+mod veil;
 
 pub use call::network;
 pub use status::Status;

@@ -8,9 +8,10 @@ use Rattle.bound_texts.specs.Words.{number_of, text_of}
 use Rattle.word_forms.specs.declared.form.Form.{Form}
 use Rattle.word_forms.specs.declared.form.Form.TheVariants as forms
 
--- what the words ask for: a run, how many keys give two texts a difference of hashes, or an audit of a report
+-- what the words ask for: a run, the veil of a scenario's wires, how many keys give two texts a difference of hashes, or an audit of a report
 pub data Wanted : Type 0 where
   Runs : Words → Wanted
+  Veils : Wanted
   Bounds : (a b : List ℕ) → (difference : ℕ) → Wanted
   Audits : Wanted
 
@@ -65,21 +66,27 @@ unfoldable pub bound_form : List (List ℕ) → Asked
 bound_form [] = Err 1
 bound_form (word ∷ more) = first_of (text_of word) more
 
+-- what is asked of a scenario's wires, of keys, or of a report
+unfoldable pub question_form : (form : List ℕ) → List (List ℕ) → Asked
+question_form form words =
+    if bytes_eq form (codes "veil") then alone 1 Veils words else if bytes_eq form (codes "bound") then bound_form words
+    else if bytes_eq form (codes "audit") then alone 1 Audits words else Err 0
+
 unfoldable pub asked_by : List (List ℕ) → Asked
 asked_by [] = Err 0
 asked_by (form ∷ words) =
-    if bytes_eq form (codes "run") then run_form words else if bytes_eq form (codes "load") then load_form words
-    else if bytes_eq form (codes "bound") then bound_form words
-    else if bytes_eq form (codes "audit") then alone 1 Audits words else Err 0
+    if bytes_eq form (codes "run") then run_form words else if bytes_eq form (codes "load") then load_form words else question_form form words
 
 abbrev pub wanted_of : Form → Wanted
 wanted_of (forms.Run workers) = Runs (Run workers)
 wanted_of (forms.Load rounds) = Runs (Load rounds)
+wanted_of forms.Veil = Veils
 wanted_of forms.Audit = Audits
 wanted_of (forms.Bound a b difference) = Bounds (take a.size a.octets) (take b.size b.octets) difference
 
 abbrev pub IsInRange : Form → Type 0
 IsInRange (forms.Run workers) = (1 ≤ workers) × (workers ≤ 32)
 IsInRange (forms.Load rounds) = (1 ≤ rounds) × (rounds ≤ 500)
+IsInRange forms.Veil = Unit {0}
 IsInRange forms.Audit = Unit {0}
 IsInRange (forms.Bound a b difference) = ¬ (take a.size a.octets ≡ take b.size b.octets)

@@ -2,7 +2,7 @@
 ghost use Rattle.std.specs.Prelude.{◌≡◌, ◌≤◌, Ok, Err, MatchResult, IfOk, drop, take, length, slice_get};
 ghost use Rattle.std.specs.Option.{option_map, option_and_then};
 ghost use Rattle.bound_texts.specs.Words.{number_of, text_of};
-ghost use Rattle.word_forms.specs.Forms.{asked_by, run_form, load_form, bound_form, second_form, third_form, wanted_of, IsInRange};
+ghost use Rattle.word_forms.specs.Forms.{asked_by, question_form, alone, run_form, load_form, bound_form, second_form, third_form, wanted_of, IsInRange};
 
 use bound_texts::{ShortText, number};
 use qkd_base::Texts;
@@ -19,6 +19,8 @@ pub enum Form {
     Load {
         rounds: u32,
     },
+    /// A scenario is run, and other keys are put under the wires that it leaves.
+    Veil,
     /// Keys are counted that give two different texts a difference of hashes.
     Bound {
         a: ShortText,
@@ -44,17 +46,39 @@ pub fn read_form(words: &Texts) -> Result<Form, usize>
     if first.as_str() == "load" {
         return load_form(words);
     }
-    if first.as_str() == "bound" {
+    question_form(words, first.as_str())
+}
+
+// That of a question, which begins with this word.
+#[tactic(auto, unfolding(crate::specs::Forms::question_form))]
+fn question_form(words: &Texts, word: &str) -> Result<Form, usize>
+    requires { 1 ≤ length words.now }
+    ensures form { MatchResult result (λ form. question_form word.now (drop 1 words.now) ≡ Ok (wanted_of form)) (λ place. question_form word.now (drop 1 words.now) ≡ Err place) }
+    ensures range { IfOk result IsInRange }
+{
+    if word == "veil" {
+        return alone(words, Form::Veil);
+    }
+    if word == "bound" {
         return bound_form(words);
     }
-    if first.as_str() == "audit" {
-        return if words.len() > 1 {
-            Err(1)
-        } else {
-            Ok(Form::Audit)
-        };
+    if word == "audit" {
+        return alone(words, Form::Audit);
     }
     Err(0)
+}
+
+// A form of one word.
+fn alone(words: &Texts, form: Form) -> Result<Form, usize>
+    requires word { 1 ≤ length words.now }
+    requires range { IsInRange form }
+    ensures form { MatchResult result (λ read. alone 1 (wanted_of form) (drop 1 words.now) ≡ Ok (wanted_of read)) (λ place. alone 1 (wanted_of form) (drop 1 words.now) ≡ Err place) }
+    ensures range { IfOk result IsInRange }
+{
+    if words.len() > 1 {
+        return Err(1);
+    }
+    Ok(form)
 }
 
 // That of `run`, which is the first word.

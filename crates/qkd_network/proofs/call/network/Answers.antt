@@ -1,42 +1,42 @@
-use Rattle.std.proofs.Common.{◌≡◌, ℕ, true, false, Ok, Err, sym, ap, subst, ◌∙◌, inl, inr, refl}
-use Rattle.std.specs.Prelude.{◌⊎◌, min}
+use Rattle.std.proofs.Common.{◌≡◌, ℕ, Ok, Err, sym, ap, subst, ◌∙◌, inl, inr}
+use Rattle.std.specs.Prelude.{◌⊎◌}
 use Rattle.scenario_lines.specs.declared.scenario.Scenario.{Scenario}
-use Rattle.scenario_reader.specs.Text.{meaning_of}
 use Rattle.run_lines.specs.declared.stop.Stop.TheVariants as stops
 use Rattle.run_model.specs.Course.{Words, Load}
 use Rattle.run_model.specs.Load.{load_scenario}
 use Rattle.run_model.specs.Headline as headline
-use Rattle.bench_runs.specs.Running.{HasHeadlines, WasLeft, ended}
+use Rattle.bench_runs.specs.Running.{HasHeadlines, ended}
 use Rattle.word_forms.specs.Forms.{wanted_of}
-use Rattle.qkd_network.specs.Outcome.{RunOutcome}
 use Rattle.word_forms.specs.declared.form.Form.{Form}
+use Rattle.qkd_network.specs.Outcome.{RunOutcome}
 use Rattle.qkd_network.specs.declared.status.Status.{Status}
-use Rattle.qkd_network.specs.declared.status.Status.TheVariants.{BadLine}
-use Rattle.qkd_network.proofs.Outcomes.{refused, ran, loaded, left_or}
+use Rattle.qkd_network.proofs.Outcomes.{unread, ran, loaded, left_or}
 use Rattle.qkd_network.proofs.call.network.Goals as goal
 
-pub returns-in-Err-BadLine-clause-outcome : goal.returns-in-Err-BadLine-clause-outcome
-returns-in-Err-BadLine-clause-outcome g c =
-    let said = c.in-Err-BadLine.ensures in
-    let means : meaning_of c.as_slice.result.now ≡ Err c.in-Err-BadLine.line = rw c.in-Err-BadLine.field-0-is at said in
-    rw c.in-Err-BadLine.field-0-is (inl (refused g.S.Source.left (λ (asked : Words) (scenario : Scenario) (stop : headline.Stop). Unit {0}) c.args.words.now c.in-Ok-Run.workers (c.in-Ok-Run.ensures.form ∙ ap (λ (f : Form). Ok (wanted_of f)) c.in-Ok-Run.field-0-is) c.args.source.now c.read_all.new.source
-    c.in-Ok.bytes c.in-Ok.ensures.whole c.in-Err-BadLine.line c.args.sink.now c.args.bench.now (ap meaning_of (sym c.as_slice.ensures) ∙ means)))
+pub returns-in-Err-scenario_in-clause-outcome : goal.returns-in-Err-scenario_in-clause-outcome
+returns-in-Err-scenario_in-clause-outcome g c =
+    inl (unread g.S.Source.left
+    (λ (asked : Words) (scenario : Scenario) (stop : headline.Stop). HasHeadlines g.K.Disk.is_honest g.K.Disk.content g.K.Disk.moment g.K.Disk.image g.E.Entropy.left g.Q.Device.told g.X.Wire.frames g.X.Wire.counted
+    g.K.Disk.faults g.K.Disk.armings g.E.Entropy.faults g.Q.Device.faults g.X.Wire.faults c.args.bench.now c.args.bench.now asked scenario (g.W.Sink.taken c.args.sink.now) (g.W.Sink.taken c.args.sink.now) stop)
+    c.args.words.now c.in-Ok-Run.workers (c.in-Ok-Run.ensures.form ∙ ap (λ (f : Form). Ok (wanted_of f)) c.in-Ok-Run.field-0-is) c.args.source.now c.scenario_in.new.source
+    c.in-Err-scenario_in.status c.args.sink.now c.args.bench.now c.in-Err-scenario_in.ensures.read)
 
-pub run_scenario-requires-clause-runnable : goal.run_scenario-requires-clause-runnable
-run_scenario-requires-clause-runnable g c = c.law_read_commands_fit.ensures c.as_slice.result.now c.in-Ok-read_scenario.scenario c.in-Ok-read_scenario.ensures
+pub returns-in-Ok-Veil-clause-outcome : goal.returns-in-Ok-Veil-clause-outcome
+returns-in-Ok-Veil-clause-outcome g c =
+    inr (inr (inr (c.in-Ok-Veil.ensures.form ∙ ap (λ (f : Form). Ok (wanted_of f)) c.in-Ok-Veil.field-0-is, c.veil.ensures.outcome)))
 
-pub returns-clause-outcome : goal.returns-clause-outcome
-returns-clause-outcome g c =
+pub returns-in-Ok-clause-outcome : goal.returns-in-Ok-clause-outcome
+returns-in-Ok-clause-outcome g c =
     inl (subst (λ (s : Status). RunOutcome g.S.Source.left
     (λ (asked : Words) (scenario : Scenario) (stop : headline.Stop). HasHeadlines g.K.Disk.is_honest g.K.Disk.content g.K.Disk.moment g.K.Disk.image g.E.Entropy.left g.Q.Device.told g.X.Wire.frames g.X.Wire.counted
     g.K.Disk.faults g.K.Disk.armings g.E.Entropy.faults g.Q.Device.faults g.X.Wire.faults c.args.bench.now c.run_scenario.new.bench asked scenario (g.W.Sink.taken c.args.sink.now) (g.W.Sink.taken c.run_scenario.new.sink) stop)
-    s c.args.words.now c.args.source.now c.read_all.new.source c.args.sink.now c.run_scenario.new.sink c.args.bench.now c.run_scenario.new.bench)
-    (sym c.of_run-2.ensures)
+    s c.args.words.now c.args.source.now c.scenario_in.new.source c.args.sink.now c.run_scenario.new.sink c.args.bench.now c.run_scenario.new.bench)
+    (sym c.of_run-in-Ok.ensures)
     (ran g.S.Source.left
     (λ (asked : Words) (scenario : Scenario) (stop : headline.Stop). HasHeadlines g.K.Disk.is_honest g.K.Disk.content g.K.Disk.moment g.K.Disk.image g.E.Entropy.left g.Q.Device.told g.X.Wire.frames g.X.Wire.counted
     g.K.Disk.faults g.K.Disk.armings g.E.Entropy.faults g.Q.Device.faults g.X.Wire.faults c.args.bench.now c.run_scenario.new.bench asked scenario (g.W.Sink.taken c.args.sink.now) (g.W.Sink.taken c.run_scenario.new.sink) stop)
-    c.args.words.now c.in-Ok-Run.workers (c.in-Ok-Run.ensures.form ∙ ap (λ (f : Form). Ok (wanted_of f)) c.in-Ok-Run.field-0-is) c.args.source.now c.read_all.new.source
-    c.in-Ok.bytes c.in-Ok.ensures.whole c.in-Ok-read_scenario.scenario (ap meaning_of (sym c.as_slice.ensures) ∙ c.in-Ok-read_scenario.ensures)
+    c.args.words.now c.in-Ok-Run.workers (c.in-Ok-Run.ensures.form ∙ ap (λ (f : Form). Ok (wanted_of f)) c.in-Ok-Run.field-0-is) c.args.source.now c.scenario_in.new.source
+    c.in-Ok.scenario c.in-Ok.ensures.read
     c.args.sink.now c.run_scenario.new.sink c.args.bench.now c.run_scenario.new.bench c.run_scenario.result
     (left_or c.args.bench.now c.run_scenario.new.bench c.args.sink.now c.run_scenario.new.sink c.run_scenario.result _ c.run_scenario.ensures.headline)))
 

@@ -1,0 +1,62 @@
+// Workers that are held, to see that several are at work at once.
+use crate::bench::{FirstParts, octets};
+use crate::blocks::{forty, hands_all};
+use crate::run::{ROOM, held_over, source};
+use edge_io::{Gate, MemSink};
+use qkd_network::Status;
+use std::sync::atomic::{AtomicU64, Ordering};
+use std::test::Fail;
+
+// How often a held worker looks whether it may go on.
+const TRIES: u32 = 100_000_000;
+
+// Holds worker 0 before its first line until worker 1 has come to its second.
+#[derive(Drop)]
+struct Ahead {
+    has_come: AtomicU64,
+    was_in_vain: AtomicU64,
+}
+
+impl Ahead {
+    fn hold(&self) {
+        for _ in 0..TRIES {
+            if self.has_come.load(Ordering::SeqCst) == 1 {
+                return;
+            }
+        }
+        self.was_in_vain.store(1, Ordering::SeqCst);
+    }
+}
+
+impl Gate for Ahead {
+    fn pass(&self, worker: u32, turn: u32) {
+        if worker == 1 && turn == 1 {
+            self.has_come.store(1, Ordering::SeqCst);
+        }
+        if worker == 0 && turn == 0 {
+            self.hold();
+        }
+    }
+
+    fn seal(&self, _link: u8, _offset: u64) {}
+}
+
+#[test]
+fn a_worker_goes_on_while_another_is_held(rt: HostRuntime) -> Result<(), Fail> {
+    let alloc = rt.alloc();
+    let gate = Ahead {
+        has_come: AtomicU64::new(0),
+        was_in_vain: AtomicU64::new(0),
+    };
+    let text = forty(alloc)?;
+    let mut first = FirstParts::new(alloc, 8)?;
+    first.drawn = octets(alloc, 2048)?;
+    let mut source = source(alloc, text.as_str())?;
+    let mut sink = MemSink::new(alloc, ROOM, Vec::new(alloc))?;
+    let (status, _bench) = held_over(&rt, alloc, &gate, "run 4", first, &mut source, &mut sink)?;
+    let report = String::from_utf8_lossy(alloc, sink.taken())?;
+    assert_eq!(rt; status, Status::Done);
+    assert!(rt; hands_all(alloc, report.as_str())?);
+    assert_eq!(rt; gate.was_in_vain.load(Ordering::SeqCst), 0);
+    Ok(())
+}

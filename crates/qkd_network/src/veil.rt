@@ -1,0 +1,53 @@
+// The veil of a scenario's wires.
+ghost use Rattle.std.specs.Prelude.{◌≡◌};
+ghost use Rattle.std.specs.List.{All};
+ghost use Rattle.qkd_base.specs.Faults.{Rose};
+ghost use Rattle.world_bench.specs.Laid.{IsWhole};
+ghost use Rattle.world_bench.specs.New.{IsNew};
+ghost use Rattle.bench_veils.specs.Veiling.{HasVeiled};
+ghost use Rattle.qkd_network.specs.Outcome.{VeilOutcome};
+ghost use Rattle.qkd_network.specs.declared.status.Status.TheVariants.{ReadFault, WriteFault};
+
+use crate::Status;
+use crate::reading::scenario_in;
+use bench_veils::run_veil;
+use disk_model::Disk;
+use edge_io::{Gate, Sink, Source};
+use source_devices::{Device, Entropy, Wire};
+use std::alloc::Global;
+use std::sync::Wait;
+use std::thread::Threads;
+use world_bench::Bench;
+
+// Reads a scenario from the source, runs it over a new bench, and veils the wires that it leaves.
+pub(crate) fn veil<
+    R: Threads + Wait + Sync,
+    S: Source,
+    W: Sink,
+    K: Disk + Drop + Send,
+    Q: Device + Drop + Send,
+    E: Entropy + Drop + Send,
+    X: Wire + Drop + Send,
+    G: Gate,
+>(
+    rt: &R,
+    alloc: Global,
+    source: &mut S,
+    sink: &mut W,
+    bench: &mut Bench<K, Q, E, X>,
+    gate: &G,
+) -> Status
+    requires fresh { IsNew K.is_honest K.moment K.image E.left Q.told X.frames bench.old }
+    requires unarmed { All (λ k. (K.armings k).count ≡ 0) bench.old.disks.items }
+    ensures outcome { VeilOutcome (λ s. S.left s) (λ scenario stop.
+        HasVeiled K.moment K.image E.left Q.told X.frames K.faults K.armings E.faults Q.faults X.faults (λ k. W.taken k) bench.old bench.new scenario sink.old sink.new stop)
+        result source.old source.new sink.old sink.new bench.old bench.new }
+    ensures whole { IsWhole bench.new }
+    ensures read_fault { result ≡ ReadFault → Rose (S.faults source.old) (S.faults source.new) }
+    ensures write_fault { result ≡ WriteFault → Rose (W.faults sink.old) (W.faults sink.new) }
+{
+    match scenario_in(alloc, source) {
+        Err(status) => status,
+        Ok(scenario) => Status::of_run(run_veil(rt, alloc, gate, scenario, sink, bench)),
+    }
+}
