@@ -7,11 +7,14 @@ use crate::{Ended, Failed, Listener, ReadSource, WriteSink};
 use std::io;
 use std::marker::Model;
 use std::net::{SocketAddr, TcpListener, TcpStream};
+use std::time::Duration;
 
-/// A listener over the system's TCP. It tells nothing of its connections, and counts each error.
+/// A listener over the system's TCP. It tells nothing of its connections, and counts each error. A read or a write at a
+/// connection that waits longer than its patience fails, so that a peer that does nothing ends its own connection alone.
 #[derive(Drop)]
 pub struct TcpDoor {
     listener: TcpListener,
+    patience: Duration,
     port: u16,
     accepted: u64,
     finished: u64,
@@ -31,11 +34,12 @@ impl Model for TcpDoor {
 
 impl TcpDoor {
     /// A listener of this port that has accepted nothing yet.
-    pub fn new(listener: TcpListener, port: u16) -> Self
+    pub fn new(listener: TcpListener, port: u16, patience: Duration) -> Self
         ensures { result ≡ record { port = port; accepted = 0; finished = 0; faults = 0 } }
     {
         TcpDoor {
             listener,
+            patience,
             port,
             accepted: 0,
             finished: 0,
@@ -50,8 +54,10 @@ impl TcpDoor {
 }
 
 // The next connection, twice: to read from and to write to.
-fn next_stream(listener: &TcpListener) -> io::Result<(TcpStream, TcpStream)> {
+fn next_stream(listener: &TcpListener, patience: Duration) -> io::Result<(TcpStream, TcpStream)> {
     let (stream, _) = listener.accept()?;
+    stream.set_read_timeout(Some(patience))?;
+    stream.set_write_timeout(Some(patience))?;
     let other = stream.try_clone()?;
     Ok((stream, other))
 }
@@ -79,7 +85,7 @@ impl Listener for TcpDoor {
         ensures err { OnErr result (self.new ≡ record self.old { faults = one_more self.old.faults }) }
         ensures cause { HasCause self.old.faults self.new.faults result }
     {
-        match next_stream(&self.listener) {
+        match next_stream(&self.listener, self.patience) {
             Ok((input, output)) => {
                 self.accepted += 1;
                 Ok((ReadSource::new(input), WriteSink::new(output)))
@@ -105,7 +111,7 @@ impl Listener for TcpDoor {
         ensures cause { HasCause self.old.faults self.new.faults result }
     {
         match self.listener.try_clone() {
-            Ok(listener) => Ok(TcpDoor::new(listener, self.port)),
+            Ok(listener) => Ok(TcpDoor::new(listener, self.port, self.patience)),
             Err(_) => {
                 self.faults = self.faults.saturating_add(1);
                 Err(Failed)

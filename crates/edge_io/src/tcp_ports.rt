@@ -9,11 +9,13 @@ use crate::tcp_door::TcpDoor;
 use crate::{Failed, Ports};
 use std::marker::Model;
 use std::net::{Ipv4Addr, Net, TcpListener, TcpStream};
+use std::time::Duration;
 
 /// The TCP ports of the loopback address 127.0.0.1. It tells nothing of what it was asked, and counts each error.
 #[derive(Drop)]
 pub struct TcpPorts<'a, R> {
     net: &'a R,
+    patience: Duration,
     faults: u64,
 }
 
@@ -26,11 +28,16 @@ impl<'a, R> Model for TcpPorts<'a, R> {
 }
 
 impl<'a, R> TcpPorts<'a, R> {
-    /// The ports of this machine, none of them opened yet.
-    pub fn new(net: &'a R) -> Self
+    /// The ports of this machine, none of them opened yet. A read or a write at a connection fails where it waits longer than
+    /// the patience, which is more than nothing.
+    pub fn new(net: &'a R, patience: Duration) -> Self
         ensures { result ≡ 0 }
     {
-        TcpPorts { net, faults: 0 }
+        TcpPorts {
+            net,
+            patience,
+            faults: 0,
+        }
     }
 }
 
@@ -52,7 +59,7 @@ impl<'a, R: Net<Listener = TcpListener, Stream = TcpStream>> Ports for TcpPorts<
         ensures once { OnErr result (self.new ≡ one_more self.old) }
     {
         match TcpListener::bind(self.net, (Ipv4Addr::LOCALHOST, port)) {
-            Ok(listener) => Ok(TcpDoor::new(listener, port)),
+            Ok(listener) => Ok(TcpDoor::new(listener, port, self.patience)),
             Err(_) => {
                 self.faults = self.faults.saturating_add(1);
                 Err(Failed)

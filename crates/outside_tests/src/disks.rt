@@ -1,14 +1,15 @@
 ghost use Rattle.std.specs.Prelude.{◌≡◌};
 
+use crate::cases::holds;
 use disk_model::{Arm, Disk, DiskFailed, FileDisk, Image, MemDisk};
+use qkd_base::Memory;
 use std::alloc::Global;
 use std::fs;
 use std::fs::OpenOptions;
 use std::process::Abort;
-use std::test::Fail;
 
 // Writes, where the place is in the disk. The answer is whether it was written.
-fn write(disk: &mut MemDisk, at: u64, bytes: &[u8]) -> Result<bool, Fail>
+fn write(disk: &mut MemDisk, at: u64, bytes: &[u8]) -> Result<bool, Memory>
     ensures { disk.new.armings ≡ disk.old.armings }
 {
     disk.room(16)?;
@@ -18,14 +19,14 @@ fn write(disk: &mut MemDisk, at: u64, bytes: &[u8]) -> Result<bool, Fail>
     Ok(disk.write_at(at, bytes).is_ok())
 }
 
-fn sync(disk: &mut MemDisk) -> Result<bool, Fail>
+fn sync(disk: &mut MemDisk) -> Result<bool, Memory>
     ensures { disk.new.armings ≡ disk.old.armings }
 {
     disk.room(16)?;
     Ok(disk.sync().is_ok())
 }
 
-fn read(disk: &mut MemDisk) -> Result<bool, Fail> {
+fn read(disk: &mut MemDisk) -> Result<bool, Memory> {
     let mut two = [0; 2];
     if disk.content().len() < 3 {
         return Ok(false);
@@ -34,7 +35,7 @@ fn read(disk: &mut MemDisk) -> Result<bool, Fail> {
 }
 
 // The script's call of this number. The answer is whether it succeeded.
-fn call(disk: &mut MemDisk, number: u32) -> Result<bool, Fail> {
+fn call(disk: &mut MemDisk, number: u32) -> Result<bool, Memory> {
     match number {
         1 => Ok(disk.len().is_ok()),
         2 => write(disk, 3, b"wxyz"),
@@ -47,20 +48,32 @@ fn call(disk: &mut MemDisk, number: u32) -> Result<bool, Fail> {
     }
 }
 
+// Whether a call fails under this fault.
+fn fails_by(arm: Arm, number: u32) -> bool {
+    match arm {
+        Arm::Cut { call, .. } => call <= number,
+        Arm::Fail { call } => call == number,
+    }
+}
+
 // The disk after the script of eight calls on `abcd`, with this fault, and then revived.
-fn run(rt: &impl Abort, alloc: Global, arm: Arm, fails: Vec<u64>) -> Result<MemDisk, Fail> {
-    let mut disk = MemDisk::new(alloc, b"abcd", fails)?;
+fn run(rt: &impl Abort, alloc: Global, arm: Arm) -> Result<MemDisk, Memory> {
+    let mut disk = MemDisk::new(alloc, b"abcd", Vec::new(alloc))?;
     disk.arm(arm);
     for number in 1..9u32 {
         let done = call(&mut disk, number)?;
-        let fails = match arm {
-            Arm::Cut { call, .. } => call <= number,
-            Arm::Fail { call } => call == number,
-        };
-        assert_eq!(rt; done, !fails, "call {number}");
+        holds(rt, u64::from(number), done != fails_by(arm, number));
     }
     disk.revive();
     Ok(disk)
+}
+
+// Whether the disk then has this content.
+fn leaves(rt: &impl Abort, alloc: Global, arm: Arm, content: &[u8]) -> bool {
+    match run(rt, alloc, arm) {
+        Ok(disk) => disk.content() == content,
+        Err(_) => false,
+    }
 }
 
 // The contents after a cut at each call: the old octets lost, kept, and torn.
@@ -75,25 +88,22 @@ const CUTS: [[&[u8]; 3]; 8] = [
     [b"qbcwrstu", b"qvvwrstu", b"q\xee\xeewrstu"],
 ];
 
+// Whether a cut at a call leaves this content.
+fn cut_leaves(rt: &impl Abort, alloc: Global, call: u32, image: Image, content: &[u8]) -> bool {
+    leaves(rt, alloc, Arm::Cut { call, image }, content)
+}
+
 #[test]
-fn a_cut_at_each_call_leaves_its_image(rt: HostRuntime) -> Result<(), Fail> {
-    let mut number = 1;
+fn a_cut_at_each_call_leaves_its_image(rt: HostRuntime) {
+    let alloc = rt.alloc();
+    let mut call = 1;
     for [lost, kept, torn] in &CUTS {
-        for (image, content) in [
-            (Image::Lost, lost),
-            (Image::Kept, kept),
-            (Image::Torn, torn),
-        ] {
-            let arm = Arm::Cut {
-                call: number,
-                image,
-            };
-            let disk = run(&rt, rt.alloc(), arm, Vec::new(rt.alloc()))?;
-            assert!(rt; disk.content() == *content, "call {number}, {image:?}");
-        }
-        number = number.saturating_add(1);
+        let case = u64::from(call);
+        holds(&rt, case, cut_leaves(&rt, alloc, call, Image::Lost, lost));
+        holds(&rt, case, cut_leaves(&rt, alloc, call, Image::Kept, kept));
+        holds(&rt, case, cut_leaves(&rt, alloc, call, Image::Torn, torn));
+        call = call.saturating_add(1);
     }
-    Ok(())
 }
 
 // The contents after each call failed alone.
@@ -108,32 +118,40 @@ const FAILURES: [&[u8]; 8] = [
     b"qbcwrstu",
 ];
 
-#[test]
-fn a_failure_of_each_call_has_no_effect(rt: HostRuntime) -> Result<(), Fail> {
-    let alloc = rt.alloc();
-    let mut number = 1;
-    for content in &FAILURES {
-        let armed = run(&rt, alloc, Arm::Fail { call: number }, Vec::new(alloc))?;
-        assert!(rt; armed.content() == *content, "armed {number}");
-        let mut listed = MemDisk::new(alloc, b"abcd", [u64::from(number)].to_vec(alloc)?)?;
-        for call_number in 1..9u32 {
-            let done = call(&mut listed, call_number)?;
-            assert_eq!(rt;
-                done,
-                call_number != number,
-                "listed {number}, call {call_number}"
-            );
-        }
-        assert!(rt; listed.content() == *content, "listed {number}");
-        number = number.saturating_add(1);
+// The disk after the script, where a call is listed as failing.
+fn run_listed(rt: &impl Abort, alloc: Global, failing: u32) -> Result<MemDisk, Memory> {
+    let fails = vec![in alloc; u64::from(failing)]?;
+    let mut disk = MemDisk::new(alloc, b"abcd", fails)?;
+    for number in 1..9u32 {
+        let done = call(&mut disk, number)?;
+        holds(rt, u64::from(number), done == (number != failing));
     }
-    Ok(())
+    Ok(disk)
 }
 
-// A range that was lost counts as unsynced, as far as the disk has it, until a sync. A fault that has not fired stays.
+// Whether the disk then has this content.
+fn leaves_listed(rt: &impl Abort, alloc: Global, failing: u32, content: &[u8]) -> bool {
+    match run_listed(rt, alloc, failing) {
+        Ok(disk) => disk.content() == content,
+        Err(_) => false,
+    }
+}
+
 #[test]
-fn a_later_cut_finds_what_an_earlier_one_left(rt: HostRuntime) -> Result<(), Fail> {
-    let alloc = rt.alloc();
+fn a_failure_of_each_call_has_no_effect(rt: HostRuntime) {
+    let mut call = 1;
+    for content in &FAILURES {
+        let case = u64::from(call);
+        let arm = Arm::Fail { call };
+        holds(&rt, case, leaves(&rt, rt.alloc(), arm, content));
+        holds(&rt, case, leaves_listed(&rt, rt.alloc(), call, content));
+        call = call.saturating_add(1);
+    }
+}
+
+// Cuts a disk twice. A range that was lost counts as unsynced, as far as the disk has it, until a sync. A fault that has not
+// fired stays.
+fn cut_twice(rt: &impl Abort, alloc: Global) -> Result<(), Memory> {
     let mut disk = MemDisk::new(alloc, b"abc", Vec::new(alloc))?;
     disk.arm(Arm::Cut {
         call: 2,
@@ -142,39 +160,50 @@ fn a_later_cut_finds_what_an_earlier_one_left(rt: HostRuntime) -> Result<(), Fai
     let _ = write(&mut disk, 2, b"xy")?;
     let _ = sync(&mut disk)?;
     disk.revive();
-    assert_eq!(rt; disk.content(), b"abc".as_slice());
+    assert!(rt; disk.content() == b"abc".as_slice());
     let _ = write(&mut disk, 0, b"q")?;
     disk.arm(Arm::Cut {
         call: 1,
         image: Image::Torn,
     });
     disk.revive();
-    assert_eq!(rt; disk.content(), b"qbc".as_slice());
-    let cut = disk.len();
-    assert_eq!(rt; cut, Err(DiskFailed));
+    assert!(rt; disk.content() == b"qbc".as_slice());
+    assert!(rt; disk.len() == Err(DiskFailed));
     disk.revive();
-    assert_eq!(rt; disk.content(), b"\xeeb\xee".as_slice());
+    assert!(rt; disk.content() == b"\xeeb\xee".as_slice());
     Ok(())
 }
 
 #[test]
-fn a_file_is_a_disk(rt: HostRuntime) -> Result<(), Fail> {
+fn a_later_cut_finds_what_an_earlier_one_left(rt: HostRuntime) {
+    assert!(rt; cut_twice(&rt, rt.alloc()) == Ok(()));
+}
+
+#[test]
+fn a_file_is_a_disk(rt: HostRuntime) {
     let path = "disk_model_test";
-    fs::write(&rt, path, b"abc".as_slice())?;
-    let file = OpenOptions::new().read(true).write(true).open(&rt, path)?;
+    assert!(rt; fs::write(&rt, path, b"abc".as_slice()).is_ok());
+    let Ok(file) = OpenOptions::new().read(true).write(true).open(&rt, path) else {
+        panic!(rt; "not opened");
+    };
     let mut disk = FileDisk::new(file);
-    disk.room(10)?;
-    disk.write_at(2, b"xy")?;
-    disk.sync()?;
-    let size = disk.len();
-    assert_eq!(rt; size, Ok(4));
+    let Ok(()) = disk.room(10) else {
+        panic!(rt; "no room");
+    };
+    let Ok(()) = disk.write_at(2, b"xy") else {
+        panic!(rt; "not written");
+    };
+    let Ok(()) = disk.sync() else {
+        panic!(rt; "not synced");
+    };
+    assert!(rt; disk.len() == Ok(4));
     let mut two = [0; 2];
-    disk.read(2, &mut two)?;
-    assert_eq!(rt; two, *b"xy");
-    let beyond = disk.read(3, &mut two);
-    assert_eq!(rt; beyond, Err(DiskFailed));
-    let held = fs::read(&rt, path)?;
-    assert_eq!(rt; held.as_slice(), b"abxy".as_slice());
-    fs::remove_file(&rt, path)?;
-    Ok(())
+    assert!(rt; disk.read(2, &mut two) == Ok(()));
+    assert!(rt; two == *b"xy");
+    assert!(rt; disk.read(3, &mut two) == Err(DiskFailed));
+    let Ok(held) = fs::read(&rt, path) else {
+        panic!(rt; "not read");
+    };
+    assert!(rt; held.as_slice() == b"abxy".as_slice());
+    assert!(rt; fs::remove_file(&rt, path).is_ok());
 }
