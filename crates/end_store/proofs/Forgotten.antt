@@ -12,7 +12,7 @@ use Rattle.end_store.specs.declared.pool.Line.{Line}
 use Rattle.end_store.specs.declared.pool.Line.TheVariants.{Stock, Keys, Parts}
 use Rattle.end_store.specs.Waiting.{own, is_in, stands, is_taken, AreWaiting}
 
-in_stays : (p : Pool) (m s : ℕ) (bytes : List ℕ) → is_in p m s (zeros_for bytes) ≡ is_in p m s bytes
+pub in_stays : (p : Pool) (m s : ℕ) (bytes : List ℕ) → is_in p m s (zeros_for bytes) ≡ is_in p m s bytes
 in_stays p m s bytes = ap (λ (k : ℕ). (m == p.master) && (s == p.slave) && (k == p.octets)) (length-replicate (length bytes) 0)
 
 stands_stays : (me : ℕ) (l : Line) (c i : ℕ) (f : Fact) → stands me l c i (without_bytes f) ≡ stands me l c i f

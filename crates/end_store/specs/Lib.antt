@@ -1,3 +1,4 @@
 pub mod Marked
 pub mod Waiting
 pub mod Pooled
+pub mod Stocked

@@ -5,6 +5,8 @@ mod listing;
 mod marks;
 mod pool;
 mod pools;
+mod stocking;
+mod stocks;
 mod store;
 mod waiting;
 

@@ -19,8 +19,8 @@ fn is_taken(fact: &Fact, handed: &Marks) -> bool
     }
 }
 
-// The pool of a key or part of these bytes.
-fn pool_of(master: SaeNo, slave: SaeNo, bytes: &Octets) -> Pool
+/// The pool of a key or part of these bytes.
+pub fn pool_of(master: SaeNo, slave: SaeNo, bytes: &Octets) -> Pool
     ensures { result ≡ pool_of master slave bytes.now }
 {
     Pool {

@@ -4,9 +4,8 @@ ghost use Rattle.std.specs.List.{list_any};
 ghost use Rattle.net_model.specs.Decision.{last_count};
 ghost use Rattle.net_model.specs.Pools.{pool as pool_names, names_up_to, unhanded};
 ghost use Rattle.qkd_base.specs.declared.key_name.NameKind.TheVariants.{Key};
-ghost use Rattle.end_store.specs.Waiting.{is_free_key};
 ghost use Rattle.end_store.specs.Pooled.{ends_view, octets_pool, is_ready};
-ghost use Rattle.std.specs.Prelude.{filter, min, count_by};
+ghost use Rattle.std.specs.Prelude.{filter, min};
 
 use crate::{EndStore, Line, Pool};
 use qkd_base::{KeyName, Memory, NameKind, PoolNo};
@@ -84,26 +83,6 @@ fn first_ready(
     Ok(names)
 }
 
-// How many keys of a pool their master hasn't got, counted up to a number.
-fn count_stock(store: &EndStore, pool: &Pool, number: usize) -> usize
-    ensures { result ≡ min number (count_by (is_free_key store.now.handed pool.now) store.now.known.facts) }
-{
-    // How many places there are is what it says.
-    let _places = store.known().len();
-    let mut count = 0;
-    let mut from = 0;
-    while count < number {
-        match store.next(&Line::Stock(*pool), from) {
-            None => return count,
-            Some(place) => {
-                count += 1;
-                from = place + 1;
-            }
-        }
-    }
-    count
-}
-
 impl EndStore {
     /// How many keys of a pool their master hasn't got, ready or not, counted up to a number. It takes no memory.
     pub fn unhanded_count(&self, pool: &PoolNo, number: usize) -> usize
@@ -111,7 +90,7 @@ impl EndStore {
     {
         match octets_pool(pool) {
             None => 0,
-            Some(keys) => count_stock(self, &keys, number),
+            Some(keys) => self.stock(&keys, number),
         }
     }
 

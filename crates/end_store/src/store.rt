@@ -1,13 +1,15 @@
 // What an end of keys keeps.
-ghost use Rattle.std.specs.Prelude.{◌≡◌, ◌+◌, ◌<◌, ◌≤◌, [], IfSome, IfNone, IfOk, IsOk, OnOk, OnErr, not};
+ghost use Rattle.std.specs.Prelude.{◌≡◌, ◌+◌, ◌<◌, ◌≤◌, [], IfSome, IfNone, IfOk, IsOk, OnOk, OnErr, not, min, count_by};
 ghost use Rattle.net_model.specs.Table.{name_of, has_fact, learned, was_handed};
 ghost use Rattle.net_model.specs.Fold.{marked};
 ghost use Rattle.relay_core.specs.Knowledge.{acked_with, forgotten};
-ghost use Rattle.end_store.specs.Waiting.{IsNextWaiting, IsLastWaiting};
+ghost use Rattle.end_store.specs.Waiting.{IsNextWaiting, IsLastWaiting, is_free_key};
 
 use crate::listing::{list_more, release_name};
+use crate::stocking::{count_stock, stock_handing, stock_last};
+use crate::stocks::Stocks;
 use crate::waiting::next;
-use crate::{Line, Marks};
+use crate::{Line, Marks, Pool};
 use net_model::Fact;
 use ordered_entries::Entries;
 use qkd_base::{KeyName, Memory, NodeNo, SaeNo};
@@ -24,16 +26,18 @@ pub struct EndStore {
     waiting: Entries,
     // So many of the first facts are in `waiting`, where they wait for their masters.
     listed: usize,
+    stocks: Stocks,
 }
 
 impl Model for EndStore {
-    ghost use Rattle.end_store.specs.Waiting.{Ends, AreWaiting};
+    ghost use Rattle.end_store.specs.Waiting.{Ends};
+    ghost use Rattle.end_store.specs.Stocked.{IsStore};
 
     ghost Value = { Ends };
 
     ghost view = { λ e. record { known = e.known; handed = e.handed.pairs; handed_spare = e.handed.spare } };
 
-    ghost invariant = { λ e. AreWaiting e.known.me e.known.facts e.handed.pairs e.waiting e.listed };
+    ghost invariant = { λ e. IsStore e.known.me e.known.facts e.handed.pairs e.waiting e.listed e.stocks };
 }
 
 impl EndStore {
@@ -47,6 +51,7 @@ impl EndStore {
             handed: Marks::new(alloc),
             waiting: Entries::new(alloc),
             listed: 0,
+            stocks: Stocks::new(alloc),
         }
     }
 
@@ -84,6 +89,29 @@ impl EndStore {
             line,
             from,
         )
+    }
+
+    // How many keys of a pool their master hasn't got, counted up to a number.
+    pub(crate) fn stock(&self, pool: &Pool, number: usize) -> usize
+        ensures { result ≡ min number (count_by (is_free_key self.now.handed pool.now) self.now.known.facts) }
+    {
+        match self.stocks.find(pool) {
+            None => count_stock(
+                &self.waiting,
+                self.listed,
+                &self.known,
+                &self.handed,
+                pool,
+                number,
+            ),
+            Some(stock) => {
+                if stock < number as u64 {
+                    stock as usize
+                } else {
+                    number
+                }
+            }
+        }
     }
 
     /// Makes room for so many more facts. An `Err` changes nothing.
@@ -131,6 +159,15 @@ impl EndStore {
     {
         let new = self.known.learn(fact)?;
         self.listed = list_more(&mut self.waiting, &self.known, &self.handed, self.listed);
+        if new {
+            stock_last(
+                &mut self.stocks,
+                &self.waiting,
+                self.listed,
+                &self.known,
+                &self.handed,
+            );
+        }
         Ok(new)
     }
 
@@ -153,6 +190,7 @@ impl EndStore {
         ensures known { self.new.known ≡ self.old.known }
         ensures spare { self.old.handed_spare ≤ self.new.handed_spare + 1 }
     {
+        stock_handing(&mut self.stocks, &self.known, &self.handed, name, sae);
         self.handed.mark(name, sae);
         release_name(
             &mut self.waiting,

@@ -17,3 +17,4 @@ pub mod After
 pub mod Drawn
 pub mod Noted
 pub mod Whole
+pub mod Fronted

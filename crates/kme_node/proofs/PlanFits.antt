@@ -1,17 +1,16 @@
 -- The orders of a plan fit the bytes received.
-use Rattle.std.proofs.Common.{◌≡◌, ◌≢◌, ℕ, ◌+◌, ◌<◌, ◌≤◌, Bool, true, false, List, [], ◌∷◌, ◌++◌, map, refl, sym, ap, subst, ◌∙◌, arith, append-nil}
-use Rattle.std.specs.Prelude.{nat_lt, not, filter, Option, Some, None, if◌then◌else◌}
+use Rattle.std.proofs.Common.{◌≡◌, ◌≢◌, ℕ, ◌+◌, ◌≤◌, Bool, true, false, List, [], ◌∷◌, ◌++◌, map, refl, sym, ap, subst, ◌∙◌, arith, append-nil}
+use Rattle.std.specs.Prelude.{nat_lt, not, filter, if◌then◌else◌}
 use Rattle.std.specs.List.{list_any, flat_map, AllByRecursion}
 use Rattle.std.proofs.lemmas.Bool.Decides.{nat_tests}
 use Rattle.std.proofs.lemmas.List.Elements.{filter-append}
 use Rattle.std.proofs.lemmas.List.Concat.{flat_map-cons}
-use Rattle.qkd_base.specs.Name.{Name}
 use Rattle.qkd_base.specs.Lane.{lane_eq}
 use Rattle.qkd_base.specs.declared.lane.Lane.{Lane}
 use Rattle.net_model.specs.declared.fact.Fact.{Fact}
 use Rattle.net_model.specs.Item.{need}
 use Rattle.net_model.specs.Site.{Site}
-use Rattle.net_model.specs.World.{Transmission, PendingAck, needs}
+use Rattle.net_model.specs.World.{Transmission, needs}
 use Rattle.net_model.specs.View.{View, Port, received_of}
 use Rattle.net_model.specs.Fold.{on_lane}
 use Rattle.net_model.specs.Plan.{acks_on, facts_on, wanted_on, that_fit, orders_on}

@@ -1,13 +1,12 @@
 -- The orders that a plan replies spell facts that are known, and its batch has leases alone.
-use Rattle.std.proofs.Common.{◌≡◌, ℕ, ◌+◌, ◌≤◌, Bool, true, false, List, [], ◌∷◌, ◌++◌, map, refl, sym, ap, subst, ◌∙◌, arith}
-use Rattle.std.specs.Prelude.{◌&&◌, nat_lt, nat_le, filter, Option, Some, None, if◌then◌else◌}
+use Rattle.std.proofs.Common.{◌≡◌, ℕ, ◌+◌, ◌≤◌, true, false, List, [], ◌∷◌, ◌++◌, refl, sym, ap, subst, ◌∙◌}
+use Rattle.std.specs.Prelude.{◌&&◌, nat_lt, nat_le, Option, Some, None, if◌then◌else◌}
 use Rattle.std.specs.List.{flat_map, AllByRecursion}
 use Rattle.std.proofs.lemmas.List.Concat.{flat_map-cons}
 use Rattle.qkd_base.specs.Name.{Name}
 use Rattle.qkd_base.specs.Lane.{lane_eq}
 use Rattle.net_model.specs.declared.fact.Fact.{Fact}
 use Rattle.net_model.specs.declared.order.Order.{Order}
-use Rattle.net_model.specs.declared.payload.Payload.{Payload}
 use Rattle.net_model.specs.declared.record.Record.{Record}
 use Rattle.net_model.specs.declared.record.Record.TheVariants.{Block, Lease, Learned, Acked, Handed, Closed, Bare}
 use Rattle.net_model.specs.Item.{Item, DataItem, AckItem, payload, data_payload, need, len_or_zero}
@@ -18,11 +17,9 @@ use Rattle.net_model.specs.View.{View, Port, received_of}
 use Rattle.net_model.specs.Fold.{on_lane, with_lease}
 use Rattle.net_model.specs.Plan.{orders_on, spelled_order, spelled_orders, leases_on, end_on, raise}
 use Rattle.law_records.proofs.Tables.{found_name}
-use Rattle.kme_step.specs.Steps.{item_of_payload}
-use Rattle.lane_ports.specs.Places.{AreOf, order_need}
+use Rattle.lane_ports.specs.Places.{AreOf}
 use Rattle.kme_node.specs.Places.{HaveBytes}
 use Rattle.kme_node.specs.Ports.{ports_by, ports_after}
-use Rattle.kme_node.proofs.PlanFits.{all_both}
 
 -- an order spends what its item needs
 of_one : (facts : List Fact) (t : Transmission) (used : ℕ) → AreOf facts (spelled_order t used (payload facts t.item))

@@ -1,13 +1,12 @@
 -- Records change what is kept of facts and the ends of links each by itself.
-use Rattle.std.proofs.Common.{◌≡◌, ℕ, Bool, true, false, List, [], ◌∷◌, ◌++◌, map, refl, sym, ap, ◌∙◌}
+use Rattle.std.proofs.Common.{◌≡◌, true, false, List, [], ◌∷◌, ◌++◌, refl, ap, ◌∙◌}
 use Rattle.std.specs.Prelude.{◌&&◌, if◌then◌else◌}
 use Rattle.std.specs.List.{list_any}
-use Rattle.net_model.specs.declared.fact.Fact.{Fact}
 use Rattle.net_model.specs.declared.record.Record.{Record}
 use Rattle.net_model.specs.declared.record.Record.TheVariants.{Block, Lease, Learned, Acked, Handed, Closed, Bare}
 use Rattle.net_model.specs.World.{Volatile, no_volatile}
 use Rattle.net_model.specs.View.{View, Port}
-use Rattle.net_model.specs.Needed.{is_needed, masked_fact, masked}
+use Rattle.net_model.specs.Needed.{is_needed, masked}
 use Rattle.net_model.specs.Fold.{view_record, view_records, view_batch, owes, is_end_of, is_handed_by, is_stream_of, marked}
 use Rattle.kme_node.specs.Ports.{ports_by, ports_after}
 

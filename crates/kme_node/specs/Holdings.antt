@@ -11,6 +11,7 @@ use Rattle.net_model.specs.View.{View, Port}
 use Rattle.declared_site.specs.SiteOf.{IsDeclared, site_of}
 use Rattle.declared_site.specs.declared.site.Site.{Site as Declared}
 use Rattle.kept_facts.specs.Taken.{HasRoom as HasFactsRoom}
+use Rattle.kme_plan.specs.UnderWay.{AreFronts}
 use Rattle.kme_step.specs.declared.change.Change.{Change}
 use Rattle.kme_step.specs.declared.change.Change.TheVariants.{Received, Planned}
 use Rattle.kme_step.specs.declared.step.Step.{Step}
@@ -41,6 +42,11 @@ view h =
 pub record IsHeld (h : Holdings) : Type 0 where
   pub declared : IsDeclared h.site
   pub lanes : map (λ (p : Port). p.lane) h.ends.ports ≡ outgoing_lanes (site_of h.site) h.kept.ends.known.me
+
+-- and before its place for each lane all that is owed is under way
+pub record IsNode (h : Holdings) (fronts : List ℕ) : Type 0 where
+  pub held : IsHeld h
+  pub ahead : AreFronts (site_of h.site) h.kept.ends.known.me h.kept.ends.known.acked h.kept.ends.known.facts h.window.volatile fronts
 
 -- room for what a step adds
 

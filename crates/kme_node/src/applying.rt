@@ -133,8 +133,20 @@ impl Node {
         change_window(&mut self.window, known, event, &step);
         take_batch(&mut self.ports, step.batch.as_slice());
         plan_reply(&mut self.ports, &step.reply);
-        let Step { batch, reply, .. } = step;
+        let Step {
+            batch,
+            reply,
+            change,
+        } = step;
         self.kept.apply(batch);
+        let known = self.kept.streams().ends().known();
+        self.fronts.follow(
+            &self.site,
+            known,
+            &self.window,
+            self.ports.as_slice(),
+            &change,
+        );
         reply
     }
 }

@@ -142,6 +142,7 @@ impl Node {
             self.known(),
             &self.ports,
             self.window(),
+            &self.fronts,
         )
     }
 

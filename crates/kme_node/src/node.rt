@@ -7,6 +7,7 @@ ghost use Rattle.kme_node.specs.Holdings.{view};
 use declared_site::Site;
 use end_store::EndStore;
 use kept_facts::Kept;
+use kme_plan::Fronts;
 use lane_ports::Ports;
 use qkd_base::{Memory, NodeNo, Replica};
 use relay_core::Known;
@@ -22,12 +23,14 @@ pub struct Node {
     pub(crate) kept: Kept,
     pub(crate) ports: Ports,
     pub(crate) window: Window,
+    // What lies before these places is on its way already.
+    pub(crate) fronts: Fronts,
 }
 
 impl Model for Node {
     ghost use Rattle.std.specs.Coded.{codes};
     ghost use Rattle.sae_entitlements.specs.Grants.{grants_code};
-    ghost use Rattle.kme_node.specs.Holdings.{Holdings, IsHeld};
+    ghost use Rattle.kme_node.specs.Holdings.{Holdings, IsNode};
 
     ghost Value = { Holdings };
 
@@ -35,7 +38,7 @@ impl Model for Node {
 
     ghost coded = { Prim.hlevel (codes, grants_code) };
 
-    ghost invariant = { λ n. IsHeld (record { site = n.site; kept = n.kept; ends = n.ports; window = n.window }) };
+    ghost invariant = { λ n. IsNode (record { site = n.site; kept = n.kept; ends = n.ports; window = n.window }) n.fronts };
 }
 
 impl Node {
@@ -52,6 +55,7 @@ impl Node {
             kept: Kept::new(alloc, me),
             ports,
             window: Window::new(alloc),
+            fronts: Fronts::new(),
         })
     }
 

@@ -8,6 +8,7 @@ ghost use Rattle.kme_node.specs.Replayed.{IsWhole, AreWhole};
 
 use crate::Node;
 use crate::reserving::count_of;
+use kme_plan::Fronts;
 use lane_ports::Ports;
 use net_model::{Record, Records};
 use qkd_base::Memory;
@@ -72,5 +73,6 @@ impl Node {
     {
         self.window.clear();
         self.ports.restart();
+        self.fronts = Fronts::new();
     }
 }

@@ -1,7 +1,7 @@
 -- What a plan adds, end by end.
-use Rattle.std.proofs.Common.{◌≡◌, ℕ, zero, suc, ◌+◌, ◌<◌, ◌≤◌, Bool, true, false, ◌&&◌, List, [], ◌∷◌, ◌++◌, length, take, refl, sym, ◌∙◌, ap, subst, arith, append_assoc}
+use Rattle.std.proofs.Common.{◌≡◌, ℕ, ◌≤◌, Bool, true, false, ◌&&◌, List, [], ◌∷◌, ◌++◌, refl, sym, ◌∙◌, ap, subst, arith, append_assoc}
 use Rattle.std.specs.Prelude.{nat_lt, ◌==◌, map, filter, if◌then◌else◌}
-use Rattle.std.specs.List.{flat_map, list_any}
+use Rattle.std.specs.List.{flat_map}
 use Rattle.std.proofs.lemmas.Grind.{flat_map-append}
 use Rattle.qkd_base.specs.Lane.{lane_eq}
 use Rattle.qkd_base.specs.declared.lane.Lane.{Lane}
@@ -13,11 +13,10 @@ use Rattle.net_model.specs.declared.short_of.ShortOf.{ShortOf}
 use Rattle.net_model.specs.declared.reply.Reply.TheVariants.{Planned as PlannedReply}
 use Rattle.net_model.specs.Site.{Site, receiver}
 use Rattle.net_model.specs.View.{View, Port, received_of}
-use Rattle.net_model.specs.World.{Entry, Transmission, Volatile, needs}
+use Rattle.net_model.specs.World.{Entry}
 use Rattle.net_model.specs.Window.{age, sent_again, repeats_on, repeat_of}
-use Rattle.net_model.specs.Plan.{plan, wanted_on, orders_on, that_fit, spelled_orders, short_on, end_on, leases_on, raise}
-use Rattle.kme_step.specs.Steps.{IsEffect, planned, repeated_by, transmission_of_order}
-use Rattle.kme_step.specs.declared.step.Step.{Step}
+use Rattle.net_model.specs.Plan.{plan, wanted_on, orders_on, spelled_orders, short_on, leases_on, raise}
+use Rattle.kme_step.specs.Steps.{IsEffect, repeated_by, transmission_of_order}
 use Rattle.kme_step.specs.declared.change.Change.TheVariants.{Planned}
 use Rattle.relay_core.specs.Knowledge.{Knowledge}
 use Rattle.lane_ports.specs.Places.{LinkEnds, Place, ports_in}
@@ -29,7 +28,7 @@ use Rattle.kme_plan.specs.Keeps.{Knows, Keeps}
 use Rattle.kme_plan.specs.Wanted.{acks_wanted, facts_from}
 use Rattle.kme_plan.specs.Drafts.{with_all}
 use Rattle.kme_plan.specs.Adds.{AddsOrders, AddsEnd, AddsEnds}
-use Rattle.kme_plan.proofs.Fits.{IsFilled, filled, fits_in, with_both, wanted, orders_send}
+use Rattle.kme_plan.proofs.Fits.{filled, fits_in, with_both, wanted, orders_send}
 
 -- orders of one end
 

@@ -1,23 +1,19 @@
 -- A draft has what fits, and the first that doesn't.
-use Rattle.std.proofs.Common.{◌≡◌, ℕ, zero, suc, ◌+◌, ◌-◌, ◌<◌, ◌≤◌, Bool, true, false, ◌||◌, ◌&&◌, List, [], ◌∷◌, ◌++◌, length, drop, refl, sym, ◌∙◌, ap, subst, arith, append_assoc, Option, Some, None}
-use Rattle.std.specs.Prelude.{nat_lt, map, filter, slice_get, find, is_some, not, if◌then◌else◌}
-use Rattle.std.specs.List.{list_any}
+use Rattle.std.proofs.Common.{◌≡◌, ℕ, suc, ◌+◌, ◌≤◌, Bool, true, false, List, [], ◌∷◌, ◌++◌, refl, sym, ◌∙◌, ap, subst, arith, append_assoc, Option, Some}
+use Rattle.std.specs.Prelude.{nat_lt, map, filter, slice_get, not, if◌then◌else◌}
 use Rattle.std.proofs.lemmas.Bool.Decides.{nat_tests}
-use Rattle.qkd_base.specs.Name.{Name, name_eq, has}
-use Rattle.qkd_base.specs.Route.{next_after}
+use Rattle.qkd_base.specs.Name.{Name, name_eq}
 use Rattle.qkd_base.specs.Lane.{lane_eq, reverse_lane}
 use Rattle.qkd_base.specs.declared.lane.Lane.{Lane}
 use Rattle.net_model.specs.declared.fact.Fact.{Fact}
 use Rattle.net_model.specs.declared.payload.Payload.{Payload}
 use Rattle.net_model.specs.declared.payload.Payload.TheVariants.{Data, Ack}
-use Rattle.net_model.specs.declared.order.Order.{Order}
-use Rattle.net_model.specs.Table.{name_of, route_of, fact_at}
-use Rattle.net_model.specs.Item.{Item, DataItem, AckItem, payload, need, data_payload, is_data_of}
-use Rattle.net_model.specs.Relay.{owed, is_some_of}
+use Rattle.net_model.specs.Table.{name_of}
+use Rattle.net_model.specs.Item.{Item, DataItem, payload, need, data_payload}
+use Rattle.net_model.specs.Relay.{owed}
 use Rattle.net_model.specs.Site.{Site, receiver}
 use Rattle.net_model.specs.View.{View}
-use Rattle.net_model.specs.World.{Transmission, Volatile, PendingAck, needs}
-use Rattle.net_model.specs.Window.{transmission_eq}
+use Rattle.net_model.specs.World.{Transmission, Volatile, needs}
 use Rattle.net_model.specs.Plan.{spelled_order, spelled_orders, that_fit, short_on, wanted_on}
 use Rattle.kme_step.specs.Steps.{item_of_payload, transmission_of_order}
 use Rattle.relay_core.specs.Index.{is_owed_to}

@@ -1,3 +1,4 @@
 pub mod Rests
+pub mod UnderWay
 pub mod Fits
 pub mod Ends

@@ -1,9 +1,8 @@
 -- What is left from a place on, and what a draft makes of it.
-use Rattle.std.proofs.Common.{◌≡◌, ℕ, zero, suc, ◌+◌, ◌-◌, ◌<◌, ◌≤◌, Bool, true, false, ◌||◌, ◌&&◌, List, [], ◌∷◌, ◌++◌, length, drop, refl, sym, ◌∙◌, ap, subst, arith, Option, Some, None}
+use Rattle.std.proofs.Common.{◌≡◌, ℕ, zero, suc, ◌+◌, ◌<◌, ◌≤◌, Bool, true, false, List, [], ◌∷◌, ◌++◌, length, drop, refl, sym, ◌∙◌, ap, arith, Some, None}
 use Rattle.net_model.specs.Item.{payload, need}
 use Rattle.net_model.specs.Plan.{spelled_order}
 use Rattle.std.specs.Prelude.{nat_lt, map, filter, slice_get, not, option_map, if◌then◌else◌}
-use Rattle.std.specs.List.{list_any}
 use Rattle.qkd_base.specs.Name.{Name}
 use Rattle.qkd_base.specs.Lane.{reverse_lane}
 use Rattle.qkd_base.specs.declared.lane.Lane.{Lane}
@@ -15,7 +14,7 @@ use Rattle.relay_core.specs.Index.{is_owed_to}
 use Rattle.relay_core.specs.Knowledge.{Knowledge}
 use Rattle.resend_window.specs.Kept.{Kept, pending_from}
 use Rattle.kme_plan.specs.declared.draft.Draft.{Draft}
-use Rattle.kme_plan.specs.Wanted.{ack_on, data_on, is_awaited, is_held, not_awaited, acks_from, acks_wanted, facts_from, names_owed}
+use Rattle.kme_plan.specs.Wanted.{ack_on, data_on, is_awaited, is_held, not_awaited, acks_from, facts_from, names_owed}
 use Rattle.kme_plan.specs.Drafts.{with_one, with_all}
 
 -- a filter goes on behind its first item

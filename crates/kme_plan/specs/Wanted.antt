@@ -4,7 +4,6 @@ use Rattle.std.specs.List.{list_any}
 use Rattle.qkd_base.specs.Name.{Name}
 use Rattle.qkd_base.specs.Lane.{lane_eq, reverse_lane}
 use Rattle.qkd_base.specs.declared.lane.Lane.{Lane}
-use Rattle.net_model.specs.declared.fact.Fact.{Fact}
 use Rattle.net_model.specs.Table.{name_of}
 use Rattle.net_model.specs.Item.{DataItem, AckItem, is_data_of}
 use Rattle.net_model.specs.World.{PendingAck, Transmission, Volatile}

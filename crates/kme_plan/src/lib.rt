@@ -2,10 +2,12 @@
 #![tactic(auto)]
 
 mod draft;
+mod fronts;
 mod parts;
 mod planning;
 mod wanted;
 
+pub use fronts::Fronts;
 pub use kme_site;
 pub use kme_step;
 pub use lane_ports;

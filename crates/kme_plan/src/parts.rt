@@ -10,7 +10,9 @@ ghost use Rattle.declared_site.specs.SiteOf.{site_of};
 ghost use Rattle.lane_ports.specs.Places.{ports_in};
 ghost use Rattle.kme_plan.specs.Keeps.{Knows};
 ghost use Rattle.kme_plan.specs.Adds.{AddsOrders, AddsEnd, AddsEnds};
+ghost use Rattle.kme_plan.specs.UnderWay.{AreFronts};
 
+use crate::Fronts;
 use crate::draft::Draft;
 use crate::wanted::{add_acks, add_facts};
 use kme_site::declared_site::Site;
@@ -85,8 +87,10 @@ fn add_orders(
     site: &Site,
     known: &Known,
     window: &Window,
+    fronts: &Fronts,
     end: &LinkEnd,
 ) -> Result<(), Memory>
+    requires { AreFronts (site_of site.now) known.now.me known.now.acked known.now.facts window.now.volatile fronts.now }
     ensures orders { OnOk result ((v : View) → Knows v known.now window.now → AddsOrders (site_of site.now) v end.now.port draft.old draft.new) }
     ensures bound { OnOk result (draft.new.used ≤ received_of end.now.port) }
 {
@@ -95,7 +99,7 @@ fn add_orders(
     let received = end.received();
     draft.begin(end.planned());
     add_acks(draft, window, &lane, received)?;
-    add_facts(draft, known, window, &lane, to, received)?;
+    add_facts(draft, known, window, &lane, to, fronts.get(&lane), received)?;
     Ok(())
 }
 
@@ -105,12 +109,14 @@ fn add_end(
     site: &Site,
     known: &Known,
     window: &Window,
+    fronts: &Fronts,
     end: &LinkEnd,
 ) -> Result<(), Memory>
+    requires { AreFronts (site_of site.now) known.now.me known.now.acked known.now.facts window.now.volatile fronts.now }
     ensures { OnOk result ((v : View) → Knows v known.now window.now → AddsEnd (site_of site.now) v end.now.port parts.old parts.new) }
 {
     add_repeats(&mut parts.repeats, window, end.lane())?;
-    add_orders(&mut parts.draft, site, known, window, end)?;
+    add_orders(&mut parts.draft, site, known, window, fronts, end)?;
     add_lease(&mut parts.batch, end, parts.draft.used)?;
     Ok(())
 }
@@ -122,14 +128,16 @@ pub fn add_ends(
     up: u32,
     known: &Known,
     window: &Window,
+    fronts: &Fronts,
     ends: &[LinkEnd],
 ) -> Result<(), Memory>
+    requires { AreFronts (site_of site.now) known.now.me known.now.acked known.now.facts window.now.volatile fronts.now }
     ensures { OnOk result ((v : View) (is_up : ℕ → Bool) → Knows v known.now window.now → AreUp up is_up
         → AddsEnds (site_of site.now) v (filter (λ p. is_up p.lane.link) (ports_in ends.now)) parts.old parts.new) }
 {
     for end in ends {
         if is_up(up, end.lane().link) {
-            add_end(parts, site, known, window, end)?;
+            add_end(parts, site, known, window, fronts, end)?;
         }
     }
     Ok(())

@@ -13,7 +13,9 @@ ghost use Rattle.kme_site.specs.Up.{AreUp};
 ghost use Rattle.kme_step.specs.Steps.{IsStep};
 ghost use Rattle.lane_ports.specs.Places.{AreEnds};
 ghost use Rattle.kme_plan.specs.Keeps.{Keeps};
+ghost use Rattle.kme_plan.specs.UnderWay.{AreFronts};
 
+use crate::Fronts;
 use crate::draft::Draft;
 use crate::parts::{Parts, add_ends};
 use kme_site::declared_site::Site;
@@ -59,14 +61,24 @@ pub fn plan(
     known: &Known,
     ports: &Ports,
     window: &Window,
+    fronts: &Fronts,
 ) -> Result<Step, Reply>
+    requires { AreFronts (site_of site.now) known.now.me known.now.acked known.now.facts window.now.volatile fronts.now }
     ensures step { (v : View) (is_up : ℕ → Bool) → Keeps v known.now ports.now window.now → AreUp up is_up → IsStep v [] (Does (plan (site_of site.now) is_up v)) result }
 
     // What holds of the ends at any time.
     ensures ends { AreEnds ports.now.ports }
 {
     let mut parts = Parts::new(alloc);
-    match add_ends(&mut parts, site, up, known, window, ports.as_slice()) {
+    match add_ends(
+        &mut parts,
+        site,
+        up,
+        known,
+        window,
+        fronts,
+        ports.as_slice(),
+    ) {
         Err(_) => Err(Reply::Memory),
         Ok(()) => Ok(step_of(parts)),
     }

@@ -6,6 +6,7 @@ ghost use Rattle.qkd_base.specs.Lane.{reverse_lane};
 ghost use Rattle.net_model.specs.declared.fact.Fact.{Fact as FactValue};
 ghost use Rattle.kme_plan.specs.Wanted.{acks_from, acks_wanted, facts_from, data_on};
 ghost use Rattle.kme_plan.specs.Drafts.{with_all};
+ghost use Rattle.kme_plan.specs.UnderWay.{AreUnderWay};
 
 use crate::draft::Draft;
 use qkd_base::{KeyName, Lane, Memory, NodeNo, Way};
@@ -19,8 +20,8 @@ struct Owed {
     name: KeyName,
 }
 
-// The other lane of a link.
-fn reversed(lane: &Lane) -> Lane
+/// The other lane of a link.
+pub fn reversed(lane: &Lane) -> Lane
     ensures { result ≡ reverse_lane lane.now }
 {
     let way = match lane.way {
@@ -73,8 +74,8 @@ pub fn add_acks(
     Ok(())
 }
 
-// The name of the fact at a place.
-fn name_at(known: &Known, place: usize) -> Option<KeyName>
+/// The name of the fact at a place.
+pub fn name_at(known: &Known, place: usize) -> Option<KeyName>
     ensures { result ≡ option_map name_of (slice_get known.now.facts place) }
 {
     match known.at(place) {
@@ -106,20 +107,22 @@ fn next_fact(known: &Known, window: &Window, lane: &Lane, to: NodeNo, from: usiz
     None
 }
 
-/// Orders the facts that are owed to a lane's other end, as far as it has bytes.
+/// Orders the facts that are owed to a lane's other end, as far as it has bytes. Those before a place are on their way.
 pub fn add_facts(
     draft: &mut Draft,
     known: &Known,
     window: &Window,
     lane: &Lane,
     to: NodeNo,
+    front: usize,
     received: u64,
 ) -> Result<(), Memory>
+    requires { AreUnderWay known.now.me known.now.acked known.now.facts window.now.volatile lane.now to front }
     ensures { OnOk result (draft.new ≡ with_all known.now.facts lane.now received draft.old (facts_from known.now window.now.volatile lane.now to 0)) }
 {
     // How many there are bounds each place.
     let _count = known.len();
-    let mut from = 0;
+    let mut from = front;
     while !draft.is_full {
         match next_fact(known, window, lane, to, from) {
             None => return Ok(()),

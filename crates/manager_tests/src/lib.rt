@@ -4,6 +4,8 @@
 #[cfg(test)]
 mod facts;
 #[cfg(test)]
+mod parts;
+#[cfg(test)]
 mod pools;
 #[cfg(test)]
 mod ports;

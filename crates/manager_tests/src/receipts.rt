@@ -1,3 +1,6 @@
+ghost use Rattle.std.specs.Prelude.{◌<◌, ◌^◌};
+
+use crate::parts::{holds, lane, link, name, node, sae};
 use kme_relay::{block, heard, ledger};
 use kme_step::{Change, Step};
 use lane_ports::Ports;
@@ -5,53 +8,60 @@ use lane_ports::kme_site::declared_site::Site;
 use lane_ports::kme_site::declared_site::route_table::RouteTable;
 use lane_ports::kme_site::declared_site::sae_entitlements::Entitlements;
 use net_model::{Counts4, Fact, Payload, Reply};
-use qkd_base::{KeyName, Lane, LinkNo, NameKind, NodeNo, Octets, Route, SaeNo, Texts, Way};
+use qkd_base::{Lane, LinkNo, NameKind, NodeNo, Octets, Route, Texts, Way};
 use relay_core::Known;
 use std::alloc::Global;
-use std::test::Fail;
-
-fn node(number: u8) -> Result<NodeNo, Fail> {
-    Ok(NodeNo::new(number).ok_or("node")?)
-}
-
-fn lane(number: u8, way: Way) -> Result<Lane, Fail> {
-    let link = LinkNo::new(number).ok_or("link")?;
-    Ok(Lane { link, way })
-}
-
-fn name(giver: u8, kind: NameKind, count: u64) -> Result<KeyName, Fail> {
-    Ok(KeyName::new(node(giver)?, kind, count).ok_or("name")?)
-}
 
 // Nodes 0, 1 and 2, link 0 between the first two and link 1 between the last two.
-fn line(alloc: Global) -> Result<Site, Fail> {
+fn links() -> Option<RouteTable> {
     let mut routes = RouteTable::new();
     for number in 0..2 {
-        let link = LinkNo::new(number).ok_or("link")?;
-        let (a, b) = (node(number)?, node(number + 1)?);
+        let link = LinkNo::new(number)?;
+        let (a, b) = (NodeNo::new(number)?, NodeNo::new(number + 1)?);
         if a == b || routes.ends(link).is_some() || routes.link_between(a, b).is_some() {
-            return Err("a link that can't be added".into());
+            return None;
         }
         routes.add_link(link, a, b);
     }
-    Ok(Site {
+    Some(routes)
+}
+
+fn line(alloc: Global) -> Option<Site> {
+    Some(Site {
         nodes: Texts::new(alloc),
-        routes,
+        routes: links()?,
         entitlements: Entitlements::new(alloc),
     })
 }
 
-// A key of node 0 along the line to a node.
-fn key(alloc: Global, count: u64, to: u8) -> Result<Fact, Fail> {
-    let nodes = [node(0)?, node(1)?, node(2)?];
-    let nodes = nodes.get(..to as usize + 1).ok_or("route")?;
-    Ok(Fact::Key {
-        name: name(0, NameKind::Key, count)?,
-        master: SaeNo::new(0).ok_or("sae")?,
-        slave: SaeNo::new(1).ok_or("sae")?,
-        route: Route::new(nodes).ok_or("route")?,
-        bytes: Octets::from_slice(alloc, &[5; 32])?,
+// Along the line from node 0 to node 1, and to node 2.
+fn short_way() -> Option<Route> {
+    Route::new(&[node(0), node(1)])
+}
+
+fn long_way() -> Option<Route> {
+    Route::new(&[node(0), node(1), node(2)])
+}
+
+// A key of node 0 along a way.
+fn key(alloc: Global, count: u64, way: Option<Route>) -> Option<Fact>
+    requires first { 0 < count }
+    requires last { count < 2 ^ 48 }
+{
+    Some(Fact::Key {
+        name: name(0, NameKind::Key, count),
+        master: sae(0),
+        slave: sae(1),
+        route: way?,
+        bytes: Octets::from_slice(alloc, &[5; 32]).ok()?,
     })
+}
+
+// What node 1 knows that has learned a key.
+fn knowing(alloc: Global, key: Option<Fact>) -> Option<Known> {
+    let mut known = Known::new(alloc, node(1));
+    known.learn(key?).ok()?;
+    Some(known)
 }
 
 // What a step answers: fresh, the kind, and how many records it makes; and whether it keeps the window.
@@ -81,41 +91,47 @@ fn hear(
     }
 }
 
+// What is answered to a key that comes on link 0.
+fn hear_key(alloc: Global, site: &Site, known: &Known, key: Option<Fact>) -> Option<Answer> {
+    let payload = Payload::Data(key?);
+    hear(alloc, site, known, lane(0, Way::Up), &payload)
+}
+
 // The target takes a key once, whatever came before, and notes that it came.
 #[test]
-fn a_target_takes_a_key_once(rt: HostRuntime) -> Result<(), Fail> {
+fn a_target_takes_a_key_once(rt: HostRuntime) {
     let alloc = rt.alloc();
-    let site = line(alloc)?;
-    let mut known = Known::new(alloc, node(1)?);
-    known.learn(key(alloc, 2, 1)?)?;
-    for (count, wanted) in [(1, (true, 1, 2, false)), (2, (false, 1, 0, false))] {
-        let payload = Payload::Data(key(alloc, count, 1)?);
-        let answer = hear(alloc, &site, &known, lane(0, Way::Up)?, &payload);
-        assert_eq!(rt; answer, Some(wanted));
-    }
-    Ok(())
+    let (Some(site), Some(known)) = (line(alloc), knowing(alloc, key(alloc, 2, short_way()))) else {
+        panic!(rt; "no line");
+    };
+    let answer = hear_key(alloc, &site, &known, key(alloc, 1, short_way()));
+    assert!(rt; answer == Some((true, 1, 2, false)));
+    let answer = hear_key(alloc, &site, &known, key(alloc, 2, short_way()));
+    assert!(rt; answer == Some((false, 1, 0, false)));
+}
+
+// What is answered to the acknowledgement of key 1.
+fn hear_ack(alloc: Global, site: &Site, known: &Known, lane: Lane) -> Option<Answer> {
+    let payload = Payload::Ack(name(0, NameKind::Key, 1));
+    hear(alloc, site, known, lane, &payload)
 }
 
 // A relay makes no note, and its key is acknowledged by the next node alone, once.
 #[test]
-fn the_next_node_acknowledges(rt: HostRuntime) -> Result<(), Fail> {
+fn the_next_node_acknowledges(rt: HostRuntime) {
     let alloc = rt.alloc();
-    let site = line(alloc)?;
-    let mut known = Known::new(alloc, node(1)?);
-    let payload = Payload::Data(key(alloc, 1, 2)?);
-    let answer = hear(alloc, &site, &known, lane(0, Way::Up)?, &payload);
-    assert_eq!(rt; answer, Some((true, 1, 1, false)));
-    known.learn(key(alloc, 1, 2)?)?;
-    let payload = Payload::Ack(name(0, NameKind::Key, 1)?);
-    for (link, way, wanted) in [
-        (0, Way::Up, (false, 3, 0, true)),
-        (1, Way::Up, (false, 3, 0, true)),
-        (1, Way::Down, (true, 3, 1, false)),
-    ] {
-        let answer = hear(alloc, &site, &known, lane(link, way)?, &payload);
-        assert_eq!(rt; answer, Some(wanted));
-    }
-    Ok(())
+    let (Some(site), Some(known)) = (line(alloc), knowing(alloc, key(alloc, 1, long_way()))) else {
+        panic!(rt; "no line");
+    };
+    let blank = Known::new(alloc, node(1));
+    let answer = hear_key(alloc, &site, &blank, key(alloc, 1, long_way()));
+    assert!(rt; answer == Some((true, 1, 1, false)));
+    let answer = hear_ack(alloc, &site, &known, lane(0, Way::Up));
+    assert!(rt; answer == Some((false, 3, 0, true)));
+    let answer = hear_ack(alloc, &site, &known, lane(1, Way::Up));
+    assert!(rt; answer == Some((false, 3, 0, true)));
+    let answer = hear_ack(alloc, &site, &known, lane(1, Way::Down));
+    assert!(rt; answer == Some((true, 3, 1, false)));
 }
 
 // The number of the block that is taken next, if one is.
@@ -141,27 +157,37 @@ fn counted(alloc: Global, ports: &Ports, lane: Lane) -> Option<Counts4> {
     }
 }
 
+// Whether a block of link 0 is the next one, and is taken.
+fn take_next(alloc: Global, ports: &mut Ports, number: u32) -> bool {
+    let link = link(0);
+    if next_block(alloc, ports, link, number) != Some(number) {
+        return false;
+    }
+    let Ok(()) = ports.room_block(link) else {
+        return false;
+    };
+    ports.take_block(link, number, &[3; 1024]);
+    true
+}
+
 // A lane is counted, and blocks are taken up to the 1,024th.
 #[test]
-fn blocks_and_counts(rt: HostRuntime) -> Result<(), Fail> {
+fn blocks_and_counts(rt: HostRuntime) {
     let alloc = rt.alloc();
-    let link = LinkNo::new(0).ok_or("link")?;
-    let mut ports = Ports::of_lanes(alloc, &[lane(0, Way::Up)?])?;
-    for number in 0..1024 {
-        assert_eq!(rt; next_block(alloc, &ports, link, number), Some(number));
-        ports.room_block(link)?;
-        ports.take_block(link, number, &[3; 1024]);
-        if number == 0 {
-            ports.plan(lane(0, Way::Up)?, 91);
-            let wanted = Counts4 {
-                received: 1024,
-                unused: 925,
-                spent: 99,
-                burnt: 0,
-            };
-            assert_eq!(rt; counted(alloc, &ports, lane(0, Way::Up)?), Some(wanted));
-        }
+    let Ok(mut ports) = Ports::of_lanes(alloc, &[lane(0, Way::Up)]) else {
+        panic!(rt; "no memory");
+    };
+    assert!(rt; take_next(alloc, &mut ports, 0));
+    ports.plan(lane(0, Way::Up), 91);
+    let wanted = Counts4 {
+        received: 1024,
+        unused: 925,
+        spent: 99,
+        burnt: 0,
+    };
+    assert!(rt; counted(alloc, &ports, lane(0, Way::Up)) == Some(wanted));
+    for number in 1..1024 {
+        holds(&rt, u64::from(number), take_next(alloc, &mut ports, number));
     }
-    assert_eq!(rt; next_block(alloc, &ports, link, 1024), None);
-    Ok(())
+    assert!(rt; next_block(alloc, &ports, link(0), 1024).is_none());
 }

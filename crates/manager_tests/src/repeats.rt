@@ -1,34 +1,28 @@
+use crate::parts::{lane, name};
 use net_model::{Order, Payload, Placing};
-use qkd_base::{FrameOctets, KeyName, Lane, LinkNo, Memory, NameKind, NodeNo, Way};
+use qkd_base::{FrameOctets, KeyName, Memory, NameKind, Way};
 use resend_window::Window;
 use std::alloc::Global;
-use std::test::Fail;
-
-fn lane(way: Way) -> Result<Lane, Memory> {
-    let link = LinkNo::new(0).ok_or(Memory)?;
-    Ok(Lane { link, way })
-}
 
 // The first key of node 0.
-fn key() -> Result<KeyName, Memory> {
-    let node = NodeNo::new(0).ok_or(Memory)?;
-    KeyName::new(node, NameKind::Key, 1).ok_or(Memory)
+fn key() -> KeyName {
+    name(0, NameKind::Key, 1)
 }
 
 // The key's frame was received at offset 8.
 fn hear(window: &mut Window) -> Result<(), Memory> {
     window.room_received(1)?;
-    window.received(lane(Way::Up)?, 8, key()?);
+    window.received(lane(0, Way::Up), 8, key());
     Ok(())
 }
 
 // A plan that orders its acknowledgement.
 fn order(window: &mut Window) -> Result<(), Memory> {
     let order = Order {
-        lane: lane(Way::Down)?,
+        lane: lane(0, Way::Down),
         offset: 8,
         ack_of: Some(8),
-        payload: Payload::Ack(key()?),
+        payload: Payload::Ack(key()),
     };
     window.room_orders(1)?;
     window.planned(&[order], &[]);
@@ -36,11 +30,11 @@ fn order(window: &mut Window) -> Result<(), Memory> {
 }
 
 // It was put on the wire.
-fn put(window: &mut Window) -> Result<(), Memory> {
+fn put(window: &mut Window) {
     let placing = Placing {
-        lane: lane(Way::Down)?,
+        lane: lane(0, Way::Down),
         offset: 8,
-        name: key()?,
+        name: key(),
         ack_of: Some(8),
         fresh: true,
         number: Some(0),
@@ -48,48 +42,54 @@ fn put(window: &mut Window) -> Result<(), Memory> {
         frame: FrameOctets::new(),
     };
     window.completed(&placing, false);
-    Ok(())
 }
 
 // Whether an acknowledgement is pending, whether its order is awaited, and how many frames go out again.
-fn seen(window: &Window) -> Result<(bool, bool, usize), Memory> {
-    let pending = window.next_pending(lane(Way::Up)?, 0).is_some();
-    let awaited = window.awaits(lane(Way::Down)?, key()?, Some(8));
-    let repeats = window.repeats(lane(Way::Down)?)?;
+type Seen = (bool, bool, usize);
+
+fn seen(window: &Window) -> Result<Seen, Memory> {
+    let pending = window.next_pending(lane(0, Way::Up), 0).is_some();
+    let awaited = window.awaits(lane(0, Way::Down), key(), Some(8));
+    let repeats = window.repeats(lane(0, Way::Down))?;
     Ok((pending, awaited, repeats.len()))
 }
 
 // A plan that sends again what is due.
 fn repeat(window: &mut Window) -> Result<(), Memory> {
-    let repeats = window.repeats(lane(Way::Down)?)?;
+    let repeats = window.repeats(lane(0, Way::Down))?;
     window.room_orders(0)?;
     window.planned(&[], repeats.as_slice());
     Ok(())
 }
 
-// Received three times, ordered, put, received again, sent again.
+// Received three times, ordered, put.
 fn course(alloc: Global) -> Result<Window, Memory> {
     let mut window = Window::new(alloc);
     hear(&mut window)?;
     hear(&mut window)?;
     hear(&mut window)?;
     order(&mut window)?;
-    put(&mut window)?;
+    put(&mut window);
     Ok(window)
 }
 
-// One acknowledgement for a received offset: received again, the same frame goes out once more.
-#[test]
-fn one_acknowledgement_for_an_offset(rt: HostRuntime) -> Result<(), Fail> {
-    let mut window = course(rt.alloc())?;
+// What is seen then, when it is received again, and when it is sent again.
+fn seen_in_turn(alloc: Global) -> Result<(Seen, Seen, Seen), Memory> {
+    let mut window = course(alloc)?;
     let sent = seen(&window)?;
     hear(&mut window)?;
     let due = seen(&window)?;
     repeat(&mut window)?;
-    let again = seen(&window)?;
-    assert_eq!(rt;
-        (sent, due, again),
-        ((false, false, 0), (false, false, 1), (false, false, 0))
-    );
-    Ok(())
+    Ok((sent, due, seen(&window)?))
+}
+
+// One acknowledgement for a received offset: received again, the same frame goes out once more.
+#[test]
+fn one_acknowledgement_for_an_offset(rt: HostRuntime) {
+    let Ok((sent, due, again)) = seen_in_turn(rt.alloc()) else {
+        panic!(rt; "no memory");
+    };
+    assert!(rt; sent == (false, false, 0));
+    assert!(rt; due == (false, false, 1));
+    assert!(rt; again == (false, false, 0));
 }

@@ -10,7 +10,7 @@ use Rattle.relay_core.specs.Firsts.{IsFirstFrom, IsNoneFrom}
 use Rattle.relay_core.proofs.Firsts.{get_within}
 use Rattle.end_store.proofs.Counted.{count_is, number_of}
 use Rattle.stream_core.specs.Tallied.{is_given, was_given, IsTally}
-use Rattle.stream_core.proofs.Numbers.{number_upto, number_rest}
+use Rattle.end_store.proofs.Numbers.{number_upto, number_rest}
 
 -- so many chunks stand before a place, and the source has got so many of them
 pub record HasChunks (facts : List Fact) (handed : List (Name × ℕ)) (s : Name) (source from chunks given : ℕ) : Type 0 where

@@ -16,7 +16,7 @@ use Rattle.relay_core.proofs.Kept.{IsSomewhere, somewhere}
 use Rattle.end_store.proofs.Counted.{count_is}
 use Rattle.stream_core.specs.declared.tallies.Tally.{Tally}
 use Rattle.stream_core.specs.Tallied.{tally_at, IsPut, is_given, IsTally, AreTallies, chunk_stream}
-use Rattle.stream_core.proofs.Numbers.{number_same, number_one}
+use Rattle.end_store.proofs.Numbers.{number_same, number_one}
 
 or_none : (a : Bool) → (a || (false || false)) ≡ a
 or_none true = refl

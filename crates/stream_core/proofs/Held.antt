@@ -12,7 +12,7 @@ use Rattle.end_store.specs.Waiting.{Ends}
 use Rattle.end_store.specs.Pooled.{ends_view}
 use Rattle.stream_core.specs.declared.tallies.Tally.{Tally}
 use Rattle.stream_core.specs.Tallied.{is_given, IsTally, AreTallies, all_but_last}
-use Rattle.stream_core.proofs.Numbers.{number_split}
+use Rattle.end_store.proofs.Numbers.{number_split}
 
 -- what was learned
 

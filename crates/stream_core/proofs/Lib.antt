@@ -1,5 +1,4 @@
 pub mod Keyed
-pub mod Numbers
 pub mod Tallying
 pub mod Handing
 pub mod Chunks

@@ -11,13 +11,7 @@ use Rattle.relay_core.proofs.Names.{name_eq_from}
 use Rattle.end_store.proofs.Counted.{count_is, number_of}
 use Rattle.stream_core.specs.declared.tallies.Tally.{Tally}
 use Rattle.stream_core.specs.Tallied.{tally_at, IsPut, is_given, IsTally, AreTallies, all_but_last, last_of_facts}
-use Rattle.stream_core.proofs.Numbers.{none_of, one_of, number-push}
-
-last_at : {A : Type 0} (xs : List A) (x : A) (k : ℕ) → suc k ≡ length xs → slice_get xs k ≡ Some x → xs ≡ take k xs ++ x ∷ []
-last_at [] x k e h = cc
-last_at (y ∷ []) x zero e h = let same : y ≡ x = cc in ap (λ (z : _). z ∷ []) same
-last_at (y ∷ z ∷ zs) x zero e h = absurd (omega arith)
-last_at (y ∷ ys) x (suc k) e h = ap (λ (zs : _). y ∷ zs) (last_at ys x k (omega arith) h)
+use Rattle.end_store.proofs.Numbers.{none_of, one_of, number-push, last_at}
 
 module _ (facts : List Fact) (f : Fact) (last : last_of_facts facts ≡ Some f) where
   has_some : 0 < length facts

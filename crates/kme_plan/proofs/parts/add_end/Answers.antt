@@ -1,4 +1,3 @@
-use Rattle.std.proofs.Common.{◌≡◌}
 use Rattle.declared_site.specs.SiteOf.{site_of}
 use Rattle.kme_plan.proofs.Ends.{end_added}
 use Rattle.kme_plan.proofs.parts.add_end.Goals as goal

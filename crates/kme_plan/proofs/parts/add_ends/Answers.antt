@@ -1,4 +1,4 @@
-use Rattle.std.proofs.Common.{◌≡◌, ◌+◌, ℕ, List, ap, sym, subst, ◌∙◌, true, false, take, arith}
+use Rattle.std.proofs.Common.{◌+◌, List, ap, sym, subst, ◌∙◌, take}
 use Rattle.std.specs.Prelude.{filter}
 use Rattle.qkd_base.specs.declared.lane.Lane.{Lane}
 use Rattle.net_model.specs.View.{Port}
@@ -8,7 +8,7 @@ use Rattle.relay_core.proofs.Firsts.{got}
 use Rattle.resend_window.proofs.Edits.{take_more}
 use Rattle.resend_window.proofs.Frames.{take_long}
 use Rattle.kme_plan.specs.declared.parts.Parts.{Parts}
-use Rattle.kme_plan.specs.Adds.{AddsEnds, AddsEnd}
+use Rattle.kme_plan.specs.Adds.{AddsEnds}
 use Rattle.kme_plan.proofs.Ends.{ports_more, ends_kept, ends_next}
 use Rattle.kme_plan.proofs.parts.add_ends.Goals as goal
 use Rattle.kme_plan.proofs.parts.add_ends.Goals.{then-is_up+in_ok-add_end, else-is_up}

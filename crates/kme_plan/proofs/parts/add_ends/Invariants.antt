@@ -1,4 +1,4 @@
-use Rattle.std.proofs.Common.{◌≡◌, ℕ, Bool, take}
+use Rattle.std.proofs.Common.{ℕ, Bool, take}
 use Rattle.std.specs.Prelude.{filter}
 use Rattle.net_model.specs.View.{View, Port}
 use Rattle.kme_site.specs.Up.{AreUp}

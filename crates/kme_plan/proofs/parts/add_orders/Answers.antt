@@ -1,5 +1,4 @@
-use Rattle.std.proofs.Common.{◌≡◌, ap, sym, ◌∙◌}
-use Rattle.qkd_base.specs.declared.lane.Lane.{Lane}
+use Rattle.std.proofs.Common.{ap, sym, ◌∙◌}
 use Rattle.net_model.specs.Site.{receiver}
 use Rattle.declared_site.specs.SiteOf.{site_of}
 use Rattle.kme_plan.proofs.Ends.{ordered, bounded}

@@ -1,4 +1,4 @@
-use Rattle.std.proofs.Common.{◌≡◌, ap, sym, subst, ◌∙◌, []}
+use Rattle.std.proofs.Common.{sym, subst, []}
 use Rattle.net_model.specs.Plan.{plan}
 use Rattle.declared_site.specs.SiteOf.{site_of}
 use Rattle.lane_ports.specs.Places.{ports_in}

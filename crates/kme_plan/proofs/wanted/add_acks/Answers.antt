@@ -3,7 +3,7 @@ use Rattle.std.specs.Prelude.{filter}
 use Rattle.qkd_base.specs.Lane.{lane_eq}
 use Rattle.qkd_base.specs.declared.lane.Lane.{Lane}
 use Rattle.resend_window.specs.Kept.{pending_from}
-use Rattle.kme_plan.specs.Wanted.{acks_from, ack_on}
+use Rattle.kme_plan.specs.Wanted.{acks_from}
 use Rattle.kme_plan.specs.Drafts.{with_all}
 use Rattle.kme_plan.proofs.Rests.{one_added, full_stays, acks_all}
 use Rattle.kme_plan.proofs.wanted.add_acks.Goals as goal

@@ -1,7 +1,13 @@
-use Rattle.std.proofs.Common.{◌≡◌, ap, sym, ◌∙◌}
+use Rattle.std.proofs.Common.{ap, sym, ◌∙◌}
 use Rattle.kme_plan.specs.Wanted.{facts_from}
+use Rattle.kme_plan.specs.Drafts.{with_all}
 use Rattle.kme_plan.proofs.Rests.{full_stays}
+use Rattle.kme_plan.proofs.UnderWay.{from_front}
 use Rattle.kme_plan.proofs.wanted.add_facts.Goals as goal
+
+pub loop-draft-init : goal.loop-draft-init
+loop-draft-init c =
+    ap (with_all c.args.known.now.facts c.args.lane.now c.args.received c.args.draft.now) (from_front c.args.known.now c.args.window.now.volatile c.args.lane.now c.args.to c.args.front c.requires)
 
 pub returns : goal.returns
 returns c =

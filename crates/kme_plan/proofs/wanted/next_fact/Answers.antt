@@ -1,5 +1,4 @@
-use Rattle.std.proofs.Common.{◌≡◌, ℕ, ◌+◌, ◌-◌, ◌<◌, ◌≤◌, ap, sym, ◌∙◌, arith, length}
-use Rattle.kme_plan.specs.Wanted.{facts_from}
+use Rattle.std.proofs.Common.{ℕ, ◌+◌, ◌-◌, ◌<◌, ◌≤◌, sym, ◌∙◌, arith, length}
 use Rattle.kme_plan.proofs.Rests.{owed_at, fact_held, fact_waits, fact_goes, facts_end}
 use Rattle.kme_plan.proofs.wanted.next_fact.Goals as goal
 use Rattle.kme_plan.proofs.wanted.next_fact.Goals.{else-not-holds-via-then-not-holds+else-not-awaits, else-not-holds-via-else-not-holds}

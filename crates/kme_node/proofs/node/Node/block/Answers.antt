@@ -1,8 +1,5 @@
-use Rattle.std.proofs.Common.{◌≡◌, [], subst, sym, ap}
-use Rattle.net_model.specs.Decide.{decide}
+use Rattle.std.proofs.Common.{subst, sym}
 use Rattle.declared_site.specs.SiteOf.{site_of}
-use Rattle.declared_site.specs.declared.site.Site.{Site as Declared}
-use Rattle.kme_step.specs.Steps.{IsStep}
 use Rattle.kme_relay.specs.Knows.{HasPorts}
 use Rattle.kme_node.specs.Holdings.{view}
 use Rattle.kme_node.proofs.Sights.{has_ports}

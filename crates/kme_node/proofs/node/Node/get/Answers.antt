@@ -1,4 +1,4 @@
-use Rattle.std.proofs.Common.{◌≡◌, [], subst, sym}
+use Rattle.std.proofs.Common.{[], subst, sym}
 use Rattle.net_model.specs.declared.event.Event.TheVariants.{Get}
 use Rattle.net_model.specs.Decide.{decide}
 use Rattle.declared_site.specs.SiteOf.{site_of}

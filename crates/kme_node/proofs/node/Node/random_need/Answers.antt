@@ -1,4 +1,4 @@
-use Rattle.std.proofs.Common.{◌≡◌, sym, ap}
+use Rattle.std.proofs.Common.{sym, ap}
 use Rattle.kme_node.specs.Holdings.{view}
 use Rattle.kme_node.proofs.node.Node.random_need.Goals as goal
 

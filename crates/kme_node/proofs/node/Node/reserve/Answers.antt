@@ -5,15 +5,21 @@ use Rattle.lane_ports.specs.Places.{HasBytesFor}
 use Rattle.kme_node.specs.Holdings.{Holdings, Fits, view}
 use Rattle.kme_node.proofs.Ends.{lanes_of}
 use Rattle.kme_node.proofs.Applied.{same_view, held_still, all_rooms}
+use Rattle.declared_site.specs.SiteOf.{site_of}
+use Rattle.kme_node.proofs.Fronted.{ahead_same}
 use Rattle.kme_node.proofs.Replies.{orders_within}
 use Rattle.kme_node.proofs.node.Node.reserve.Goals as goal
 
 pub invariant_of-self : goal.invariant_of-self
 invariant_of-self c =
-    held_still
-    (record { site = c.self.inside.site; kept = c.self.inside.kept; ends = c.self.inside.ports; window = c.self.inside.window })
-    (record { site = c.self.inside.site; kept = c.room_parts.new.kept; ends = c.room_parts.new.ports; window = c.room_parts.new.window })
-    refl (ap (λ (v : View). v.me) c.room_parts.ensures.kept) (ap lanes_of c.room_parts.ensures.ports) c.self.invariant
+    record {
+      held =
+          held_still
+          (record { site = c.self.inside.site; kept = c.self.inside.kept; ends = c.self.inside.ports; window = c.self.inside.window })
+          (record { site = c.self.inside.site; kept = c.room_parts.new.kept; ends = c.room_parts.new.ports; window = c.room_parts.new.window })
+          refl (ap (λ (v : View). v.me) c.room_parts.ensures.kept) (ap lanes_of c.room_parts.ensures.ports) c.self.invariant.held;
+      ahead = ahead_same (site_of c.self.inside.site) c.self.inside.fronts c.self.inside.kept c.room_parts.new.kept c.self.inside.window.volatile c.room_parts.new.window.volatile c.room_parts.ensures.kept c.room_parts.ensures.volatile c.self.invariant.ahead;
+    }
 
 pub returns-clause-view : goal.returns-clause-view
 returns-clause-view c =

@@ -6,16 +6,20 @@ use Rattle.kept_facts.specs.Needs.{kept_view}
 use Rattle.lane_ports.specs.Places.{restarted}
 use Rattle.kme_node.specs.Holdings.{Holdings, view}
 use Rattle.kme_node.proofs.Ends.{lanes_of, same_lanes}
+use Rattle.declared_site.specs.SiteOf.{site_of}
 use Rattle.kme_node.proofs.Applied.{held_still}
+use Rattle.kme_node.proofs.Fronted.{anew}
 use Rattle.kme_node.proofs.Split.{with_rest}
 use Rattle.kme_node.proofs.node.Node.restart.Goals as goal
 
 pub invariant_of-self : goal.invariant_of-self
-invariant_of-self c =
-    held_still
-    (record { site = c.self.inside.site; kept = c.self.inside.kept; ends = c.self.inside.ports; window = c.self.inside.window })
-    (record { site = c.self.inside.site; kept = c.self.inside.kept; ends = c.restart.new.self; window = c.clear.new.self })
-    refl refl (ap lanes_of c.restart.ensures.ports ∙ same_lanes restarted (λ p. refl) c.self.inside.ports.ports) c.self.invariant
+invariant_of-self c = record {
+  held = held_still
+      (record { site = c.self.inside.site; kept = c.self.inside.kept; ends = c.self.inside.ports; window = c.self.inside.window })
+      (record { site = c.self.inside.site; kept = c.self.inside.kept; ends = c.restart.new.self; window = c.clear.new.self })
+      refl refl (ap lanes_of c.restart.ensures.ports ∙ same_lanes restarted (λ p. refl) c.self.inside.ports.ports) c.self.invariant.held;
+  ahead = anew (site_of c.self.inside.site) c.self.inside.kept.ends.known.me c.self.inside.kept.ends.known.acked c.self.inside.kept.ends.known.facts c.clear.new.self.volatile c.new-self-inside.result c.new-self-inside.ensures;
+}
 
 pub returns-clause-view : goal.returns-clause-view
 unfolding view_restarted

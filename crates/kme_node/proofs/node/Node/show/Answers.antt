@@ -1,4 +1,4 @@
-use Rattle.std.proofs.Common.{◌≡◌, [], IfOk, refl, sym, subst, ap, ◌∙◌}
+use Rattle.std.proofs.Common.{◌≡◌, IfOk, refl, sym, subst, ap, ◌∙◌}
 use Rattle.net_model.specs.Decide.{decide}
 use Rattle.net_model.specs.Show.{show}
 use Rattle.stream_core.specs.Kept.{Sees}

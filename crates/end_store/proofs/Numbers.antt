@@ -82,3 +82,10 @@ both false b = refl
 pub number_split : {A : Type 0} (t s : A → Bool) (xs : List A) → number_of (λ x. t x && not (s x)) xs + number_of (λ x. t x && s x) xs ≡ number_of t xs
 number_split t s [] = refl
 number_split t s (x ∷ xs) = let b = both (t x) (s x) in let r = number_split t s xs in omega arith
+
+-- all items but the last one, and that one
+pub last_at : {A : Type 0} (xs : List A) (x : A) (k : ℕ) → suc k ≡ length xs → slice_get xs k ≡ Some x → xs ≡ take k xs ++ x ∷ []
+last_at [] x k e h = cc
+last_at (y ∷ []) x zero e h = let same : y ≡ x = cc in ap (λ (z : _). z ∷ []) same
+last_at (y ∷ z ∷ zs) x zero e h = absurd (omega arith)
+last_at (y ∷ ys) x (suc k) e h = ap (λ (zs : _). y ∷ zs) (last_at ys x k (omega arith) h)

@@ -1,9 +1,9 @@
 use Rattle.std.proofs.Common.{◌-◌}
 use Rattle.end_store.proofs.Counted.{HasStock}
-use Rattle.end_store.proofs.pools.count_stock.Given as goal
+use Rattle.end_store.proofs.stocking.count_stock.Given as goal
 
 abbrev pub invariant-loop-count : goal.invariant-loop-count
-invariant-loop-count l = HasStock l.store.known.me l.store.known.facts l.store.handed l.pool l.number l.from l.count
+invariant-loop-count l = HasStock l.known.me l.known.facts l.handed.pairs l.pool l.number l.from l.count
 
 abbrev pub decreases-loop-count : goal.decreases-loop-count
 decreases-loop-count l = l.number - l.count

@@ -1,0 +1,149 @@
+// How the numbers of waiting keys keep up with what is learned and handed.
+ghost use Rattle.std.specs.Prelude.{◌≡◌, ◌<◌, ◌==◌, min, count_by, length, Some};
+ghost use Rattle.net_model.specs.Table.{fact_at};
+ghost use Rattle.net_model.specs.Fold.{marked};
+ghost use Rattle.relay_core.specs.Knowledge.{AreDistinct};
+ghost use Rattle.end_store.specs.Waiting.{is_free_key, AreWaiting};
+ghost use Rattle.end_store.specs.Stocked.{AreStocks, all_but_last, last_of_facts, free_pool, key_pool};
+
+use crate::listing::pool_of;
+use crate::stocks::Stocks;
+use crate::waiting::next;
+use crate::{Line, Marks, Pool};
+use net_model::Fact;
+use ordered_entries::Entries;
+use qkd_base::{KeyName, SaeNo};
+use relay_core::Known;
+
+/// How many keys of a pool their master hasn't got, counted one by one up to a number.
+pub fn count_stock(
+    index: &Entries,
+    listed: usize,
+    known: &Known,
+    handed: &Marks,
+    pool: &Pool,
+    number: usize,
+) -> usize
+    requires { AreWaiting known.now.me known.now.facts handed.now.pairs index.now listed }
+    ensures { result ≡ min number (count_by (is_free_key handed.now.pairs pool.now) known.now.facts) }
+{
+    // How many places there are is what it says.
+    let _places = known.len();
+    let mut count = 0;
+    let mut from = 0;
+    while count < number {
+        match next(index, listed, known, handed, &Line::Stock(*pool), from) {
+            None => return count,
+            Some(place) => {
+                count += 1;
+                from = place + 1;
+            }
+        }
+    }
+    count
+}
+
+// The pool of a fact, if it is a key of this master.
+fn key_pool(fact: &Fact, sae: SaeNo) -> Option<Pool>
+    ensures { result ≡ key_pool sae (Some fact.now) }
+{
+    match fact {
+        Fact::Key {
+            master,
+            slave,
+            bytes,
+            ..
+        } => {
+            if *master == sae {
+                Some(pool_of(*master, *slave, bytes))
+            } else {
+                None
+            }
+        }
+        _ => None,
+    }
+}
+
+// The pool of the fact of a name, if it is a key of this master.
+fn pool_named(known: &Known, name: KeyName, sae: SaeNo) -> Option<Pool>
+    ensures { result ≡ key_pool sae (fact_at known.now.facts name) }
+{
+    match known.fact(name) {
+        None => None,
+        Some(fact) => key_pool(fact, sae),
+    }
+}
+
+// The pool of the fact that was learned last, if it is a key that its master hasn't got.
+fn last_pool(known: &Known, handed: &Marks) -> Option<Pool>
+    requires some { 0 < length known.now.facts }
+    ensures { result ≡ free_pool handed.now.pairs (last_of_facts known.now.facts) }
+{
+    match known.at(known.len() - 1) {
+        Some(
+            Fact::Key {
+                name,
+                master,
+                slave,
+                bytes,
+                ..
+            },
+        ) => {
+            if handed.has(*name, *master) {
+                None
+            } else {
+                Some(pool_of(*master, *slave, bytes))
+            }
+        }
+        _ => None,
+    }
+}
+
+/// Counts what was learned last.
+pub fn stock_last(
+    stocks: &mut Stocks,
+    index: &Entries,
+    listed: usize,
+    known: &Known,
+    handed: &Marks,
+)
+    requires some { 0 < length known.now.facts }
+    requires waiting { AreWaiting known.now.me known.now.facts handed.now.pairs index.now listed }
+    requires stocks { AreStocks (all_but_last known.now.facts) handed.now.pairs stocks.old }
+    ensures { AreStocks known.now.facts handed.now.pairs stocks.new }
+{
+    match last_pool(known, handed) {
+        None => {}
+        Some(pool) => match stocks.find(&pool) {
+            Some(number) => {
+                // How many facts there are at most is what it says.
+                let _places = known.len();
+                stocks.put(&pool, number + 1);
+            }
+            None => {
+                let places = known.len();
+                let number = count_stock(index, listed, known, handed, &pool, places);
+                stocks.put(&pool, number as u64);
+            }
+        },
+    }
+}
+
+/// Counts a handing that is to be noted, where it is that of a key to its master and new.
+pub fn stock_handing(stocks: &mut Stocks, known: &Known, handed: &Marks, name: KeyName, sae: SaeNo)
+    requires { AreStocks known.now.facts handed.now.pairs stocks.old }
+    ensures { AreStocks known.now.facts (marked handed.now.pairs name sae) stocks.new }
+{
+    if handed.has(name, sae) {
+        return;
+    }
+    // That names differ is what it says.
+    let _places = known.len();
+    match pool_named(known, name, sae) {
+        None => {}
+        Some(pool) => match stocks.find(&pool) {
+            None => {}
+            Some(number) => stocks.put(&pool, number - 1),
+        },
+    }
+}
