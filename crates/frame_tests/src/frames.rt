@@ -1,3 +1,4 @@
+use crate::cases::holds;
 use hop_frames::{OpenRefusal, open, seal};
 use link_segments::Segments;
 use net_model::{Fact, Payload, spelled_len, well_formed};
@@ -5,7 +6,6 @@ use pad_ledger::PadLedger;
 use qkd_base::{FrameOctets, KeyName, Lane, LinkNo, NameKind, NodeNo, Octets, Route, SaeNo, Way};
 use std::alloc::Global;
 use std::process::Abort;
-use std::test::Fail;
 
 // A frame of a key of 256 bits at offset 8 of the lane up of link 0, whose byte number i is 7 i + 3 modulo 256. It was
 // computed apart, with another program.
@@ -36,36 +36,37 @@ const LONGER: [u8; 42] = [
     0xe3, 0xb8, 0xcd,
 ];
 
-fn lane_of(way: Way) -> Result<Lane, Fail> {
-    let link = LinkNo::new(0).ok_or("link")?;
-    Ok(Lane { link, way })
+fn lane() -> Lane {
+    Lane {
+        link: LinkNo::new(0).unwrap(),
+        way: Way::Up,
+    }
 }
 
 // One block, whose byte number i is step i + 3 modulo 256.
-fn one_block(alloc: Global, step: u64) -> Result<Segments, Fail> {
+fn one_block(alloc: Global, step: u64) -> Option<Segments> {
     let mut block = [0u8; 1024];
     for i in 0..1024u64 {
         block[i as usize] = ((step % 256 * i + 3) % 256) as u8;
     }
     let mut held = Segments::new(alloc);
-    held.take_block(0, &block)?;
-    Ok(held)
+    held.take_block(0, &block).ok()?;
+    Some(held)
 }
 
 // Key number `count` of node 0, for applications 0 and 1 over one link.
-fn a_key(alloc: Global, count: u64) -> Result<Payload, Fail> {
-    let first = NodeNo::new(0).ok_or("node")?;
-    let second = NodeNo::new(1).ok_or("node")?;
+fn a_key(alloc: Global, count: u64) -> Option<Payload> {
+    let first = NodeNo::new(0)?;
     let mut bytes = [0u8; 32];
     for i in 0..32u8 {
         bytes[usize::from(i)] = i;
     }
-    Ok(Payload::Data(Fact::Key {
-        name: KeyName::new(first, NameKind::Key, count).ok_or("name")?,
-        master: SaeNo::new(0).ok_or("sae")?,
-        slave: SaeNo::new(1).ok_or("sae")?,
-        route: Route::new(&[first, second]).ok_or("route")?,
-        bytes: Octets::from_slice(alloc, &bytes)?,
+    Some(Payload::Data(Fact::Key {
+        name: KeyName::new(first, NameKind::Key, count)?,
+        master: SaeNo::new(0)?,
+        slave: SaeNo::new(1)?,
+        route: Route::new(&[first, NodeNo::new(1)?])?,
+        bytes: Octets::from_slice(alloc, &bytes).ok()?,
     }))
 }
 
@@ -76,122 +77,135 @@ fn sealed(
     ledger: &mut PadLedger,
     payload: &Payload,
     into: &mut FrameOctets,
-) -> Result<usize, Fail> {
+) -> Option<usize> {
     assert!(rt; well_formed(payload));
     let need = usize::from(spelled_len(payload)) + 8;
-    let lane = lane_of(Way::Up)?;
     let mut key = [0u8; 8];
-    held.lane_bytes(Way::Up, 0, &mut key)?;
+    held.lane_bytes(Way::Up, 0, &mut key).ok()?;
     let mut room = [0u8; 600];
     let pads = &mut room[..need];
     match ledger.claim(need as u64) {
         Ok(range) => {
             assert!(rt; held.lane_bytes(Way::Up, range.start(), pads).is_ok());
-            Ok(seal(range, lane, u64::from_be_bytes(key), pads, payload, into))
+            Some(seal(range, lane(), u64::from_be_bytes(key), pads, payload, into))
         }
-        Err(_) => Err("short".into()),
+        Err(_) => None,
     }
 }
 
-// The refusal of octets on the lane up.
-fn refusal_of(alloc: Global, held: &Segments, frame: &[u8]) -> Result<Option<OpenRefusal>, Fail> {
-    Ok(open(alloc, lane_of(Way::Up)?, frame, held).err())
+// The offset of a frame on the lane, and the number of its key.
+fn opened(alloc: Global, held: &Segments, frame: &[u8]) -> Option<(u64, u64)> {
+    let opened = open(alloc, lane(), frame, held).ok()?;
+    match &opened.payload {
+        Payload::Data(Fact::Key { name, .. }) => Some((opened.offset, name.count())),
+        _ => None,
+    }
+}
+
+// The refusal of octets on the lane.
+fn refusal_of(alloc: Global, held: &Segments, frame: &[u8]) -> Option<OpenRefusal> {
+    open(alloc, lane(), frame, held).err()
 }
 
 // Two keys of 256 bits are sealed at 8 and at 74, and opened in the other order.
 #[test]
-fn sealed_frames_are_opened(rt: HostRuntime) -> Result<(), Fail> {
-    let held = one_block(rt.alloc(), 7)?;
+fn sealed_frames_are_opened(rt: HostRuntime) {
+    let alloc = rt.alloc();
+    let (Some(held), Some(one), Some(two)) = (one_block(alloc, 7), a_key(alloc, 1), a_key(alloc, 2))
+    else {
+        panic!(rt; "no keys");
+    };
     let mut ledger = PadLedger::new();
     ledger.receive(1024);
     ledger.raise(1024);
     let mut first = FrameOctets::new();
-    let size = sealed(&rt, &held, &mut ledger, &a_key(rt.alloc(), 1)?, &mut first)?;
-    assert_eq!(rt; size, 82);
-    let frame = &first.octets[..82];
-    assert!(rt; frame == FRAME.as_slice());
+    assert!(rt; sealed(&rt, &held, &mut ledger, &one, &mut first) == Some(82));
+    assert!(rt; &first.octets[..82] == FRAME.as_slice());
     let mut second = FrameOctets::new();
-    let size = sealed(&rt, &held, &mut ledger, &a_key(rt.alloc(), 2)?, &mut second)?;
-    assert_eq!(rt; size, 82);
-    assert_eq!(rt; ledger.counts().spent, 140);
-    for (frame, offset, count) in [(&second, 74, 2), (&first, 8, 1)] {
-        let opened = open(rt.alloc(), lane_of(Way::Up)?, &frame.octets[..82], &held)?;
-        assert_eq!(rt; opened.offset, offset);
-        match &opened.payload {
-            Payload::Data(Fact::Key { name, .. }) => assert_eq!(rt; name.count(), count),
-            _ => assert!(rt; false),
-        }
-    }
-    Ok(())
+    assert!(rt; sealed(&rt, &held, &mut ledger, &two, &mut second) == Some(82));
+    assert!(rt; ledger.counts().spent == 140);
+    assert!(rt; opened(alloc, &held, &second.octets[..82]) == Some((74, 2)));
+    assert!(rt; opened(alloc, &held, &first.octets[..82]) == Some((8, 1)));
+}
+
+// That frame with another octet in a place.
+fn changed(at: usize, octet: u8) -> [u8; 82] {
+    let mut frame = FRAME;
+    frame[at.min(81)] = octet;
+    frame
 }
 
 // An octet of the frame that is changed, and the first refusal that holds then.
+const CHANGES: [(usize, u8, OpenRefusal); 10] = [
+    (0, 2, OpenRefusal::NotAFrame(0)),
+    (3, 1, OpenRefusal::NotAFrame(3)),
+    (5, 59, OpenRefusal::NotAFrame(4)),
+    (5, 0, OpenRefusal::NotAFrame(4)),
+    (6, 1, OpenRefusal::NotAFrame(6)),
+    (7, 1, OpenRefusal::NotAFrame(6)),
+    (15, 7, OpenRefusal::NotAFrame(8)),
+    (1, 31, OpenRefusal::WrongLane { link: 31, way: 0 }),
+    (2, 1, OpenRefusal::WrongLane { link: 0, way: 1 }),
+    (8, 128, OpenRefusal::NoBits(1024)),
+];
+
 #[test]
-fn changed_frames_are_refused(rt: HostRuntime) -> Result<(), Fail> {
-    let held = one_block(rt.alloc(), 7)?;
-    for (at, octet, wanted) in [
-        (0, 2, OpenRefusal::NotAFrame(0)),
-        (3, 1, OpenRefusal::NotAFrame(3)),
-        (5, 59, OpenRefusal::NotAFrame(4)),
-        (5, 0, OpenRefusal::NotAFrame(4)),
-        (6, 1, OpenRefusal::NotAFrame(6)),
-        (7, 1, OpenRefusal::NotAFrame(6)),
-        (15, 7, OpenRefusal::NotAFrame(8)),
-        (1, 31, OpenRefusal::WrongLane { link: 31, way: 0 }),
-        (2, 1, OpenRefusal::WrongLane { link: 0, way: 1 }),
-        (8, 128, OpenRefusal::NoBits(1024)),
-    ] {
-        assert!(rt; at < 82);
-        let mut changed = FRAME;
-        changed[at] = octet;
-        let refusal = refusal_of(rt.alloc(), &held, &changed)?;
-        assert_eq!(rt; refusal, Some(wanted), "octet {at} made {octet}");
+fn changed_frames_are_refused(rt: HostRuntime) {
+    let Some(held) = one_block(rt.alloc(), 7) else {
+        panic!(rt; "no block");
+    };
+    for (at, octet, wanted) in &CHANGES {
+        let refusal = refusal_of(rt.alloc(), &held, &changed(*at, *octet));
+        holds(&rt, *at, *octet, refusal == Some(*wanted));
     }
-    let mut changed = FRAME;
-    changed[81] ^= 1;
-    match refusal_of(rt.alloc(), &held, &changed)? {
-        Some(OpenRefusal::BadTag { given, computed }) => assert_eq!(rt; given ^ computed, 1),
-        _ => assert!(rt; false),
+    match refusal_of(rt.alloc(), &held, &changed(81, FRAME[81] ^ 1)) {
+        Some(OpenRefusal::BadTag { given, computed }) => assert!(rt; given ^ computed == 1),
+        _ => panic!(rt; "no bad tag"),
     }
-    assert_eq!(rt;
-        refusal_of(rt.alloc(), &held, &FRAME[..23])?,
-        Some(OpenRefusal::NotAFrame(23))
-    );
-    assert_eq!(rt;
-        refusal_of(rt.alloc(), &held, &FRAME[..81])?,
-        Some(OpenRefusal::NotAFrame(4))
-    );
+}
+
+#[test]
+fn short_frames_are_refused(rt: HostRuntime) {
+    let Some(held) = one_block(rt.alloc(), 7) else {
+        panic!(rt; "no block");
+    };
+    let refusal = refusal_of(rt.alloc(), &held, &FRAME[..23]);
+    assert!(rt; refusal == Some(OpenRefusal::NotAFrame(23)));
+    let refusal = refusal_of(rt.alloc(), &held, &FRAME[..81]);
+    assert!(rt; refusal == Some(OpenRefusal::NotAFrame(4)));
     let none = Segments::new(rt.alloc());
-    assert_eq!(rt;
-        refusal_of(rt.alloc(), &none, &FRAME)?,
-        Some(OpenRefusal::NoBits(0))
-    );
-    Ok(())
+    let refusal = refusal_of(rt.alloc(), &none, &FRAME);
+    assert!(rt; refusal == Some(OpenRefusal::NoBits(0)));
+}
+
+// One block of zeros, but for byte 7, which is 2.
+fn plain_block(alloc: Global) -> Option<Segments> {
+    let mut block = [0u8; 1024];
+    block[7] = 2;
+    let mut held = Segments::new(alloc);
+    held.take_block(0, &block).ok()?;
+    Some(held)
 }
 
 // What nobody sealed is opened only where its tag is right.
 #[test]
-fn invented_frames(rt: HostRuntime) -> Result<(), Fail> {
-    let mut block = [0u8; 1024];
-    block[7] = 2;
-    let mut plain = Segments::new(rt.alloc());
-    plain.take_block(0, &block)?;
+fn invented_frames(rt: HostRuntime) {
+    let alloc = rt.alloc();
+    let (Some(plain), Some(held)) = (plain_block(alloc), one_block(alloc, 7)) else {
+        panic!(rt; "no block");
+    };
     let mut frame = INVENTED;
-    assert_eq!(rt; refusal_of(rt.alloc(), &plain, &frame)?, None);
+    assert!(rt; open(alloc, lane(), &frame, &plain).is_ok());
     frame[40] = 0x43;
-    assert_eq!(rt;
-        refusal_of(rt.alloc(), &plain, &frame)?,
-        Some(OpenRefusal::BadTag {
-            given: 0x7000000004400943,
-            computed: 0x7000000004400942
-        })
-    );
-    let held = one_block(rt.alloc(), 7)?;
-    let refusal = refusal_of(rt.alloc(), &held, &ZEROS)?;
-    assert_eq!(rt; refusal, Some(OpenRefusal::NotAPayload(0)));
-    let refusal = refusal_of(rt.alloc(), &held, &LONGER)?;
-    assert_eq!(rt; refusal, Some(OpenRefusal::NotAPayload(17)));
-    Ok(())
+    let bad_tag = OpenRefusal::BadTag {
+        given: 0x7000000004400943,
+        computed: 0x7000000004400942,
+    };
+    assert!(rt; refusal_of(alloc, &plain, &frame) == Some(bad_tag));
+    let refusal = refusal_of(alloc, &held, &ZEROS);
+    assert!(rt; refusal == Some(OpenRefusal::NotAPayload(0)));
+    let refusal = refusal_of(alloc, &held, &LONGER);
+    assert!(rt; refusal == Some(OpenRefusal::NotAPayload(17)));
 }
 
 // Payloads of 538 and 462 octets use all of a block; after the first one of 463 is short.
@@ -204,9 +218,9 @@ fn claims_use_a_block(rt: HostRuntime) {
         for need in [546, size + 8] {
             match ledger.claim(need) {
                 Ok(range) => range.spend(),
-                Err(short) => assert_eq!(rt; (short.used, short.end), (554, 1024)),
+                Err(short) => assert!(rt; short.used == 554 && short.end == 1024),
             }
         }
-        assert_eq!(rt; ledger.counts().spent, spent);
+        assert!(rt; ledger.counts().spent == spent);
     }
 }

@@ -4,10 +4,9 @@ ghost use Rattle.net_model.specs.declared.payload.Payload.TheVariants.{Ack};
 
 use lane_sides::{LaneSide, Sent};
 use net_model::{Counts4, Order, Payload};
-use qkd_base::{KeyName, Lane, LinkNo, NameKind, NodeNo, Way};
+use qkd_base::{KeyName, Lane, LinkNo, Memory, NameKind, NodeNo, Way};
 use source_devices::{MemWire, WireFailed};
 use std::alloc::Global;
-use std::test::Fail;
 
 fn lane() -> Lane
     ensures { result ≡ record { link = 0; way = UpWay } }
@@ -30,13 +29,12 @@ fn order(name: KeyName) -> Order
     }
 }
 
-fn name() -> Result<KeyName, Fail> {
-    let node = NodeNo::new(1).ok_or("no node")?;
-    Ok(KeyName::new(node, NameKind::Key, 1).ok_or("no name")?)
+fn name() -> Option<KeyName> {
+    KeyName::new(NodeNo::new(1)?, NameKind::Key, 1)
 }
 
 // A lane of one block, leased as a whole, whose wire fails in the second call.
-fn side(alloc: Global) -> Result<LaneSide<MemWire>, Fail>
+fn side(alloc: Global) -> Result<LaneSide<MemWire>, Memory>
     ensures { IfOk result (λ side. (side.lane ≡ record { link = 0; way = UpWay }) × (side.ledger ≡ record { used = 8; end = 1024; received = 1024; burnt = 0 })) }
 {
     let wire = MemWire::new(alloc, vec![in alloc; 1u64]?);
@@ -78,22 +76,22 @@ fn emitted(side: &mut LaneSide<MemWire>, name: KeyName) -> Sent
 
 // Frames follow each other, and a frame that the wire refused keeps its bytes.
 #[test]
-fn frames_spend_their_bytes(rt: HostRuntime) -> Result<(), Fail> {
-    let mut side = side(rt.alloc())?;
-    let name = name()?;
+fn frames_spend_their_bytes(rt: HostRuntime) {
+    let (Ok(mut side), Some(name)) = (side(rt.alloc()), name()) else {
+        panic!(rt; "no side");
+    };
     let first = emitted(&mut side, name);
     let second = emitted(&mut side, name);
     let third = emitted(&mut side, name);
-    assert_eq!(rt; parts(&first), (Some(0), 8, 41));
-    assert_eq!(rt; parts(&second), (None, 33, 41));
-    assert_eq!(rt; cause(&second), Some(WireFailed::Fault));
-    assert_eq!(rt; parts(&third), (Some(1), 58, 41));
+    assert!(rt; parts(&first) == (Some(0), 8, 41));
+    assert!(rt; parts(&second) == (None, 33, 41));
+    assert!(rt; cause(&second) == Some(WireFailed::Fault));
+    assert!(rt; parts(&third) == (Some(1), 58, 41));
     let spent = Counts4 {
         received: 1024,
         unused: 941,
         spent: 83,
         burnt: 0,
     };
-    assert_eq!(rt; side.counts(), spent);
-    Ok(())
+    assert!(rt; side.counts() == spent);
 }

@@ -1,5 +1,5 @@
 -- A lane at its sender, held by one alone.
-use Rattle.std.specs.Prelude.{◌≡◌, ℕ, ◌+◌, ◌-◌, ◌<◌, ◌≤◌, List, length}
+use Rattle.std.specs.Prelude.{◌≡◌, ℕ, ◌+◌, ◌-◌, ◌<◌, ◌≤◌, nat_le, List, length, if◌then◌else◌}
 use Rattle.qkd_base.specs.declared.lane.Lane.{Lane}
 use Rattle.net_model.specs.declared.payload.Payload.{Payload}
 use Rattle.net_model.specs.declared.counts.Counts4.{Counts4}
@@ -27,6 +27,10 @@ pub record IsLaneOf (bytes : List ℕ) (ledger : Ledger) : Type 0 where
 -- a start: what was leased and not used is burnt
 abbrev pub burnt_to : ℕ → Ledger → Ledger
 burnt_to lease l = record { used = lease; end = lease; received = l.received; burnt = l.burnt + (lease - l.used) }
+
+-- so many of the next bytes lie under the end, which is raised to theirs where it is lower
+abbrev pub reaching : ℕ → Ledger → Ledger
+reaching n l = if nat_le (l.used + n) l.end then l else record l { end = l.used + n }
 
 -- the next bytes go to a frame
 abbrev pub claimed : ℕ → Ledger → Ledger

@@ -1,5 +1,5 @@
 -- What came of putting a frame on a wire.
-use Rattle.std.specs.Prelude.{◌≡◌, ℕ, nat_lt, List, take, length, slice_index_or, Option, Bool, Some, None, Result, Ok, Err, true, false}
+use Rattle.std.specs.Prelude.{ℕ, nat_lt, List, take, length, Option, Bool, Some, None, Result, Ok, Err, true, false}
 use Rattle.qkd_base.specs.declared.frame_octets.FrameOctets.{FrameOctets}
 use Rattle.net_model.specs.declared.repeat.Repeat.{Repeat}
 use Rattle.net_model.specs.Window.{room_octets}

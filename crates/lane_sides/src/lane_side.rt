@@ -1,20 +1,20 @@
 // A lane that one holds alone.
 ghost use Rattle.std.specs.Prelude.{◌≡◌, ◌+◌, ◌≤◌, ◌<◌, ◌^◌, ◌++◌, [], length, take, drop, Ok, Err, OnOk, OnErr, MatchResult, IsErrOf};
-ghost use Rattle.net_model.specs.Facts.{payload_len, IsWellFormed};
-ghost use Rattle.frame_codec.specs.Payload.{IsPayload, payload_octets};
-ghost use Rattle.hop_frames.specs.Frame.{hash_key, spell};
+ghost use Rattle.net_model.specs.Facts.{IsWellFormed};
+ghost use Rattle.frame_codec.specs.Payload.{IsPayload};
+ghost use Rattle.hop_frames.specs.Frame.{hash_key};
 ghost use Rattle.pad_ledger.specs.Ledger.{received_more};
 ghost use Rattle.qkd_base.specs.Faults.{Rose};
 ghost use Rattle.source_devices.specs.Frames.{TakesFrame};
 ghost use Rattle.source_devices.specs.declared.wire.WireFailed.TheVariants.{Fault};
-ghost use Rattle.lane_sides.specs.Lane.{IsLaneOf, burnt_to, claimed, frame_need, next_frame, counts_of};
-ghost use Rattle.lane_sides.specs.Sending.{sent, sent_frame, answer_of, TakesRepeat};
+ghost use Rattle.lane_sides.specs.Lane.{IsLaneOf, burnt_to, claimed, reaching, frame_need, next_frame, counts_of};
+ghost use Rattle.lane_sides.specs.Sending.{sent, sent_frame, answer_of, TakesNumbered, TakesRepeat};
 
-use crate::Sent;
+use crate::claimed::claimed_of;
 use crate::sent::answered;
-use hop_frames::seal;
-use net_model::{Counts4, Order, Payload, Repeat, spelled_len};
-use pad_ledger::{PadLedger, PadRange};
+use crate::{Claimed, Sent};
+use net_model::{Counts4, Order, Repeat, spelled_len};
+use pad_ledger::PadLedger;
 use qkd_base::{FrameOctets, Lane, Memory};
 use source_devices::{Wire, WireFailed};
 use std::alloc::Global;
@@ -38,50 +38,6 @@ impl<X: Wire> Model for LaneSide<X> {
     ghost view = { λ s. record { lane = s.lane; bytes = s.bytes.items; ledger = s.ledger; wire = s.wire } };
 
     ghost invariant = { λ s. IsLaneOf s.bytes.items s.ledger };
-}
-
-// The bytes of a claimed range.
-fn part<'a>(bytes: &'a [u8], range: &PadRange) -> &'a [u8]
-    requires { range.now.start + range.now.len ≤ length bytes.now }
-    ensures { result.now ≡ take range.now.len (drop range.now.start bytes.now) }
-{
-    let start = range.start() as usize;
-    let size = range.len() as usize;
-    &bytes[start..start + size]
-}
-
-// The lane's first 8 bytes as a number.
-fn hash_key(bytes: &[u8]) -> u64
-    requires { 8 ≤ length bytes.now }
-    ensures { result ≡ hash_key bytes.now }
-{
-    let mut octets = [0u8; 8];
-    octets.copy_from_slice(&bytes[..8]);
-    u64::from_be_bytes(octets)
-}
-
-// The frame of a payload over a claimed range, in fixed room, and its length.
-fn sealed(
-    lane: Lane,
-    bytes: &[u8],
-    range: PadRange,
-    payload: &Payload,
-    into: &mut FrameOctets,
-) -> u16
-    requires formed { IsWellFormed payload.now }
-    requires need { range.len ≡ frame_need payload.now }
-    requires inside { range.start + range.len ≤ length bytes.now }
-    ensures length { result ≡ 24 + payload_len payload.now }
-    ensures range { result ≤ 585 }
-    ensures frame { take result into.new.octets ≡ spell lane range.start bytes.now (payload_octets payload.now) }
-    ensures rest { drop result into.new.octets ≡ drop result into.old.octets }
-    ensures grammar { IsPayload payload.now }
-{
-    let size = 24 + spelled_len(payload);
-    let key = hash_key(bytes);
-    let pads = part(bytes, &range);
-    seal(range, lane, key, pads, payload, into);
-    size
 }
 
 impl<X: Wire> LaneSide<X> {
@@ -162,6 +118,80 @@ impl<X: Wire> LaneSide<X> {
         self.ledger.burn_to_end();
     }
 
+    /// Claims the next bytes for a frame.
+    pub fn claim(&mut self, need: u64) -> Claimed
+        requires some { 0 < need }
+        requires short { need ≤ 600 }
+        requires reach { self.old.ledger.used + need ≤ self.old.ledger.end }
+        ensures range { result.range ≡ record { start = self.old.ledger.used; len = need } }
+        ensures key { result.key ≡ hash_key self.old.bytes }
+        ensures pads { take need result.pads.octets ≡ take need (drop self.old.ledger.used self.old.bytes) }
+        ensures ledger { self.new ≡ record self.old { ledger = claimed need self.old.ledger } }
+    {
+        let Ok(range) = self.ledger.claim(need) else {
+            unreachable!()
+        };
+        claimed_of(&self.bytes, range)
+    }
+
+    /// Claims the next bytes for a frame. Where they pass the end, the end is raised to theirs.
+    pub fn claim_raised(&mut self, need: u64) -> Claimed
+        requires some { 0 < need }
+        requires short { need ≤ 600 }
+        requires received { self.old.ledger.used + need ≤ length self.old.bytes }
+        ensures range { result.range ≡ record { start = self.old.ledger.used; len = need } }
+        ensures key { result.key ≡ hash_key self.old.bytes }
+        ensures pads { take need result.pads.octets ≡ take need (drop self.old.ledger.used self.old.bytes) }
+        ensures ledger { self.new ≡ record self.old { ledger = claimed need (reaching need self.old.ledger) } }
+    {
+        let range = match self.ledger.claim(need) {
+            Ok(range) => range,
+            Err(short) => {
+                self.ledger.raise(short.used + need);
+                let Ok(range) = self.ledger.claim(need) else {
+                    unreachable!()
+                };
+                range
+            }
+        };
+        claimed_of(&self.bytes, range)
+    }
+
+    /// Puts a frame on the wire that has none of its number yet: its octets are at the front.
+    pub fn put(&mut self, frame: &FrameOctets, length: u16) -> Result<u64, WireFailed>
+        requires short { length ≤ 600 }
+        ensures lane { (self.new.lane ≡ self.old.lane) × (self.new.bytes ≡ self.old.bytes) × (self.new.ledger ≡ self.old.ledger) }
+        ensures frames { TakesFrame (X.frames self.old.wire) (X.frames self.new.wire) result (take length frame.now.octets) }
+        ensures number { MatchResult result (λ n. (n ≡ X.counted self.old.wire) × (X.counted self.new.wire ≡ X.counted self.old.wire + 1)) (λ _. X.counted self.new.wire ≡ X.counted self.old.wire) }
+        ensures cause { IsErrOf result Fault → Rose (X.faults self.old.wire) (X.faults self.new.wire) }
+        ensures later { X.faults self.old.wire ≤ X.faults self.new.wire }
+        ensures calm { (IsErrOf result Fault → ⊥) → X.faults self.new.wire ≡ X.faults self.old.wire }
+    {
+        self.wire.send_new(&frame.octets[..usize::from(length)])
+    }
+
+    /// Puts a frame on the wire once more: the one of its number, or these octets where it has none or the wire has none of that
+    /// number.
+    pub fn put_again(
+        &mut self,
+        number: Option<u64>,
+        frame: &FrameOctets,
+        length: u16,
+    ) -> Result<u64, WireFailed>
+        requires short { length ≤ 600 }
+        ensures lane { (self.new.lane ≡ self.old.lane) × (self.new.bytes ≡ self.old.bytes) × (self.new.ledger ≡ self.old.ledger) }
+        ensures frames { TakesNumbered (X.counted self.old.wire) (X.frames self.old.wire) (X.frames self.new.wire) result number (take length frame.now.octets) }
+        ensures number { MatchResult result (λ n. (n ≡ X.counted self.old.wire) × (X.counted self.new.wire ≡ X.counted self.old.wire + 1)) (λ _. X.counted self.new.wire ≡ X.counted self.old.wire) }
+        ensures cause { IsErrOf result Fault → Rose (X.faults self.old.wire) (X.faults self.new.wire) }
+        ensures later { X.faults self.old.wire ≤ X.faults self.new.wire }
+        ensures calm { (IsErrOf result Fault → ⊥) → X.faults self.new.wire ≡ X.faults self.old.wire }
+    {
+        match number {
+            Some(number) if number < self.wire.count() => self.wire.send_again(number),
+            _ => self.put(frame, length),
+        }
+    }
+
     /// Claims an order's bytes, seals its frame over them and puts it on the wire. Bytes of a frame that the wire refused stay
     /// claimed.
     pub fn emit(&mut self, order: &Order) -> Sent
@@ -179,13 +209,11 @@ impl<X: Wire> LaneSide<X> {
         ensures calm { (IsErrOf (answer_of result) Fault → ⊥) → X.faults self.new.wire ≡ X.faults self.old.wire }
     {
         let need = u64::from(spelled_len(&order.payload)) + 8;
-        let Ok(range) = self.ledger.claim(need) else {
-            unreachable!()
-        };
-        let offset = range.start();
+        let claimed = self.claim(need);
+        let offset = claimed.range.start();
         let mut frame = FrameOctets::new();
-        let length = sealed(self.lane, &self.bytes, range, &order.payload, &mut frame);
-        let answer = self.wire.send_new(&frame.octets[..usize::from(length)]);
+        let length = claimed.seal(self.lane, &order.payload, &mut frame);
+        let answer = self.put(&frame, length);
         answered(offset, length, &frame, answer)
     }
 
@@ -201,27 +229,8 @@ impl<X: Wire> LaneSide<X> {
         ensures later { X.faults self.old.wire ≤ X.faults self.new.wire }
         ensures calm { (IsErrOf (answer_of result) Fault → ⊥) → X.faults self.new.wire ≡ X.faults self.old.wire }
     {
-        let answer = self.resend(repeat);
+        let answer = self.put_again(repeat.number, &repeat.frame, repeat.length);
         answered(repeat.offset, repeat.length, &repeat.frame, answer)
-    }
-
-    // The wire's answer to a repeat.
-    fn resend(&mut self, repeat: &Repeat) -> Result<u64, WireFailed>
-        requires short { repeat.now.length ≤ 600 }
-        ensures lane { (self.new.lane ≡ self.old.lane) × (self.new.bytes ≡ self.old.bytes) × (self.new.ledger ≡ self.old.ledger) }
-        ensures frames { TakesRepeat (X.counted self.old.wire) (X.frames self.old.wire) (X.frames self.new.wire) result repeat.now }
-        ensures number { MatchResult result (λ n. (n ≡ X.counted self.old.wire) × (X.counted self.new.wire ≡ X.counted self.old.wire + 1)) (λ _. X.counted self.new.wire ≡ X.counted self.old.wire) }
-        ensures cause { IsErrOf result Fault → Rose (X.faults self.old.wire) (X.faults self.new.wire) }
-        ensures later { X.faults self.old.wire ≤ X.faults self.new.wire }
-        ensures calm { (IsErrOf result Fault → ⊥) → X.faults self.new.wire ≡ X.faults self.old.wire }
-    {
-        match repeat.number {
-            Some(number) if number < self.wire.count() => self.wire.send_again(number),
-            _ => {
-                let frame = &repeat.frame.octets[..usize::from(repeat.length)];
-                self.wire.send_new(frame)
-            }
-        }
     }
 
     /// Ends it, and gives its wire back.

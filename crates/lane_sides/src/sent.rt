@@ -27,8 +27,8 @@ pub enum Sent {
     },
 }
 
-// The wire's answer with the frame.
-pub(crate) fn answered(
+/// What came of putting a frame: the wire's answer with the frame, its offset and its length.
+pub fn answered(
     offset: u64,
     length: u16,
     frame: &FrameOctets,

@@ -1,0 +1,5 @@
+pub mod Asking
+pub mod Following
+pub mod Grants
+pub mod Sending
+pub mod Turns

@@ -1,0 +1,40 @@
+-- What a turn makes of a lane.
+use Rattle.std.specs.Prelude.{◌≡◌, ℕ, ◌+◌, ◌≤◌, List, take, drop, Option, Result, IsErrOf, MatchResult}
+use Rattle.qkd_base.specs.Faults.{Rose}
+use Rattle.source_devices.specs.declared.wire.WireFailed.{WireFailed}
+use Rattle.source_devices.specs.declared.wire.WireFailed.TheVariants.{Fault}
+use Rattle.source_devices.specs.Frames.{TakesFrame}
+use Rattle.hop_frames.specs.Frame.{hash_key}
+use Rattle.lane_sides.specs.declared.claimed.Claimed.{Claimed}
+use Rattle.lane_sides.specs.Lane.{LaneForm, claimed, reaching}
+use Rattle.lane_sides.specs.Sending.{TakesNumbered}
+use Rattle.lane_desks.specs.declared.ask.LaneAsk.{LaneAsk}
+use Rattle.lane_desks.specs.declared.ask.LaneAsk.TheVariants.{Claim, Put, Again}
+use Rattle.lane_desks.specs.declared.ask.LaneAnswer.{LaneAnswer}
+use Rattle.lane_desks.specs.declared.ask.LaneAnswer.TheVariants as answers
+
+-- The next bytes were claimed, and are handed out unspent with the lane's hash key. With those used before they are at most as many as may be
+-- issued. The wire is as it was.
+pub record Claims {X : Type 0} (cap : ℕ) (old new : LaneForm X) (need : ℕ) (c : Claimed) : Type 0 where
+  pub range : c.range ≡ record { start = old.ledger.used; len = need }
+  pub key : c.key ≡ hash_key old.bytes
+  pub pads : take need c.pads.octets ≡ take need (drop old.ledger.used old.bytes)
+  pub capped : old.ledger.used + need ≤ cap
+  pub after : new ≡ record old { ledger = claimed need (reaching need old.ledger) }
+
+module _ {X : Type 0} (frames : X → Option (List (List ℕ))) (counted faults : X → ℕ) where
+  -- A frame was put on the wire or refused. No byte is claimed.
+  pub record Puts (takes : Option (List (List ℕ)) → Option (List (List ℕ)) → Result ℕ WireFailed → Type 0) (old new : LaneForm X) (answer : Result ℕ WireFailed) : Type 0 where
+    pub lane : (new.lane ≡ old.lane) × (new.bytes ≡ old.bytes) × (new.ledger ≡ old.ledger)
+    pub taken : takes (frames old.wire) (frames new.wire) answer
+    pub number : MatchResult answer (λ n. (n ≡ counted old.wire) × (counted new.wire ≡ counted old.wire + 1)) (λ _. counted new.wire ≡ counted old.wire)
+    pub cause : IsErrOf answer Fault → Rose (faults old.wire) (faults new.wire)
+    pub later : faults old.wire ≤ faults new.wire
+    pub calm : (IsErrOf answer Fault → ⊥) → faults new.wire ≡ faults old.wire
+
+  -- a claim is answered by a range, and a frame by what the wire said
+  abbrev pub Turns : (cap : ℕ) → LaneForm X → LaneAsk → LaneAnswer → LaneForm X → Type 0
+  Turns cap old (Claim need grant) (answers.Claimed claimed) new = Claims cap old new need claimed
+  Turns cap old (Put frame length) (answers.Placed answer) new = Puts (λ f f' a. TakesFrame f f' a (take length frame.octets)) old new answer
+  Turns cap old (Again number frame length) (answers.Placed answer) new = Puts (λ f f' a. TakesNumbered (counted old.wire) f f' a number (take length frame.octets)) old new answer
+  Turns cap old _ _ new = ⊥
