@@ -89,18 +89,10 @@ fn body(rest: &[u8]) -> &[u8]
 pub fn http(alloc: Global, nodes: &Texts, rest: &[u8]) -> Result<Item, LineRefusal>
     ensures { Gives (http_at nodes.now (words_in rest.now)) result }
 {
-    let Some((node_word, rest)) = word(rest) else {
-        return Err(LineRefusal::NotALine);
-    };
-    let Some((status_word, rest)) = word(rest) else {
-        return Err(LineRefusal::NotALine);
-    };
-    let Some(node) = node(nodes, node_word) else {
-        return Err(LineRefusal::NotALine);
-    };
-    let Some(status) = short(status_word) else {
-        return Err(LineRefusal::NotALine);
-    };
+    let (node_word, rest) = word(rest).ok_or(LineRefusal::NotALine)?;
+    let (status_word, rest) = word(rest).ok_or(LineRefusal::NotALine)?;
+    let node = node(nodes, node_word).ok_or(LineRefusal::NotALine)?;
+    let status = short(status_word).ok_or(LineRefusal::NotALine)?;
     match Octets::from_slice(alloc, body(rest)) {
         Ok(body) => Ok(Item::Http { node, status, body }),
         Err(_) => Err(LineRefusal::Memory),
@@ -134,12 +126,8 @@ pub fn connected(rest: &[u8]) -> Option<Item>
 fn chunk(alloc: Global, rest: &[u8]) -> Result<Chunk, LineRefusal>
     ensures { Gives (chunk_of (words_in rest.now)) result }
 {
-    let Some((index_word, hex)) = two(rest) else {
-        return Err(LineRefusal::NotALine);
-    };
-    let Some(index) = number(index_word) else {
-        return Err(LineRefusal::NotALine);
-    };
+    let (index_word, hex) = two(rest).ok_or(LineRefusal::NotALine)?;
+    let index = number(index_word).ok_or(LineRefusal::NotALine)?;
     match octets(alloc, hex) {
         Ok(bytes) => Ok(Chunk { index, bytes }),
         Err(refusal) => Err(refusal),
@@ -163,12 +151,8 @@ fn handed_chunk(alloc: Global, rest: &[u8]) -> Result<Option<Chunk>, LineRefusal
 pub fn got(alloc: Global, rest: &[u8]) -> Result<Item, LineRefusal>
     ensures { Gives (got_at (words_in rest.now)) result }
 {
-    let Some((status_word, rest)) = word(rest) else {
-        return Err(LineRefusal::NotALine);
-    };
-    let Some(status) = byte(status_word) else {
-        return Err(LineRefusal::NotALine);
-    };
+    let (status_word, rest) = word(rest).ok_or(LineRefusal::NotALine)?;
+    let status = byte(status_word).ok_or(LineRefusal::NotALine)?;
     match handed_chunk(alloc, rest) {
         Ok(chunk) => Ok(Item::Stream(StreamAnswer::GetKey { status, chunk })),
         Err(refusal) => Err(refusal),
@@ -203,9 +187,7 @@ fn held_octets(alloc: Global, held: Held, rest: &[u8]) -> Result<Octets, LineRef
 fn shown(alloc: Global, node: NodeNo, name: KeyName, text: &[u8]) -> Result<Item, LineRefusal>
     ensures { Gives (shown_at node name (words_in text.now)) result }
 {
-    let Some((first, rest)) = word(text) else {
-        return Err(LineRefusal::NotALine);
-    };
+    let (first, rest) = word(text).ok_or(LineRefusal::NotALine)?;
     match state(first) {
         Some(held) => match held_octets(alloc, held, rest) {
             Ok(bytes) => Ok(Item::Shown {
@@ -232,17 +214,9 @@ fn shown(alloc: Global, node: NodeNo, name: KeyName, text: &[u8]) -> Result<Item
 pub fn show(alloc: Global, nodes: &Texts, rest: &[u8]) -> Result<Item, LineRefusal>
     ensures { Gives (show_at nodes.now (words_in rest.now)) result }
 {
-    let Some((node_word, rest)) = word(rest) else {
-        return Err(LineRefusal::NotALine);
-    };
-    let Some((name_word, rest)) = word(rest) else {
-        return Err(LineRefusal::NotALine);
-    };
-    let Some(node) = node(nodes, node_word) else {
-        return Err(LineRefusal::NotALine);
-    };
-    let Some(name) = name(name_word) else {
-        return Err(LineRefusal::NotALine);
-    };
+    let (node_word, rest) = word(rest).ok_or(LineRefusal::NotALine)?;
+    let (name_word, rest) = word(rest).ok_or(LineRefusal::NotALine)?;
+    let node = node(nodes, node_word).ok_or(LineRefusal::NotALine)?;
+    let name = name(name_word).ok_or(LineRefusal::NotALine)?;
     shown(alloc, node, name, rest)
 }

@@ -34,9 +34,7 @@ fn candidate(alloc: Global, nodes: &Texts, line: &[u8]) -> Result<NumberedItem, 
     ensures { Gives (line_at nodes.now line.now) result }
 {
     let size = len_to(b' ', line);
-    let Some(number) = number(front(line, size)) else {
-        return Err(LineRefusal::NotALine);
-    };
+    let number = number(front(line, size)).ok_or(LineRefusal::NotALine)?;
     match item(alloc, nodes, without_end(behind(line, size))) {
         Ok(item) => Ok(NumberedItem { number, item }),
         Err(refusal) => Err(refusal),

@@ -127,9 +127,7 @@ fn given(item: Option<Item>) -> Result<Item, LineRefusal>
 pub fn item(alloc: Global, nodes: &Texts, text: &[u8]) -> Result<Item, LineRefusal>
     ensures { Gives (item_at nodes.now (words_in text.now)) result }
 {
-    let Some((first, rest)) = word(text) else {
-        return Err(LineRefusal::NotALine);
-    };
+    let (first, rest) = word(text).ok_or(LineRefusal::NotALine)?;
     if first == b"keys".as_slice() {
         keys(alloc, rest)
     } else if first == b"http".as_slice() {

@@ -20,12 +20,8 @@ use std::alloc::Global;
 pub fn node_line(alloc: Global, site: &mut Site, rest: &[u8]) -> Result<(), LineRefusal>
     ensures { Declares (declared_node site.old (words_of rest.now)) site.old site.new result }
 {
-    let Some(word) = one(rest) else {
-        return Err(LineRefusal::Refused);
-    };
-    let Some(name) = name_text(32, word) else {
-        return Err(LineRefusal::Refused);
-    };
+    let word = one(rest).ok_or(LineRefusal::Refused)?;
+    let name = name_text(32, word).ok_or(LineRefusal::Refused)?;
     if place_of(site.nodes.as_slice(), word).is_some() || 16 <= site.nodes.len() {
         return Err(LineRefusal::Refused);
     }
@@ -53,18 +49,10 @@ fn are_joined(routes: &RouteTable, a: NodeNo, b: NodeNo) -> bool
 pub fn link_line(site: &mut Site, rest: &[u8]) -> Result<(), LineRefusal>
     ensures { Declares (declared_link site.old (words_of rest.now)) site.old site.new result }
 {
-    let Some((first, second)) = two(rest) else {
-        return Err(LineRefusal::Refused);
-    };
-    let Some(a) = node(site, first) else {
-        return Err(LineRefusal::Refused);
-    };
-    let Some(b) = node(site, second) else {
-        return Err(LineRefusal::Refused);
-    };
-    let Some(link) = site.routes.free_link() else {
-        return Err(LineRefusal::Refused);
-    };
+    let (first, second) = two(rest).ok_or(LineRefusal::Refused)?;
+    let a = node(site, first).ok_or(LineRefusal::Refused)?;
+    let b = node(site, second).ok_or(LineRefusal::Refused)?;
+    let link = site.routes.free_link().ok_or(LineRefusal::Refused)?;
     if a == b || are_joined(&site.routes, a, b) {
         return Err(LineRefusal::Refused);
     }
@@ -76,15 +64,9 @@ pub fn link_line(site: &mut Site, rest: &[u8]) -> Result<(), LineRefusal>
 pub fn sae_line(site: &mut Site, rest: &[u8]) -> Result<(), LineRefusal>
     ensures { Declares (declared_sae site.old (words_of rest.now)) site.old site.new result }
 {
-    let Some((word, node_word)) = two(rest) else {
-        return Err(LineRefusal::Refused);
-    };
-    let Some(home) = node(site, node_word) else {
-        return Err(LineRefusal::Refused);
-    };
-    let Some(id) = name_text(64, word) else {
-        return Err(LineRefusal::Refused);
-    };
+    let (word, node_word) = two(rest).ok_or(LineRefusal::Refused)?;
+    let home = node(site, node_word).ok_or(LineRefusal::Refused)?;
+    let id = name_text(64, word).ok_or(LineRefusal::Refused)?;
     match site.entitlements.add_sae(id, home) {
         Ok(_) => Ok(()),
         Err(AddRefusal::Known) => Err(LineRefusal::Refused),
@@ -97,15 +79,9 @@ pub fn sae_line(site: &mut Site, rest: &[u8]) -> Result<(), LineRefusal>
 pub fn allow_line(site: &mut Site, rest: &[u8]) -> Result<(), LineRefusal>
     ensures { Declares (declared_pair site.old (words_of rest.now)) site.old site.new result }
 {
-    let Some((first, second)) = two(rest) else {
-        return Err(LineRefusal::Refused);
-    };
-    let Some(master) = sae(site, first) else {
-        return Err(LineRefusal::Refused);
-    };
-    let Some(slave) = sae(site, second) else {
-        return Err(LineRefusal::Refused);
-    };
+    let (first, second) = two(rest).ok_or(LineRefusal::Refused)?;
+    let master = sae(site, first).ok_or(LineRefusal::Refused)?;
+    let slave = sae(site, second).ok_or(LineRefusal::Refused)?;
     let Ok(home) = site.entitlements.home(master) else {
         return Err(LineRefusal::Refused);
     };

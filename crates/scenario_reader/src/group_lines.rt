@@ -36,9 +36,7 @@ fn slaves(alloc: Global, site: &Site, rest: &[u8]) -> Result<Saes, LineRefusal>
         if slaves.len() == 5 {
             return Err(LineRefusal::Refused);
         }
-        let Some(slave) = sae(site, id) else {
-            return Err(LineRefusal::Refused);
-        };
+        let slave = sae(site, id).ok_or(LineRefusal::Refused)?;
         if is_among(&slaves, slave) {
             return Err(LineRefusal::Refused);
         }
@@ -60,24 +58,12 @@ fn slaves(alloc: Global, site: &Site, rest: &[u8]) -> Result<Saes, LineRefusal>
 pub fn fill_group_line(alloc: Global, site: &Site, rest: &[u8]) -> Result<Command, LineRefusal>
     ensures { Gives (fill_group_at site.now (words_of rest.now)) result }
 {
-    let Some((master_word, rest)) = word(rest) else {
-        return Err(LineRefusal::Refused);
-    };
-    let Some((bits_word, rest)) = word(rest) else {
-        return Err(LineRefusal::Refused);
-    };
-    let Some((count_word, rest)) = word(rest) else {
-        return Err(LineRefusal::Refused);
-    };
-    let Some(master) = sae(site, master_word) else {
-        return Err(LineRefusal::Refused);
-    };
-    let Some(bits) = size(bits_word) else {
-        return Err(LineRefusal::Refused);
-    };
-    let Some(count) = number_in(1, 128, count_word) else {
-        return Err(LineRefusal::Refused);
-    };
+    let (master_word, rest) = word(rest).ok_or(LineRefusal::Refused)?;
+    let (bits_word, rest) = word(rest).ok_or(LineRefusal::Refused)?;
+    let (count_word, rest) = word(rest).ok_or(LineRefusal::Refused)?;
+    let master = sae(site, master_word).ok_or(LineRefusal::Refused)?;
+    let bits = size(bits_word).ok_or(LineRefusal::Refused)?;
+    let count = number_in(1, 128, count_word).ok_or(LineRefusal::Refused)?;
     match slaves(alloc, site, rest) {
         Ok(slaves) => Ok(Command::FillGroup {
             master,
@@ -94,30 +80,14 @@ pub fn fill_group_line(alloc: Global, site: &Site, rest: &[u8]) -> Result<Comman
 pub fn enc_group_line(alloc: Global, site: &Site, rest: &[u8]) -> Result<Command, LineRefusal>
     ensures { Gives (enc_group_at site.now (words_of rest.now)) result }
 {
-    let Some((node_word, rest)) = word(rest) else {
-        return Err(LineRefusal::Refused);
-    };
-    let Some((master_word, rest)) = word(rest) else {
-        return Err(LineRefusal::Refused);
-    };
-    let Some((count_word, rest)) = word(rest) else {
-        return Err(LineRefusal::Refused);
-    };
-    let Some((bits_word, rest)) = word(rest) else {
-        return Err(LineRefusal::Refused);
-    };
-    let Some(node) = node(site, node_word) else {
-        return Err(LineRefusal::Refused);
-    };
-    let Some(master) = sae(site, master_word) else {
-        return Err(LineRefusal::Refused);
-    };
-    let Some(count) = number_in(1, 128, count_word) else {
-        return Err(LineRefusal::Refused);
-    };
-    let Some(bits) = size(bits_word) else {
-        return Err(LineRefusal::Refused);
-    };
+    let (node_word, rest) = word(rest).ok_or(LineRefusal::Refused)?;
+    let (master_word, rest) = word(rest).ok_or(LineRefusal::Refused)?;
+    let (count_word, rest) = word(rest).ok_or(LineRefusal::Refused)?;
+    let (bits_word, rest) = word(rest).ok_or(LineRefusal::Refused)?;
+    let node = node(site, node_word).ok_or(LineRefusal::Refused)?;
+    let master = sae(site, master_word).ok_or(LineRefusal::Refused)?;
+    let count = number_in(1, 128, count_word).ok_or(LineRefusal::Refused)?;
+    let bits = size(bits_word).ok_or(LineRefusal::Refused)?;
     match slaves(alloc, site, rest) {
         Ok(slaves) => Ok(Command::EncGroup {
             node,

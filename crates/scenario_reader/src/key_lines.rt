@@ -75,9 +75,7 @@ fn names(alloc: Global, rest: &[u8]) -> Result<Names, LineRefusal>
         if names.len() == 128 {
             return Err(LineRefusal::Refused);
         }
-        let Some(name) = name(key) else {
-            return Err(LineRefusal::Refused);
-        };
+        let name = name(key).ok_or(LineRefusal::Refused)?;
         match names.push(name) {
             Ok(()) => {}
             Err(_) => return Err(LineRefusal::Memory),
@@ -95,24 +93,12 @@ fn names(alloc: Global, rest: &[u8]) -> Result<Names, LineRefusal>
 pub fn dec_line(alloc: Global, site: &Site, rest: &[u8]) -> Result<Command, LineRefusal>
     ensures { Gives (dec_at site.now (words_of rest.now)) result }
 {
-    let Some((node_word, rest)) = word(rest) else {
-        return Err(LineRefusal::Refused);
-    };
-    let Some((slave_word, rest)) = word(rest) else {
-        return Err(LineRefusal::Refused);
-    };
-    let Some((master_word, rest)) = word(rest) else {
-        return Err(LineRefusal::Refused);
-    };
-    let Some(node) = node(site, node_word) else {
-        return Err(LineRefusal::Refused);
-    };
-    let Some(slave) = sae(site, slave_word) else {
-        return Err(LineRefusal::Refused);
-    };
-    let Some(master) = sae(site, master_word) else {
-        return Err(LineRefusal::Refused);
-    };
+    let (node_word, rest) = word(rest).ok_or(LineRefusal::Refused)?;
+    let (slave_word, rest) = word(rest).ok_or(LineRefusal::Refused)?;
+    let (master_word, rest) = word(rest).ok_or(LineRefusal::Refused)?;
+    let node = node(site, node_word).ok_or(LineRefusal::Refused)?;
+    let slave = sae(site, slave_word).ok_or(LineRefusal::Refused)?;
+    let master = sae(site, master_word).ok_or(LineRefusal::Refused)?;
     match names(alloc, rest) {
         Ok(names) => Ok(Command::Dec {
             node,
@@ -143,12 +129,8 @@ pub fn status_line(site: &Site, rest: &[u8]) -> Option<Command>
 pub fn http_line(alloc: Global, site: &Site, rest: &[u8]) -> Result<Command, LineRefusal>
     ensures { Gives (http_at site.now (words_of rest.now)) result }
 {
-    let Some((node_word, hex)) = two(rest) else {
-        return Err(LineRefusal::Refused);
-    };
-    let Some(node) = node(site, node_word) else {
-        return Err(LineRefusal::Refused);
-    };
+    let (node_word, hex) = two(rest).ok_or(LineRefusal::Refused)?;
+    let node = node(site, node_word).ok_or(LineRefusal::Refused)?;
     match octets(alloc, 73728, hex) {
         Ok(octets) => Ok(Command::Http { node, octets }),
         Err(refusal) => Err(refusal),

@@ -53,12 +53,8 @@ pub fn flip_line(site: &Site, rest: &[u8]) -> Option<Command>
 pub fn forge_line(alloc: Global, site: &Site, rest: &[u8]) -> Result<Command, LineRefusal>
     ensures { Gives (forge_at site.now (words_of rest.now)) result }
 {
-    let Some((link_word, way_word, hex)) = three(rest) else {
-        return Err(LineRefusal::Refused);
-    };
-    let Some(lane) = lane(site, link_word, way_word) else {
-        return Err(LineRefusal::Refused);
-    };
+    let (link_word, way_word, hex) = three(rest).ok_or(LineRefusal::Refused)?;
+    let lane = lane(site, link_word, way_word).ok_or(LineRefusal::Refused)?;
     match octets(alloc, 600, hex) {
         Ok(octets) => Ok(Command::Forge { lane, octets }),
         Err(refusal) => Err(refusal),

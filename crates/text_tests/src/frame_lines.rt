@@ -1,177 +1,188 @@
 // What report lines say of frames.
-use crate::lines::{link, name, says, site};
+use crate::lines::{lane, name, says, site};
 use net_model::Counts4;
-use qkd_base::{Lane, Way};
-use report_items::{Chunk, FrameResult, Item, PayloadKind, Refusal, UnsentCause};
-use std::test::Fail;
+use qkd_base::Way;
+use report_items::{FrameResult, Item, PayloadKind, Refusal, UnsentCause};
+
+const REFUSALS: [(Refusal, &str); 22] = [
+    (Refusal::Down, "down"),
+    (Refusal::Stopped, "stopped"),
+    (Refusal::Memory, "memory"),
+    (Refusal::LinkFull, "link-full 1024"),
+    (Refusal::NoBlock, "no-bits"),
+    (Refusal::DeviceFault, "device-fault"),
+    (Refusal::NotAllowed, "not-allowed"),
+    (Refusal::NoRoute, "no-route"),
+    (Refusal::PoolFull, "pool-full 4096"),
+    (Refusal::UnknownStream, "unknown-stream"),
+    (
+        Refusal::JournalFull {
+            length: 1048570,
+            need: 77,
+        },
+        "journal-full 1048570 77",
+    ),
+    (Refusal::NoRandom, "no-random"),
+    (Refusal::NoFrame { count: 3 }, "no-frame 3"),
+    (Refusal::NoBit { bits: 656 }, "no-bit 656"),
+    (Refusal::BadFrame { place: 0 }, "bad-frame 0"),
+    (Refusal::WrongLane { link: 1, way: 0 }, "wrong-lane 1 0"),
+    (Refusal::NoBits { have: 8 }, "no-bits 8"),
+    (
+        Refusal::BadTag {
+            given: 1,
+            computed: 18446744073709551615,
+        },
+        "bad-tag 0000000000000001 ffffffffffffffff",
+    ),
+    (Refusal::Few { count: 0 }, "few 0"),
+    (Refusal::Unknown { place: 1 }, "unknown 1"),
+    (Refusal::Repeated { place: 2 }, "repeated 2"),
+    (Refusal::Handed { place: 127 }, "handed 127"),
+];
 
 #[test]
-fn each_refusal_has_its_text(rt: HostRuntime) -> Result<(), Fail> {
+fn each_refusal_has_its_text(rt: HostRuntime) {
     let alloc = rt.alloc();
-    let site = site(alloc)?;
-    for (refusal, text) in [
-        (Refusal::Down, "down"),
-        (Refusal::Stopped, "stopped"),
-        (Refusal::Memory, "memory"),
-        (Refusal::LinkFull, "link-full 1024"),
-        (Refusal::NoBlock, "no-bits"),
-        (Refusal::DeviceFault, "device-fault"),
-        (Refusal::NotAllowed, "not-allowed"),
-        (Refusal::NoRoute, "no-route"),
-        (Refusal::PoolFull, "pool-full 4096"),
-        (Refusal::UnknownStream, "unknown-stream"),
-        (
-            Refusal::JournalFull {
-                length: 1048570,
-                need: 77,
-            },
-            "journal-full 1048570 77",
-        ),
-        (Refusal::NoRandom, "no-random"),
-        (Refusal::NoFrame { count: 3 }, "no-frame 3"),
-        (Refusal::NoBit { bits: 656 }, "no-bit 656"),
-        (Refusal::BadFrame { place: 0 }, "bad-frame 0"),
-        (Refusal::WrongLane { link: 1, way: 0 }, "wrong-lane 1 0"),
-        (Refusal::NoBits { have: 8 }, "no-bits 8"),
-        (
-            Refusal::BadTag {
-                given: 1,
-                computed: 18446744073709551615,
-            },
-            "bad-tag 0000000000000001 ffffffffffffffff",
-        ),
-        (Refusal::Few { count: 0 }, "few 0"),
-        (Refusal::Unknown { place: 1 }, "unknown 1"),
-        (Refusal::Repeated { place: 2 }, "repeated 2"),
-        (Refusal::Handed { place: 127 }, "handed 127"),
-    ] {
-        assert!(rt; says(alloc, &site, Item::Refused(refusal), text)?, "{text}");
+    let Ok(site) = site(alloc) else {
+        panic!(rt; "no site");
+    };
+    for (refusal, text) in &REFUSALS {
+        says(&rt, alloc, &site, Item::Refused(*refusal), text);
     }
-    Ok(())
+}
+
+const KINDS: [(PayloadKind, &str); 7] = [
+    (
+        PayloadKind::Key,
+        "forge 0 up again key 00000000-0000-8001-8000-000000000001",
+    ),
+    (
+        PayloadKind::Stored,
+        "forge 0 up again stored 00000000-0000-8001-8000-000000000001",
+    ),
+    (
+        PayloadKind::Ack,
+        "forge 0 up again ack 00000000-0000-8001-8000-000000000001",
+    ),
+    (
+        PayloadKind::Open,
+        "forge 0 up again open 00000000-0000-8001-8000-000000000001",
+    ),
+    (
+        PayloadKind::Joined,
+        "forge 0 up again joined 00000000-0000-8001-8000-000000000001",
+    ),
+    (
+        PayloadKind::Chunk,
+        "forge 0 up again chunk 00000000-0000-8001-8000-000000000001",
+    ),
+    (
+        PayloadKind::Part,
+        "forge 0 up again part 00000000-0000-8001-8000-000000000001",
+    ),
+];
+
+#[test]
+fn each_kind_has_its_text(rt: HostRuntime) {
+    let alloc = rt.alloc();
+    let Ok(site) = site(alloc) else {
+        panic!(rt; "no site");
+    };
+    for (kind, text) in &KINDS {
+        let result = FrameResult::Again {
+            kind: *kind,
+            name: name(1),
+        };
+        let lane = lane(0, Way::Up);
+        says(&rt, alloc, &site, Item::Forged { lane, result }, text);
+    }
 }
 
 #[test]
-fn each_frame_has_its_text(rt: HostRuntime) -> Result<(), Fail> {
+fn each_sending_has_its_text(rt: HostRuntime) {
     let alloc = rt.alloc();
-    let site = site(alloc)?;
-    let up = Lane {
-        link: link(0)?,
-        way: Way::Up,
+    let Ok(site) = site(alloc) else {
+        panic!(rt; "no site");
     };
-    let down = Lane {
-        link: link(31)?,
-        way: Way::Down,
+    let short = Item::Short {
+        lane: lane(31, Way::Down),
+        used: 1,
+        need: 2,
+        received: 18446744073709551615,
     };
-    for (kind, text) in [
-        (
-            PayloadKind::Key,
-            "forge 0 up again key 00000000-0000-8001-8000-000000000001",
-        ),
-        (
-            PayloadKind::Stored,
-            "forge 0 up again stored 00000000-0000-8001-8000-000000000001",
-        ),
-        (
-            PayloadKind::Ack,
-            "forge 0 up again ack 00000000-0000-8001-8000-000000000001",
-        ),
-        (
-            PayloadKind::Open,
-            "forge 0 up again open 00000000-0000-8001-8000-000000000001",
-        ),
-        (
-            PayloadKind::Joined,
-            "forge 0 up again joined 00000000-0000-8001-8000-000000000001",
-        ),
-        (
-            PayloadKind::Chunk,
-            "forge 0 up again chunk 00000000-0000-8001-8000-000000000001",
-        ),
-        (
-            PayloadKind::Part,
-            "forge 0 up again part 00000000-0000-8001-8000-000000000001",
-        ),
-    ] {
-        let result = FrameResult::Again {
-            kind,
-            name: name(1)?,
-        };
-        assert!(rt;
-            says(alloc, &site, Item::Forged { lane: up, result }, text)?,
-            "{text}"
-        );
-    }
-    let taken = FrameResult::Taken {
-        kind: PayloadKind::Key,
-        name: name(281474976710655)?,
+    says(
+        &rt,
+        alloc,
+        &site,
+        short,
+        "short 31 down 1 2 18446744073709551615",
+    );
+    let sent = Item::Sent {
+        lane: lane(0, Way::Up),
+        number: 0,
+        offset: 8,
+        length: 58,
     };
-    let refused = FrameResult::Refused(Refusal::NoBits { have: 8 });
-    for (item, text) in [
-        (
-            Item::Short {
-                lane: down,
-                used: 1,
-                need: 2,
-                received: 18446744073709551615,
-            },
-            "short 31 down 1 2 18446744073709551615",
-        ),
-        (
-            Item::Sent {
-                lane: up,
-                number: 0,
-                offset: 8,
-                length: 58,
-            },
-            "sent 0 up 0 8 58",
-        ),
-        (
-            Item::Unsent {
-                lane: up,
-                offset: 74,
-                cause: UnsentCause::WireFault,
-            },
-            "unsent 0 up 74 wire-fault",
-        ),
-        (
-            Item::Unsent {
-                lane: down,
-                offset: 8,
-                cause: UnsentCause::Memory,
-            },
-            "unsent 31 down 8 memory",
-        ),
-        (
-            Item::Passed {
-                lane: up,
-                number: 4294967295,
-                result: taken,
-            },
-            "pass 0 up 4294967295 taken key 00000000-0000-8001-8000-ffffffffffff",
-        ),
-        (
-            Item::Flipped {
-                lane: down,
-                number: 1,
-                bit: 655,
-                result: refused,
-            },
-            "flip 31 down 1 655 no-bits 8",
-        ),
-        (
-            Item::Counted {
-                lane: up,
-                counts: Counts4 {
-                    received: 1024,
-                    unused: 652,
-                    spent: 371,
-                    burnt: 1,
-                },
-            },
-            "ledger 0 up received 1024 unused 652 spent 371 burnt 1",
-        ),
-    ] {
-        assert!(rt; says(alloc, &site, item, text)?, "{text}");
-    }
-    Ok(())
+    says(&rt, alloc, &site, sent, "sent 0 up 0 8 58");
+    let unsent = Item::Unsent {
+        lane: lane(0, Way::Up),
+        offset: 74,
+        cause: UnsentCause::WireFault,
+    };
+    says(&rt, alloc, &site, unsent, "unsent 0 up 74 wire-fault");
+    let unsent = Item::Unsent {
+        lane: lane(31, Way::Down),
+        offset: 8,
+        cause: UnsentCause::Memory,
+    };
+    says(&rt, alloc, &site, unsent, "unsent 31 down 8 memory");
+}
+
+// What is said of a frame that is passed.
+const PASSED: &str = "pass 0 up 4294967295 taken key 00000000-0000-8001-8000-ffffffffffff";
+
+#[test]
+fn each_coming_has_its_text(rt: HostRuntime) {
+    let alloc = rt.alloc();
+    let Ok(site) = site(alloc) else {
+        panic!(rt; "no site");
+    };
+    let passed = Item::Passed {
+        lane: lane(0, Way::Up),
+        number: 4294967295,
+        result: FrameResult::Taken {
+            kind: PayloadKind::Key,
+            name: name(281474976710655),
+        },
+    };
+    says(&rt, alloc, &site, passed, PASSED);
+    let flipped = Item::Flipped {
+        lane: lane(31, Way::Down),
+        number: 1,
+        bit: 655,
+        result: FrameResult::Refused(Refusal::NoBits { have: 8 }),
+    };
+    says(&rt, alloc, &site, flipped, "flip 31 down 1 655 no-bits 8");
+}
+
+// What is said of a lane that is counted.
+const COUNTED: &str = "ledger 0 up received 1024 unused 652 spent 371 burnt 1";
+
+#[test]
+fn counts_have_their_text(rt: HostRuntime) {
+    let alloc = rt.alloc();
+    let Ok(site) = site(alloc) else {
+        panic!(rt; "no site");
+    };
+    let counted = Item::Counted {
+        lane: lane(0, Way::Up),
+        counts: Counts4 {
+            received: 1024,
+            unused: 652,
+            spent: 371,
+            burnt: 1,
+        },
+    };
+    says(&rt, alloc, &site, counted, COUNTED);
 }

@@ -1,6 +1,5 @@
 use scenario_gen::scenario_of;
 use scenario_reader::read_scenario;
-use std::test::Fail;
 
 // Written by a script of its own from what a load is.
 const LOAD_OF_ONE: &str = "node n0
@@ -124,19 +123,22 @@ fn length_and_hash(octets: &[u8]) -> (usize, u64) {
 }
 
 #[test]
-fn a_load_of_one_round_has_its_text(rt: HostRuntime) -> Result<(), Fail> {
-    let text = scenario_of(rt.alloc(), 1)?;
-    assert_eq!(rt; text.as_slice(), LOAD_OF_ONE.as_bytes());
-    Ok(())
+fn a_load_of_one_round_has_its_text(rt: HostRuntime) {
+    let Ok(text) = scenario_of(rt.alloc(), 1) else {
+        panic!(rt; "no memory");
+    };
+    assert!(rt; text.as_slice() == LOAD_OF_ONE.as_bytes());
 }
 
 #[test]
-fn loads_have_their_lengths_and_are_read(rt: HostRuntime) -> Result<(), Fail> {
-    let text = scenario_of(rt.alloc(), 20)?;
+fn loads_have_their_lengths_and_are_read(rt: HostRuntime) {
+    let Ok(text) = scenario_of(rt.alloc(), 20) else {
+        panic!(rt; "no memory");
+    };
     assert!(rt; length_and_hash(text.as_slice()) == (5376, 0xf0544cce4f17fd28));
-    let text = scenario_of(rt.alloc(), 500)?;
+    let Ok(text) = scenario_of(rt.alloc(), 500) else {
+        panic!(rt; "no memory");
+    };
     assert!(rt; length_and_hash(text.as_slice()) == (104752, 0x7b02f68c9a46fd7c));
-    let read = read_scenario(rt.alloc(), text.as_slice());
-    assert!(rt; read.is_ok());
-    Ok(())
+    assert!(rt; read_scenario(rt.alloc(), text.as_slice()).is_ok());
 }

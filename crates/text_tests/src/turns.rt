@@ -1,22 +1,13 @@
-ghost use Rattle.std.specs.Prelude.{◌<◌, ◌≡◌};
-
+use crate::lines::{lane, node};
 use declared_site::Site;
 use declared_site::route_table::RouteTable;
 use declared_site::sae_entitlements::Entitlements;
 use net_model::{Orders, Repeats, Reply, ShortOf, Shorts};
-use qkd_base::{Lane, LinkNo, Memory, NodeNo, Texts, Way};
+use qkd_base::{Memory, Texts, Way};
 use report_items::{FrameResult, Item, Refusal};
 use run_turns::{Delivery, Reporting, asked_by, frame_result};
 use scenario_lines::Command;
 use std::alloc::Global;
-use std::test::Fail;
-
-fn node(number: u8) -> NodeNo
-    requires { number < 16 }
-    ensures { result ≡ number }
-{
-    NodeNo::new(number).unwrap()
-}
 
 fn empty_site(alloc: Global) -> Site {
     Site {
@@ -28,10 +19,9 @@ fn empty_site(alloc: Global) -> Site {
 
 // A plan of nothing but a lane that has too few bytes.
 fn short_plan(alloc: Global) -> Result<Reply, Memory> {
-    let link = LinkNo::new(0).ok_or(Memory)?;
     let mut shorts = Shorts::new(alloc);
     shorts.push(ShortOf {
-        lane: Lane { link, way: Way::Up },
+        lane: lane(0, Way::Up),
         used: 1,
         need: 2,
         received: 0,
@@ -51,14 +41,18 @@ fn a_settle_asks_no_manager(rt: HostRuntime) {
 }
 
 #[test]
-fn a_plan_is_reported(rt: HostRuntime) -> Result<(), Fail> {
-    let plan = short_plan(rt.alloc())?;
+fn a_plan_is_reported(rt: HostRuntime) {
+    let Ok(plan) = short_plan(rt.alloc()) else {
+        panic!(rt; "no memory");
+    };
     let reporting = Reporting::Ticked {
         node: node(1),
         quiet: true,
     };
-    let items = reporting.items(rt.alloc(), plan)?;
-    assert_eq!(rt; items.len(), 2);
+    let Ok(items) = reporting.items(rt.alloc(), plan) else {
+        panic!(rt; "no memory");
+    };
+    assert!(rt; items.len() == 2);
     assert!(rt;
         matches!(
             items.get(0),
@@ -79,14 +73,10 @@ fn a_plan_is_reported(rt: HostRuntime) -> Result<(), Fail> {
             })
         )
     );
-    Ok(())
 }
 
 #[test]
 fn a_frame_is_refused(rt: HostRuntime) {
     let no_frame = frame_result(&Delivery::NoFrame { count: 2 });
-    assert_eq!(rt;
-        no_frame,
-        Some(FrameResult::Refused(Refusal::NoFrame { count: 2 }))
-    );
+    assert!(rt; no_frame == Some(FrameResult::Refused(Refusal::NoFrame { count: 2 })));
 }
