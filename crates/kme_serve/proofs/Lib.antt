@@ -3,3 +3,5 @@ pub mod Responding
 pub mod Going
 pub mod Ending
 pub mod Visits
+pub mod Mapping
+pub mod Keeping

@@ -20,6 +20,7 @@ use Rattle.net_model.specs.contracts.reply.Reply as Reply
 use Rattle.ordered_entries.specs.contracts.entries.Entries as Entries
 use Rattle.relay_core.specs.contracts.known.Known as Known
 use Rattle.end_store.specs.contracts.marks.Marks as Marks
+use Rattle.end_store.specs.contracts.stocks.Stocks as Stocks
 use Rattle.end_store.specs.contracts.store.EndStore as EndStore
 use Rattle.stream_core.specs.contracts.tallies.Tallies as Tallies
 use Rattle.stream_core.specs.contracts.streams.Streams as Streams
@@ -38,6 +39,7 @@ use Rattle.resend_window.specs.contracts.window.Window as Window
 use Rattle.sae_entitlements.specs.contracts.entitlements.Entitlements as Entitlements
 use Rattle.route_table.specs.contracts.route_table.RouteTable as RouteTable
 use Rattle.declared_site.specs.contracts.site.Site as Site
+use Rattle.kme_plan.specs.contracts.fronts.Fronts as Fronts
 use Rattle.kme_node.specs.contracts.node.Node as Node
 use Rattle.resend_window.specs.contracts.arrival_list.ArrivalList.TheInside as ArrivalsInside
 use Rattle.resend_window.specs.contracts.awaited_list.AwaitedList.TheInside as AwaitedInside
@@ -105,8 +107,11 @@ known_send = search (fact_send, name_send, entries_send, sendable, crosses) dept
 marks_send : IsSend Marks.the_row
 marks_send = search (name_send, entries_send, sendable, crosses) depth 100 fits 100000
 
+stocks_send : IsSend Stocks.the_row
+stocks_send = search (sendable, crosses, maps.crosses) depth 100 fits 100000
+
 store_send : IsSend EndStore.the_row
-store_send = search (known_send, marks_send, entries_send, sendable, crosses) depth 100 fits 100000
+store_send = search (known_send, marks_send, entries_send, stocks_send, sendable, crosses) depth 100 fits 100000
 
 tallies_send : IsSend Tallies.the_row
 tallies_send = search (sendable, crosses, maps.crosses) depth 100 fits 100000
@@ -183,11 +188,14 @@ slots_send = view_send _ _ _ _ _ slots_inside
 window_send : IsSend Window.the_row
 window_send = search (slots_send, arrivals_send, awaiting_send, sendable) depth 100 fits 100000
 
+fronts_send : IsSend Fronts.the_row
+fronts_send = search (sendable, crosses) depth 100 fits 100000
+
 site_field : IsSend (Site.the_field).row
 site_field = search (text_send, entitlements_send, routes_send, sendable, crosses) depth 100 fits 100000
 
 node_inside : IsSend NodeInside.the_row
-node_inside = recorded_send _ _ (NodeInside.the_type).to (NodeInside.the_type).to_one (struct_send (shape NodeInside.the_type) (site_field, (kept_send, (ports_send, (window_send, tt)))))
+node_inside = recorded_send _ _ (NodeInside.the_type).to (NodeInside.the_type).to_one (struct_send (shape NodeInside.the_type) (site_field, (kept_send, (ports_send, (window_send, (fronts_send, tt))))))
 
 node_send : IsSend Node.the_row
 node_send = view_send _ _ _ _ _ node_inside

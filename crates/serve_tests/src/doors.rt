@@ -14,7 +14,7 @@ use std::test::Fail;
 const ROOM: usize = 262144;
 
 // A door where these connections wait.
-fn door(alloc: Global, waiting: Vec<MemConnection>) -> Result<MemListener, Memory>
+pub(crate) fn door(alloc: Global, waiting: Vec<MemConnection>) -> Result<MemListener, Memory>
     ensures accepted { IfOk result (λ door. door.accepted ≡ 0) }
     ensures done { IfOk result (λ door. door.done ≡ []) }
 {

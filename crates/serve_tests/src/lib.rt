@@ -9,3 +9,7 @@ mod giving;
 mod rows;
 #[cfg(test)]
 mod site;
+#[cfg(test)]
+mod telling;
+#[cfg(test)]
+mod workers;

@@ -4,6 +4,7 @@ pub mod Closing
 pub mod Going
 pub mod Ready
 pub mod Opening
+pub mod Lasts
 pub mod Merging
 pub mod Kept
 pub mod Ending

@@ -13,6 +13,7 @@ mod together;
 
 pub use block_run;
 pub use call::Call;
-pub use pass::Shift;
+pub use gates::{close_all, open_all};
+pub use pass::{Post, Shift};
 pub use together::work_together;
 pub use turnstile;

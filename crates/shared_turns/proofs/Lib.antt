@@ -2,7 +2,6 @@ pub mod Asking
 pub mod Coming
 pub mod Counting
 pub mod Ending
-pub mod Lasts
 pub mod Mixing
 pub mod Nodes
 pub mod Replaying

@@ -2,7 +2,7 @@ use Rattle.std.proofs.Common.{◌≡◌, ℕ, List, ◌++◌, length, map, take,
 use Rattle.std.specs.List.{flat_map, AllByRecursion}
 use Rattle.declared_site.specs.SiteOf.{site_of}
 use Rattle.shared_turns.specs.Ends.{IsMixed, AreMixed}
-use Rattle.shared_turns.proofs.Lasts.{front_moved, front_flat, flat_long, written_back, no_items}
+use Rattle.shared_machines.proofs.Lasts.{front_moved, front_flat, flat_long, written_back, no_items}
 use Rattle.shared_turns.proofs.seating.rise.Goals as goal
 
 pub loop-desk-preserved : goal.loop-desk-preserved

@@ -7,7 +7,7 @@ use Rattle.net_model.specs.World.{Network, World}
 use Rattle.run_acts.specs.Acting.{IsReady}
 use Rattle.world_state.specs.Stands.{Stands}
 use Rattle.shared_turns.specs.Sheets.{IsFresh}
-use Rattle.shared_turns.proofs.Lasts.{put_back, all_back, all_first, the_last, all_and_one, all_reversed, no_items, count_down, last_there}
+use Rattle.shared_machines.proofs.Lasts.{put_back, all_back, all_first, the_last, all_and_one, all_reversed, no_items, count_down, last_there}
 use Rattle.shared_turns.proofs.seating.sit.Goals as goal
 
 pub new-requires-in-loop-clause-post : goal.new-requires-in-loop-clause-post

@@ -3,7 +3,7 @@ use Rattle.std.proofs.lemmas.Grind.{common_steps}
 use Rattle.declared_site.specs.SiteOf.{site_of}
 use Rattle.run_blocks.specs.Jobs.{asked_in_order}
 use Rattle.shared_turns.specs.Sheets.{IsFresh}
-use Rattle.shared_turns.proofs.Lasts.{all_and_one, map_up}
+use Rattle.shared_machines.proofs.Lasts.{all_and_one, map_up}
 use Rattle.shared_turns.proofs.sheets.sheets.Goals as goal
 
 pub loop-number-preserved : goal.loop-number-preserved

@@ -13,7 +13,7 @@ use Rattle.run_blocks.specs.Jobs.{asked_in_order}
 use Rattle.world_turns.proofs.Histories.{length-count_up}
 use Rattle.shared_turns.proofs.Shifts.{long_jobs}
 use Rattle.shared_turns.proofs.Taken.{shifts_taken, few_replies, sides_of, no_replies, start_sides, armed_in, took_in}
-use Rattle.shared_turns.proofs.Lasts.{same_vec}
+use Rattle.shared_machines.proofs.Lasts.{same_vec}
 use Rattle.shared_turns.specs.Ends.{AreMixed}
 use Rattle.world_state.specs.Armed.{most_armed}
 use Rattle.shared_turns.proofs.taking.take_in_room.Goals as goal

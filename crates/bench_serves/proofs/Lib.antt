@@ -1,0 +1,5 @@
+pub mod Told
+pub mod Going
+pub mod Ending
+pub mod Blaming
+pub mod Headlines

@@ -1,0 +1,96 @@
+// A scenario over a bench, and its managers over ports.
+ghost use Rattle.std.specs.Prelude.{◌≡◌, ◌⊎◌, ◌≤◌, Err, IsSome};
+ghost use Rattle.std.specs.List.{All};
+ghost use Rattle.port_doors.specs.Doors.{HasRoom, IsListenFault};
+ghost use Rattle.run_acts.specs.Runnable.{IsRunnable};
+ghost use Rattle.world_bench.specs.Laid.{IsWhole};
+ghost use Rattle.world_bench.specs.New.{IsNew};
+ghost use Rattle.bench_serves.specs.Serving.{HasServedHeadlines, IsBlamed, WasLeft, ended};
+ghost use Rattle.bench_serves.specs.declared.stop.ServeStop.TheVariants.{Listen};
+
+use crate::ServeStop;
+use crate::behind::serve_behind;
+use bench_runs::{Left, run_out};
+use disk_model::Disk;
+use edge_io::{Gate, Listener, Ports, Sink};
+use law_headline::law_tasks_are_run;
+use law_serves::law_bench_serves;
+use run_lines::Stop;
+use scenario_lines::Scenario;
+use source_devices::{Device, Entropy, Wire};
+use std::alloc::Global;
+use std::sync::Wait;
+use std::thread::Threads;
+use world_bench::{Bench, law_bench_begins, put_back};
+
+/// Runs a scenario over a new bench, its blocks by so many workers, each of whom the gate can hold, and reports it to the sink. Where all lines are done the managers of
+/// its nodes are served over the ports from this one on, the node's number being added: each worker serves so many connections, one after another, at a listener of
+/// its own, whose node is that of the worker's number modulo the number of nodes. All listeners are there before a worker accepts, and each port is opened once. At
+/// the end the sink takes how many connections were served. The bench has all its parts back, and the ports all listeners. Where memory is wanting before
+/// the first line, bench, sink and ports are as they were.
+pub fn run_serve<
+    R: Threads + Wait + Sync,
+    G: Gate,
+    K: Disk + Drop + Send,
+    Q: Device + Drop + Send,
+    E: Entropy + Drop + Send,
+    X: Wire + Drop + Send,
+    W: Sink,
+    P: Ports,
+>(
+    rt: &R,
+    alloc: Global,
+    gate: &G,
+    scenario: Scenario,
+    workers: u32,
+    connections: u32,
+    port: u16,
+    sink: &mut W,
+    bench: &mut Bench<K, Q, E, X>,
+    ports: &mut P,
+) -> Result<(), ServeStop>
+where
+    P::Door: Drop + Send + Sync,
+    <P::Door as Listener>::In: Send,
+    <P::Door as Listener>::Out: Send,
+    requires runnable { IsRunnable scenario }
+    requires workers { (1 ≤ workers) × (workers ≤ 32) }
+    requires connections { connections ≤ 10000 }
+    requires port { port ≤ 65520 }
+    requires fresh { IsNew K.is_honest K.moment K.image E.left Q.told X.frames bench.old }
+    requires unarmed { All (λ k. (K.armings k).count ≡ 0) bench.old.disks.items }
+    requires asked { HasRoom P.asked ports.old workers }
+    requires back { HasRoom P.back ports.old workers }
+    ensures headline { WasLeft bench.old bench.new sink.old sink.new ports.old ports.new result
+        ⊎ HasServedHeadlines K.moment K.image E.left Q.told X.frames K.faults K.armings E.faults Q.faults X.faults
+        (λ d. record { port = P.Door.port d; accepted = P.Door.accepted d; finished = P.Door.finished d; waiting = P.Door.waiting d; done = P.Door.done d }) P.Door.faults (IsSome (P.asked ports.old))
+        bench.old bench.new (record { asked = P.asked ports.old; back = P.back ports.old }) (record { asked = P.asked ports.new; back = P.back ports.new })
+        workers connections port scenario (W.taken sink.old) (W.taken sink.new) (ended result) }
+    ensures whole { IsWhole bench.new }
+    ensures blame { IsBlamed (W.faults sink.old) (W.faults sink.new) result }
+    ensures listen { result ≡ Err Listen → IsListenFault P.Door.faults (P.faults ports.old) (P.faults ports.new)
+        (record { asked = P.asked ports.old; back = P.back ports.old }) (record { asked = P.asked ports.new; back = P.back ports.new }) }
+{
+    law_tasks_are_run();
+    law_bench_begins::<K, Q, E, X>();
+    law_bench_serves::<K, Q, E, X>();
+    match run_out(rt, alloc, gate, scenario, workers, sink, bench) {
+        Err(_) => Err(ServeStop::Stopped(Stop::Memory)),
+        Ok(left) => {
+            let Left { mut state, ended } = left;
+            let result = serve_behind(
+                rt,
+                alloc,
+                ended,
+                &mut state,
+                workers,
+                connections,
+                port,
+                sink,
+                ports,
+            );
+            put_back(state, bench);
+            result
+        }
+    }
+}

@@ -1,0 +1,41 @@
+-- What a caller has asked of a node's manager, and what it may ask yet.
+use Rattle.std.specs.Prelude.{◌≡◌, ℕ, ◌+◌, List, map, length, slice_get, Some}
+use Rattle.net_model.specs.declared.event.Event.{Event}
+use Rattle.declared_site.specs.declared.site.Site.{Site}
+use Rattle.turnstile.specs.declared.machine.Machine.{Ghosts}
+use Rattle.turnstile.specs.declared.turnstile.Turnstile.{Turnstile}
+use Rattle.turnstile.specs.declared.seat.Seat.{Seat}
+use Rattle.turnstile.specs.Names.{opening, knows, Fits}
+use Rattle.turnstile.specs.Views.{Stands}
+use Rattle.law_merges.specs.Rising.{Rises}
+use Rattle.kme_serve.specs.declared.turn.Turn.{Turn}
+use Rattle.served_managers.specs.declared.answered.Answered.{Answered}
+use Rattle.served_managers.specs.Serving.{Said, Call, IsNextCall}
+
+-- what was said: the event that came back, and the reply
+abbrev pub said_in : Event × Answered → Said
+said_in entry = (entry.1.event, entry.1.reply)
+
+abbrev pub call_in : ℕ × (Event × Answered) → Call
+call_in c = (c.0, said_in c.1)
+
+module _ {M C : Type 0} {g : Ghosts M Event Answered C} where
+  -- the calls that were made with a seat
+  abbrev pub calls_by : Seat M Event Answered C g → List Call
+  calls_by seat = map call_in (knows seat).mine
+
+-- The seat is one of the turnstile of a node of the site. Its calls stand in what it has seen of the manager's history, at rising places.
+pub record IsSeated {M : Type 0} {g : Ghosts M Event Answered (Site × ℕ)} (charter : M → Site × ℕ) (site : Site) (turnstiles : List (Turnstile M Event Answered (Site × ℕ))) (node : ℕ)
+    (seat : Seat M Event Answered (Site × ℕ) g) : Type 0 where
+  pub turnstile : Turnstile M Event Answered (Site × ℕ)
+  pub there : slice_get turnstiles node ≡ Some turnstile
+  pub of : charter (opening turnstile) ≡ (site, node)
+  pub fits : Fits turnstile seat
+  pub stands : Stands (knows seat).mine (knows seat).seen
+  pub rises : Rises (knows seat).mine
+
+-- A turn was asked of the same node, behind the calls before. Calls made and calls left are together as many as before.
+pub record IsNextPass {M C : Type 0} {g : Ghosts M Event Answered C} (node : ℕ) (seat : Seat M Event Answered C g) (turn : Turn) (node' : ℕ) (seat' : Seat M Event Answered C g) : Type 0 where
+  pub same : node' ≡ node
+  pub call : IsNextCall (calls_by seat) turn (calls_by seat')
+  pub share : (knows seat').budget + length (calls_by seat') ≡ (knows seat).budget + length (calls_by seat)

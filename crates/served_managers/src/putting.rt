@@ -1,0 +1,35 @@
+// An event is put to a node's manager.
+ghost use Rattle.std.specs.Prelude.{◌≡◌, ℕ, true};
+ghost use Rattle.declared_site.specs.SiteOf.{site_of};
+ghost use Rattle.kme_store.specs.Manager.{ManagerForm, is_up};
+ghost use Rattle.net_model.specs.Events.{is_valid_event};
+ghost use Rattle.net_model.specs.World.{Network, World};
+ghost use Rattle.world_posts.specs.Handled.{MayHandle, Handled};
+
+use disk_model::Disk;
+use kme_store::Post;
+use net_model::{Event, Reply};
+use source_devices::Entropy;
+
+/// Puts an event to a node's manager, which it may be asked wherever it is up. Bit l of `up` says that link l is up. A node with no
+/// manager that is up answers `Down`.
+pub(crate) fn put<K: Disk + Drop, E: Entropy>(
+    post: &mut Post<K, E>,
+    event: &Event,
+    up: u32,
+) -> Reply
+    requires valid { (m : ManagerForm K E) → post.old ≡ Post.On m → is_up m.standing ≡ true → is_valid_event (site_of m.site) m.view.me event.now ≡ true }
+    ensures { (net : Network) (w : World) (v : ℕ) → MayHandle K.is_honest K.moment K.image E.left net w v post.old event.now up
+        → Handled K.is_honest K.moment K.image K.faults K.armings E.left E.faults net w v event.now post.old post.new result }
+{
+    match post {
+        Post::On(manager) => {
+            if manager.is_up() {
+                manager.act(event, up)
+            } else {
+                Reply::Down
+            }
+        }
+        Post::Off(_, _) => Reply::Down,
+    }
+}

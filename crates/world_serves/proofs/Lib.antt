@@ -1,0 +1,13 @@
+pub mod Alone
+pub mod Closing
+pub mod Doors
+pub mod Ending
+pub mod Gathering
+pub mod Nodes
+pub mod Parts
+pub mod Passing
+pub mod Replaying
+pub mod Servable
+pub mod Splitting
+pub mod Visits
+pub mod Whole
