@@ -30,6 +30,16 @@ const WORDS: &[(&str, Status)] = &[
     ("run 1", Status::Done),
     ("run 2", Status::Done),
     ("run 32", Status::Done),
+    ("serve", Status::Usage(1)),
+    ("serve 0 1 9000", Status::Usage(1)),
+    ("serve 33 1 9000", Status::Usage(1)),
+    ("serve 1", Status::Usage(2)),
+    ("serve 1 0 9000", Status::Usage(2)),
+    ("serve 1 10001 9000", Status::Usage(2)),
+    ("serve 1 1", Status::Usage(3)),
+    ("serve 1 1 0", Status::Usage(3)),
+    ("serve 1 1 65521", Status::Usage(3)),
+    ("serve 1 1 9000 1", Status::Usage(4)),
     ("audit 1", Status::Usage(1)),
     ("bound", Status::Usage(1)),
     ("bound 0 02 0000000000000000", Status::Usage(1)),
@@ -149,6 +159,7 @@ fn each_end_has_its_words(rt: HostRuntime) -> Result<(), Fail> {
         (Status::WriteFault, 3, "write fault"),
         (Status::ForgedMatch(8), 4, "forged frame at line 8"),
         (Status::Memory, 5, "out of memory"),
+        (Status::ListenFault, 6, "listen fault"),
     ] {
         let said = format!(in alloc; "{status}")?;
         assert_eq!(rt; (status.code(), said.as_str()), (code, words));

@@ -8,6 +8,8 @@ mod blocks;
 #[cfg(test)]
 mod bounds;
 #[cfg(test)]
+mod clients;
+#[cfg(test)]
 mod crashes;
 #[cfg(test)]
 mod cuts;
@@ -47,6 +49,8 @@ mod repeats;
 mod run;
 #[cfg(test)]
 mod script;
+#[cfg(test)]
+mod serves;
 #[cfg(test)]
 mod streams;
 #[cfg(test)]

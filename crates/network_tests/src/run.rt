@@ -1,7 +1,9 @@
 // One run of the top call.
+ghost use Rattle.port_doors.specs.Doors.{AreFresh};
+
 use crate::bench::{FirstParts, TestBench, is_whole, new_bench};
 use crate::script::{Lines, Script};
-use edge_io::{Gate, MemSink, MemSource, OpenGate, Source};
+use edge_io::{Gate, Listener, MemPorts, MemSink, MemSource, OpenGate, Ports, Source};
 use qkd_base::{Items, Memory, Text, Texts};
 use qkd_network::{Status, network};
 use std::alloc::Global;
@@ -33,7 +35,31 @@ fn texts(alloc: Global, words: &str) -> Result<Texts, Memory> {
     Ok(texts)
 }
 
-/// Does what the words ask for over a new bench with these parts, its workers held where the gate holds them, and gives the bench back.
+/// Does what the words ask for over a new bench with these parts, and over these ports, its workers held where the gate holds them. It
+/// gives the bench back.
+pub fn over_ports<R: Threads + Wait + Sync, G: Gate, S: Source, P: Ports>(
+    rt: &R,
+    alloc: Global,
+    gate: &G,
+    words: &str,
+    first: FirstParts,
+    source: &mut S,
+    sink: &mut MemSink,
+    ports: &mut P,
+) -> Result<(Status, TestBench), Memory>
+where
+    P::Door: Drop + Send + Sync,
+    <P::Door as Listener>::In: Send,
+    <P::Door as Listener>::Out: Send,
+    requires { AreFresh P.asked P.back ports.old }
+{
+    let words = texts(alloc, words)?;
+    let mut bench = new_bench(alloc, first)?;
+    let status = network(rt, alloc, &words, source, sink, &mut bench, ports, gate);
+    Ok((status, bench))
+}
+
+/// The same over ports none of which can be opened.
 pub fn held_over<R: Threads + Wait + Sync, G: Gate, S: Source>(
     rt: &R,
     alloc: Global,
@@ -43,10 +69,8 @@ pub fn held_over<R: Threads + Wait + Sync, G: Gate, S: Source>(
     source: &mut S,
     sink: &mut MemSink,
 ) -> Result<(Status, TestBench), Memory> {
-    let words = texts(alloc, words)?;
-    let mut bench = new_bench(alloc, first)?;
-    let status = network(rt, alloc, &words, source, sink, &mut bench, gate);
-    Ok((status, bench))
+    let mut ports = MemPorts::new(alloc, Vec::new(alloc), Vec::new(alloc))?;
+    over_ports(rt, alloc, gate, words, first, source, sink, &mut ports)
 }
 
 /// Does what the words ask for over a new bench with these parts, and gives the bench back.

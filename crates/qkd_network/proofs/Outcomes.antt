@@ -1,5 +1,5 @@
 -- What is done with a source that was read.
-use Rattle.std.proofs.Common.{◌≡◌, ℕ, List, refl, ◌∙◌, inl, inr}
+use Rattle.std.proofs.Common.{◌≡◌, ℕ, List, refl, ap, ◌∙◌, inl, inr}
 use Rattle.std.specs.Prelude.{◌⊎◌, Option, Result, Ok, Err}
 use Rattle.scenario_lines.specs.declared.scenario.Scenario.{Scenario}
 use Rattle.scenario_reader.specs.Text.{meaning_of}
@@ -9,13 +9,16 @@ use Rattle.run_model.specs.Course.{Words, Run, Load}
 use Rattle.run_model.specs.Load.{load_scenario}
 use Rattle.run_model.specs.Headline as headline
 use Rattle.bench_runs.specs.Running.{ended, WasLeft}
+use Rattle.bench_serves.specs.Serving.{ended as served_end, WasLeft as WasNotServed}
+use Rattle.bench_serves.specs.declared.stop.ServeStop.{ServeStop}
+use Rattle.bench_serves.specs.declared.stop.ServeStop.TheVariants as serves
 use Rattle.world_bench.specs.declared.bench.Bench.{Bench}
-use Rattle.qkd_network.specs.Codes.{status_of}
+use Rattle.qkd_network.specs.Codes.{status_of, served_as}
 use Rattle.word_forms.specs.Forms.{Runs, asked_by}
 use Rattle.source_answers.specs.Inputs.{ReadsWhole}
-use Rattle.qkd_network.specs.Outcome.{HasScenario, HasRun, HasLoaded, HasVeiled, IsUnread, RunOutcome, VeilOutcome}
+use Rattle.qkd_network.specs.Outcome.{HasScenario, HasRun, HasLoaded, HasCome, IsUnread, RunOutcome, ScenarioOutcome, outside}
 use Rattle.qkd_network.specs.declared.status.Status.{Status}
-use Rattle.qkd_network.specs.declared.status.Status.TheVariants.{Done, Usage, BadLine, ReadFault, WriteFault, ForgedMatch, Memory}
+use Rattle.qkd_network.specs.declared.status.Status.TheVariants.{Done, Usage, BadLine, ReadFault, WriteFault, ForgedMatch, Memory, ListenFault}
 use Rattle.qkd_network.proofs.Inputs.{read_of}
 
 module _ {S : Type 0} (left : S → Option (List ℕ)) (Ran : Words → Scenario → headline.Stop → Type 0) (words : List (List ℕ)) (workers : ℕ) (form : asked_by words ≡ Ok (Runs (Run workers))) (old new : S) where
@@ -27,6 +30,7 @@ module _ {S : Type 0} (left : S → Option (List ℕ)) (Ran : Words → Scenario
   unread WriteFault sink bench h = absurd h
   unread (ForgedMatch n) sink bench h = absurd h
   unread Memory sink bench h = inl ((Run workers, form), refl, refl)
+  unread ListenFault sink bench h = absurd h
 
   module _ (scenario : Scenario) (told : HasScenario (left old) (left new) scenario) where
     has_run : (stop : headline.Stop) → Ran (Run workers) scenario stop → HasRun Ran words (left old) (left new) stop
@@ -55,37 +59,74 @@ line_refused left rest bytes line read refused =
     let r = read_of left rest bytes read in
     ((bytes, read), record { input = r.input; input_is = r.input_is; refused = r.means ∙ refused })
 
--- ---- the veil of a scenario's wires
+-- ---- a scenario with which more is done
 
-module _ {S : Type 0} (left : S → Option (List ℕ)) (Veiled : Scenario → headline.Stop → Type 0) (old new : S) where
-  pub veil_unread : {W B : Type 0} (status : Status) (sink : W) (bench : B) → IsUnread status (left old) (left new) → VeilOutcome left Veiled status old new sink sink bench bench
-  veil_unread Done sink bench h = absurd h
-  veil_unread (Usage i) sink bench h = absurd h
-  veil_unread (BadLine n) sink bench h = (h.0, h.1, refl, refl)
-  veil_unread ReadFault sink bench h = (refl, refl)
-  veil_unread WriteFault sink bench h = absurd h
-  veil_unread (ForgedMatch n) sink bench h = absurd h
-  veil_unread Memory sink bench h = inl (refl, refl)
+module _ {S : Type 0} (left : S → Option (List ℕ)) (Came : Scenario → headline.Stop → Type 0) (old new : S) where
+  pub scenario_unread : {W B : Type 0} (status : Status) (sink : W) (bench : B) → IsUnread status (left old) (left new) → ScenarioOutcome left Came status old new sink sink bench bench
+  scenario_unread Done sink bench h = absurd h
+  scenario_unread (Usage i) sink bench h = absurd h
+  scenario_unread (BadLine n) sink bench h = (h.0, h.1, refl, refl)
+  scenario_unread ReadFault sink bench h = (refl, refl)
+  scenario_unread WriteFault sink bench h = absurd h
+  scenario_unread (ForgedMatch n) sink bench h = absurd h
+  scenario_unread Memory sink bench h = inl (refl, refl)
+  scenario_unread ListenFault sink bench h = absurd h
 
   module _ (scenario : Scenario) (told : HasScenario (left old) (left new) scenario) where
-    has_veiled : (stop : headline.Stop) → Veiled scenario stop → HasVeiled Veiled (left old) (left new) stop
-    has_veiled stop veiled = record { scenario = scenario; told = told; veiled = veiled }
+    has_come : (stop : headline.Stop) → Came scenario stop → HasCome Came (left old) (left new) stop
+    has_come stop came = record { scenario = scenario; told = told; came = came }
 
     pub veil_ran : {W B T : Type 0} (before after : W) (given back : B) (result : Result T Stop) →
-        ((result ≡ Err stops.Memory) × (after ≡ before) × (back ≡ given)) ⊎ Veiled scenario (ended result) → VeilOutcome left Veiled (status_of result) old new before after given back
+        ((result ≡ Err stops.Memory) × (after ≡ before) × (back ≡ given)) ⊎ Came scenario (ended result) → ScenarioOutcome left Came (status_of result) old new before after given back
     veil_ran before after given back (Ok done) (inl l) = absurd (let wrong : Ok done ≡ Err stops.Memory = l.0 in cc)
-    veil_ran before after given back (Ok done) (inr veiled) = has_veiled headline.Done veiled
+    veil_ran before after given back (Ok done) (inr came) = has_come headline.Done came
     veil_ran before after given back (Err stops.WriteFault) (inl l) = absurd (let wrong : Err stops.WriteFault ≡ Err stops.Memory = l.0 in cc)
-    veil_ran before after given back (Err stops.WriteFault) (inr veiled) = has_veiled headline.WriteFault veiled
+    veil_ran before after given back (Err stops.WriteFault) (inr came) = has_come headline.WriteFault came
     veil_ran before after given back (Err stops.Memory) (inl l) = inl (l.1, l.2)
-    veil_ran before after given back (Err stops.Memory) (inr veiled) = inr (has_veiled headline.Memory veiled)
+    veil_ran before after given back (Err stops.Memory) (inr came) = inr (has_come headline.Memory came)
     veil_ran before after given back (Err (stops.Forged line)) (inl l) = absurd (let wrong : Err (stops.Forged line) ≡ Err stops.Memory = l.0 in cc)
-    veil_ran before after given back (Err (stops.Forged line)) (inr veiled) = has_veiled (headline.ForgedMatch line) veiled
+    veil_ran before after given back (Err (stops.Forged line)) (inr came) = has_come (headline.ForgedMatch line) came
+
+    pub serve_ran : {W B T : Type 0} (before after : W) (given back : B) (result : Result T ServeStop) →
+        ((result ≡ Err (serves.Stopped stops.Memory)) × (after ≡ before) × (back ≡ given)) ⊎ Came scenario (served_end result) → ScenarioOutcome left Came (served_as result) old new before after given back
+    serve_ran before after given back (Ok done) (inl l) = absurd (let wrong : Ok done ≡ Err (serves.Stopped stops.Memory) = l.0 in cc)
+    serve_ran before after given back (Ok done) (inr came) = has_come headline.Done came
+    serve_ran before after given back (Err serves.Listen) (inl l) = absurd (let wrong : Err serves.Listen ≡ Err (serves.Stopped stops.Memory) = l.0 in cc)
+    serve_ran before after given back (Err serves.Listen) (inr came) = has_come headline.ListenFault came
+    serve_ran before after given back (Err (serves.Stopped stops.WriteFault)) (inl l) = absurd (let wrong : Err (serves.Stopped stops.WriteFault) ≡ Err (serves.Stopped stops.Memory) = l.0 in cc)
+    serve_ran before after given back (Err (serves.Stopped stops.WriteFault)) (inr came) = has_come headline.WriteFault came
+    serve_ran before after given back (Err (serves.Stopped stops.Memory)) (inl l) = inl (l.1, l.2)
+    serve_ran before after given back (Err (serves.Stopped stops.Memory)) (inr came) = inr (has_come headline.Memory came)
+    serve_ran before after given back (Err (serves.Stopped (stops.Forged line))) (inl l) = absurd (let wrong : Err (serves.Stopped (stops.Forged line)) ≡ Err (serves.Stopped stops.Memory) = l.0 in cc)
+    serve_ran before after given back (Err (serves.Stopped (stops.Forged line))) (inr came) = has_come (headline.ForgedMatch line) came
+
+  -- beside ports that were not touched
+  pub beside_ports : {W B P : Type 0} (status : Status) (before after : W) (given back : B) (ports : P) → ScenarioOutcome left Came status old new before after given back →
+      ScenarioOutcome left Came status old new before after (outside given ports) (outside back ports)
+  beside_ports Done before after given back ports h = h
+  beside_ports (Usage i) before after given back ports h = h
+  beside_ports (BadLine n) before after given back ports h = (h.0, h.1, h.2, ap (λ b. outside b ports) h.3)
+  beside_ports ReadFault before after given back ports h = (h.0, ap (λ b. outside b ports) h.1)
+  beside_ports WriteFault before after given back ports h = h
+  beside_ports (ForgedMatch n) before after given back ports h = h
+  beside_ports Memory before after given back ports (inl l) = inl (l.0, ap (λ b. outside b ports) l.1)
+  beside_ports Memory before after given back ports (inr h) = inr h
+  beside_ports ListenFault before after given back ports h = h
 
 pub left_or : {K Q E X W T : Type 0} (given back : Bench K Q E X) (before after : W) (result : Result T Stop) (R : Type 0) → WasLeft given back before after result ⊎ R →
     ((result ≡ Err stops.Memory) × (after ≡ before) × (back ≡ given)) ⊎ R
 left_or given back before after result R (inl l) = inl (l.wanting, l.sink, l.bench)
 left_or given back before after result R (inr r) = inr r
+
+pub left_beside : {K Q E X W T P : Type 0} (given back : Bench K Q E X) (ports : P) (before after : W) (result : Result T Stop) (R : Type 0) → WasLeft given back before after result ⊎ R →
+    ((result ≡ Err stops.Memory) × (after ≡ before) × (outside back ports ≡ outside given ports)) ⊎ R
+left_beside given back ports before after result R (inl l) = inl (l.wanting, l.sink, ap (λ b. outside b ports) l.bench)
+left_beside given back ports before after result R (inr r) = inr r
+
+pub left_with : {B W T P : Type 0} (given back : B) (before after : W) (ports ports_back : P) (result : Result T ServeStop) (R : Type 0) → WasNotServed given back before after ports ports_back result ⊎ R →
+    ((result ≡ Err (serves.Stopped stops.Memory)) × (after ≡ before) × (outside back ports_back ≡ outside given ports)) ⊎ R
+left_with given back before after ports ports_back result R (inl l) = inl (l.wanting, l.sink, ap (λ b. outside b ports_back) l.bench ∙ ap (λ p. outside given p) l.ports)
+left_with given back before after ports ports_back result R (inr r) = inr r
 
 -- ---- the generated load
 
@@ -104,3 +145,11 @@ module _ {S : Type 0} (left : S → Option (List ℕ)) (Ran : Words → Scenario
   loaded before after given back (Err stops.Memory) (inr runs) = inr (inr (has_loaded headline.Memory runs))
   loaded before after given back (Err (stops.Forged line)) (inl l) = absurd (let wrong : Err (stops.Forged line) ≡ Err stops.Memory = l.0 in cc)
   loaded before after given back (Err (stops.Forged line)) (inr runs) = inr (has_loaded (headline.ForgedMatch line) runs)
+
+-- only a run whose port or listener failed has that status
+pub listening : {T : Type 0} (ended : Result T ServeStop) → served_as ended ≡ ListenFault → ended ≡ Err serves.Listen
+listening (Ok done) h = absurd (cc h)
+listening (Err (serves.Stopped stops.WriteFault)) h = absurd (cc h)
+listening (Err (serves.Stopped stops.Memory)) h = absurd (cc h)
+listening (Err (serves.Stopped (stops.Forged line))) h = absurd (cc h)
+listening (Err serves.Listen) h = refl

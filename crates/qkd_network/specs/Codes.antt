@@ -4,10 +4,12 @@ use Rattle.std.specs.Fmt.{decimal}
 use lib.Chars.{codes}
 use Rattle.run_lines.specs.declared.stop.Stop.{Stop}
 use Rattle.run_lines.specs.declared.stop.Stop.TheVariants as stops
+use Rattle.bench_serves.specs.declared.stop.ServeStop.{ServeStop}
+use Rattle.bench_serves.specs.declared.stop.ServeStop.TheVariants as serves
 use Rattle.source_answers.specs.declared.ended.Ended.{Ended}
 use Rattle.source_answers.specs.declared.ended.Ended.TheVariants as ends
 use Rattle.qkd_network.specs.declared.status.Status.{Status}
-use Rattle.qkd_network.specs.declared.status.Status.TheVariants.{Done, Usage, BadLine, ReadFault, WriteFault, ForgedMatch, Memory}
+use Rattle.qkd_network.specs.declared.status.Status.TheVariants.{Done, Usage, BadLine, ReadFault, WriteFault, ForgedMatch, Memory, ListenFault}
 
 abbrev pub code_of : Status → ℕ
 code_of Done = 0
@@ -17,6 +19,7 @@ code_of ReadFault = 3
 code_of WriteFault = 3
 code_of (ForgedMatch n) = 4
 code_of Memory = 5
+code_of ListenFault = 6
 
 abbrev pub said_of : Status → List ℕ
 said_of Done = []
@@ -26,6 +29,7 @@ said_of ReadFault = codes "read fault"
 said_of WriteFault = codes "write fault"
 said_of (ForgedMatch n) = codes "forged frame at line " ++ decimal n
 said_of Memory = codes "out of memory"
+said_of ListenFault = codes "listen fault"
 
 -- that of a run
 abbrev pub status_of : {T : Type 0} → Result T Stop → Status
@@ -33,6 +37,14 @@ status_of (Ok done) = Done
 status_of (Err stops.WriteFault) = WriteFault
 status_of (Err stops.Memory) = Memory
 status_of (Err (stops.Forged line)) = ForgedMatch line
+
+-- that of a run whose managers are then served
+abbrev pub served_as : {T : Type 0} → Result T ServeStop → Status
+served_as (Ok done) = Done
+served_as (Err (serves.Stopped stops.WriteFault)) = WriteFault
+served_as (Err (serves.Stopped stops.Memory)) = Memory
+served_as (Err (serves.Stopped (stops.Forged line))) = ForgedMatch line
+served_as (Err serves.Listen) = ListenFault
 
 -- that of an answer
 abbrev pub answered_as : Ended → Status

@@ -5,13 +5,13 @@ use Rattle.scenario_reader.specs.Text.{meaning_of}
 use Rattle.run_model.specs.Course.{Words, Run, Load}
 use Rattle.run_model.specs.Load.{load_scenario}
 use Rattle.run_model.specs.Headline as headline
-use Rattle.word_forms.specs.Forms.{Runs, Veils, Bounds, Audits, asked_by}
+use Rattle.word_forms.specs.Forms.{Runs, Serves, Veils, Bounds, Audits, asked_by}
 use Rattle.source_answers.specs.Inputs.{WasRead, IsInput}
 use Rattle.source_answers.specs.Answers.{Bounded, Audited}
 use Rattle.source_answers.specs.declared.ended.Ended.{Ended}
 use Rattle.qkd_network.specs.Codes.{answered_as}
 use Rattle.qkd_network.specs.declared.status.Status.{Status}
-use Rattle.qkd_network.specs.declared.status.Status.TheVariants.{Done, Usage, BadLine, ReadFault, WriteFault, ForgedMatch, Memory}
+use Rattle.qkd_network.specs.declared.status.Status.TheVariants.{Done, Usage, BadLine, ReadFault, WriteFault, ForgedMatch, Memory, ListenFault}
 
 -- they ask for a run
 abbrev pub IsForm : List (List ℕ) → Type 0
@@ -20,6 +20,10 @@ IsForm words = (asked : Words) × (asked_by words ≡ Ok (Runs asked))
 -- they ask for a scenario to be run
 abbrev pub AsksRun : List (List ℕ) → Type 0
 AsksRun words = (workers : ℕ) × (asked_by words ≡ Ok (Runs (Run workers)))
+
+-- they ask for a run whose managers are then served
+abbrev pub AsksServe : List (List ℕ) → Type 0
+AsksServe words = (workers : ℕ) × ((connections : ℕ) × ((port : ℕ) × (asked_by words ≡ Ok (Serves workers connections port))))
 
 -- the source was read whole, and what it had is this scenario
 pub record HasScenario (left rest : Option (List ℕ)) (scenario : Scenario) : Type 0 where
@@ -36,11 +40,11 @@ pub record HasRun (Ran : Words → Scenario → headline.Stop → Type 0) (words
   pub told : HasScenario left rest scenario
   pub runs : Ran (Run workers) scenario stop
 
--- The source had a scenario. That was run, its run ended so, and what `Veiled` says holds of it.
-pub record HasVeiled (Veiled : Scenario → headline.Stop → Type 0) (left rest : Option (List ℕ)) (stop : headline.Stop) : Type 0 where
+-- The source had a scenario. That was run, its run ended so, and what `Came` says holds of it.
+pub record HasCome (Came : Scenario → headline.Stop → Type 0) (left rest : Option (List ℕ)) (stop : headline.Stop) : Type 0 where
   pub scenario : Scenario
   pub told : HasScenario left rest scenario
-  pub veiled : Veiled scenario stop
+  pub came : Came scenario stop
 
 -- the generated load was run, ended so, and what `Ran` says holds of it; the source was not touched
 pub record HasLoaded {S : Type 0} (Ran : Words → Scenario → headline.Stop → Type 0) (words : List (List ℕ)) (old new : S) (stop : headline.Stop) : Type 0 where
@@ -66,6 +70,10 @@ IsUnread ReadFault left rest = Unit {0}
 IsUnread Memory left rest = Unit {0}
 IsUnread _ left rest = ⊥
 
+-- what a run is over: a bench, and the ports at which it may be served
+abbrev pub outside : {B P : Type 0} → B → P → B × P
+outside bench ports = (bench, ports)
+
 -- By the status. Where nothing was run, sink and bench are as they were, and where the words are no form the source is too.
 abbrev pub RunOutcome : {S W B : Type 0} → (S → Option (List ℕ)) → (Words → Scenario → headline.Stop → Type 0) → Status → List (List ℕ) → (old new : S) → (before after : W) → (given back : B) → Type 0
 RunOutcome left Ran Done words old new before after given back = HasDone left Ran words old new headline.Done
@@ -77,6 +85,7 @@ RunOutcome left Ran WriteFault words old new before after given back = HasDone l
 RunOutcome left Ran (ForgedMatch n) words old new before after given back = HasDone left Ran words old new (headline.ForgedMatch n)
 RunOutcome left Ran Memory words old new before after given back =
     (IsForm words × (after ≡ before) × (back ≡ given)) ⊎ HasDone left Ran words old new headline.Memory
+RunOutcome left Ran ListenFault words old new before after given back = ⊥
 
 -- They ask how many keys give two texts a difference. That was answered from the source alone; sink and bench are as they were but for the answer.
 pub record HasAnswered {S W B : Type 0} (left : S → Option (List ℕ)) (taken : W → Option (List ℕ)) (status : Status) (words : List (List ℕ)) (old new : S) (before after : W) (given back : B) : Type 0 where
@@ -97,20 +106,38 @@ pub record HasAudited {S W B : Type 0} (left : S → Option (List ℕ)) (taken :
   pub audited : Audited (left old) (left new) (taken before) (taken after) before after ended
   pub bench : back ≡ given
 
--- The wires of a scenario are veiled, by the status. Where nothing was run, sink and bench are as they were.
-abbrev pub VeilOutcome : {S W B : Type 0} → (S → Option (List ℕ)) → (Scenario → headline.Stop → Type 0) → Status → (old new : S) → (before after : W) → (given back : B) → Type 0
-VeilOutcome left Veiled Done old new before after given back = HasVeiled Veiled (left old) (left new) headline.Done
-VeilOutcome left Veiled (Usage i) old new before after given back = ⊥
-VeilOutcome left Veiled (BadLine n) old new before after given back = WasRead (left old) (left new) × IsBadLine (left old) n × (after ≡ before) × (back ≡ given)
-VeilOutcome left Veiled ReadFault old new before after given back = (after ≡ before) × (back ≡ given)
-VeilOutcome left Veiled WriteFault old new before after given back = HasVeiled Veiled (left old) (left new) headline.WriteFault
-VeilOutcome left Veiled (ForgedMatch n) old new before after given back = HasVeiled Veiled (left old) (left new) (headline.ForgedMatch n)
-VeilOutcome left Veiled Memory old new before after given back = ((after ≡ before) × (back ≡ given)) ⊎ HasVeiled Veiled (left old) (left new) headline.Memory
+-- The source's scenario is run, and more is done with it, by the status. Where nothing was run, sink and bench are as they were.
+abbrev pub ScenarioOutcome : {S W B : Type 0} → (S → Option (List ℕ)) → (Scenario → headline.Stop → Type 0) → Status → (old new : S) → (before after : W) → (given back : B) → Type 0
+ScenarioOutcome left Came Done old new before after given back = HasCome Came (left old) (left new) headline.Done
+ScenarioOutcome left Came (Usage i) old new before after given back = ⊥
+ScenarioOutcome left Came (BadLine n) old new before after given back = WasRead (left old) (left new) × IsBadLine (left old) n × (after ≡ before) × (back ≡ given)
+ScenarioOutcome left Came ReadFault old new before after given back = (after ≡ before) × (back ≡ given)
+ScenarioOutcome left Came WriteFault old new before after given back = HasCome Came (left old) (left new) headline.WriteFault
+ScenarioOutcome left Came (ForgedMatch n) old new before after given back = HasCome Came (left old) (left new) (headline.ForgedMatch n)
+ScenarioOutcome left Came Memory old new before after given back = ((after ≡ before) × (back ≡ given)) ⊎ HasCome Came (left old) (left new) headline.Memory
+ScenarioOutcome left Came ListenFault old new before after given back = HasCome Came (left old) (left new) headline.ListenFault
+
+-- They ask for the veil of a scenario's wires.
+pub record HasVeiled {S W B : Type 0} (left : S → Option (List ℕ)) (Veiled : Scenario → headline.Stop → Type 0) (status : Status) (words : List (List ℕ)) (old new : S) (before after : W) (given back : B) : Type 0 where
+  pub form : asked_by words ≡ Ok Veils
+  pub calm : status ≡ ListenFault → ⊥
+  pub outcome : ScenarioOutcome left Veiled status old new before after given back
+
+-- They ask for a scenario to be run, and its managers to be served.
+pub record HasServed {S W B : Type 0} (left : S → Option (List ℕ)) (Served : (workers connections port : ℕ) → Scenario → headline.Stop → Type 0) (status : Status) (words : List (List ℕ)) (old new : S)
+    (before after : W) (given back : B) : Type 0 where
+  pub workers : ℕ
+  pub connections : ℕ
+  pub port : ℕ
+  pub form : asked_by words ≡ Ok (Serves workers connections port)
+  pub outcome : ScenarioOutcome left (Served workers connections port) status old new before after given back
 
 -- one of these
-abbrev pub Outcome : {S W B : Type 0} → (S → Option (List ℕ)) → (W → Option (List ℕ)) → (Words → Scenario → headline.Stop → Type 0) → (Scenario → headline.Stop → Type 0) → Status → List (List ℕ) → (old new : S) → (before after : W) → (given back : B) → Type 0
-Outcome left taken Ran Veiled status words old new before after given back =
+abbrev pub Outcome : {S W B : Type 0} → (S → Option (List ℕ)) → (W → Option (List ℕ)) → (Words → Scenario → headline.Stop → Type 0) → (Scenario → headline.Stop → Type 0) →
+    ((workers connections port : ℕ) → Scenario → headline.Stop → Type 0) → Status → List (List ℕ) → (old new : S) → (before after : W) → (given back : B) → Type 0
+Outcome left taken Ran Veiled Served status words old new before after given back =
     RunOutcome left Ran status words old new before after given back ⊎
     (HasAnswered left taken status words old new before after given back ⊎
     (HasAudited left taken status words old new before after given back ⊎
-    ((asked_by words ≡ Ok Veils) × VeilOutcome left Veiled status old new before after given back)))
+    (HasVeiled left Veiled status words old new before after given back ⊎
+    HasServed left Served status words old new before after given back)))

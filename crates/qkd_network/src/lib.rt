@@ -3,6 +3,7 @@
 
 mod call;
 mod reading;
+mod serve;
 mod status;
 mod veil;
 

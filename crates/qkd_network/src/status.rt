@@ -1,4 +1,5 @@
 // How the program ended.
+use bench_serves::ServeStop;
 use run_lines::Stop;
 use source_answers::Ended;
 use std::fmt;
@@ -20,11 +21,13 @@ pub enum Status {
     ForgedMatch(u32),
     /// Memory was wanting.
     Memory,
+    /// A port or a listener failed.
+    ListenFault,
 }
 
 impl Status {
     ghost use Rattle.std.specs.Prelude.{◌≡◌};
-    ghost use Rattle.qkd_network.specs.Codes.{code_of, status_of, answered_as};
+    ghost use Rattle.qkd_network.specs.Codes.{code_of, status_of, served_as, answered_as};
 
     /// The exit status.
     pub fn code(self) -> u8
@@ -38,6 +41,7 @@ impl Status {
             Status::WriteFault => 3,
             Status::ForgedMatch(_) => 4,
             Status::Memory => 5,
+            Status::ListenFault => 6,
         }
     }
 
@@ -50,6 +54,17 @@ impl Status {
             Err(Stop::WriteFault) => Status::WriteFault,
             Err(Stop::Forged(line)) => Status::ForgedMatch(line),
             Err(Stop::Memory) => Status::Memory,
+        }
+    }
+
+    // That of a run whose managers are then served.
+    pub(crate) fn of_serve(ended: Result<(), ServeStop>) -> Self
+        ensures { result ≡ served_as ended }
+    {
+        match ended {
+            Ok(()) => Status::Done,
+            Err(ServeStop::Stopped(stop)) => Status::of_run(Err(stop)),
+            Err(ServeStop::Listen) => Status::ListenFault,
         }
     }
 
@@ -82,6 +97,7 @@ impl fmt::Display for Status {
             Status::WriteFault => write!(f, "write fault"),
             Status::ForgedMatch(number) => write!(f, "forged frame at line {number}"),
             Status::Memory => write!(f, "out of memory"),
+            Status::ListenFault => write!(f, "listen fault"),
         }
     }
 }

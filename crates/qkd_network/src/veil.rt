@@ -5,8 +5,8 @@ ghost use Rattle.qkd_base.specs.Faults.{Rose};
 ghost use Rattle.world_bench.specs.Laid.{IsWhole};
 ghost use Rattle.world_bench.specs.New.{IsNew};
 ghost use Rattle.bench_veils.specs.Veiling.{HasVeiled};
-ghost use Rattle.qkd_network.specs.Outcome.{VeilOutcome};
-ghost use Rattle.qkd_network.specs.declared.status.Status.TheVariants.{ReadFault, WriteFault};
+ghost use Rattle.qkd_network.specs.Outcome.{ScenarioOutcome};
+ghost use Rattle.qkd_network.specs.declared.status.Status.TheVariants.{ReadFault, WriteFault, ListenFault};
 
 use crate::Status;
 use crate::reading::scenario_in;
@@ -39,9 +39,10 @@ pub(crate) fn veil<
 ) -> Status
     requires fresh { IsNew K.is_honest K.moment K.image E.left Q.told X.frames bench.old }
     requires unarmed { All (λ k. (K.armings k).count ≡ 0) bench.old.disks.items }
-    ensures outcome { VeilOutcome (λ s. S.left s) (λ scenario stop.
+    ensures outcome { ScenarioOutcome (λ s. S.left s) (λ scenario stop.
         HasVeiled K.moment K.image E.left Q.told X.frames K.faults K.armings E.faults Q.faults X.faults (λ k. W.taken k) bench.old bench.new scenario sink.old sink.new stop)
         result source.old source.new sink.old sink.new bench.old bench.new }
+    ensures calm { result ≡ ListenFault → ⊥ }
     ensures whole { IsWhole bench.new }
     ensures read_fault { result ≡ ReadFault → Rose (S.faults source.old) (S.faults source.new) }
     ensures write_fault { result ≡ WriteFault → Rose (W.faults sink.old) (W.faults sink.new) }

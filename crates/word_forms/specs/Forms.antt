@@ -8,9 +8,11 @@ use Rattle.bound_texts.specs.Words.{number_of, text_of}
 use Rattle.word_forms.specs.declared.form.Form.{Form}
 use Rattle.word_forms.specs.declared.form.Form.TheVariants as forms
 
--- what the words ask for: a run, the veil of a scenario's wires, how many keys give two texts a difference of hashes, or an audit of a report
+-- what the words ask for: a run, a run whose managers are then served, the veil of a scenario's wires, how many keys give two texts a difference of hashes, or
+-- an audit of a report
 pub data Wanted : Type 0 where
   Runs : Words → Wanted
+  Serves : (workers connections port : ℕ) → Wanted
   Veils : Wanted
   Bounds : (a b : List ℕ) → (difference : ℕ) → Wanted
   Audits : Wanted
@@ -40,6 +42,32 @@ load_of (Some rounds) more = alone 2 (Runs (Load rounds)) more
 unfoldable pub load_form : List (List ℕ) → Asked
 load_form [] = Err 1
 load_form (count ∷ more) = load_of (number_in 1 500 count) more
+
+abbrev pub port_of : (workers connections : ℕ) → Option ℕ → (more : List (List ℕ)) → Asked
+port_of workers connections None more = Err 3
+port_of workers connections (Some port) more = alone 4 (Serves workers connections port) more
+
+unfoldable pub port_form : (workers connections : ℕ) → List (List ℕ) → Asked
+port_form workers connections [] = Err 3
+port_form workers connections (word ∷ more) = port_of workers connections (number_in 1 65520 word) more
+
+abbrev pub connections_of : (workers : ℕ) → Option ℕ → (more : List (List ℕ)) → Asked
+connections_of workers None more = Err 2
+connections_of workers (Some connections) more = port_form workers connections more
+
+unfoldable pub connections_form : (workers : ℕ) → List (List ℕ) → Asked
+connections_form workers [] = Err 2
+connections_form workers (word ∷ more) = connections_of workers (number_in 1 10000 word) more
+
+abbrev pub workers_of : Option ℕ → (more : List (List ℕ)) → Asked
+workers_of None more = Err 1
+workers_of (Some workers) more = connections_form workers more
+
+-- `serve W C PORT`: the scenario is run as by W workers, from 1 to 32. Then each of these serves C connections, from 1 to 10,000, at the ports of the nodes from
+-- PORT on, from 1 to 65,520.
+unfoldable pub serve_form : List (List ℕ) → Asked
+serve_form [] = Err 1
+serve_form (word ∷ more) = workers_of (number_in 1 32 word) more
 
 abbrev pub difference_of : (a b : List ℕ) → Option ℕ → (more : List (List ℕ)) → Asked
 difference_of a b None more = Err 3
@@ -75,11 +103,13 @@ question_form form words =
 unfoldable pub asked_by : List (List ℕ) → Asked
 asked_by [] = Err 0
 asked_by (form ∷ words) =
-    if bytes_eq form (codes "run") then run_form words else if bytes_eq form (codes "load") then load_form words else question_form form words
+    if bytes_eq form (codes "run") then run_form words else if bytes_eq form (codes "load") then load_form words
+    else if bytes_eq form (codes "serve") then serve_form words else question_form form words
 
 abbrev pub wanted_of : Form → Wanted
 wanted_of (forms.Run workers) = Runs (Run workers)
 wanted_of (forms.Load rounds) = Runs (Load rounds)
+wanted_of (forms.Serve workers connections port) = Serves workers connections port
 wanted_of forms.Veil = Veils
 wanted_of forms.Audit = Audits
 wanted_of (forms.Bound a b difference) = Bounds (take a.size a.octets) (take b.size b.octets) difference
@@ -87,6 +117,7 @@ wanted_of (forms.Bound a b difference) = Bounds (take a.size a.octets) (take b.s
 abbrev pub IsInRange : Form → Type 0
 IsInRange (forms.Run workers) = (1 ≤ workers) × (workers ≤ 32)
 IsInRange (forms.Load rounds) = (1 ≤ rounds) × (rounds ≤ 500)
+IsInRange (forms.Serve workers connections port) = (1 ≤ workers) × (workers ≤ 32) × (1 ≤ connections) × (connections ≤ 10000) × (1 ≤ port) × (port ≤ 65520)
 IsInRange forms.Veil = Unit {0}
 IsInRange forms.Audit = Unit {0}
 IsInRange (forms.Bound a b difference) = ¬ (take a.size a.octets ≡ take b.size b.octets)

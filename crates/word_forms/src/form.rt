@@ -1,8 +1,9 @@
 // The forms of the words.
-ghost use Rattle.std.specs.Prelude.{◌≡◌, ◌≤◌, Ok, Err, MatchResult, IfOk, drop, take, length, slice_get};
+ghost use Rattle.std.specs.Prelude.{◌≡◌, ◌≤◌, Ok, Err, MatchResult, IfOk, IfSome, drop, take, length, slice_get};
 ghost use Rattle.std.specs.Option.{option_map, option_and_then};
 ghost use Rattle.bound_texts.specs.Words.{number_of, text_of};
-ghost use Rattle.word_forms.specs.Forms.{asked_by, question_form, alone, run_form, load_form, bound_form, second_form, third_form, wanted_of, IsInRange};
+ghost use Rattle.scenario_reader.specs.Words.{number_in};
+ghost use Rattle.word_forms.specs.Forms.{asked_by, question_form, alone, run_form, load_form, serve_form, connections_form, port_form, bound_form, second_form, third_form, wanted_of, IsInRange};
 
 use bound_texts::{ShortText, number};
 use qkd_base::Texts;
@@ -18,6 +19,13 @@ pub enum Form {
     /// The generated load of so many rounds is run.
     Load {
         rounds: u32,
+    },
+    /// A scenario is run, its blocks by so many workers, and then each of these serves so many connections: at the port of its
+    /// node, which is this one plus the node's number.
+    Serve {
+        workers: u32,
+        connections: u32,
+        port: u16,
     },
     /// A scenario is run, and other keys are put under the wires that it leaves.
     Veil,
@@ -45,6 +53,9 @@ pub fn read_form(words: &Texts) -> Result<Form, usize>
     }
     if first.as_str() == "load" {
         return load_form(words);
+    }
+    if first.as_str() == "serve" {
+        return serve_form(words);
     }
     question_form(words, first.as_str())
 }
@@ -117,6 +128,43 @@ fn load_form(words: &Texts) -> Result<Form, usize>
         return Err(2);
     }
     Ok(Form::Load { rounds })
+}
+
+// The number that a word is, if it is one from a least to a greatest one.
+fn count_at(words: &Texts, place: usize, least: u32, most: u32) -> Option<u32>
+    ensures number { result ≡ option_and_then (number_in least most) (slice_get words.now place) }
+    ensures bounds { IfSome result (λ n. (least ≤ n) × (n ≤ most)) }
+{
+    match words.get(place) {
+        None => None,
+        Some(word) => number_in(least, most, word.as_str().as_bytes()),
+    }
+}
+
+// That of `serve`, which is the first word.
+#[tactic(auto, unfolding(crate::specs::Forms::serve_form, crate::specs::Forms::connections_form, crate::specs::Forms::port_form))]
+fn serve_form(words: &Texts) -> Result<Form, usize>
+    requires { 1 ≤ length words.now }
+    ensures form { MatchResult result (λ form. serve_form (drop 1 words.now) ≡ Ok (wanted_of form)) (λ place. serve_form (drop 1 words.now) ≡ Err place) }
+    ensures range { IfOk result IsInRange }
+{
+    let Some(workers) = count_at(words, 1, 1, 32) else {
+        return Err(1);
+    };
+    let Some(connections) = count_at(words, 2, 1, 10_000) else {
+        return Err(2);
+    };
+    let Some(port) = count_at(words, 3, 1, 65_520) else {
+        return Err(3);
+    };
+    if words.len() > 4 {
+        return Err(4);
+    }
+    Ok(Form::Serve {
+        workers,
+        connections,
+        port: port as u16,
+    })
 }
 
 // The text that a word is.

@@ -2,21 +2,21 @@ use Rattle.std.proofs.Common.{sym, subst}
 use Rattle.scenario_lines.specs.declared.scenario.Scenario.{Scenario}
 use Rattle.run_model.specs.Headline as headline
 use Rattle.bench_veils.specs.Veiling.{HasVeiled}
-use Rattle.qkd_network.specs.Outcome.{VeilOutcome}
+use Rattle.qkd_network.specs.Outcome.{ScenarioOutcome}
 use Rattle.qkd_network.specs.declared.status.Status.{Status}
-use Rattle.qkd_network.proofs.Outcomes.{veil_unread, veil_ran, left_or}
+use Rattle.qkd_network.proofs.Outcomes.{scenario_unread, veil_ran, left_or}
 use Rattle.qkd_network.proofs.veil.veil.Goals as goal
 
 pub returns-in-Err-clause-outcome : goal.returns-in-Err-clause-outcome
 returns-in-Err-clause-outcome g c =
-    veil_unread g.S.Source.left
+    scenario_unread g.S.Source.left
     (λ (scenario : Scenario) (stop : headline.Stop). HasVeiled g.K.Disk.moment g.K.Disk.image g.E.Entropy.left g.Q.Device.told g.X.Wire.frames
     g.K.Disk.faults g.K.Disk.armings g.E.Entropy.faults g.Q.Device.faults g.X.Wire.faults g.W.Sink.taken c.args.bench.now c.args.bench.now scenario c.args.sink.now c.args.sink.now stop)
     c.args.source.now c.scenario_in.new.source c.in-Err.status c.args.sink.now c.args.bench.now c.in-Err.ensures.read
 
 pub returns-in-Ok-clause-outcome : goal.returns-in-Ok-clause-outcome
 returns-in-Ok-clause-outcome g c =
-    subst (λ (s : Status). VeilOutcome g.S.Source.left
+    subst (λ (s : Status). ScenarioOutcome g.S.Source.left
     (λ (scenario : Scenario) (stop : headline.Stop). HasVeiled g.K.Disk.moment g.K.Disk.image g.E.Entropy.left g.Q.Device.told g.X.Wire.frames
     g.K.Disk.faults g.K.Disk.armings g.E.Entropy.faults g.Q.Device.faults g.X.Wire.faults g.W.Sink.taken c.args.bench.now c.run_veil.new.bench scenario c.args.sink.now c.run_veil.new.sink stop)
     s c.args.source.now c.scenario_in.new.source c.args.sink.now c.run_veil.new.sink c.args.bench.now c.run_veil.new.bench)

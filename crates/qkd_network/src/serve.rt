@@ -1,0 +1,83 @@
+// The managers of a scenario, served.
+ghost use Rattle.std.specs.Prelude.{◌≡◌, ◌≤◌, IsSome};
+ghost use Rattle.std.specs.List.{All};
+ghost use Rattle.qkd_base.specs.Faults.{Rose};
+ghost use Rattle.port_doors.specs.Doors.{AreFresh, IsListenFault, PortsTold, telling};
+ghost use Rattle.world_bench.specs.Laid.{IsWhole};
+ghost use Rattle.world_bench.specs.New.{IsNew};
+ghost use Rattle.bench_serves.specs.Serving.{HasServedHeadlines};
+ghost use Rattle.qkd_network.specs.Outcome.{ScenarioOutcome, outside};
+ghost use Rattle.qkd_network.specs.declared.status.Status.TheVariants.{ReadFault, WriteFault, ListenFault};
+
+use crate::Status;
+use crate::reading::scenario_in;
+use bench_serves::run_serve;
+use disk_model::Disk;
+use edge_io::{Gate, Listener, Ports, Sink, Source};
+use source_devices::{Device, Entropy, Wire};
+use std::alloc::Global;
+use std::sync::Wait;
+use std::thread::Threads;
+use world_bench::Bench;
+
+// Reads a scenario from the source, runs it over a new bench, and serves its managers over the ports from this one on.
+pub(crate) fn serve<
+    R: Threads + Wait + Sync,
+    S: Source,
+    W: Sink,
+    K: Disk + Drop + Send,
+    Q: Device + Drop + Send,
+    E: Entropy + Drop + Send,
+    X: Wire + Drop + Send,
+    P: Ports,
+    G: Gate,
+>(
+    rt: &R,
+    alloc: Global,
+    workers: u32,
+    connections: u32,
+    port: u16,
+    source: &mut S,
+    sink: &mut W,
+    bench: &mut Bench<K, Q, E, X>,
+    ports: &mut P,
+    gate: &G,
+) -> Status
+where
+    P::Door: Drop + Send + Sync,
+    <P::Door as Listener>::In: Send,
+    <P::Door as Listener>::Out: Send,
+    requires workers { (1 ≤ workers) × (workers ≤ 32) }
+    requires connections { connections ≤ 10000 }
+    requires port { port ≤ 65520 }
+    requires fresh { IsNew K.is_honest K.moment K.image E.left Q.told X.frames bench.old }
+    requires unarmed { All (λ k. (K.armings k).count ≡ 0) bench.old.disks.items }
+    requires ports { AreFresh P.asked P.back ports.old }
+    ensures outcome { ScenarioOutcome (λ s. S.left s) (λ scenario stop.
+        HasServedHeadlines K.moment K.image E.left Q.told X.frames K.faults K.armings E.faults Q.faults X.faults
+        (telling P.Door.port P.Door.accepted P.Door.finished P.Door.waiting P.Door.done) P.Door.faults (IsSome (P.asked ports.old)) bench.old bench.new
+        (record { asked = P.asked ports.old; back = P.back ports.old }) (record { asked = P.asked ports.new; back = P.back ports.new })
+        workers connections port scenario (W.taken sink.old) (W.taken sink.new) stop)
+        result source.old source.new sink.old sink.new (outside bench.old ports.old) (outside bench.new ports.new) }
+    ensures whole { IsWhole bench.new }
+    ensures read_fault { result ≡ ReadFault → Rose (S.faults source.old) (S.faults source.new) }
+    ensures write_fault { result ≡ WriteFault → Rose (W.faults sink.old) (W.faults sink.new) }
+    ensures listen_fault { result ≡ ListenFault → IsListenFault P.Door.faults (P.faults ports.old) (P.faults ports.new)
+        (record { asked = P.asked ports.old; back = P.back ports.old }) (record { asked = P.asked ports.new; back = P.back ports.new }) }
+{
+    match scenario_in(alloc, source) {
+        Err(status) => status,
+        Ok(scenario) => Status::of_serve(run_serve(
+            rt,
+            alloc,
+            gate,
+            scenario,
+            workers,
+            connections,
+            port,
+            sink,
+            bench,
+            ports,
+        )),
+    }
+}
