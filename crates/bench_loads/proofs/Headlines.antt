@@ -24,16 +24,16 @@ use Rattle.law_loads.specs.Handed.{enc_keys, dec_keys}
 use Rattle.load_lines.specs.Loaded.{RanLoad}
 use Rattle.load_lines.specs.Told as loads
 use Rattle.load_lines.specs.Told.{IsLoadTold, IsLoadOver}
-use Rattle.world_state.specs.Rests.{Rests}
-use Rattle.world_state.specs.Stands.{Stands}
-use Rattle.world_state.specs.Tallied.{Tallied}
-use Rattle.world_state.specs.declared.state.State.{State}
-use Rattle.world_state.proofs.Resting.{comes_to_rest}
-use Rattle.world_bench.specs.Laid.{IsLaidOut, IsPutBack}
-use Rattle.world_bench.specs.New.{IsNew, network_on}
-use Rattle.world_bench.specs.Over.{IsOver, HeadlineOver}
-use Rattle.world_bench.specs.declared.bench.Bench.{Bench}
-use Rattle.world_bench.proofs.Headlines.{over_network}
+use Rattle.bench_runs.specs.Passed.{Rests}
+use Rattle.bench_runs.specs.Passed.{Stands}
+use Rattle.bench_runs.specs.Passed.{Tallied}
+use Rattle.bench_runs.specs.Passed.{State}
+use Rattle.bench_runs.proofs.Passed.{comes_to_rest}
+use Rattle.bench_runs.specs.Passed.{IsLaidOut, IsPutBack}
+use Rattle.bench_runs.specs.Passed.{IsNew, network_on}
+use Rattle.bench_runs.specs.Passed.{IsOver, HeadlineOver}
+use Rattle.bench_runs.specs.Passed.{Bench}
+use Rattle.bench_runs.proofs.Passed.{over_network}
 use Rattle.bench_runs.specs.Running.{ended, HasHeadlines}
 
 ends_alike : {T : Type 0} (result : Result T Stop) → loads.ended result ≡ ended result

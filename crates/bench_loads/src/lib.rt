@@ -5,6 +5,6 @@ mod generated;
 mod lines;
 mod load;
 
+pub use bench_runs::world_bench::Bench;
 pub use load::run_load;
 pub use run_lines::Stop;
-pub use world_bench::Bench;

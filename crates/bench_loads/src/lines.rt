@@ -6,10 +6,12 @@ ghost use Rattle.run_lines.specs.Reporting.{IsBlamed};
 ghost use Rattle.run_model.specs.Course.{Load};
 ghost use Rattle.run_model.specs.Load.{load_scenario};
 ghost use Rattle.law_loads.specs.Kinds.{is_load_entry};
-ghost use Rattle.world_bench.specs.Laid.{IsWhole};
-ghost use Rattle.world_bench.specs.New.{IsNew};
+ghost use Rattle.bench_runs.specs.Passed.{IsWhole};
+ghost use Rattle.bench_runs.specs.Passed.{IsNew};
 ghost use Rattle.bench_runs.specs.Running.{HasHeadlines, WasLeft, ended};
 
+use bench_runs::world_bench::{Bench, law_bench_headline, lay_out, put_back};
+use bench_runs::world_runs::Running;
 use disk_model::Disk;
 use edge_io::Sink;
 use hop_frames::frames_of_a_network;
@@ -18,8 +20,6 @@ use run_lines::Stop;
 use scenario_lines::Scenario;
 use source_devices::{Device, Entropy, Wire};
 use std::alloc::Global;
-use world_bench::{Bench, law_bench_headline, lay_out, put_back};
-use world_runs::Running;
 
 /// Runs the scenario of a load over a new bench, and reports its ledgers and how many keys it handed out. The bench has all its parts back
 /// at the end. Where memory is wanting before the first line, bench and sink are as they were.

@@ -3,18 +3,18 @@ ghost use Rattle.std.specs.Prelude.{◌≡◌, ◌≤◌, ◌⊎◌};
 ghost use Rattle.run_lines.specs.Reporting.{IsBlamed};
 ghost use Rattle.run_model.specs.Course.{Load};
 ghost use Rattle.run_model.specs.Load.{load_scenario};
-ghost use Rattle.world_bench.specs.Laid.{IsWhole};
-ghost use Rattle.world_bench.specs.New.{IsNew};
+ghost use Rattle.bench_runs.specs.Passed.{IsWhole};
+ghost use Rattle.bench_runs.specs.Passed.{IsNew};
 ghost use Rattle.bench_runs.specs.Running.{HasHeadlines, WasLeft, ended};
 
 use crate::generated::generated;
 use crate::lines::run_lines_of;
+use bench_runs::world_bench::Bench;
 use disk_model::Disk;
 use edge_io::Sink;
 use run_lines::Stop;
 use source_devices::{Device, Entropy, Wire};
 use std::alloc::Global;
-use world_bench::Bench;
 
 /// Runs the generated load of so many rounds over a new bench, and reports its ledgers and how many keys it handed out. The bench has all
 /// its parts back at the end. Where memory is wanting before the first line, bench and sink are as they were.

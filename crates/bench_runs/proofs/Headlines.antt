@@ -20,13 +20,13 @@ use Rattle.run_lines.specs.Running.{StopsAs, IsReadySomewhere}
 use Rattle.run_tasks.specs.Tasks.{RanTasks}
 use Rattle.run_lines.specs.declared.stop.Stop.{Stop}
 use Rattle.run_lines.specs.declared.stop.Stop.TheVariants as stops
-use Rattle.law_courses.specs.Seen.{IsTold}
+use Rattle.world_bench.specs.Passed.{IsTold}
 use Rattle.site_requests.specs.Speaking.{IsTextsOf}
-use Rattle.world_state.specs.Rests.{Rests}
-use Rattle.world_state.specs.Stands.{Stands}
-use Rattle.world_state.specs.Tallied.{Tallied}
-use Rattle.world_state.specs.declared.state.State.{State}
-use Rattle.world_state.proofs.Resting.{comes_to_rest}
+use Rattle.world_bench.specs.Passed.{Rests}
+use Rattle.world_bench.specs.Passed.{Stands}
+use Rattle.world_bench.specs.Passed.{Tallied}
+use Rattle.world_bench.specs.Passed.{State}
+use Rattle.world_bench.proofs.Passed.{comes_to_rest}
 use Rattle.world_bench.specs.Laid.{IsLaidOut, IsPutBack}
 use Rattle.world_bench.specs.New.{IsNew, network_on}
 use Rattle.world_bench.specs.Over.{IsOver, HeadlineOver}

@@ -10,10 +10,10 @@ use Rattle.declared_site.specs.declared.site.Site.{Site as Declared}
 use Rattle.declared_site.proofs.Sites.{is_site}
 use Rattle.disk_model.specs.declared.arm.Armings.{Armings}
 use Rattle.run_acts.specs.Quiet.{IsQuiet}
-use Rattle.world_state.specs.Armed.{most_armed}
-use Rattle.world_state.specs.declared.state.State.{State}
+use Rattle.world_bench.specs.Passed.{most_armed}
+use Rattle.world_bench.specs.Passed.{State}
 use Rattle.lane_sides.specs.Lane.{LaneForm}
-use Rattle.world_posts.specs.Counts.{disk_of, entropy_of}
+use Rattle.world_bench.specs.Passed.{disk_of, entropy_of}
 use Rattle.world_bench.specs.Laid.{unstarted, IsWhole, IsLaidOut, IsPutBack, HasRoomFor}
 use Rattle.world_bench.specs.declared.bench.Bench.{Bench}
 use Rattle.world_runs.specs.Sized.{IsSized}

@@ -13,10 +13,10 @@ use Rattle.run_lines.specs.declared.stop.Stop.{Stop}
 use Rattle.run_lines.specs.declared.stop.Stop.TheVariants as stops
 use Rattle.run_tasks.specs.Tasks.{RanTasks}
 use Rattle.site_requests.specs.Speaking.{IsTextsOf}
-use Rattle.world_state.specs.Rests.{Rests}
-use Rattle.world_state.specs.Stands.{Stands}
-use Rattle.world_state.specs.Tallied.{Tallied}
-use Rattle.world_state.specs.declared.state.State.{State}
+use Rattle.world_bench.specs.Passed.{Rests}
+use Rattle.world_bench.specs.Passed.{Stands}
+use Rattle.world_bench.specs.Passed.{Tallied}
+use Rattle.world_bench.specs.Passed.{State}
 use Rattle.world_bench.specs.Laid.{IsLaidOut, HasRoomFor}
 use Rattle.world_bench.specs.New.{AreKnown, network_on}
 use Rattle.world_bench.specs.Over.{HeadlineOver}

@@ -2,7 +2,7 @@
 use disk_model::Disk;
 use run_lines::Stop;
 use source_devices::{Device, Entropy, Wire};
-use world_state::State;
+use world_bench::world_state::State;
 
 /// What a scenario left that was run out of a bench.
 #[derive(Drop)]

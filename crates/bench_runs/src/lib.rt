@@ -9,4 +9,6 @@ pub use left::Left;
 pub use out::run_out;
 pub use run_lines::Stop;
 pub use running::run_scenario;
+pub use world_bench;
 pub use world_bench::Bench;
+pub use world_runs;

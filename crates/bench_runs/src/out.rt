@@ -6,10 +6,10 @@ ghost use Rattle.run_acts.specs.Runnable.{IsRunnable};
 ghost use Rattle.run_blocks.specs.Doing.{MayTogether, DidTogether};
 ghost use Rattle.run_lines.specs.Reporting.{IsBlamed};
 ghost use Rattle.world_bench.specs.New.{IsNew};
-ghost use Rattle.world_state.specs.Armed.{most_armed};
-ghost use Rattle.world_state.specs.Rests.{Rests};
-ghost use Rattle.world_state.specs.Stands.{Stands};
-ghost use Rattle.world_state.specs.Tallied.{Tallied};
+ghost use Rattle.world_bench.specs.Passed.{most_armed};
+ghost use Rattle.world_bench.specs.Passed.{Rests};
+ghost use Rattle.world_bench.specs.Passed.{Stands};
+ghost use Rattle.world_bench.specs.Passed.{Tallied};
 ghost use Rattle.bench_runs.specs.Running.{RanOut};
 
 use crate::Left;

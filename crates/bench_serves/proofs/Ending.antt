@@ -17,14 +17,14 @@ use Rattle.law_blocks.proofs.Runs.{run_none}
 use Rattle.kme_serve.specs.Door.{Door}
 use Rattle.kme_store.specs.declared.post.Post.{Post}
 use Rattle.port_doors.specs.Doors.{PortsTold}
-use Rattle.world_posts.specs.Counts.{disk_of}
-use Rattle.world_posts.proofs.Counted.{post_disk}
-use Rattle.world_runs.specs.Sized.{IsSized}
-use Rattle.world_state.specs.Rests.{Rests}
-use Rattle.world_state.specs.Tallied.{Tallied}
-use Rattle.world_state.specs.declared.state.State.{State}
-use Rattle.world_state.proofs.Resting.{comes_to_rest}
-use Rattle.world_state.proofs.Tallies.{none_tallied}
+use Rattle.law_serves.specs.Passed.{disk_of}
+use Rattle.law_serves.proofs.Passed.{post_disk}
+use Rattle.bench_runs.specs.Passed.{IsSized}
+use Rattle.world_serves.specs.Passed.{Rests}
+use Rattle.world_serves.specs.Passed.{Tallied}
+use Rattle.world_serves.specs.Passed.{State}
+use Rattle.world_serves.proofs.Passed.{comes_to_rest}
+use Rattle.world_serves.proofs.Passed.{none_tallied}
 use Rattle.bench_serves.specs.Serving.{ended, ServedBehind}
 use Rattle.bench_serves.specs.Behind.{IsLineTold, IsServed, Ends}
 use Rattle.bench_serves.specs.declared.stop.ServeStop.{ServeStop}

@@ -13,10 +13,10 @@ use Rattle.port_doors.specs.Doors.{PortsTold, ports_of, AreOpened, WereOpened}
 use Rattle.port_doors.proofs.Rooms.{length-ports}
 use Rattle.serve_workers.specs.declared.refusal.ServeRefusal.{ServeRefusal}
 use Rattle.serve_workers.specs.declared.refusal.ServeRefusal.TheVariants as refusals
-use Rattle.world_state.specs.Stands.{Stands}
-use Rattle.world_state.specs.declared.state.State.{State}
-use Rattle.world_state.proofs.Disks.{has_disks}
-use Rattle.world_state.proofs.Tallies.{none_tallied}
+use Rattle.world_serves.specs.Passed.{Stands}
+use Rattle.world_serves.specs.Passed.{State}
+use Rattle.world_serves.proofs.Passed.{has_disks}
+use Rattle.world_serves.proofs.Passed.{none_tallied}
 use Rattle.world_serves.specs.Served.{Serves}
 use Rattle.bench_serves.specs.Serving.{WereServed, ServedBehind}
 use Rattle.bench_serves.specs.Behind.{IsServed, served_as}

@@ -32,13 +32,13 @@ use Rattle.law_serves.specs.Served.{MayFollow}
 use Rattle.law_serves.specs.Told.{IsServeTold}
 use Rattle.kme_serve.specs.Door.{Door}
 use Rattle.port_doors.specs.Doors.{PortsTold}
-use Rattle.world_state.specs.Rests.{Rests}
-use Rattle.world_state.specs.Stands.{Stands}
-use Rattle.world_state.specs.declared.state.State.{State}
-use Rattle.world_state.proofs.Tallies.{tallied_more}
-use Rattle.world_bench.specs.Laid.{IsPutBack}
-use Rattle.world_bench.specs.New.{IsNew, AreKnown, network_on}
-use Rattle.world_bench.specs.declared.bench.Bench.{Bench}
+use Rattle.world_serves.specs.Passed.{Rests}
+use Rattle.world_serves.specs.Passed.{Stands}
+use Rattle.world_serves.specs.Passed.{State}
+use Rattle.world_serves.proofs.Passed.{tallied_more}
+use Rattle.law_serves.specs.Passed.{IsPutBack}
+use Rattle.law_serves.specs.Passed.{IsNew, AreKnown, network_on}
+use Rattle.law_serves.specs.Passed.{Bench}
 use Rattle.bench_runs.specs.Running.{RanOut}
 use Rattle.bench_serves.specs.Serving.{ended, ServedBehind, ServedBy, HasServedHeadlines}
 use Rattle.bench_serves.specs.Behind.{AreRequests, IsLineTold, Ends}

@@ -14,10 +14,10 @@ use Rattle.kme_serve.specs.Door.{Door}
 use Rattle.port_doors.specs.Doors.{PortsTold}
 use Rattle.serve_workers.specs.declared.refusal.ServeRefusal.{ServeRefusal}
 use Rattle.serve_workers.specs.declared.refusal.ServeRefusal.TheVariants as refusals
-use Rattle.world_state.specs.Rests.{Rests}
-use Rattle.world_state.specs.Stands.{Stands}
-use Rattle.world_state.specs.Tallied.{Tallied}
-use Rattle.world_state.specs.declared.state.State.{State}
+use Rattle.world_serves.specs.Passed.{Rests}
+use Rattle.world_serves.specs.Passed.{Stands}
+use Rattle.world_serves.specs.Passed.{Tallied}
+use Rattle.world_serves.specs.Passed.{State}
 use Rattle.bench_serves.specs.Serving.{ended, ServedBehind}
 use Rattle.bench_serves.specs.declared.stop.ServeStop.{ServeStop}
 use Rattle.bench_serves.specs.declared.stop.ServeStop.TheVariants.{Stopped}

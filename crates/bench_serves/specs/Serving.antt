@@ -18,10 +18,10 @@ use Rattle.run_model.specs.Headline as headline
 use Rattle.kme_serve.specs.Door.{Door}
 use Rattle.port_doors.specs.Doors.{PortsTold, ports_of, AreOpened, WereOpened}
 use Rattle.world_serves.specs.Served.{AreConnected}
-use Rattle.world_bench.specs.New.{AreKnown, network_on}
-use Rattle.world_bench.specs.Reading.{ReadsDisks}
-use Rattle.world_bench.specs.Seen.{IsSeenOn}
-use Rattle.world_bench.specs.declared.bench.Bench.{Bench}
+use Rattle.law_serves.specs.Passed.{AreKnown, network_on}
+use Rattle.law_serves.specs.Passed.{ReadsDisks}
+use Rattle.law_serves.specs.Passed.{IsSeenOn}
+use Rattle.law_serves.specs.Passed.{Bench}
 use Rattle.bench_serves.specs.declared.stop.ServeStop.{ServeStop}
 use Rattle.bench_serves.specs.declared.stop.ServeStop.TheVariants.{Stopped, Listen}
 

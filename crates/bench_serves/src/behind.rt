@@ -5,9 +5,9 @@ ghost use Rattle.net_model.specs.World.{Network, World};
 ghost use Rattle.port_doors.specs.Doors.{HasRoom, IsListenFault};
 ghost use Rattle.report_items.specs.Texts.{served_text};
 ghost use Rattle.run_model.specs.Course.{Serve, served_by};
-ghost use Rattle.world_runs.specs.Sized.{IsSized};
-ghost use Rattle.world_state.specs.Rests.{Rests};
-ghost use Rattle.world_state.specs.Stands.{Stands};
+ghost use Rattle.bench_runs.specs.Passed.{IsSized};
+ghost use Rattle.world_serves.specs.Passed.{Rests};
+ghost use Rattle.world_serves.specs.Passed.{Stands};
 ghost use Rattle.bench_serves.specs.Behind.{Ends};
 ghost use Rattle.bench_serves.specs.Serving.{IsBlamed};
 ghost use Rattle.bench_serves.specs.declared.stop.ServeStop.TheVariants.{Listen, Stopped};
@@ -23,7 +23,7 @@ use source_devices::{Device, Entropy, Wire};
 use std::alloc::Global;
 use std::sync::Wait;
 use std::thread::Threads;
-use world_state::State;
+use world_serves::world_state::State;
 
 /// Where the lines of a scenario came to their end, serves the managers of the state that they left, and tells the sink how many connections there were. Else nothing
 /// more is done.

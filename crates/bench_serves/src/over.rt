@@ -4,7 +4,7 @@ ghost use Rattle.declared_site.specs.SiteOf.{IsDeclared};
 ghost use Rattle.net_model.specs.World.{Network, World};
 ghost use Rattle.port_doors.specs.Doors.{HasRoom, IsListenFault};
 ghost use Rattle.serve_workers.specs.declared.refusal.ServeRefusal.TheVariants as refusals;
-ghost use Rattle.world_state.specs.Stands.{Stands};
+ghost use Rattle.world_serves.specs.Passed.{Stands};
 ghost use Rattle.bench_serves.specs.Behind.{IsServed, served_as};
 
 use disk_model::Disk;
@@ -16,7 +16,7 @@ use std::alloc::Global;
 use std::sync::Wait;
 use std::thread::Threads;
 use world_serves::serve;
-use world_state::State;
+use world_serves::world_state::State;
 
 // Each worker has its listener before any of them accepts, and each listener is given back.
 fn serve_over<

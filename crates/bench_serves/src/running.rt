@@ -3,8 +3,8 @@ ghost use Rattle.std.specs.Prelude.{◌≡◌, ◌⊎◌, ◌≤◌, Err, IsSome
 ghost use Rattle.std.specs.List.{All};
 ghost use Rattle.port_doors.specs.Doors.{HasRoom, IsListenFault};
 ghost use Rattle.run_acts.specs.Runnable.{IsRunnable};
-ghost use Rattle.world_bench.specs.Laid.{IsWhole};
-ghost use Rattle.world_bench.specs.New.{IsNew};
+ghost use Rattle.law_serves.specs.Passed.{IsWhole};
+ghost use Rattle.law_serves.specs.Passed.{IsNew};
 ghost use Rattle.bench_serves.specs.Serving.{HasServedHeadlines, IsBlamed, WasLeft, ended};
 ghost use Rattle.bench_serves.specs.declared.stop.ServeStop.TheVariants.{Listen};
 
@@ -15,13 +15,13 @@ use disk_model::Disk;
 use edge_io::{Gate, Listener, Ports, Sink};
 use law_headline::law_tasks_are_run;
 use law_serves::law_bench_serves;
+use law_serves::world_bench::{Bench, law_bench_begins, put_back};
 use run_lines::Stop;
 use scenario_lines::Scenario;
 use source_devices::{Device, Entropy, Wire};
 use std::alloc::Global;
 use std::sync::Wait;
 use std::thread::Threads;
-use world_bench::{Bench, law_bench_begins, put_back};
 
 /// Runs a scenario over a new bench, its blocks by so many workers, each of whom the gate can hold, and reports it to the sink. Where all lines are done the managers of
 /// its nodes are served over the ports from this one on, the node's number being added: each worker serves so many connections, one after another, at a listener of

@@ -28,15 +28,15 @@ use Rattle.law_courses.specs.Benched.{IsBenched, lines_alone}
 use Rattle.law_courses.specs.Headlines.{HeadlineOf}
 use Rattle.law_courses.specs.Seen.{IsTold, IsSeen}
 use Rattle.law_veils.specs.Other.{EveryKeyFits}
-use Rattle.world_state.specs.Rests.{Rests}
-use Rattle.world_state.specs.Stands.{Stands}
-use Rattle.world_state.specs.declared.state.State.{State}
-use Rattle.world_state.proofs.Resting.{comes_to_rest}
-use Rattle.world_bench.specs.Laid.{IsPutBack}
-use Rattle.world_bench.specs.New.{IsNew, network_on}
-use Rattle.world_bench.specs.Over.{IsOver}
-use Rattle.world_bench.specs.declared.bench.Bench.{Bench}
-use Rattle.world_bench.proofs.Headlines.{over_network, over_benched, over_seen}
+use Rattle.lane_veils.specs.Passed.{Rests}
+use Rattle.lane_veils.specs.Passed.{Stands}
+use Rattle.lane_veils.specs.Passed.{State}
+use Rattle.lane_veils.proofs.Passed.{comes_to_rest}
+use Rattle.bench_runs.specs.Passed.{IsPutBack}
+use Rattle.bench_runs.specs.Passed.{IsNew, network_on}
+use Rattle.bench_runs.specs.Passed.{IsOver}
+use Rattle.bench_runs.specs.Passed.{Bench}
+use Rattle.bench_runs.proofs.Passed.{over_network, over_benched, over_seen}
 use Rattle.bench_runs.specs.Running.{RanOut, ended}
 use Rattle.lane_veils.specs.Lanes.{AreLanes, veil_line, Tells}
 use Rattle.bench_veils.specs.Veiling.{Ends, IsVeilTold, HasVeiled}

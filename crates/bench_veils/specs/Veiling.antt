@@ -10,11 +10,11 @@ use Rattle.run_model.specs.Course.{Run, Course, last_world, lines_played}
 use Rattle.run_model.specs.Headline.{Took, TookFirst}
 use Rattle.run_model.specs.Headline as headline
 use Rattle.site_requests.specs.Speaking.{IsTextsOf}
-use Rattle.world_bench.specs.New.{AreKnown}
-use Rattle.world_bench.specs.Over.{HeadlineOver}
-use Rattle.world_bench.specs.Reading.{ReadsDisks}
-use Rattle.world_bench.specs.Seen.{IsSeenOn}
-use Rattle.world_bench.specs.declared.bench.Bench.{Bench}
+use Rattle.bench_runs.specs.Passed.{AreKnown}
+use Rattle.bench_runs.specs.Passed.{HeadlineOver}
+use Rattle.bench_runs.specs.Passed.{ReadsDisks}
+use Rattle.bench_runs.specs.Passed.{IsSeenOn}
+use Rattle.bench_runs.specs.Passed.{Bench}
 use Rattle.law_veils.specs.Other.{EveryKeyFits}
 use Rattle.run_lines.specs.declared.stop.Stop.{Stop}
 use Rattle.bench_runs.specs.Running.{ended}

@@ -3,5 +3,6 @@
 
 mod running;
 
-pub use bench_runs::{Bench, Stop};
+pub use bench_runs;
+pub use bench_runs::{Bench, Stop, world_bench};
 pub use running::run_veil;

@@ -6,12 +6,13 @@ ghost use Rattle.run_acts.specs.Runnable.{IsRunnable};
 ghost use Rattle.run_lines.specs.Reporting.{IsBlamed};
 ghost use Rattle.run_lines.specs.declared.stop.Stop.TheVariants.{WriteFault};
 ghost use Rattle.lane_veils.specs.Lanes.{veil_line};
-ghost use Rattle.world_state.specs.Stands.{Stands};
-ghost use Rattle.world_bench.specs.Laid.{IsWhole};
-ghost use Rattle.world_bench.specs.New.{IsNew};
+ghost use Rattle.lane_veils.specs.Passed.{Stands};
+ghost use Rattle.bench_runs.specs.Passed.{IsWhole};
+ghost use Rattle.bench_runs.specs.Passed.{IsNew};
 ghost use Rattle.bench_runs.specs.Running.{WasLeft, ended};
 ghost use Rattle.bench_veils.specs.Veiling.{HasVeiled, Ends};
 
+use bench_runs::world_bench::{Bench, put_back};
 use bench_runs::{Left, run_out};
 use disk_model::Disk;
 use edge_io::{Gate, Sink};
@@ -27,7 +28,6 @@ use source_devices::{Device, Entropy, Wire};
 use std::alloc::Global;
 use std::sync::Wait;
 use std::thread::Threads;
-use world_bench::{Bench, put_back};
 
 // Where the run came to its end, tells the sink of the veil of the wires that it left.
 fn tell_after<K: Disk + Drop, Q: Device + Drop, E: Entropy + Drop, X: Wire + Drop, W: Sink>(

@@ -1,6 +1,7 @@
 pub mod Finding
-pub mod Settling
 pub mod Masking
-pub mod Taken
-pub mod Seen
 pub mod Parted
+pub mod Passed
+pub mod Seen
+pub mod Settling
+pub mod Taken

@@ -1,4 +1,5 @@
 pub mod Needs
+pub mod Parts
+pub mod Passed
 pub mod Settled
 pub mod Taken
-pub mod Parts

@@ -1,4 +1,5 @@
 pub mod Drafts
 pub mod Frames
+pub mod Passed
 pub mod Recovery
 pub mod Spelled

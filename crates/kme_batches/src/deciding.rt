@@ -4,7 +4,7 @@ ghost use Rattle.declared_site.specs.SiteOf.{site_of};
 ghost use Rattle.net_model.specs.Decide.{decide, random_need};
 ghost use Rattle.net_model.specs.Events.{is_valid_event};
 ghost use Rattle.hop_frames.specs.Sealing.{hop_sealing};
-ghost use Rattle.kme_site.specs.Up.{AreUp};
+ghost use Rattle.kme_node.specs.Passed.{AreUp};
 ghost use Rattle.kme_step.specs.Steps.{IsStep, placings_of};
 ghost use Rattle.kme_node.specs.Holdings.{view, Fits};
 

@@ -12,5 +12,7 @@ mod writing;
 
 pub use draft::Draft;
 pub use frame::matches;
+pub use kme_node;
+pub use kme_node::{kme_groups, kme_keys, kme_streams};
 pub use replaying::replay;
 pub use writing::write;

@@ -17,7 +17,7 @@ use Rattle.net_model.specs.View.{View}
 use Rattle.net_model.specs.Needed.{is_needed, masked, masked_fact}
 use Rattle.law_records.proofs.Base.{was_not, and_left, and_right}
 use Rattle.stream_core.specs.Kept.{StreamEnds, Sees}
-use Rattle.kept_facts.specs.Needs.{kept_view, IsMasked}
+use Rattle.kme_node.specs.Passed.{kept_view, IsMasked}
 use Rattle.kme_checkpoint.specs.Batches.{Gathered, Gathers}
 
 -- lists that grow by one

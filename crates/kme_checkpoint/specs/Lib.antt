@@ -1,2 +1,3 @@
-pub mod Formed
 pub mod Batches
+pub mod Formed
+pub mod Passed

@@ -9,11 +9,11 @@ ghost use Rattle.net_model.specs.Table.{is_secret};
 ghost use Rattle.net_model.specs.View.{View};
 ghost use Rattle.net_model.specs.Needed.{is_needed};
 ghost use Rattle.stream_core.specs.Kept.{Sees};
-ghost use Rattle.kept_facts.specs.Needs.{IsMasked};
+ghost use Rattle.kme_node.specs.Passed.{IsMasked};
 ghost use Rattle.kme_checkpoint.specs.Batches.{Gathers};
 
 use crate::batches::Batches;
-use kept_facts::Kept;
+use kme_node::kept_facts::Kept;
 use net_model::{Fact, Record};
 use qkd_base::{Memory, Replica};
 use relay_core::is_secret;

@@ -9,4 +9,5 @@ mod marks;
 mod ports;
 
 pub use checkpoint::checkpoint_batches;
+pub use kme_node;
 pub use laws::law_read_back_is_formed;

@@ -4,7 +4,7 @@ ghost use Rattle.declared_site.specs.SiteOf.{IsDeclared, site_of};
 ghost use Rattle.net_model.specs.View.{View};
 ghost use Rattle.net_model.specs.Groups.{fill_group, filled_group, new_groups, new_parts, routes_to};
 ghost use Rattle.end_store.specs.Pooled.{Sees, ends_view};
-ghost use Rattle.kme_site.specs.Up.{AreUp};
+ghost use Rattle.kme_keys.specs.Passed.{AreUp};
 ghost use Rattle.kme_step.specs.Steps.{IsStep};
 
 use crate::GroupPool;
@@ -12,8 +12,8 @@ use crate::ready::group_count;
 use crate::routes::{has_routes, routes};
 use declared_site::Site;
 use end_store::EndStore;
+use kme_keys::kme_site::is_entitled_group;
 use kme_keys::{first_octets, fresh_name, octets_behind};
-use kme_site::is_entitled_group;
 use kme_step::{Change, Step};
 use net_model::{Fact, Record, Records, Reply};
 use qkd_base::{Items, KeyName, Memory, Octets, Route, SaeNo};

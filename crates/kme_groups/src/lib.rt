@@ -13,5 +13,6 @@ mod routes;
 pub use drawn::law_group_fill_over_other_octets;
 pub use enc::enc_group;
 pub use filling::fill_group;
+pub use kme_keys;
 pub use pool::GroupPool;
 pub use ready::{group_count, ready_groups};

@@ -2,10 +2,10 @@
 ghost use Rattle.std.specs.Prelude.{◌≡◌, ℕ, Bool, IfOk, is_some, Some};
 ghost use Rattle.declared_site.specs.SiteOf.{IsDeclared, site_of};
 ghost use Rattle.net_model.specs.Groups.{routes_to};
-ghost use Rattle.kme_site.specs.Up.{AreUp};
+ghost use Rattle.kme_keys.specs.Passed.{AreUp};
 
 use declared_site::Site;
-use kme_site::{home, route_between};
+use kme_keys::kme_site::{home, route_between};
 use qkd_base::{Memory, NodeNo, Route, SaeNo};
 use std::alloc::Global;
 

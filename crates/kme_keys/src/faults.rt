@@ -1,6 +1,6 @@
 // Named keys: handed to their slave, or the fault of the first that has one.
 ghost use Rattle.std.specs.Prelude.{◌≡◌, ◌≤◌, [], length, is_some};
-ghost use Rattle.declared_site.specs.SiteOf.{IsDeclared, site_of};
+ghost use Rattle.kme_site.specs.Passed.{IsDeclared, site_of};
 ghost use Rattle.qkd_base.specs.Name.{has};
 ghost use Rattle.net_model.specs.View.{View};
 ghost use Rattle.net_model.specs.Pools.{dec, dec_fault, for_slave};
@@ -9,8 +9,8 @@ ghost use Rattle.kme_step.specs.Steps.{IsStep};
 ghost use Rattle.kme_keys.specs.Holding.{name_fault};
 
 use crate::{Holder, hand_out};
-use declared_site::Site;
 use end_store::EndStore;
+use kme_site::declared_site::Site;
 use kme_site::is_entitled;
 use kme_step::Step;
 use net_model::Reply;

@@ -1,6 +1,6 @@
 // New keys.
 ghost use Rattle.std.specs.Prelude.{◌<◌, ◌^◌, ◌≡◌, ◌/◌, ℕ, Bool, [], IfOk, take, drop, Some};
-ghost use Rattle.declared_site.specs.SiteOf.{IsDeclared, site_of};
+ghost use Rattle.kme_site.specs.Passed.{IsDeclared, site_of};
 ghost use Rattle.net_model.specs.declared.reply.Reply.TheVariants.{MadeKeys};
 ghost use Rattle.net_model.specs.declared.record.Record.TheVariants.{Learned};
 ghost use Rattle.net_model.specs.declared.fact.Fact.TheVariants.{Key};
@@ -12,8 +12,8 @@ ghost use Rattle.end_store.specs.Pooled.{Sees, ends_view};
 ghost use Rattle.kme_site.specs.Up.{AreUp};
 ghost use Rattle.kme_step.specs.Steps.{IsStep};
 
-use declared_site::Site;
 use end_store::EndStore;
+use kme_site::declared_site::Site;
 use kme_site::{home, is_entitled, route_between};
 use kme_step::{Change, Step};
 use net_model::{Fact, Record, Records, Reply};

@@ -13,4 +13,5 @@ pub use faults::dec;
 pub use filling::{fill, first_octets, fresh_name, octets_behind};
 pub use handing::hand_out;
 pub use holder::Holder;
+pub use kme_site;
 pub use ready::{enc, status};

@@ -1,6 +1,6 @@
 // Ready keys: handed to their master, and counted.
 ghost use Rattle.std.specs.Prelude.{◌≡◌, []};
-ghost use Rattle.declared_site.specs.SiteOf.{IsDeclared, site_of};
+ghost use Rattle.kme_site.specs.Passed.{IsDeclared, site_of};
 ghost use Rattle.net_model.specs.View.{View};
 ghost use Rattle.net_model.specs.declared.reply.Reply.TheVariants.{ReadyCount};
 ghost use Rattle.net_model.specs.Decision.{answers};
@@ -9,8 +9,8 @@ ghost use Rattle.end_store.specs.Pooled.{Sees};
 ghost use Rattle.kme_step.specs.Steps.{IsStep};
 
 use crate::{Holder, hand_out};
-use declared_site::Site;
 use end_store::EndStore;
+use kme_site::declared_site::Site;
 use kme_site::is_entitled;
 use kme_step::{Change, Step};
 use net_model::Reply;

@@ -7,7 +7,7 @@ use Rattle.net_model.specs.Fold.{view_batch, view_after}
 use Rattle.kme_step.specs.declared.step.Step.{Step}
 use Rattle.kme_step.specs.Steps.{IsEffect, changed, orders_of}
 use Rattle.lane_ports.specs.Places.{LinkEnds, HasBytesFor}
-use Rattle.stream_core.specs.Kept.{Sees}
+use Rattle.kept_facts.specs.Passed.{Sees}
 use Rattle.kme_node.specs.Holdings.{Holdings, HasOrdersWithin, view}
 use Rattle.kme_node.specs.Ports.{ports_after}
 use Rattle.kme_node.proofs.Applied.{after_step, seen_me, with_orders, lanes_planned}

@@ -16,7 +16,7 @@ use Rattle.kept_facts.specs.Needs.{kept_view}
 use Rattle.kme_step.specs.declared.step.Step.{Step}
 use Rattle.kme_step.specs.Steps.{IsEffect, changed, orders_of}
 use Rattle.lane_ports.specs.Places.{with_planned}
-use Rattle.stream_core.specs.Kept.{StreamEnds, Sees}
+use Rattle.kept_facts.specs.Passed.{StreamEnds, Sees}
 use Rattle.declared_site.specs.SiteOf.{IsDeclared, site_of}
 use Rattle.declared_site.specs.declared.site.Site.{Site as Declared}
 use Rattle.net_model.specs.Site.{outgoing_lanes}

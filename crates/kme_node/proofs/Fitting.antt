@@ -17,7 +17,7 @@ use Rattle.net_model.specs.Site.{Site}
 use Rattle.net_model.specs.Routes.{route}
 use Rattle.net_model.specs.Sealing.{Sealing, Forged}
 use Rattle.declared_site.specs.SiteOf.{site_of}
-use Rattle.kme_site.specs.Up.{AreUp}
+use Rattle.lane_ports.specs.Passed.{AreUp}
 use Rattle.route_table.specs.Layer.{bit_is_set}
 use Rattle.net_model.specs.View.{View, Port, port_of, blocks_of}
 use Rattle.net_model.specs.Decide.{decide}

@@ -26,20 +26,20 @@ use Rattle.kme_step.specs.declared.change.Change.TheVariants.{Same, Received, Ac
 use Rattle.kme_step.specs.Steps.{changed, planned_by, repeated_by, transmission_of_order}
 use Rattle.relay_core.proofs.Firsts.{get_prefix}
 use Rattle.relay_core.specs.Index.{is_owed_to}
-use Rattle.resend_window.proofs.Lists.{any_map, any_same, length_map}
+use Rattle.kme_plan.proofs.Passed.{any_map, any_same, length_map}
 use Rattle.law_records.proofs.Base.{lane_eq_from, lane_same, name_eq_from, name_eq_same}
 use Rattle.law_views.proofs.Masked.{name_blind, route_blind}
-use Rattle.law_needs.specs.Touched.{Grows, IsAlike}
-use Rattle.law_needs.proofs.Adding.{records_add}
-use Rattle.law_needs.proofs.Blind.{masked_alike}
+use Rattle.kept_facts.specs.Passed.{Grows, IsAlike}
+use Rattle.kept_facts.proofs.Passed.{records_add}
+use Rattle.kept_facts.proofs.Passed.{masked_alike}
 use Rattle.law_lanes.proofs.Lists.{mapped_at, transmission_from}
 use Rattle.kept_facts.specs.Needs.{kept_view}
 use Rattle.declared_site.specs.SiteOf.{site_of}
 use Rattle.declared_site.specs.declared.site.Site.{Site as Declared}
 use Rattle.kme_step.specs.declared.step.Step.{Step}
 use Rattle.relay_core.specs.Knowledge.{Knowledge}
-use Rattle.resend_window.specs.Kept.{Kept as Window}
-use Rattle.stream_core.specs.Kept.{StreamEnds, Sees}
+use Rattle.kme_plan.specs.Passed.{Kept as Window}
+use Rattle.kept_facts.specs.Passed.{StreamEnds, Sees}
 use Rattle.kme_node.specs.Holdings.{Holdings, view}
 use Rattle.kme_node.proofs.Applied.{seen_me}
 use Rattle.kme_node.proofs.Split.{bare}

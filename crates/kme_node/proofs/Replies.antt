@@ -10,7 +10,7 @@ use Rattle.net_model.specs.World.{Volatile}
 use Rattle.kme_step.specs.declared.change.Change.TheVariants.{Planned}
 use Rattle.kme_step.specs.Steps.{orders_of, planned_by}
 use Rattle.lane_ports.specs.Places.{AreOf, HasBytesFor}
-use Rattle.resend_window.specs.Kept.{Kept as Window}
+use Rattle.kme_plan.specs.Passed.{Kept as Window}
 use Rattle.kme_node.specs.Holdings.{Holdings, HasWindowRoom, HasOrdersWithin}
 
 abbrev pub IsNoPlan : Reply → Type 0

@@ -16,8 +16,8 @@ use Rattle.kme_step.specs.declared.change.Change.{Change}
 use Rattle.kme_step.specs.declared.change.Change.TheVariants.{Received, Planned}
 use Rattle.kme_step.specs.declared.step.Step.{Step}
 use Rattle.lane_ports.specs.Places.{LinkEnds, HasRoom as HasBlockRoom, HasBytesFor, AreOf}
-use Rattle.resend_window.specs.Kept.{Kept as Window}
-use Rattle.stream_core.specs.Kept.{StreamEnds}
+use Rattle.kme_plan.specs.Passed.{Kept as Window}
+use Rattle.kept_facts.specs.Passed.{StreamEnds}
 
 pub record Holdings : Type 0 where
   pub site : Declared

@@ -1,4 +1,5 @@
-pub mod Ports
-pub mod Places
 pub mod Holdings
+pub mod Passed
+pub mod Places
+pub mod Ports
 pub mod Replayed

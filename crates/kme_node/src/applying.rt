@@ -12,11 +12,11 @@ ghost use Rattle.kme_node.specs.Ports.{ports_by, ports_after};
 ghost use Rattle.kme_node.specs.Holdings.{Holdings, view, Fits, HasRoom, HasBatchRoom, HasBlocksAlone, HasOrdersWithin, HasWindowRoom};
 
 use crate::Node;
+use kme_plan::resend_window::Window;
 use kme_step::{Change, Step};
 use lane_ports::Ports;
 use net_model::{Event, Placing, Record, Reply};
 use relay_core::Known;
-use resend_window::Window;
 
 // One placing is noted, by what was acknowledged before.
 fn note_one(window: &mut Window, known: &Known, placing: &Placing)

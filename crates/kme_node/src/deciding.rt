@@ -1,7 +1,7 @@
 // What a manager decides on each event.
 ghost use Rattle.std.specs.Prelude.{◌≡◌, ◌≤◌, ℕ, List, Bool, [], length, Ok, IfOk};
 ghost use Rattle.declared_site.specs.SiteOf.{site_of};
-ghost use Rattle.kme_site.specs.Up.{AreUp};
+ghost use Rattle.lane_ports.specs.Passed.{AreUp};
 ghost use Rattle.kme_step.specs.Steps.{IsStep};
 ghost use Rattle.net_model.specs.declared.event.Event.TheVariants as events;
 ghost use Rattle.net_model.specs.Decide.{decide, random_need};
@@ -11,8 +11,8 @@ ghost use Rattle.net_model.specs.Sealing.{Sealing};
 ghost use Rattle.kme_node.specs.Holdings.{view, Fits};
 
 use crate::Node;
+use kme_groups::kme_keys::{dec, enc, fill, random_need, status};
 use kme_groups::{GroupPool, enc_group, fill_group};
-use kme_keys::{dec, enc, fill, random_need, status};
 use kme_plan::plan;
 use kme_relay::{block, heard, ledger};
 use kme_step::{Change, Step};

@@ -7,14 +7,14 @@ ghost use Rattle.kme_node.specs.Holdings.{view};
 use declared_site::Site;
 use end_store::EndStore;
 use kept_facts::Kept;
+use kept_facts::stream_core::Streams;
 use kme_plan::Fronts;
+use kme_plan::resend_window::Window;
 use lane_ports::Ports;
 use qkd_base::{Memory, NodeNo, Replica};
 use relay_core::Known;
-use resend_window::Window;
 use std::alloc::Global;
 use std::marker::Model;
-use stream_core::Streams;
 
 /// One key manager (KME) without its disk: what it keeps of facts and applications, of its links' lanes, and of one life.
 #[derive(Drop)]

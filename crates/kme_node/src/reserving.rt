@@ -7,11 +7,11 @@ ghost use Rattle.kme_node.specs.Holdings.{view, Fits, HasRoom, HasBatchRoom, Has
 
 use crate::Node;
 use kept_facts::Kept;
+use kme_plan::resend_window::Window;
 use kme_step::{Change, Step};
 use lane_ports::Ports;
 use net_model::{Record, Reply};
 use qkd_base::Memory;
-use resend_window::Window;
 
 // A number of items as rooms count them.
 pub(crate) fn count_of(items: usize) -> Result<u32, Memory>

@@ -1,7 +1,7 @@
 // The decision on any event.
 ghost use Rattle.std.specs.Prelude.{◌≡◌, ℕ, Bool, true, IfOk};
 ghost use Rattle.declared_site.specs.SiteOf.{site_of};
-ghost use Rattle.kme_site.specs.Up.{AreUp};
+ghost use Rattle.lane_ports.specs.Passed.{AreUp};
 ghost use Rattle.kme_step.specs.Steps.{IsStep, placings_of};
 ghost use Rattle.net_model.specs.Decide.{decide};
 ghost use Rattle.net_model.specs.Events.{is_valid_event};

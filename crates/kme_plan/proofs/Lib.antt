@@ -1,4 +1,5 @@
+pub mod Ends
+pub mod Fits
+pub mod Passed
 pub mod Rests
 pub mod UnderWay
-pub mod Fits
-pub mod Ends

@@ -1,5 +1,6 @@
-pub mod Drafts
-pub mod Wanted
-pub mod UnderWay
-pub mod Keeps
 pub mod Adds
+pub mod Drafts
+pub mod Keeps
+pub mod Passed
+pub mod UnderWay
+pub mod Wanted

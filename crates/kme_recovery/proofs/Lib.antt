@@ -1,3 +1,4 @@
 pub mod Gates
+pub mod Passed
 pub mod Put
 pub mod Started

@@ -28,7 +28,7 @@ use Rattle.journal_snapshot.proofs.Standings.{batches_of, stands_long}
 use Rattle.law_records.proofs.Base.{below_from, and_left, and_right, or_second, not_false, not_both, was_not, eq_from}
 use Rattle.law_journals.proofs.Checkpoint.{checkpoint_given}
 use Rattle.law_journals.proofs.Restarting.{recovered_restarts}
-use Rattle.kme_node.specs.Holdings.{view}
+use Rattle.kme_checkpoint.specs.Passed.{view}
 use Rattle.kme_batches.specs.Recovery.{AreReadAs}
 use Rattle.kme_recovery.specs.Putting.{HoldsEither, IsPut, IsStopped, checkpoint_bodies}
 use Rattle.kme_recovery.specs.declared.recovering.Recovered.{Recovered}

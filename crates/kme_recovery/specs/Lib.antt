@@ -1,3 +1,4 @@
-pub mod Unread
+pub mod Passed
 pub mod Putting
 pub mod Recovery
+pub mod Unread

@@ -9,7 +9,7 @@ ghost use Rattle.journal_records.specs.declared.version.Version.TheVariants.{Sec
 ghost use Rattle.journal_snapshot.specs.Snapshots.{journal_of, need_of, fits_in};
 ghost use Rattle.journal_snapshot.specs.Standing.{IsKept};
 ghost use Rattle.journal_snapshot.specs.Refused.{place_of};
-ghost use Rattle.kme_node.specs.Holdings.{view};
+ghost use Rattle.kme_checkpoint.specs.Passed.{view};
 ghost use Rattle.kme_checkpoint.specs.Formed.{IsFormed};
 ghost use Rattle.kme_recovery.specs.Putting.{HoldsEither, IsPut, IsStopped, checkpoint_bodies, disk_of};
 
@@ -17,7 +17,7 @@ use crate::RecoverRefusal;
 use disk_model::Disk;
 use journal_snapshot::{SnapRefused, Snapshots};
 use kme_checkpoint::checkpoint_batches;
-use kme_node::Node;
+use kme_checkpoint::kme_node::Node;
 use qkd_base::Octets;
 use std::alloc::Global;
 

@@ -4,7 +4,7 @@ ghost use Rattle.declared_site.specs.SiteOf.{IsDeclared, site_of};
 ghost use Rattle.net_model.specs.Fold.{recovered_view};
 ghost use Rattle.net_model.specs.declared.record.Record.{Record as RecordValue};
 ghost use Rattle.range_journal.specs.Batches.{length_of, spelled};
-ghost use Rattle.kme_node.specs.Holdings.{view};
+ghost use Rattle.kme_checkpoint.specs.Passed.{view};
 ghost use Rattle.kme_batches.specs.Recovery.{AreReadAs};
 ghost use Rattle.kme_checkpoint.specs.Formed.{IsFormed};
 ghost use Rattle.kme_recovery.specs.Unread.{IsUnread};
@@ -13,7 +13,7 @@ use crate::RecoverRefusal;
 use declared_site::Site;
 use journal_records::RecordRefusal;
 use kme_batches::replay;
-use kme_node::Node;
+use kme_checkpoint::kme_node::Node;
 use qkd_base::{NodeNo, Octets};
 use std::alloc::Global;
 

@@ -3,7 +3,7 @@ ghost use Rattle.std.specs.Prelude.{◌≡◌, ◌⊎◌, ◌≤◌, ℕ, List, 
 ghost use Rattle.disk_model.specs.Images.{AtEachMoment};
 ghost use Rattle.declared_site.specs.SiteOf.{IsDeclared, site_of};
 ghost use Rattle.journal_snapshot.specs.Standing.{IsKept};
-ghost use Rattle.kme_node.specs.Holdings.{view};
+ghost use Rattle.kme_checkpoint.specs.Passed.{view};
 ghost use Rattle.kme_recovery.specs.Recovery.{GivesBack, IsAfter, IsLeft, IsRecovered, Leaves, LeavesOneKind, MayMove, Refuses, Stands, Stops, disk_in, why_of};
 
 use crate::RecoverRefusal;
@@ -12,7 +12,7 @@ use crate::reading::read_back;
 use declared_site::Site;
 use disk_model::Disk;
 use journal_snapshot::{Snapshots, open};
-use kme_node::Node;
+use kme_checkpoint::kme_node::Node;
 use qkd_base::NodeNo;
 use range_journal::JournalRefusal;
 use std::alloc::Global;

@@ -4,7 +4,7 @@ use Rattle.std.specs.Prelude.{is_some, option_map, slice_get, unwrap_or}
 use Rattle.std.proofs.lemmas.Bool.{and_parts, eqb-true}
 use Rattle.std.proofs.lemmas.Bool.Decides.{nat_tests}
 use Rattle.route_table.specs.Table.{Table, no_links, ends_of, with_link, IsTable}
-use Rattle.sae_entitlements.specs.Grants.{Sae, Grants, home_of, is_allowed, HasDistinctIds}
+use Rattle.declared_site.specs.Passed.{Sae, Grants, home_of, is_allowed, HasDistinctIds}
 use Rattle.declared_site.specs.declared.site.Site.{Site as Declared}
 use Rattle.declared_site.specs.SiteOf.{IsDeclared, IsDeclaredPair, home_or_none}
 

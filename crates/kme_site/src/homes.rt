@@ -1,7 +1,7 @@
 // Where applications are at home, and which may have keys.
 ghost use Rattle.std.specs.Prelude.{◌≡◌};
 ghost use Rattle.std.specs.List.{list_all};
-ghost use Rattle.sae_entitlements.specs.Grants.{is_allowed};
+ghost use Rattle.declared_site.specs.Passed.{is_allowed};
 ghost use Rattle.net_model.specs.View.{View};
 ghost use Rattle.net_model.specs.Pools.{is_entitled};
 ghost use Rattle.net_model.specs.Groups.{is_entitled_group};

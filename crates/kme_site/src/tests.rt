@@ -1,6 +1,6 @@
 ghost use Rattle.std.specs.Prelude.{◌≡◌, ℕ, ◌<◌, ◌==◌, ◌&&◌, [], ◌∷◌, Some, IfOk, length};
 ghost use Rattle.route_table.specs.Table.{no_links, with_link, IsTable};
-ghost use Rattle.sae_entitlements.specs.Grants.{home_of, is_allowed, HasDistinctIds};
+ghost use Rattle.declared_site.specs.Passed.{home_of, is_allowed, HasDistinctIds};
 ghost use Rattle.declared_site.specs.SiteOf.{IsDeclared};
 
 use crate::{

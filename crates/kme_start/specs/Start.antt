@@ -6,7 +6,7 @@ use Rattle.disk_model.specs.declared.arm.Armings.{Armings}
 use Rattle.declared_site.specs.SiteOf.{site_of}
 use Rattle.declared_site.specs.declared.site.Site.{Site as Declared}
 use Rattle.journal_snapshot.specs.Standing.{IsKept}
-use Rattle.kme_node.specs.Holdings.{view as seen_by}
+use Rattle.kme_recovery.specs.Passed.{view as seen_by}
 use Rattle.kme_recovery.specs.Recovery.{GivesBack, IsAfter, IsRecovered, Leaves, LeavesOneKind, Refuses, disk_in}
 use Rattle.kme_recovery.specs.declared.recovering.Recovered.{Recovered}
 use Rattle.kme_recovery.specs.declared.refusal.RecoverRefusal.{RecoverRefusal}

@@ -1,3 +1,4 @@
 pub mod Course
 pub mod Drawing
 pub mod Manager
+pub mod Passed

@@ -4,7 +4,7 @@ ghost use Rattle.declared_site.specs.SiteOf.{site_of};
 ghost use Rattle.net_model.specs.Events.{is_valid_event};
 ghost use Rattle.journal_snapshot.specs.Standing.{IsKept};
 ghost use Rattle.kme_site.specs.Up.{AreUp};
-ghost use Rattle.kme_node.specs.Holdings.{view};
+ghost use Rattle.kme_batches.specs.Passed.{view};
 ghost use Rattle.net_model.specs.View.{port_of, blocks_of, incoming_octets};
 ghost use Rattle.hop_frames.specs.Opening.{open_of};
 ghost use Rattle.kme_batches.specs.Frames.{is_match};
@@ -15,8 +15,8 @@ use crate::acting::handle;
 use crate::lanes::copy_block;
 use disk_model::{Arm, Disk};
 use journal_snapshot::Snapshots;
+use kme_batches::kme_node::Node;
 use kme_batches::matches;
-use kme_node::Node;
 use net_model::{Event, Reply};
 use qkd_base::{Lane, LinkNo, Memory};
 use source_devices::Entropy;
@@ -37,7 +37,7 @@ impl<K: Disk, E: Entropy> Model for Manager<K, E> {
     ghost use Rattle.std.specs.Prelude.{◌≤◌};
     ghost use Rattle.std.specs.Coded.{codes};
     ghost use Rattle.sae_entitlements.specs.Grants.{grants_code};
-    ghost use Rattle.kme_node.specs.Holdings.{view as seen_by};
+    ghost use Rattle.kme_batches.specs.Passed.{view as seen_by};
     ghost use Rattle.kme_store.specs.Manager.{ManagerForm, IsToldBy, WhereDown};
 
     ghost Value = { ManagerForm K E };

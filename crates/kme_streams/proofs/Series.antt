@@ -15,7 +15,7 @@ use Rattle.net_model.specs.Routes.{route}
 use Rattle.net_model.specs.View.{View}
 use Rattle.net_model.specs.Decision.{Decision, Refuses, makes, fresh_name}
 use Rattle.net_model.specs.Streams.{is_chunk_of, has_end, waiting, new_chunks, fed, fed_stream, feed}
-use Rattle.end_store.specs.Pooled.{ends_view}
+use Rattle.stream_core.specs.Passed.{ends_view}
 use Rattle.stream_core.specs.declared.opened.Opened.{Opened}
 use Rattle.stream_core.specs.Kept.{StreamEnds, Sees, opened_of}
 use Rattle.kme_step.specs.declared.step.Step.{Step}

@@ -8,7 +8,7 @@ ghost use Rattle.kme_streams.specs.Calls.{has_open_end, awaits_peer, is_end, end
 
 use crate::answering::me;
 use declared_site::Site;
-use kme_site::home;
+use kme_keys::kme_site::home;
 use qkd_base::{KeyName, SaeNo};
 use stream_core::{Opened, Streams};
 

@@ -8,14 +8,14 @@ ghost use Rattle.net_model.specs.Decision.{fresh_name};
 ghost use Rattle.net_model.specs.Streams.{new_chunks, fed, fed_stream, feed};
 ghost use Rattle.declared_site.specs.SiteOf.{IsDeclared, site_of};
 ghost use Rattle.stream_core.specs.Kept.{Sees};
-ghost use Rattle.kme_site.specs.Up.{AreUp};
+ghost use Rattle.kme_keys.specs.Passed.{AreUp};
 ghost use Rattle.kme_step.specs.Steps.{IsStep};
 ghost use Rattle.kme_streams.specs.Calls.{opening};
 
 use crate::answering::{fresh_name, me};
 use declared_site::Site;
+use kme_keys::kme_site::{home, route_between};
 use kme_keys::{first_octets, octets_behind};
-use kme_site::{home, route_between};
 use kme_step::{Change, Step};
 use net_model::{Fact, Record, Records, Reply};
 use qkd_base::{Items, KeyName, Memory, NameKind, Octets, Route};

@@ -4,14 +4,14 @@ ghost use Rattle.net_model.specs.View.{View};
 ghost use Rattle.net_model.specs.Streams.{is_size, opened, open_stream, joins, join_stream};
 ghost use Rattle.declared_site.specs.SiteOf.{IsDeclared, site_of};
 ghost use Rattle.stream_core.specs.Kept.{Sees};
-ghost use Rattle.kme_site.specs.Up.{AreUp};
+ghost use Rattle.kme_keys.specs.Passed.{AreUp};
 ghost use Rattle.kme_streams.specs.Prompt.{IsPromptStep};
 ghost use Rattle.kme_streams.specs.Calls.{opening, is_joined_peer, takes_part, may_join};
 
 use crate::answering::{answer, fresh_name, make, me};
 use crate::ends::{is_home, stream_here};
 use declared_site::Site;
-use kme_site::{home, is_entitled, route_between};
+use kme_keys::kme_site::{home, is_entitled, route_between};
 use kme_step::Step;
 use net_model::{Fact, Record, Reply};
 use qkd_base::{KeyName, NameKind, Octets, Route, SaeNo};

@@ -5,7 +5,7 @@ ghost use Rattle.net_model.specs.declared.fact.Fact.{Fact};
 ghost use Rattle.net_model.specs.Site.{outgoing_lanes};
 ghost use Rattle.net_model.specs.World.{needs};
 ghost use Rattle.net_model.specs.Fold.{empty_port, with_block, with_lease, on_lane};
-ghost use Rattle.declared_site.specs.SiteOf.{IsDeclared, site_of};
+ghost use Rattle.kme_site.specs.Passed.{IsDeclared, site_of};
 ghost use Rattle.kme_step.specs.Steps.{transmission_of_order};
 ghost use Rattle.lane_ports.specs.Places.{Place, AreEnds, ports_in, with_port, HasRoom, HasRoomIn, HasBytes, HasBytesFor, AreOf, need_within, planned_on, planned_within, restarted, with_planned};
 

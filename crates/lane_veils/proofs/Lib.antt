@@ -1,4 +1,5 @@
 pub mod Collecting
 pub mod Octets
 pub mod Opening
+pub mod Passed
 pub mod Sums

@@ -3,6 +3,7 @@ pub mod Claims
 pub mod Completions
 pub mod Counting
 pub mod Durables
+pub mod Passed
 pub mod Performs
 pub mod Puts
 pub mod Runs

@@ -32,11 +32,11 @@ use Rattle.net_model.specs.Step.{step, is_node, is_asked, is_enabled}
 use Rattle.net_model.specs.BlockOrder.{is_block_event, is_turn_of}
 use Rattle.law_records.proofs.Base.{and_left, and_right, eq_from, by_test}
 use Rattle.law_records.proofs.Walks.{deliver_walk}
-use Rattle.law_decisions.proofs.Receives.{receive_orders}
+use Rattle.law_steps.proofs.Passed.{receive_orders}
 use Rattle.law_records.proofs.Grow.{need_grows}
-use Rattle.law_decisions.specs.May.{MayDecide, is_plan, decided}
-use Rattle.law_decisions.proofs.Decisions.{event_may, receive_may, plan_is}
-use Rattle.law_windows.proofs.Orders.{plan_may, plan_order_at}
+use Rattle.law_steps.specs.Passed.{MayDecide, is_plan, decided}
+use Rattle.law_steps.proofs.Passed.{event_may, receive_may, plan_is}
+use Rattle.law_steps.proofs.Passed.{plan_may, plan_order_at}
 use Rattle.law_blocks.proofs.Views.{SameFor, same_for, view_same}
 use Rattle.law_blocks.proofs.Performs.{SameResult, both_tests, IsTurn, performs_same, performs_unseen}
 

@@ -10,8 +10,8 @@ use Rattle.net_model.specs.Needed.{masked, view_of, port_at}
 use Rattle.net_model.specs.Doubt.{Extends}
 use Rattle.net_model.specs.Invariant.{Conserved}
 use Rattle.law_records.proofs.Grow.{needs_grows}
-use Rattle.law_views.proofs.Seen.{bare_view}
-use Rattle.law_windows.proofs.Outgoing.{AreOutgoing, outgoing_each}
+use Rattle.law_steps.proofs.Passed.{bare_view}
+use Rattle.law_steps.proofs.Passed.{AreOutgoing, outgoing_each}
 use Rattle.law_blocks.proofs.Durables.{SameDurable, same_durable, same_durable_then}
 
 -- all that one node's turns look at is the same in b as in a

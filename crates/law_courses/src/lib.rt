@@ -29,6 +29,7 @@ ghost use Rattle.law_courses.specs.Benched.{IsBenched, lines_alone, counter, kep
 ghost use Rattle.law_courses.specs.Headlines.{HeadlineOf};
 ghost use Rattle.law_courses.specs.Seen.{IsTold, IsSeen};
 
+pub use law_headline;
 use law_headline::{law_course_is_run, law_keys_and_bytes, law_tasks_are_run};
 
 /// What was done for the tasks of a scenario is its course, where nothing is asked after them.

@@ -28,7 +28,7 @@ use Rattle.net_model.specs.View.{View, port_of}
 use Rattle.net_model.specs.Needed.{view_of}
 use Rattle.net_model.specs.Handle.{is_numbered}
 use Rattle.law_records.proofs.Base.{and_left, and_right}
-use Rattle.law_views.proofs.Seen.{Sees, bare_view, view_sees, view_me, view_volatile}
+use Rattle.law_pools.proofs.Passed.{Sees, bare_view, view_sees, view_me, view_volatile}
 use Rattle.law_decisions.specs.May.{is_plan, MayDecide, decided}
 use Rattle.law_pools.proofs.Supply.{Supply, supply}
 use Rattle.law_pools.specs.Only.{Only}

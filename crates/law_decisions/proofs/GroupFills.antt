@@ -26,8 +26,8 @@ use Rattle.net_model.specs.Premises.{IsSite}
 use Rattle.net_model.specs.View.{View}
 use Rattle.net_model.specs.Handle.{is_numbered}
 use Rattle.law_records.proofs.Base.{eq_from, and_left, and_right, and_both, not_false, not_true}
-use Rattle.law_views.proofs.Shortest.{route_is}
-use Rattle.law_views.proofs.Seen.{Sees}
+use Rattle.law_pools.proofs.Passed.{route_is}
+use Rattle.law_pools.proofs.Passed.{Sees}
 use Rattle.law_pools.proofs.Supply.{Supply, bytes_len, bytes_octets, size_is}
 use Rattle.law_pools.proofs.Made.{IsBelow, is_below, below_weaker}
 use Rattle.law_pools.specs.Only.{Only}

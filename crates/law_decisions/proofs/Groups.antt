@@ -22,8 +22,8 @@ use Rattle.net_model.specs.Needed.{masked_fact}
 use Rattle.law_records.proofs.Base.{name_eq_from, name_eq_same, eq_from, and_left, and_right, not_true, was_not}
 use Rattle.law_records.proofs.Parts.{part_starts}
 use Rattle.law_records.proofs.Tables.{found_name}
-use Rattle.law_views.proofs.Masked.{with_other_bytes, masked_same, name_blind, part_blind}
-use Rattle.law_views.proofs.Seen.{Sees, IsSeen, seen_found, seen_all, seen_stored, handed_seen}
+use Rattle.law_pools.proofs.Passed.{with_other_bytes, masked_same, name_blind, part_blind}
+use Rattle.law_pools.proofs.Passed.{Sees, IsSeen, seen_found, seen_all, seen_stored, handed_seen}
 use Rattle.law_pools.proofs.Names.{has_take, differ_take, has_filter, differ_filter, differ_up_to, hand_all}
 use Rattle.law_pools.specs.Only.{Only}
 use Rattle.law_pools.proofs.Only.{only_makes, only_either}

@@ -1,5 +1,6 @@
+pub mod Decisions
+pub mod GroupFills
 pub mod Groups
 pub mod Parts
-pub mod GroupFills
+pub mod Passed
 pub mod Receives
-pub mod Decisions

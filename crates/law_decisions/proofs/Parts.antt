@@ -20,7 +20,7 @@ use Rattle.net_model.specs.View.{View}
 use Rattle.net_model.specs.Handle.{is_numbered}
 use Rattle.law_records.proofs.Base.{and_left, and_right}
 use Rattle.law_records.proofs.Tables.{is_some_of_none, learned_cases}
-use Rattle.law_views.specs.Shown.{IsRouteBetween}
+use Rattle.law_pools.specs.Passed.{IsRouteBetween}
 use Rattle.law_pools.proofs.Made.{IsBelow, below_more, made_may}
 use Rattle.law_pools.proofs.Only.{fresh_is}
 

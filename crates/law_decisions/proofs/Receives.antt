@@ -27,7 +27,7 @@ use Rattle.net_model.specs.View.{View}
 use Rattle.net_model.specs.Handle.{is_numbered}
 use Rattle.law_records.proofs.Base.{name_eq_from, eq_from, eq_same, and_left, and_right, or_cases, or_left, or_right, not_false, not_both, was_not, number_set_same}
 use Rattle.law_records.proofs.Tables.{found_name, has-push, has_last, is_some_of_some, learned_there, ranged_name}
-use Rattle.law_views.proofs.Seen.{Sees, seen_there}
+use Rattle.law_pools.proofs.Passed.{Sees, seen_there}
 use Rattle.law_pools.proofs.Made.{IsBelow, is_below, ranged_route, made_may}
 use Rattle.law_pools.proofs.Only.{fresh_is}
 use Rattle.law_pools.proofs.Streams.{first_of-reverse, route_back}

@@ -21,7 +21,7 @@ use Rattle.net_model.specs.Needed.{is_needed, masked, view_of, port_at}
 use Rattle.net_model.specs.Fold.{with_lease, owes, is_end_of, is_stream_of, view_record, view_records}
 use Rattle.law_records.proofs.Base.{and_both, not_false, not_both, lane_eq_from}
 use Rattle.law_records.proofs.Keeping.{apply_keeps}
-use Rattle.law_lanes.proofs.Blocks.{count_blocks}
+use Rattle.law_windows.proofs.Passed.{count_blocks}
 use Rattle.law_views.proofs.Seen.{bare_view}
 use Rattle.law_folds.proofs.Shapes.{AllStay, masked_then}
 use Rattle.law_folds.proofs.Following.{Follows, handed_only, seen, acked_follows, handed_follows, closed_follows}

@@ -22,7 +22,7 @@ use Rattle.net_model.specs.Handle.{with_orders, commit}
 use Rattle.net_model.specs.Fold.{on_lane, view_after, view_record}
 use Rattle.law_decisions.specs.May.{decided}
 use Rattle.law_records.proofs.Base.{lane_eq_from}
-use Rattle.law_lanes.proofs.Lists.{kept_at, all_from}
+use Rattle.law_windows.proofs.Passed.{kept_at, all_from}
 use Rattle.law_windows.proofs.Seen.{seen_is, needs_seen}
 use Rattle.law_windows.proofs.Orders.{on, with_orders_is, plan_may, plan_order_at, needs-append}
 use Rattle.law_folds.specs.Fitting.{AllFit}

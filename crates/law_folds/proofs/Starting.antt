@@ -21,7 +21,7 @@ use Rattle.net_model.specs.Action.{Recovery, Start, Recovers, Resumes, Started, 
 use Rattle.net_model.specs.Step.{step, is_sent, is_quiet, is_node, is_enabled}
 use Rattle.net_model.specs.Fold.{view_records, view_batch, view_restarted}
 use Rattle.law_records.proofs.Base.{eq_same, and_left, and_right, and_both, number_set_same, when_false}
-use Rattle.law_lanes.proofs.Lists.{burnt_length}
+use Rattle.law_windows.proofs.Passed.{burnt_length}
 use Rattle.law_records.proofs.Extending.{end_of}
 use Rattle.law_records.proofs.Keeping.{replay_keeps}
 use Rattle.law_records.proofs.Resuming.{resumed_view}

@@ -16,7 +16,7 @@ use Rattle.net_model.specs.View.{View, Port, received_of}
 use Rattle.net_model.specs.Needed.{is_needed, port_at}
 use Rattle.net_model.specs.Fold.{with_block, view_record}
 use Rattle.law_records.proofs.Base.{eq_from, eq_same, lane_same, and_both, when_true}
-use Rattle.law_lanes.proofs.Blocks.{count_blocks}
+use Rattle.law_windows.proofs.Passed.{count_blocks}
 use Rattle.law_folds.proofs.Following.{Follows, seen}
 
 one_more : (t : OctetSequence) (n : ℕ) → first_blocks t (n + 1) ≡ first_blocks t n ++ block_at t n ∷ []

@@ -13,7 +13,7 @@ use Rattle.net_model.specs.View.{View, Port}
 use Rattle.net_model.specs.Needed.{is_needed, masked_fact, masked}
 use Rattle.net_model.specs.Fold.{view_restarted}
 use Rattle.law_records.proofs.Base.{was_not, and_left, and_right, when_false}
-use Rattle.law_lanes.proofs.Lists.{all_both, all_at}
+use Rattle.law_folds.proofs.Passed.{all_both, all_at}
 use Rattle.law_journals.specs.GivesBack.{GivesBack}
 use Rattle.law_journals.proofs.Restarting.{masked_restarts, recovered_masked}
 

@@ -17,7 +17,7 @@ use Rattle.net_model.specs.View.{View, Port, received_of}
 use Rattle.net_model.specs.Needed.{masked}
 use Rattle.net_model.specs.Fold.{with_block, with_lease, view_record, view_records, empty_port, empty_view}
 use Rattle.law_records.proofs.Base.{eq_from, eq_same, and_both, or_first, or_second, when_true, lane_same}
-use Rattle.law_windows.proofs.Outgoing.{LinksDiffer, links_differ}
+use Rattle.law_folds.proofs.Passed.{LinksDiffer, links_differ}
 use Rattle.law_folds.proofs.Starting.{at_lease}
 use Rattle.law_journals.proofs.Accumulating.{StaysMasked}
 use Rattle.law_journals.proofs.Restarting.{block_added}

@@ -15,7 +15,7 @@ use Rattle.net_model.specs.Invariant.{Conserved}
 use Rattle.law_records.proofs.Base.{lane_eq_from, not_false}
 use Rattle.law_lanes.proofs.Lists.{all_both, all_kept, all_from}
 use Rattle.law_views.proofs.Seen.{view_volatile}
-use Rattle.law_windows.proofs.Entries.{age_keeps}
+use Rattle.law_blocks.proofs.Passed.{age_keeps}
 
 -- what holds of a window's entries holds of those that go out again
 

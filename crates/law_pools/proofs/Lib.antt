@@ -1,9 +1,10 @@
-pub mod Supply
-pub mod Made
-pub mod Only
-pub mod Names
+pub mod Feeds
 pub mod Fills
 pub mod Hands
-pub mod Streams
-pub mod Feeds
+pub mod Made
+pub mod Names
+pub mod Only
 pub mod Pairs
+pub mod Passed
+pub mod Streams
+pub mod Supply

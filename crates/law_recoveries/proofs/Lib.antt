@@ -1,4 +1,5 @@
-pub mod Views
 pub mod Effects
-pub mod Steps
+pub mod Passed
 pub mod Runs
+pub mod Steps
+pub mod Views

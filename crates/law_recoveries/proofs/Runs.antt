@@ -17,7 +17,7 @@ use Rattle.law_records.proofs.Resuming.{resolved_view}
 use Rattle.law_folds.specs.Fitting.{AllFit}
 use Rattle.law_folds.proofs.Empty.{first_empty}
 use Rattle.law_folds.proofs.Starting.{start_goes, start_restarts, resume_goes, resume_restarts}
-use Rattle.law_steps.proofs.Steps.{first_keeps, step_keeps}
+use Rattle.law_blocks.proofs.Passed.{first_keeps, step_keeps}
 use Rattle.law_journals.specs.GivesBack.{GivesBack}
 use Rattle.law_journals.proofs.Restarting.{restarted_twice, recovered_next, nothing_given, recovered_restarts}
 use Rattle.law_journals.proofs.Checkpoint.{checkpoint_given, same_need}

@@ -1,3 +1,4 @@
+pub mod Over
+pub mod Passed
 pub mod Served
 pub mod Told
-pub mod Over

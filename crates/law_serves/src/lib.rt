@@ -9,3 +9,4 @@ pub use bench::law_bench_serves;
 pub use courses::{
     law_headline_of_a_course, law_reported_of_serve, law_served_lines_make_a_course,
 };
+pub use world_bench;

@@ -1,2 +1,3 @@
-pub mod Starts
 pub mod Journals
+pub mod Passed
+pub mod Starts

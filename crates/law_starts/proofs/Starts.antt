@@ -12,8 +12,8 @@ use Rattle.net_model.specs.Action.{Recovery, Start, Recovers, Resumes, Interrupt
 use Rattle.net_model.specs.Step.{step, is_enabled, is_quiet, is_node, IsStep}
 use Rattle.law_records.proofs.Base.{number_set_same, and_both, when_false}
 use Rattle.law_folds.proofs.Starting.{start_goes, resume_goes}
-use Rattle.law_journals.proofs.Restarting.{restarted_twice}
-use Rattle.law_journals.proofs.Checkpoint.{same_need}
+use Rattle.law_recoveries.proofs.Passed.{restarted_twice}
+use Rattle.law_recoveries.proofs.Passed.{same_need}
 use Rattle.law_recoveries.proofs.Runs.{start_needs, resume_needs}
 use Rattle.law_starts.specs.Starting.{resolved_view, MayCheckpoint, checkpoint_of, MayStart, Starts, Stops}
 use Rattle.law_starts.proofs.Journals.{made_is, doubt_is, resumed_is}

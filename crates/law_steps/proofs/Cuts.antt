@@ -23,7 +23,7 @@ use Rattle.net_model.specs.Groups.{new_parts, new_groups, filled_group, fill_gro
 use Rattle.net_model.specs.Streams.{is_chunk_of, new_chunks, fed, fed_stream, has_end, waiting, feed, chunk_size}
 use Rattle.net_model.specs.Step.{is_asked}
 use Rattle.law_records.proofs.Base.{by_test, get_cases, when_true, when_false}
-use Rattle.law_pools.proofs.Supply.{Supply, supply, bytes_len}
+use Rattle.law_decisions.proofs.Passed.{Supply, supply, bytes_len}
 use Rattle.law_steps.specs.HandedName.{handed_name, AreApart}
 
 -- a fact cut from the octets between two places, under a new name of a node: its count is past all older ones

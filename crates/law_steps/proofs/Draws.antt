@@ -25,7 +25,7 @@ use Rattle.net_model.specs.Groups.{new_parts, new_groups, filled_group, fill_gro
 use Rattle.net_model.specs.Streams.{opened, open_stream, is_size, joins, join_stream, stream_here, at_end, has_joined, gives_chunk, chunk_at, get_chunk, close_stream, new_chunks, fed, fed_stream, has_end, waiting, feed, chunk_size}
 use Rattle.net_model.specs.Step.{is_asked}
 use Rattle.law_records.proofs.Base.{by_test, get_cases}
-use Rattle.law_pools.proofs.Supply.{supply}
+use Rattle.law_decisions.proofs.Passed.{supply}
 use Rattle.law_steps.specs.HandedName.{handed_name}
 use Rattle.law_steps.proofs.Cuts.{DecidesCut, fill_cut, feed_cut, fill_group_cut}
 

@@ -32,7 +32,7 @@ use Rattle.law_records.proofs.Base.{by_test}
 use Rattle.law_records.proofs.Tables.{found_name}
 use Rattle.law_records.proofs.Knowing.{known_with_new}
 use Rattle.law_records.proofs.Growing.{replay_grows}
-use Rattle.law_views.proofs.Seen.{seen_at, bare_view, view_sees, view_me, view_volatile}
+use Rattle.law_windows.proofs.Passed.{seen_at, bare_view, view_sees, view_me, view_volatile}
 use Rattle.law_decisions.proofs.Receives.{received_may}
 use Rattle.law_decisions.proofs.Receives.{some_data}
 use Rattle.law_lanes.proofs.Growth.{volatile_stays}

@@ -1,1 +1,2 @@
 pub mod HandedName
+pub mod Passed

@@ -6,6 +6,7 @@ pub mod Leases
 pub mod Noting
 pub mod Orders
 pub mod Outgoing
+pub mod Passed
 pub mod Places
 pub mod Planning
 pub mod Seen

@@ -13,6 +13,7 @@ pub mod Merging
 pub mod Once
 pub mod OneBlock
 pub mod OrderOnce
+pub mod Passed
 pub mod Places
 pub mod PutFor
 pub mod Puts

@@ -8,11 +8,11 @@ use Rattle.run_lines.specs.declared.stop.Stop.TheVariants as stops
 use Rattle.run_model.specs.Course.{Words, Run, Load}
 use Rattle.run_model.specs.Load.{load_scenario}
 use Rattle.run_model.specs.Headline as headline
-use Rattle.bench_runs.specs.Running.{ended, WasLeft}
+use Rattle.bench_veils.specs.Passed.{ended, WasLeft}
 use Rattle.bench_serves.specs.Serving.{ended as served_end, WasLeft as WasNotServed}
 use Rattle.bench_serves.specs.declared.stop.ServeStop.{ServeStop}
 use Rattle.bench_serves.specs.declared.stop.ServeStop.TheVariants as serves
-use Rattle.world_bench.specs.declared.bench.Bench.{Bench}
+use Rattle.bench_veils.specs.Passed.{Bench}
 use Rattle.qkd_network.specs.Codes.{status_of, served_as}
 use Rattle.word_forms.specs.Forms.{Runs, asked_by}
 use Rattle.source_answers.specs.Inputs.{ReadsWhole}

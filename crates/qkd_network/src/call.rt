@@ -3,9 +3,9 @@ ghost use Rattle.std.specs.Prelude.{◌≡◌, ◌⊎◌, IsSome};
 ghost use Rattle.std.specs.List.{All};
 ghost use Rattle.qkd_base.specs.Faults.{Rose};
 ghost use Rattle.port_doors.specs.Doors.{AreFresh, IsListenFault, PortsTold, telling};
-ghost use Rattle.world_bench.specs.Laid.{IsWhole};
-ghost use Rattle.world_bench.specs.New.{IsNew};
-ghost use Rattle.bench_runs.specs.Running.{HasHeadlines};
+ghost use Rattle.bench_veils.specs.Passed.{IsWhole};
+ghost use Rattle.bench_veils.specs.Passed.{IsNew};
+ghost use Rattle.bench_veils.specs.Passed.{HasHeadlines};
 ghost use Rattle.bench_serves.specs.Serving.{HasServedHeadlines};
 ghost use Rattle.bench_veils.specs.Veiling.{HasVeiled};
 ghost use Rattle.qkd_network.specs.Outcome.{AsksServe, Outcome, outside};
@@ -16,7 +16,8 @@ use crate::reading::scenario_in;
 use crate::serve::serve;
 use crate::veil::veil;
 use bench_loads::run_load;
-use bench_runs::run_scenario;
+use bench_veils::bench_runs::run_scenario;
+use bench_veils::world_bench::Bench;
 use disk_model::Disk;
 use edge_io::{Gate, Listener, Ports, Sink, Source};
 use qkd_base::Texts;
@@ -26,7 +27,6 @@ use std::alloc::Global;
 use std::sync::Wait;
 use std::thread::Threads;
 use word_forms::{Form, read_form};
-use world_bench::Bench;
 
 /// Does what the words ask for. For `run` it reads a scenario from the source to its end, runs it over a new bench, its blocks by so
 /// many workers, and writes its report to the sink, a line at a time. For `serve` it does the same, and then each worker serves so many

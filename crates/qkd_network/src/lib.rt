@@ -7,6 +7,6 @@ mod serve;
 mod status;
 mod veil;
 
+pub use bench_veils::world_bench::Bench;
 pub use call::network;
 pub use status::Status;
-pub use world_bench::Bench;

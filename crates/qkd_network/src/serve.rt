@@ -3,8 +3,8 @@ ghost use Rattle.std.specs.Prelude.{◌≡◌, ◌≤◌, IsSome};
 ghost use Rattle.std.specs.List.{All};
 ghost use Rattle.qkd_base.specs.Faults.{Rose};
 ghost use Rattle.port_doors.specs.Doors.{AreFresh, IsListenFault, PortsTold, telling};
-ghost use Rattle.world_bench.specs.Laid.{IsWhole};
-ghost use Rattle.world_bench.specs.New.{IsNew};
+ghost use Rattle.bench_veils.specs.Passed.{IsWhole};
+ghost use Rattle.bench_veils.specs.Passed.{IsNew};
 ghost use Rattle.bench_serves.specs.Serving.{HasServedHeadlines};
 ghost use Rattle.qkd_network.specs.Outcome.{ScenarioOutcome, outside};
 ghost use Rattle.qkd_network.specs.declared.status.Status.TheVariants.{ReadFault, WriteFault, ListenFault};
@@ -12,13 +12,13 @@ ghost use Rattle.qkd_network.specs.declared.status.Status.TheVariants.{ReadFault
 use crate::Status;
 use crate::reading::scenario_in;
 use bench_serves::run_serve;
+use bench_veils::world_bench::Bench;
 use disk_model::Disk;
 use edge_io::{Gate, Listener, Ports, Sink, Source};
 use source_devices::{Device, Entropy, Wire};
 use std::alloc::Global;
 use std::sync::Wait;
 use std::thread::Threads;
-use world_bench::Bench;
 
 // Reads a scenario from the source, runs it over a new bench, and serves its managers over the ports from this one on.
 pub(crate) fn serve<

@@ -9,7 +9,7 @@ use Rattle.net_model.specs.World.{Network, World}
 use Rattle.net_model.specs.Action.{Action, Outcome, Image, Fault, ForgedMatch}
 use Rattle.net_model.specs.Action as actions
 use Rattle.net_model.specs.Step.{step, IsStep}
-use Rattle.report_items.specs.declared.item.Item.{Item}
+use Rattle.run_model.specs.Passed.{Item}
 use Rattle.run_turns.specs.Reported.{delivered}
 use Rattle.run_model.specs.Script.{Script}
 use Rattle.run_model.specs.Play.{Whole, plain, numbered, play, IsPlay}

@@ -19,7 +19,7 @@ use declared_site::Site;
 use disk_model::Arm;
 use net_model::{Counts4, Event, Reply};
 use qkd_base::{Items, Lane, LinkNo, Memory, NodeNo};
-use report_items::{Item, StartResult};
+use run_model::report_items::{Item, StartResult};
 use run_turns::{BlockTake, Delivery};
 
 /// A network of managers, lanes and devices that can be asked for what a scenario's lines want. Each call is an action of the

@@ -9,7 +9,7 @@ use Rattle.net_model.specs.Action.{Action, Ask}
 use Rattle.net_model.specs.Step.{run, IsRun}
 use Rattle.net_model.specs.BlockOrder.{AreChains}
 use Rattle.net_model.specs.Deliveries.{Delivery, deliveries}
-use Rattle.declared_site.specs.SiteOf.{site_of}
+use Rattle.scenario_lines.specs.Passed.{site_of}
 use Rattle.scenario_lines.specs.declared.scenario.Scenario.{Scenario}
 use Rattle.run_model.specs.Play.{Played, Whole}
 use Rattle.run_model.specs.Report.{Task, tasks, Performed, report, actions_of, IsRunOf}

@@ -8,7 +8,7 @@ use Rattle.qkd_base.specs.Name.{Name}
 use Rattle.qkd_base.specs.declared.key_name.NameKind.TheVariants.{Key}
 use Rattle.qkd_base.specs.declared.lane.Way.TheVariants.{Up, Down}
 use Rattle.net_model.specs.Site.{lane_of, count_up}
-use Rattle.declared_site.specs.declared.site.Site.{Site}
+use Rattle.scenario_lines.specs.Passed.{Site}
 use Rattle.scenario_lines.specs.declared.end.Ends.TheVariants.{Both}
 use Rattle.scenario_lines.specs.declared.command.Command.{Command}
 use Rattle.scenario_lines.specs.declared.command.Command.TheVariants as commands

@@ -18,10 +18,10 @@ use Rattle.law_records.proofs.Base.{when_true, eq_same}
 use Rattle.shared_machines.specs.declared.call.Call.{Call}
 use Rattle.turn_desks.specs.declared.turn.Turn.{Turn}
 use Rattle.turn_desks.specs.Taking.{IsTurnAt}
-use Rattle.world_state.specs.Frames.{IsOnWire}
-use Rattle.world_state.specs.Stands.{Stands}
-use Rattle.world_state.specs.declared.state.State.{State}
-use Rattle.world_state.proofs.Receivers.{post_below, same_receiver}
+use Rattle.world_turns.specs.Passed.{IsOnWire}
+use Rattle.world_turns.specs.Passed.{Stands}
+use Rattle.world_turns.specs.Passed.{State}
+use Rattle.world_turns.proofs.Passed.{post_below, same_receiver}
 use Rattle.world_turns.specs.Order.{HasOctets}
 use Rattle.shared_turns.specs.Calls.{IsComing}
 

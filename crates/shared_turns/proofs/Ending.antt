@@ -14,9 +14,9 @@ use Rattle.net_model.specs.BlockOrder.{IsMerge}
 use Rattle.net_model.specs.Step.{run}
 use Rattle.declared_site.specs.SiteOf.{site_of}
 use Rattle.kme_site.specs.Up.{AreUp}
-use Rattle.kme_store.specs.declared.post.Post.{Post}
+use Rattle.sent_managers.specs.Passed.{Post}
 use Rattle.law_emissions.specs.Putting.{wanted_by}
-use Rattle.law_works.proofs.Merging.{in_order_is_a_merge}
+use Rattle.world_turns.proofs.Passed.{in_order_is_a_merge}
 use Rattle.law_merges.proofs.Counting.{merges_length}
 use Rattle.run_acts.specs.Acting.{IsReady}
 use Rattle.run_model.specs.Works.{Work, actions_in, flat, plain_work, done_from}
@@ -24,10 +24,10 @@ use Rattle.run_blocks.specs.declared.job.Job.{Job}
 use Rattle.run_blocks.specs.declared.done_block.Turned.{Turned}
 use Rattle.run_blocks.specs.Jobs.{is_job, asked_by, asked_in_order}
 use Rattle.run_blocks.specs.Together.{turned}
-use Rattle.world_state.specs.Armed.{most_armed}
-use Rattle.world_state.specs.Stands.{Stands, place_of}
-use Rattle.world_state.specs.Tallied.{Tallied}
-use Rattle.world_state.specs.declared.state.State.{State}
+use Rattle.world_turns.specs.Passed.{most_armed}
+use Rattle.world_turns.specs.Passed.{Stands, place_of}
+use Rattle.world_turns.specs.Passed.{Tallied}
+use Rattle.world_turns.specs.Passed.{State}
 use Rattle.world_turns.specs.declared.turns.Turns.{Turns}
 use Rattle.world_turns.specs.Order.{IsDue, AreDue}
 use Rattle.world_turns.specs.Taking.{TookTurns}

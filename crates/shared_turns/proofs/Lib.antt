@@ -4,6 +4,7 @@ pub mod Counting
 pub mod Ending
 pub mod Mixing
 pub mod Nodes
+pub mod Passed
 pub mod Replaying
 pub mod Requests
 pub mod Sent

@@ -8,7 +8,7 @@ use Rattle.net_model.specs.Site.{Site, sender}
 use Rattle.net_model.specs.World.{Network, World}
 use Rattle.net_model.specs.Events.{is_lane}
 use Rattle.law_records.proofs.Base.{eq_same, eq_from, not_both, when_true, when_false}
-use Rattle.world_state.specs.Stands.{of_way, place_of}
+use Rattle.world_turns.specs.Passed.{of_way, place_of}
 use Rattle.world_turns.specs.Leases.{Wrote, WroteFor}
 use Rattle.shared_turns.specs.Ends.{IsMixed}
 

@@ -10,15 +10,15 @@ use Rattle.net_model.specs.World.{Network, World}
 use Rattle.net_model.specs.Events.{is_lane}
 use Rattle.net_model.specs.Step.{run}
 use Rattle.net_model.specs.Tick.{Emission, Again, New}
-use Rattle.kme_store.specs.declared.post.Post.{Post}
+use Rattle.sent_managers.specs.Passed.{Post}
 use Rattle.law_emissions.specs.Putting.{wanted_by}
 use Rattle.run_acts.specs.Acting.{IsReady}
 use Rattle.run_model.specs.Works.{Work, actions_in, flat, done_from}
 use Rattle.run_blocks.specs.declared.job.Job.{Job}
 use Rattle.run_blocks.specs.declared.done_block.Turned.{Turned}
-use Rattle.world_state.specs.Armed.{most_armed}
-use Rattle.world_state.specs.Stands.{Stands, place_of}
-use Rattle.world_state.specs.declared.state.State.{State}
+use Rattle.world_turns.specs.Passed.{most_armed}
+use Rattle.world_turns.specs.Passed.{Stands, place_of}
+use Rattle.world_turns.specs.Passed.{State}
 use Rattle.world_turns.specs.declared.next.Next.{Next}
 use Rattle.world_turns.proofs.Leasing.{IsLeased, LeasedAt}
 use Rattle.world_turns.proofs.SoFar.{SoFar}

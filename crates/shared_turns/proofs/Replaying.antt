@@ -9,16 +9,16 @@ use Rattle.net_model.specs.World.{Network, World}
 use Rattle.net_model.specs.Action.{is_io_fault, is_entropy_fault}
 use Rattle.net_model.specs.Step.{run}
 use Rattle.declared_site.specs.SiteOf.{site_of}
-use Rattle.kme_store.specs.declared.post.Post.{Post}
+use Rattle.sent_managers.specs.Passed.{Post}
 use Rattle.run_acts.specs.Acting.{IsReady}
 use Rattle.run_model.specs.Works.{Work, actions_in}
 use Rattle.run_blocks.specs.declared.job.Job.{Job}
 use Rattle.run_blocks.specs.declared.done_block.Turned.{Turned}
-use Rattle.world_state.specs.Armed.{most_armed}
-use Rattle.world_state.specs.Stands.{Stands}
-use Rattle.world_state.specs.declared.state.State.{State}
-use Rattle.world_state.proofs.Armed.{most_same, times_same}
-use Rattle.world_state.proofs.Changes.{state_with, with_post}
+use Rattle.world_turns.specs.Passed.{most_armed}
+use Rattle.world_turns.specs.Passed.{Stands}
+use Rattle.world_turns.specs.Passed.{State}
+use Rattle.world_turns.proofs.Passed.{most_same, times_same}
+use Rattle.world_turns.proofs.Passed.{state_with, with_post}
 use Rattle.world_turns.specs.declared.next.Next.{Next}
 use Rattle.world_turns.specs.Leases.{WroteFor}
 use Rattle.world_turns.specs.Taking.{MayTurn, TookTurn, TookNext}

@@ -6,7 +6,7 @@ use Rattle.disk_model.specs.declared.arm.Armings.{Armings}
 use Rattle.net_model.specs.OctetSequence.{OctetSequence}
 use Rattle.net_model.specs.BlockOrder.{IsMerge}
 use Rattle.declared_site.specs.SiteOf.{site_of}
-use Rattle.kme_store.specs.declared.post.Post.{Post}
+use Rattle.sent_managers.specs.Passed.{Post}
 use Rattle.law_merges.proofs.Mapping.{merge_map}
 use Rattle.law_merges.proofs.Holding.{all_of_merge}
 use Rattle.run_model.specs.Works.{Work}
@@ -17,7 +17,7 @@ use Rattle.turnstile.specs.Turns.{Leads}
 use Rattle.shared_machines.specs.declared.call.Call.{Call}
 use Rattle.shared_machines.specs.Asked.{requests_on}
 use Rattle.shared_machines.specs.Served.{HasServed}
-use Rattle.world_state.specs.declared.state.State.{State}
+use Rattle.world_turns.specs.Passed.{State}
 use Rattle.turn_desks.specs.declared.turn.Turn.{Turn}
 use Rattle.turn_desks.specs.Taking.{MayCome, TookTurnAt}
 use Rattle.shared_turns.specs.Calls.{work_of, IsOf, AreComing, AreShifts}

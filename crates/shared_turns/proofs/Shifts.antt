@@ -15,7 +15,7 @@ use Rattle.law_records.proofs.Base.{eq_same, split, slice_get-append_left, slice
 use Rattle.shared_machines.specs.declared.call.Call.{Call}
 use Rattle.shared_machines.specs.Asked.{requests_on}
 use Rattle.turn_desks.specs.declared.turn.Turn.{Turn}
-use Rattle.world_state.specs.declared.state.State.{State}
+use Rattle.world_turns.specs.Passed.{State}
 use Rattle.shared_turns.specs.Calls.{work_of, IsOf, IsEntry, IsComing, AreComing, AreShifts}
 use Rattle.shared_turns.proofs.Asking.{drop_next, drop_all}
 use Rattle.shared_turns.proofs.Counting.{count_none, count_in, count_out}

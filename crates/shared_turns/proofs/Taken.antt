@@ -10,7 +10,7 @@ use Rattle.net_model.specs.OctetSequence.{OctetSequence}
 use Rattle.net_model.specs.Site.{Site, count_up}
 use Rattle.net_model.specs.World.{Network, World}
 use Rattle.declared_site.specs.SiteOf.{site_of}
-use Rattle.kme_store.specs.declared.post.Post.{Post}
+use Rattle.sent_managers.specs.Passed.{Post}
 use Rattle.run_acts.specs.Acting.{IsReady}
 use Rattle.run_blocks.specs.declared.job.Job.{Job}
 use Rattle.run_blocks.specs.declared.done_block.Turned.{Turned}
@@ -18,9 +18,9 @@ use Rattle.run_blocks.specs.Jobs.{is_job, asked_in_order}
 use Rattle.shared_machines.specs.declared.call.Call.{Call}
 use Rattle.shared_machines.specs.Asked.{IsTaken}
 use Rattle.shared_machines.specs.Served.{HaveServed}
-use Rattle.world_state.specs.Armed.{most_armed}
-use Rattle.world_state.specs.Stands.{Stands}
-use Rattle.world_state.specs.declared.state.State.{State}
+use Rattle.world_turns.specs.Passed.{most_armed}
+use Rattle.world_turns.specs.Passed.{Stands}
+use Rattle.world_turns.specs.Passed.{State}
 use Rattle.world_turns.specs.Taking.{TookTurns}
 use Rattle.world_turns.specs.declared.turns.Turns.{Turns as Taken}
 use Rattle.world_turns.proofs.Histories.{length-count_up, counted_at}

@@ -3,7 +3,7 @@ use Rattle.std.proofs.Common.{◌≡◌, ℕ, zero, suc, ◌<◌, ◌≤◌, Lis
 use Rattle.std.specs.Prelude.{slice_get, slice_index}
 use Rattle.net_model.specs.Site.{Site}
 use Rattle.turn_desks.proofs.Writing.{WroteTo}
-use Rattle.world_state.specs.Stands.{place_of}
+use Rattle.world_turns.specs.Passed.{place_of}
 use Rattle.shared_turns.specs.Ends.{IsMixed}
 
 read : (xs : List ℕ) (i : ℕ) → i < length xs → Some (slice_index xs i) ≡ slice_get xs i

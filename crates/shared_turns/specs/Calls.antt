@@ -14,7 +14,7 @@ use Rattle.shared_machines.specs.declared.call.Call.{Call}
 use Rattle.shared_machines.specs.Asked.{requests_on}
 use Rattle.turn_desks.specs.declared.turn.Turn.{Turn}
 use Rattle.turn_desks.specs.Taking.{MayCome}
-use Rattle.world_state.specs.declared.state.State.{State}
+use Rattle.world_turns.specs.Passed.{State}
 use Rattle.world_turns.specs.Turning.{asked_with}
 
 -- the turn that is asked for

@@ -3,7 +3,7 @@ use Rattle.std.specs.Prelude.{◌≡◌, ℕ, true, List, [], ◌∷◌, length,
 use Rattle.net_model.specs.Site.{Site, sender}
 use Rattle.net_model.specs.Events.{is_lane}
 use Rattle.qkd_base.specs.declared.lane.Lane.{Lane}
-use Rattle.world_state.specs.Stands.{place_of}
+use Rattle.world_turns.specs.Passed.{place_of}
 
 -- those of the lanes that leave a node are its desk's
 pub record IsMixed (s : Site) (v : ℕ) (ends old new : List ℕ) : Type 0 where

@@ -2,7 +2,7 @@
 use Rattle.std.specs.Prelude.{◌≡◌, ℕ, List, [], length, replicate, Vec}
 use Rattle.std.specs.declared.alloc.Global.{Global}
 use Rattle.run_blocks.specs.declared.done_block.Turned.{Turned}
-use Rattle.world_state.specs.declared.state.State.{State}
+use Rattle.world_turns.specs.Passed.{State}
 
 -- as many blank ends as there are lanes
 abbrev pub blank_ends : {K Q E X : Type 0} → State K Q E X → List ℕ

@@ -8,7 +8,7 @@ ghost use Rattle.run_acts.specs.Acting.{IsReady};
 ghost use Rattle.run_blocks.specs.Jobs.{is_job, asked_by, asked_in_order, IsThere};
 ghost use Rattle.shared_machines.specs.Asked.{requests_on};
 ghost use Rattle.shared_turns.specs.Calls.{work_of, asks_of, IsEntry, IsComing, AreComing, AreShifts};
-ghost use Rattle.world_state.specs.Stands.{Stands};
+ghost use Rattle.world_turns.specs.Passed.{Stands};
 
 use declared_site::Site;
 use disk_model::Disk;
@@ -20,7 +20,7 @@ use source_devices::{Device, Entropy, Wire};
 use std::alloc::Global;
 use std::collections::VecDeque;
 use turn_desks::Turn;
-use world_state::{State, seen};
+use world_turns::world_state::{State, seen};
 
 // Whether a job asks a turn of a node's manager.
 fn asks(site: &Site, node: NodeNo, job: &Job) -> bool

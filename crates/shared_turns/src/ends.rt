@@ -3,7 +3,7 @@ ghost use Rattle.std.specs.Prelude.{◌≡◌, ◌<◌, ◌≤◌, length, slice
 ghost use Rattle.declared_site.specs.SiteOf.{site_of};
 ghost use Rattle.shared_turns.specs.Ends.{IsMixed};
 ghost use Rattle.turn_desks.specs.Leases.{EndsOf, EndsAt};
-ghost use Rattle.world_state.specs.Stands.{place_of};
+ghost use Rattle.world_turns.specs.Passed.{place_of};
 
 use declared_site::Site;
 use kme_site::sender;

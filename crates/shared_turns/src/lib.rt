@@ -10,3 +10,4 @@ mod taking;
 pub use shared_machines;
 pub use taking::take_turns;
 pub use turn_desks;
+pub use world_turns;

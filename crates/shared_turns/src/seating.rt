@@ -8,20 +8,20 @@ ghost use Rattle.net_model.specs.World.{Network, World};
 ghost use Rattle.run_acts.specs.Acting.{IsReady};
 ghost use Rattle.shared_turns.specs.Ends.{AreMixed};
 ghost use Rattle.shared_turns.specs.Sheets.{IsFresh};
-ghost use Rattle.world_state.specs.Stands.{Stands};
+ghost use Rattle.world_turns.specs.Passed.{Stands};
 
 use crate::ends::write_ends;
 use crate::sheets::Sheet;
 use declared_site::Site;
 use disk_model::Disk;
-use kme_store::Post;
 use qkd_base::NodeNo;
 use run_blocks::Turned;
+use sent_managers::kme_store::Post;
 use source_devices::{Device, Entropy, Wire};
 use std::snapshot::Snapshot;
 use turn_desks::Desk;
-use world_state::State;
 use world_turns::Turns;
+use world_turns::world_state::State;
 
 /// Each manager sits down at a desk of its own.
 pub fn sit<'a, K: Disk + Drop, Q: Device + Drop, E: Entropy + Drop, X: Wire + Drop>(

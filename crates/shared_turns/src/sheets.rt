@@ -13,7 +13,7 @@ use run_blocks::{Job, Turned};
 use source_devices::{Device, Entropy, Wire};
 use std::alloc::Global;
 use std::snapshot::Snapshot;
-use world_state::State;
+use world_turns::world_state::State;
 
 /// What a desk has beside its manager, before the first turn: room for its replies, an end for each lane, and the run's state at
 /// the block's start.

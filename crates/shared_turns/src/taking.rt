@@ -9,8 +9,8 @@ ghost use Rattle.run_blocks.specs.Doing.{MayTogether};
 ghost use Rattle.run_blocks.specs.Jobs.{is_job, asked_in_order};
 ghost use Rattle.shared_turns.specs.Calls.{AreShifts};
 ghost use Rattle.shared_turns.specs.Sheets.{IsFresh, blank_ends};
-ghost use Rattle.world_state.specs.Armed.{most_armed};
-ghost use Rattle.world_state.specs.Stands.{Stands};
+ghost use Rattle.world_turns.specs.Passed.{most_armed};
+ghost use Rattle.world_turns.specs.Passed.{Stands};
 ghost use Rattle.world_turns.specs.Taking.{TookTurns};
 
 use crate::calls::shifts;
@@ -19,9 +19,9 @@ use crate::sheets::{Sheet, sheets};
 use declared_site::Site;
 use disk_model::Disk;
 use edge_io::Gate;
-use kme_store::Post;
 use qkd_base::Memory;
 use run_blocks::Job;
+use sent_managers::kme_store::Post;
 use shared_machines::{Shift, work_together};
 use source_devices::{Device, Entropy, Wire};
 use std::alloc::Global;
@@ -29,8 +29,8 @@ use std::snapshot::Snapshot;
 use std::sync::Wait;
 use std::thread::Threads;
 use turn_desks::{Desk, Turn};
-use world_state::State;
 use world_turns::Turns;
+use world_turns::world_state::State;
 
 // Memory that was taken, nothing of it used.
 struct Room<'a, K: Disk + Drop, Q: Device + Drop, E: Entropy + Drop, X: Wire + Drop> {

@@ -21,10 +21,10 @@ use Rattle.run_blocks.specs.declared.job.Job.{Job}
 use Rattle.run_blocks.specs.declared.job.Job.TheVariants as jobs
 use Rattle.run_blocks.specs.Jobs.{is_job}
 use Rattle.world_lanes.specs.Stands.{IsRunning}
-use Rattle.world_state.specs.Frames.{IsOnWire}
-use Rattle.world_state.specs.Stands.{Stands}
-use Rattle.world_state.specs.declared.state.State.{State}
-use Rattle.world_state.proofs.StateGoesOn.{running_on, enabled_of}
+use Rattle.world_turns.specs.Passed.{IsOnWire}
+use Rattle.world_turns.specs.Passed.{Stands}
+use Rattle.world_turns.specs.Passed.{State}
+use Rattle.world_turns.proofs.Passed.{running_on, enabled_of}
 use Rattle.world_turns.specs.Order.{HasOctets}
 use Rattle.world_turns.specs.Turning.{asked_with}
 use Rattle.world_turns.proofs.Turning.{wire_still, octets_still}

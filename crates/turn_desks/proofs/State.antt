@@ -12,9 +12,9 @@ use Rattle.net_model.specs.Action.{Ask}
 use Rattle.kme_store.specs.declared.post.Post.{Post}
 use Rattle.run_blocks.specs.declared.job.Job.{Job}
 use Rattle.run_blocks.specs.declared.job.Job.TheVariants as jobs
-use Rattle.world_posts.specs.Handled.{Happens}
-use Rattle.world_state.specs.declared.state.State.{State}
-use Rattle.world_state.proofs.Changes.{OnePost}
+use Rattle.world_turns.specs.Passed.{Happens}
+use Rattle.world_turns.specs.Passed.{State}
+use Rattle.world_turns.proofs.Passed.{OnePost}
 use Rattle.world_turns.specs.Taking.{MayTurn, TookTurn}
 use Rattle.world_turns.proofs.Happening.{asked_took, heard_took}
 use Rattle.turn_desks.specs.Taking.{MayTurnAt, HappensAt, IsTurnAt}

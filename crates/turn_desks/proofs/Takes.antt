@@ -26,13 +26,13 @@ use Rattle.run_blocks.specs.declared.job.Job.{Job}
 use Rattle.run_blocks.specs.declared.job.Job.TheVariants as jobs
 use Rattle.run_blocks.specs.Jobs.{is_job}
 use Rattle.law_records.proofs.Base.{and_left, and_right, and_both, eq_from}
-use Rattle.world_posts.specs.Asking.{MayAsk, Asked}
-use Rattle.world_posts.specs.Handled.{Happens, MayHandle, Handled}
-use Rattle.world_posts.specs.Hearing.{MayHear, HasHeard}
-use Rattle.world_posts.specs.Stands.{PostStands}
-use Rattle.world_posts.proofs.Asks.{may_handle as may_handle_asked, asked}
-use Rattle.world_posts.proofs.Delivered.{may_handle as may_handle_heard, heard}
-use Rattle.world_posts.proofs.Handles.{valid_there}
+use Rattle.world_turns.specs.Passed.{MayAsk, Asked}
+use Rattle.world_turns.specs.Passed.{Happens, MayHandle, Handled}
+use Rattle.world_turns.specs.Passed.{MayHear, HasHeard}
+use Rattle.world_turns.specs.Passed.{PostStands}
+use Rattle.world_turns.proofs.Passed.{may_handle_of_Asks as may_handle_asked, asked}
+use Rattle.world_turns.proofs.Passed.{may_handle_of_Delivered as may_handle_heard, heard}
+use Rattle.world_turns.proofs.Passed.{valid_there}
 use Rattle.world_turns.specs.Turning.{planner}
 use Rattle.turn_desks.specs.Taking.{MayTurnAt, HappensAt, IsTurnAt}
 

@@ -15,10 +15,10 @@ use Rattle.run_blocks.specs.declared.job.Job.{Job}
 use Rattle.law_records.proofs.Base.{eq_same, eq_from, not_both}
 use Rattle.resend_window.proofs.Lists.{get_set_same, get_set_other}
 use Rattle.world_lanes.specs.Stands.{IsRunning}
-use Rattle.world_posts.specs.Stands.{PostStands}
-use Rattle.world_state.specs.Stands.{of_way, place_of}
-use Rattle.world_state.proofs.Leases.{manager_lease, no_manager}
-use Rattle.world_state.proofs.Others.{placed_length}
+use Rattle.world_turns.specs.Passed.{PostStands}
+use Rattle.world_turns.specs.Passed.{of_way, place_of}
+use Rattle.world_turns.proofs.Passed.{manager_lease, no_manager}
+use Rattle.world_turns.proofs.Passed.{placed_length}
 use Rattle.world_turns.specs.Leases.{Wrote, WroteFor}
 use Rattle.world_turns.specs.Turning.{planner}
 use Rattle.turn_desks.specs.Leases.{lease_at, EndsOf, EndsAt, WroteOf, WroteAt}

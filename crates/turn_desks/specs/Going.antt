@@ -8,10 +8,10 @@ use Rattle.kme_site.specs.Up.{AreUp}
 use Rattle.kme_store.specs.declared.post.Post.{Post}
 use Rattle.run_acts.specs.Acting.{IsReady}
 use Rattle.world_lanes.specs.Stands.{IsRunning}
-use Rattle.world_posts.specs.Stands.{PostStands}
-use Rattle.world_state.specs.Frames.{IsOnWire}
-use Rattle.world_state.specs.Stands.{Stands}
-use Rattle.world_state.specs.declared.state.State.{State}
+use Rattle.world_turns.specs.Passed.{PostStands}
+use Rattle.world_turns.specs.Passed.{IsOnWire}
+use Rattle.world_turns.specs.Passed.{Stands}
+use Rattle.world_turns.specs.Passed.{State}
 
 -- From a world for which the run's state stood at the block's start it came to one in which it stands for its node. The links are as they were, and
 -- each frame is still on its wire.

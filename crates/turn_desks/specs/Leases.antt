@@ -7,7 +7,7 @@ use Rattle.net_model.specs.Events.{is_lane}
 use Rattle.kme_store.specs.Manager.{lease_of}
 use Rattle.kme_store.specs.declared.post.Post.{Post}
 use Rattle.kme_store.specs.declared.post.Post.TheVariants.{On, Off}
-use Rattle.world_state.specs.Stands.{place_of}
+use Rattle.world_turns.specs.Passed.{place_of}
 
 -- the end of a lane of a manager's node, 0 where the manager isn't there
 abbrev pub lease_at : {K E : Type 0} → Post K E → Lane → ℕ

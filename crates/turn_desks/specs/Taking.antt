@@ -15,10 +15,10 @@ use Rattle.run_blocks.specs.declared.job.Job.{Job}
 use Rattle.run_blocks.specs.declared.done_block.Turned.{Turned}
 use Rattle.run_blocks.specs.Jobs.{asked_for, is_job, turn_for}
 use Rattle.world_lanes.specs.Stands.{IsRunning}
-use Rattle.world_posts.specs.Handled.{Happens}
-use Rattle.world_posts.specs.Stands.{PostStands}
-use Rattle.world_state.specs.Stands.{Stands}
-use Rattle.world_state.specs.declared.state.State.{State}
+use Rattle.world_turns.specs.Passed.{Happens}
+use Rattle.world_turns.specs.Passed.{PostStands}
+use Rattle.world_turns.specs.Passed.{Stands}
+use Rattle.world_turns.specs.Passed.{State}
 use Rattle.world_turns.specs.Order.{HasOctets}
 use Rattle.world_turns.specs.Turning.{asked_with, planner}
 use Rattle.turn_desks.specs.Leases.{WroteAt}

@@ -2,7 +2,7 @@
 ghost use Rattle.std.specs.Prelude.{◌≡◌, Some, slice_get};
 ghost use Rattle.net_model.specs.World.{Network, World};
 ghost use Rattle.run_acts.specs.Acting.{IsReady};
-ghost use Rattle.world_state.specs.Stands.{Stands};
+ghost use Rattle.world_turns.specs.Passed.{Stands};
 ghost use Rattle.turn_desks.specs.Going.{IsOnItsWay};
 
 use declared_site::Site;
@@ -12,7 +12,7 @@ use qkd_base::NodeNo;
 use run_blocks::Turned;
 use source_devices::{Device, Entropy, Wire};
 use std::snapshot::Snapshot;
-use world_state::State;
+use world_turns::world_state::State;
 
 /// A node's manager in a block: it takes turns, one at a time, in whatever order they come. It came from a world for which the
 /// run's state stood at the block's start to one in which it stands for its node.

@@ -2,7 +2,7 @@
 ghost use Rattle.std.specs.Prelude.{◌≡◌, ◌<◌, ◌≤◌, Some, is_some};
 ghost use Rattle.qkd_base.specs.declared.lane.Lane.{Lane as LaneValue};
 ghost use Rattle.declared_site.specs.SiteOf.{site_of};
-ghost use Rattle.world_state.specs.Stands.{place_of};
+ghost use Rattle.world_turns.specs.Passed.{place_of};
 ghost use Rattle.world_turns.specs.Turning.{planner};
 ghost use Rattle.turn_desks.specs.Leases.{lease_at, EndsOf, EndsAt, WroteOf, WroteAt};
 

@@ -11,7 +11,7 @@ use qkd_base::NodeNo;
 use run_blocks::Turned;
 use source_devices::{Device, Entropy, Wire};
 use turnstile::Machine;
-use world_state::State;
+use world_turns::world_state::State;
 
 impl<'a, K: Disk + Drop, Q: Device + Drop, E: Entropy + Drop, X: Wire + Drop> Machine
     for Desk<'a, K, Q, E, X> {

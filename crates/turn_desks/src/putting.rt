@@ -4,7 +4,7 @@ ghost use Rattle.declared_site.specs.SiteOf.{site_of};
 ghost use Rattle.kme_store.specs.Manager.{ManagerForm, is_up};
 ghost use Rattle.net_model.specs.Events.{is_valid_event};
 ghost use Rattle.net_model.specs.World.{Network, World};
-ghost use Rattle.world_posts.specs.Handled.{MayHandle, Handled};
+ghost use Rattle.world_turns.specs.Passed.{MayHandle, Handled};
 
 use disk_model::Disk;
 use kme_store::Post;

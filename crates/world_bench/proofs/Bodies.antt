@@ -11,7 +11,7 @@ use Rattle.journal_records.specs.Grammar.{IsBatch, body_octets}
 use Rattle.journal_records.specs.declared.version.Version.{Version}
 use Rattle.journal_records.proofs.Bodies.{batch_again}
 use Rattle.journal_snapshot.specs.declared.live.Live.{Live}
-use Rattle.kme_batches.specs.Spelled.{version_named}
+use Rattle.kme_store.specs.Passed.{version_named}
 use Rattle.law_records.proofs.Base.{eq_from, not_false, when_false}
 use Rattle.world_bench.specs.Reading.{ReadsDisks, bodies_from, batch_before, batches_in, batches_on}
 

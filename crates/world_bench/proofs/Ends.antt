@@ -25,7 +25,7 @@ use Rattle.run_model.specs.Bench.{Layers, Sources, Seen, Count, RoseBy, Arming, 
 use Rattle.law_courses.specs.Seen.{IsKept as IsGiven, IsSeen}
 use Rattle.kme_store.specs.declared.post.Post.{Post}
 use Rattle.kme_store.specs.declared.post.Post.TheVariants.{Off}
-use Rattle.world_posts.specs.Counts.{disk_of, entropy_of}
+use Rattle.world_state.specs.Passed.{disk_of, entropy_of}
 use Rattle.world_state.specs.Stands.{place_of}
 use Rattle.world_state.specs.Tallied.{Counted, PostTallied}
 use Rattle.world_state.specs.declared.state.State.{State}

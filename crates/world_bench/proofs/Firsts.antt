@@ -25,7 +25,7 @@ use Rattle.kme_store.specs.declared.post.Post.{Post}
 use Rattle.kme_store.specs.declared.post.Post.TheVariants.{Off}
 use Rattle.world_lanes.specs.Stands.{IsRunning, LaneStands}
 use Rattle.world_lanes.proofs.Starts.{begins}
-use Rattle.world_posts.specs.Stands.{EntropyStands, HoldsNothing, DownStands, PostStands}
+use Rattle.world_state.specs.Passed.{EntropyStands, HoldsNothing, DownStands, PostStands}
 use Rattle.world_state.specs.Stands.{place_of, Stands}
 use Rattle.world_state.specs.declared.state.State.{State}
 use Rattle.world_bench.specs.Laid.{unstarted, without_bytes, IsLaidOut}

@@ -20,8 +20,8 @@ use Rattle.kme_store.specs.declared.standing.Standing.TheVariants.{Up, Down, Bet
 use Rattle.kme_store.specs.declared.post.Post.{Post}
 use Rattle.kme_store.specs.declared.post.Post.TheVariants.{On, Off}
 use Rattle.world_lanes.specs.Stands.{IsRunning}
-use Rattle.world_posts.specs.Stands.{HasStory, UpStands, HoldsJournal, MayFind, DownStands, StandingStands, PostStands}
-use Rattle.world_posts.specs.Counts.{disk_in, disk_of}
+use Rattle.world_state.specs.Passed.{HasStory, UpStands, HoldsJournal, MayFind, DownStands, StandingStands, PostStands}
+use Rattle.world_state.specs.Passed.{disk_in, disk_of}
 use Rattle.world_state.specs.Rests.{KeepsAs, PostRests}
 use Rattle.world_bench.specs.Laid.{IsOnDisk}
 use Rattle.world_bench.specs.Reading.{ReadsDisks}

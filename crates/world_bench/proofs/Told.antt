@@ -16,8 +16,8 @@ use Rattle.law_courses.proofs.Rests.{rest_is}
 use Rattle.kme_store.specs.declared.post.Post.{Post}
 use Rattle.kme_store.specs.declared.post.Post.TheVariants.{On, Off}
 use Rattle.world_lanes.specs.Stands.{spelled_wire, WireStands}
-use Rattle.world_posts.specs.Counts.{entropy_of}
-use Rattle.world_posts.specs.Stands.{EntropyStands, PostStands}
+use Rattle.world_state.specs.Passed.{entropy_of}
+use Rattle.world_state.specs.Passed.{EntropyStands, PostStands}
 use Rattle.world_state.specs.Stands.{place_of}
 
 pub entropy_there : {K E : Type 0} (is_honest : K → Bool) (moment : K → ℕ) (image : K → ℕ → List ℕ → Type 0) (left : E → Option OctetSequence) (net : Network) (w : World) (v : ℕ) (p : Post K E) →

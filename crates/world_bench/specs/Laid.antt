@@ -10,7 +10,7 @@ use Rattle.lane_sides.specs.Lane.{LaneForm}
 use Rattle.kme_store.specs.Manager.{WhereUp}
 use Rattle.kme_store.specs.declared.post.Post.{Post}
 use Rattle.kme_store.specs.declared.post.Post.TheVariants.{On, Off}
-use Rattle.world_posts.specs.Counts.{disk_of, entropy_of}
+use Rattle.world_state.specs.Passed.{disk_of, entropy_of}
 use Rattle.world_state.specs.Stands.{place_of}
 use Rattle.world_state.specs.declared.state.State.{State}
 use Rattle.world_bench.specs.declared.bench.Bench.{Bench}

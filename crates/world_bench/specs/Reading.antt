@@ -7,8 +7,8 @@ use Rattle.journal_records.specs.declared.version.Version.{Version}
 use Rattle.journal_snapshot.specs.declared.live.Live.{Live}
 use Rattle.journal_snapshot.specs.Layout.{live_of}
 use Rattle.journal_snapshot.specs.Standing.{HasBatches}
-use Rattle.kme_batches.specs.Spelled.{version_named}
-use Rattle.kme_batches.specs.Recovery.{AreReadAs}
+use Rattle.kme_store.specs.Passed.{version_named}
+use Rattle.kme_store.specs.Passed.{AreReadAs}
 
 -- where the bodies of an image spell batches, it stands for these
 abbrev pub ReadsDisks : (List ℕ → Option (List (List Record))) → Type 0

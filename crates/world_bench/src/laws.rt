@@ -28,8 +28,8 @@ ghost use Rattle.world_bench.specs.declared.bench.Bench.{Bench as BenchValue};
 
 use disk_model::Disk;
 use hop_frames::frames_of_a_network;
+use law_courses::law_headline::law_tasks_are_run;
 use law_courses::law_headline_of_tasks;
-use law_headline::law_tasks_are_run;
 use source_devices::{Device, Entropy, Wire};
 
 /// The network of a declared site over a new bench is a network of its scenario over what the bench tells, and a state that was laid out

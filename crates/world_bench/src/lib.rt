@@ -13,3 +13,4 @@ pub use laws::{
 };
 pub use laying::lay_out;
 pub use putting::put_back;
+pub use world_state;

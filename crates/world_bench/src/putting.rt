@@ -1,7 +1,7 @@
 // The parts of a state are put back.
 ghost use Rattle.std.specs.Prelude.{◌≡◌, ◌+◌, ◌≤◌, ◌++◌, Some, map, vec_len, vec_capacity};
 ghost use Rattle.std.specs.List.{All};
-ghost use Rattle.world_posts.specs.Counts.{disk_of, entropy_of};
+ghost use Rattle.world_state.specs.Passed.{disk_of, entropy_of};
 ghost use Rattle.world_bench.specs.Laid.{IsOnDisk, HasRoomFor, IsPutBack};
 
 use crate::Bench;

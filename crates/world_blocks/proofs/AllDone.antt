@@ -18,16 +18,16 @@ use Rattle.run_blocks.specs.declared.done_block.Turned.{Turned}
 use Rattle.run_blocks.specs.Together.{put_done, DoesTogether, LeftTogether}
 use Rattle.law_blocks.proofs.Runs.{run-append}
 use Rattle.law_emissions.specs.Putting.{Putting}
-use Rattle.law_works.specs.InOrder.{in_order, works_of, IsOneBlock}
-use Rattle.world_state.specs.Rests.{Rests}
-use Rattle.world_state.specs.Stands.{Stands}
-use Rattle.world_state.specs.Tallied.{Tallied}
-use Rattle.world_state.specs.declared.state.State.{State}
-use Rattle.world_state.proofs.Disks.{has_disks}
-use Rattle.world_state.proofs.Resting.{comes_to_rest}
-use Rattle.world_state.proofs.Tallies.{none_tallied, tallied_more}
-use Rattle.world_turns.specs.Taking.{TookTurns}
-use Rattle.world_turns.specs.declared.turns.Turns.{Turns}
+use Rattle.shared_turns.specs.Passed.{in_order, works_of, IsOneBlock}
+use Rattle.world_frames.specs.Passed.{Rests}
+use Rattle.world_frames.specs.Passed.{Stands}
+use Rattle.world_frames.specs.Passed.{Tallied}
+use Rattle.world_frames.specs.Passed.{State}
+use Rattle.world_frames.proofs.Passed.{has_disks}
+use Rattle.world_frames.proofs.Passed.{comes_to_rest}
+use Rattle.world_frames.proofs.Passed.{none_tallied, tallied_more}
+use Rattle.shared_turns.specs.Passed.{TookTurns}
+use Rattle.shared_turns.specs.Passed.{Turns}
 use Rattle.world_frames.specs.Frames.{MayPut, ArePut, PutsFrames, EndsFrames}
 use Rattle.world_frames.specs.Putting.{put_run}
 use Rattle.world_blocks.proofs.InOrder.{start, may_put_over, is_one_block}

@@ -17,14 +17,14 @@ use Rattle.law_emissions.specs.Putting.{Putting, lane_of, wanted_by}
 use Rattle.law_emissions.specs.Remaining.{Remains, AreTheSame, AreTurns}
 use Rattle.law_emissions.proofs.Lists.{all_by_lane}
 use Rattle.law_emissions.proofs.Turns.{turns_leave}
-use Rattle.law_works.specs.InOrder.{turns_over, IsInOrder, IsOneBlock}
-use Rattle.law_works.proofs.Asked.{are_asked, of_nodes, all_turns}
-use Rattle.law_works.proofs.OneBlock.{one_block}
-use Rattle.world_state.specs.Stands.{Stands}
-use Rattle.world_state.specs.declared.state.State.{State}
-use Rattle.world_turns.specs.Leases.{HasLease}
-use Rattle.world_turns.specs.Taking.{TookTurns}
-use Rattle.world_turns.specs.declared.turns.Turns.{Turns}
+use Rattle.shared_turns.specs.Passed.{turns_over, IsInOrder, IsOneBlock}
+use Rattle.shared_turns.proofs.Passed.{are_asked, of_nodes, all_turns}
+use Rattle.shared_turns.proofs.Passed.{one_block}
+use Rattle.world_frames.specs.Passed.{Stands}
+use Rattle.world_frames.specs.Passed.{State}
+use Rattle.shared_turns.specs.Passed.{HasLease}
+use Rattle.shared_turns.specs.Passed.{TookTurns}
+use Rattle.shared_turns.specs.Passed.{Turns}
 use Rattle.world_frames.specs.Frames.{MayPut, ArePut}
 use Rattle.world_frames.specs.Sending.{IsLeased, emissions}
 use Rattle.world_frames.specs.Wants.{wants_of, wants_on, wanted}

@@ -1,3 +1,4 @@
 pub mod AllDone
 pub mod InOrder
+pub mod Passed
 pub mod Tallied

@@ -5,10 +5,10 @@ use Rattle.disk_model.specs.declared.arm.Armings.{Armings}
 use Rattle.net_model.specs.Site.{Site}
 use Rattle.net_model.specs.Action.{Action, Fault}
 use Rattle.net_model.specs.Faults.{disk_faults, entropy_faults, device_faults, wire_faults, armings}
-use Rattle.kme_store.specs.declared.post.Post.{Post}
-use Rattle.world_posts.specs.Counts.{entropy_of}
-use Rattle.world_state.specs.Tallied.{Counted, IsArmedBy, PostTallied, Tallied}
-use Rattle.world_state.specs.declared.state.State.{State}
+use Rattle.world_frames.specs.Passed.{Post}
+use Rattle.world_frames.specs.Passed.{entropy_of}
+use Rattle.world_frames.specs.Passed.{Counted, IsArmedBy, PostTallied, Tallied}
+use Rattle.world_frames.specs.Passed.{State}
 
 -- the parts fail in both alike
 pub record SameFaults (site : Site) (xs ys : List Action) : Type 0 where

@@ -1,22 +1,22 @@
 // The lines of a block.
 ghost use Rattle.run_blocks.specs.Doing.{MayTogether, DidTogether};
-ghost use Rattle.world_state.specs.Armed.{most_armed};
-ghost use Rattle.world_state.specs.Rests.{Rests};
-ghost use Rattle.world_state.specs.Stands.{Stands};
-ghost use Rattle.world_state.specs.Tallied.{Tallied};
+ghost use Rattle.world_frames.specs.Passed.{most_armed};
+ghost use Rattle.world_frames.specs.Passed.{Rests};
+ghost use Rattle.world_frames.specs.Passed.{Stands};
+ghost use Rattle.world_frames.specs.Passed.{Tallied};
 
 use disk_model::Disk;
 use edge_io::Gate;
 use qkd_base::Memory;
 use run_blocks::{DoneBlock, Job};
 use shared_turns::take_turns;
+use shared_turns::world_turns::Turns;
 use source_devices::{Device, Entropy, Wire};
 use std::alloc::Global;
 use std::sync::Wait;
 use std::thread::Threads;
 use world_frames::put_frames;
-use world_state::State;
-use world_turns::Turns;
+use world_frames::world_state::State;
 
 /// So many workers do the jobs of a block: the managers take their turns, all workers at the same time where threads can be had; then all
 /// frames that the plans want put are put, lane by lane; and then each node notes what became of its own. It answers the replies and what

@@ -4,3 +4,4 @@
 mod block;
 
 pub use block::together;
+pub use world_frames::world_state;

@@ -9,6 +9,7 @@ pub mod Leases
 pub mod Noted
 pub mod Notes
 pub mod OnePut
+pub mod Passed
 pub mod Placing
 pub mod Recording
 pub mod Repeating

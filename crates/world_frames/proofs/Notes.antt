@@ -11,11 +11,11 @@ use Rattle.net_model.specs.Events.{is_valid_event}
 use Rattle.net_model.specs.Action.{Action, Complete}
 use Rattle.net_model.specs.Step.{step, run, IsRun}
 use Rattle.net_model.specs.BlockOrder.{completions}
-use Rattle.kme_store.specs.declared.post.Post.{Post}
+use Rattle.world_state.specs.Passed.{Post}
 use Rattle.law_blocks.proofs.Runs.{run_none, run-append}
-use Rattle.world_posts.specs.Counts.{Counts}
-use Rattle.world_posts.specs.Stands.{PostStands}
-use Rattle.world_posts.specs.Noting.{MayNote}
+use Rattle.world_state.specs.Passed.{Counts}
+use Rattle.world_state.specs.Passed.{PostStands}
+use Rattle.world_state.specs.Passed.{MayNote}
 use Rattle.world_state.specs.Rests.{Rests}
 use Rattle.world_state.specs.Stands.{Stands}
 use Rattle.world_state.specs.Tallied.{Tallied}

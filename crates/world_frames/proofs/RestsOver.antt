@@ -12,12 +12,12 @@ use Rattle.net_model.specs.Events.{is_lane}
 use Rattle.net_model.specs.Action.{Complete}
 use Rattle.net_model.specs.Step.{step, run, IsStep, IsRun}
 use Rattle.declared_site.specs.SiteOf.{site_of}
-use Rattle.kme_store.specs.declared.post.Post.{Post}
+use Rattle.world_state.specs.Passed.{Post}
 use Rattle.lane_sides.specs.Lane.{LaneForm}
 use Rattle.law_blocks.proofs.Runs.{first_step, later_steps, run_none, run_one}
 use Rattle.law_starts.specs.Starting.{resolved_view}
 use Rattle.world_lanes.specs.Stands.{IsRunning, LaneStands}
-use Rattle.world_posts.specs.Counts.{disk_of}
+use Rattle.world_state.specs.Passed.{disk_of}
 use Rattle.world_state.specs.Rests.{KeepsAs, PostRests, Rests}
 use Rattle.world_state.specs.Stands.{Stands, place_of}
 use Rattle.world_state.specs.Tallied.{Tallied}

@@ -13,3 +13,4 @@ pub use lanes::put_lanes;
 pub use log::{Log, Refused};
 pub use noting::note_all;
 pub use putting::{put_order, put_repeat};
+pub use world_state;

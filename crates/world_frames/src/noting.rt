@@ -27,7 +27,7 @@ fn note<K: Disk + Drop, Q: Device + Drop, E: Entropy + Drop, X: Wire + Drop>(
     match state.posts.get_mut(node) {
         None => Ok(()),
         Some(post) => {
-            world_posts::note(post, placings, up)?;
+            world_state::world_posts::note(post, placings, up)?;
             Ok(())
         }
     }

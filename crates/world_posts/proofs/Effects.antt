@@ -28,8 +28,8 @@ use Rattle.journal_snapshot.specs.Snapshots.{SnapshotForm, journal_of}
 use Rattle.law_records.proofs.Base.{number_set_same}
 use Rattle.law_folds.specs.Fitting.{AllFit}
 use Rattle.law_folds.proofs.Doubtful.{stopped_view, doubt_fits}
-use Rattle.kme_batches.specs.Spelled.{with_batch, batch_in_doubt, IsBody, IsSpelling}
-use Rattle.kme_batches.proofs.Bodies.{body_written, body_with, body_in_doubt}
+use Rattle.kme_recovery.specs.Passed.{with_batch, batch_in_doubt, IsBody, IsSpelling}
+use Rattle.kme_recovery.proofs.Passed.{body_written, body_with, body_in_doubt}
 use Rattle.kme_store.specs.Course.{Course, Stays, Stops, Goes, course, in_world}
 use Rattle.kme_store.specs.Manager.{ManagerForm, IsUpWith, IsDownWith, HasDisk, Keeps, Writes, IsAdded, HasBodyIn, HasStayed, HasStopped, HasGone, IsAfter, Answers, Acts}
 use Rattle.kme_store.specs.declared.standing.Standing.{Standing}

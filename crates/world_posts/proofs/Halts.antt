@@ -22,8 +22,8 @@ use Rattle.journal_snapshot.specs.Snapshots.{SnapshotForm, journal_of, moved_to}
 use Rattle.journal_snapshot.proofs.Areas.{need_is}
 use Rattle.journal_snapshot.proofs.Once.{opened_again}
 use Rattle.journal_snapshot.proofs.Standings.{batches_of, closing_holds, closing_plain, new_closing}
-use Rattle.kme_batches.specs.Recovery.{AreReadAs}
-use Rattle.kme_checkpoint.proofs.Whole.{bodies_need}
+use Rattle.kme_recovery.specs.Passed.{AreReadAs}
+use Rattle.kme_recovery.proofs.Passed.{bodies_need}
 use Rattle.kme_recovery.specs.Putting.{checkpoint_bodies}
 use Rattle.kme_recovery.specs.Recovery.{GivesBack, HasCheckpoint, HasRead, IsAfter}
 use Rattle.kme_recovery.specs.declared.recovering.Recovered.{Recovered}

@@ -37,8 +37,8 @@ use Rattle.law_journals.proofs.Restarting.{restarted_twice, recovered_restarts}
 use Rattle.law_journals.proofs.Checkpoint.{same_need}
 use Rattle.law_starts.specs.Starting.{resolved_view, checkpoint_of, MayStart as MayBegin, Starts, Stops}
 use Rattle.law_starts.proofs.Starts.{reads_back, finds, unsettled, unsettled_rest, settled, settled_rest, wants_memory, is_foreign}
-use Rattle.kme_batches.proofs.Reading.{nothing_read}
-use Rattle.kme_node.specs.Holdings.{view as seen_by}
+use Rattle.kme_recovery.proofs.Passed.{nothing_read}
+use Rattle.kme_recovery.specs.Passed.{view as seen_by}
 use Rattle.kme_recovery.specs.Recovery.{GivesBack, IsAfter, IsLeft, HasRead, LeavesOneKind, Leaves}
 use Rattle.kme_recovery.specs.Unread.{IsUnreadable}
 use Rattle.kme_recovery.specs.declared.recovering.Recovered.{Recovered}

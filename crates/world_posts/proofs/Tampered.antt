@@ -18,7 +18,7 @@ use Rattle.declared_site.specs.declared.site.Site.{Site as Declared}
 use Rattle.disk_model.specs.declared.arm.Armings.{Armings}
 use Rattle.hop_frames.specs.Opening.{open_of}
 use Rattle.law_records.proofs.Base.{and_both}
-use Rattle.kme_batches.specs.Frames.{is_match}
+use Rattle.kme_recovery.specs.Passed.{is_match}
 use Rattle.kme_store.specs.Manager.{ManagerForm, is_up}
 use Rattle.kme_store.specs.declared.standing.Standing.{Standing}
 use Rattle.kme_store.specs.declared.standing.Standing.TheVariants.{Up, Down, Between}

@@ -5,6 +5,7 @@ pub mod Handled
 pub mod Hearing
 pub mod Lives
 pub mod Noting
+pub mod Passed
 pub mod Stands
 pub mod Starting
 pub mod Tampering

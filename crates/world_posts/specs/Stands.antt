@@ -20,7 +20,7 @@ use Rattle.journal_snapshot.specs.Snapshots.{SnapshotForm, journal_of}
 use Rattle.law_folds.specs.Fitting.{AllFit}
 use Rattle.law_journals.specs.GivesBack.{GivesBack}
 use Rattle.law_starts.specs.Starting.{resolved_view, MayCheckpoint, checkpoint_of}
-use Rattle.kme_batches.specs.Recovery.{AreReadAs}
+use Rattle.kme_recovery.specs.Passed.{AreReadAs}
 use Rattle.kme_store.specs.Manager.{ManagerForm}
 use Rattle.kme_store.specs.declared.standing.Standing.{Standing}
 use Rattle.kme_store.specs.declared.standing.Standing.TheVariants.{Up, Down, Between}

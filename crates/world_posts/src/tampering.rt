@@ -2,7 +2,7 @@
 ghost use Rattle.std.specs.Prelude.{◌≡◌, ◌&&◌, not, ℕ, Bool, List, IfOk, OnErr};
 ghost use Rattle.hop_frames.specs.Opening.{open_of};
 ghost use Rattle.qkd_base.specs.declared.lane.Lane.{Lane as LaneValue};
-ghost use Rattle.kme_batches.specs.Frames.{is_match};
+ghost use Rattle.kme_recovery.specs.Passed.{is_match};
 ghost use Rattle.net_model.specs.Frames.{octets_received};
 ghost use Rattle.net_model.specs.Site.{receiver};
 ghost use Rattle.net_model.specs.World.{Network, World};

@@ -9,10 +9,10 @@ use Rattle.run_acts.specs.Acting.{IsReady}
 use Rattle.run_blocks.specs.declared.done_block.DoneBlock.{DoneBlock}
 use Rattle.run_blocks.specs.declared.job.Job.{Job}
 use Rattle.run_blocks.specs.Together.{DoesTogether, LeftTogether}
-use Rattle.world_state.specs.Rests.{Rests}
-use Rattle.world_state.specs.Stands.{Stands}
-use Rattle.world_state.specs.Tallied.{Tallied}
-use Rattle.world_state.specs.declared.state.State.{State}
+use Rattle.world_blocks.specs.Passed.{Rests}
+use Rattle.world_blocks.specs.Passed.{Stands}
+use Rattle.world_blocks.specs.Passed.{Tallied}
+use Rattle.world_blocks.specs.Passed.{State}
 use Rattle.world_runs.specs.Sized.{IsSized}
 
 module _ {K Q E X : Type 0} (is_honest : K → Bool) (moment : K → ℕ) (image : K → ℕ → List ℕ → Type 0) (left : E → Option OctetSequence) (told : Q → Option OctetSequence)

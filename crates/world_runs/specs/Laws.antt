@@ -5,13 +5,13 @@ use Rattle.net_model.specs.Site.{Site}
 use Rattle.net_model.specs.OctetSequence.{OctetSequence}
 use Rattle.net_model.specs.World.{Network, World}
 use Rattle.net_model.specs.Action.{Action}
-use Rattle.world_state.specs.Rests.{Rests}
-use Rattle.world_state.specs.Stands.{Stands}
-use Rattle.world_state.specs.Tallied.{Tallied}
-use Rattle.world_state.specs.declared.state.State.{State}
-use Rattle.world_state.proofs.Disks.{has_disks}
-use Rattle.world_state.proofs.Resting.{comes_to_rest as rests_here}
-use Rattle.world_state.proofs.Tallies.{none_tallied as nothing, tallied_more}
+use Rattle.world_blocks.specs.Passed.{Rests}
+use Rattle.world_blocks.specs.Passed.{Stands}
+use Rattle.world_blocks.specs.Passed.{Tallied}
+use Rattle.world_blocks.specs.Passed.{State}
+use Rattle.world_blocks.proofs.Passed.{has_disks}
+use Rattle.world_blocks.proofs.Passed.{comes_to_rest as rests_here}
+use Rattle.world_blocks.proofs.Passed.{none_tallied as nothing, tallied_more}
 
 module _ {K Q E X : Type 0} (is_honest : K → Bool) (moment : K → ℕ) (image : K → ℕ → List ℕ → Type 0) (left : E → Option OctetSequence) (told : Q → Option OctetSequence)
     (frames : X → Option (List (List ℕ))) (counted : X → ℕ) (net : Network) (w : World) where

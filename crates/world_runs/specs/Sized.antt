@@ -1,7 +1,7 @@
 -- A state has a post for each node of its site, and two lanes and a device for each link.
 use Rattle.std.specs.Prelude.{◌≡◌, ◌*◌, length}
 use Rattle.declared_site.specs.SiteOf.{site_of}
-use Rattle.world_state.specs.declared.state.State.{State}
+use Rattle.world_blocks.specs.Passed.{State}
 
 pub record IsSized {K Q E X : Type 0} (s : State K Q E X) : Type 0 where
   pub nodes : length s.posts.items ≡ (site_of s.site).nodes

@@ -1,9 +1,9 @@
 // A block of lines over the state of a run.
 ghost use Rattle.run_blocks.specs.Doing.{MayTogether, DidTogether};
-ghost use Rattle.world_state.specs.Armed.{most_armed};
-ghost use Rattle.world_state.specs.Rests.{Rests};
-ghost use Rattle.world_state.specs.Stands.{Stands};
-ghost use Rattle.world_state.specs.Tallied.{Tallied};
+ghost use Rattle.world_blocks.specs.Passed.{most_armed};
+ghost use Rattle.world_blocks.specs.Passed.{Rests};
+ghost use Rattle.world_blocks.specs.Passed.{Stands};
+ghost use Rattle.world_blocks.specs.Passed.{Tallied};
 
 use crate::Running;
 use disk_model::Disk;

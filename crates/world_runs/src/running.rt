@@ -1,12 +1,12 @@
 // The state of a run, as a scenario's lines ask it.
 ghost use Rattle.std.specs.Prelude.{◌≡◌};
 ghost use Rattle.declared_site.specs.SiteOf.{IsDeclared};
-ghost use Rattle.world_state.specs.Armed.{most_armed};
+ghost use Rattle.world_blocks.specs.Passed.{most_armed};
 ghost use Rattle.world_runs.specs.Sized.{IsSized};
 ghost use Rattle.world_runs.specs.Laws.{comes_to_rest as rests_here, none_tallied as no_tally, more_tallied as added};
-ghost use Rattle.world_state.specs.Rests.{Rests};
-ghost use Rattle.world_state.specs.Stands.{Stands};
-ghost use Rattle.world_state.specs.Tallied.{Tallied};
+ghost use Rattle.world_blocks.specs.Passed.{Rests};
+ghost use Rattle.world_blocks.specs.Passed.{Stands};
+ghost use Rattle.world_blocks.specs.Passed.{Tallied};
 
 use declared_site::Site;
 use disk_model::{Arm, Disk};
@@ -16,7 +16,7 @@ use report_items::{Item, StartResult};
 use run_acts::{Acts, Tampered};
 use run_turns::{BlockTake, Delivery};
 use source_devices::{Device, Entropy, Wire};
-use world_state::State;
+use world_blocks::world_state::State;
 
 /// The managers, lanes and devices of a run over a declared site.
 #[derive(Drop)]
@@ -63,57 +63,57 @@ impl<K: Disk + Drop, Q: Device + Drop, E: Entropy + Drop, X: Wire + Drop> Acts
     }
 
     fn is_up(&self, node: NodeNo) -> bool {
-        world_state::is_up(&self.state, node)
+        world_blocks::world_state::is_up(&self.state, node)
     }
 
     fn on_wire(&self, lane: Lane) -> u64 {
-        world_state::on_wire(&self.state, lane)
+        world_blocks::world_state::on_wire(&self.state, lane)
     }
 
     fn counts(&self, lane: Lane) -> Counts4 {
-        world_state::counts(&self.state, lane)
+        world_blocks::world_state::counts(&self.state, lane)
     }
 
     fn ask(&mut self, node: NodeNo, event: &Event) -> Reply {
-        world_state::ask(&mut self.state, node, event)
+        world_blocks::world_state::ask(&mut self.state, node, event)
     }
 
     fn take_block(&mut self, node: NodeNo, link: LinkNo) -> Result<BlockTake, Memory> {
-        world_state::take_block(&mut self.state, node, link)
+        world_blocks::world_state::take_block(&mut self.state, node, link)
     }
 
     fn tick(&mut self, node: NodeNo, quiet: bool) -> Result<Items<Item>, Memory> {
         let alloc = *self.state.posts.allocator();
-        world_state::tick(alloc, &mut self.state, node, quiet)
+        world_blocks::world_state::tick(alloc, &mut self.state, node, quiet)
     }
 
     fn pass(&mut self, lane: Lane, number: u64) -> Result<Delivery, Memory> {
-        world_state::pass(&mut self.state, &lane, number)
+        world_blocks::world_state::pass(&mut self.state, &lane, number)
     }
 
     fn flip(&mut self, lane: Lane, number: u64, bit: u32) -> Result<Tampered, Memory> {
-        world_state::flip(&mut self.state, &lane, number, bit)
+        world_blocks::world_state::flip(&mut self.state, &lane, number, bit)
     }
 
     fn forge(&mut self, lane: Lane, octets: &[u8]) -> Result<Tampered, Memory> {
-        world_state::forge(&mut self.state, &lane, octets)
+        world_blocks::world_state::forge(&mut self.state, &lane, octets)
     }
 
     fn crash(&mut self, node: NodeNo) -> bool {
-        world_state::crash(&mut self.state, node)
+        world_blocks::world_state::crash(&mut self.state, node)
     }
 
     fn start(&mut self, node: NodeNo) -> Result<StartResult, Memory> {
         let alloc = *self.state.posts.allocator();
-        world_state::start(alloc, &mut self.state, node)
+        world_blocks::world_state::start(alloc, &mut self.state, node)
     }
 
     fn arm(&mut self, node: NodeNo, arm: Arm) {
-        world_state::arm(&mut self.state, node, arm)
+        world_blocks::world_state::arm(&mut self.state, node, arm)
     }
 
     fn set_link(&mut self, link: LinkNo, up: bool) {
-        world_state::set_link(&mut self.state, link, up)
+        world_blocks::world_state::set_link(&mut self.state, link, up)
     }
 
     ghost is_sited = { λ s net w stands. stands.sited };

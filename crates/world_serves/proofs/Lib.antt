@@ -5,6 +5,7 @@ pub mod Ending
 pub mod Gathering
 pub mod Nodes
 pub mod Parts
+pub mod Passed
 pub mod Passing
 pub mod Replaying
 pub mod Servable

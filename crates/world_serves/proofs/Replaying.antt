@@ -18,7 +18,7 @@ use Rattle.law_records.proofs.Base.{and_both, eq_same}
 use Rattle.law_blocks.proofs.Runs.{one_more, nothing_runs, run_none, run_one}
 use Rattle.run_model.specs.Course.{is_request, is_request_of}
 use Rattle.turnstile.specs.Turns.{Leads}
-use Rattle.world_posts.specs.Asking.{MayAsk, Asked}
+use Rattle.world_state.specs.Passed.{MayAsk, Asked}
 use Rattle.world_state.specs.Armed.{most_armed}
 use Rattle.world_state.specs.Stands.{Stands}
 use Rattle.world_state.specs.Tallied.{Tallied}

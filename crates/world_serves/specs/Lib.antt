@@ -1,3 +1,4 @@
 pub mod Asked
+pub mod Passed
 pub mod Seats
 pub mod Served

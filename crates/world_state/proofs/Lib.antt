@@ -17,6 +17,7 @@ pub mod OneSide
 pub mod OneTallied
 pub mod OtherLanes
 pub mod Others
+pub mod Passed
 pub mod Passing
 pub mod PlanAndNote
 pub mod Plays

@@ -33,3 +33,4 @@ pub use starting::start;
 pub use state::State;
 pub use tampering::{flip, forge};
 pub use ticking::tick;
+pub use world_posts;

@@ -12,11 +12,11 @@ use Rattle.net_model.specs.Events.{is_valid_event}
 use Rattle.net_model.specs.Action.{Environment, Ask, Deliver, Ok, is_io_fault, is_entropy_fault}
 use Rattle.net_model.specs.BlockOrder.{is_block_event}
 use Rattle.net_model.specs.Step.{is_asked, is_enabled}
-use Rattle.kme_store.specs.declared.post.Post.{Post}
+use Rattle.world_state.specs.Passed.{Post}
 use Rattle.run_blocks.specs.Jobs.{is_job}
 use Rattle.law_records.proofs.Base.{and_left, and_right, and_both}
-use Rattle.world_posts.specs.Asking.{MayAsk, Asked}
-use Rattle.world_posts.specs.Hearing.{MayHear, HasHeard}
+use Rattle.world_state.specs.Passed.{MayAsk, Asked}
+use Rattle.world_state.specs.Passed.{MayHear, HasHeard}
 use Rattle.world_state.specs.declared.state.State.{State}
 use Rattle.world_state.proofs.AsksOne.{asks_post}
 use Rattle.world_state.proofs.Changes.{OnePost}

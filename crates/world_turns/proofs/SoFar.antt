@@ -25,7 +25,7 @@ use Rattle.run_blocks.specs.Jobs.{is_job, asked_by, asked_in_order}
 use Rattle.run_blocks.specs.Together.{turned, turn_done}
 use Rattle.law_records.proofs.Base.{and_left}
 use Rattle.law_blocks.proofs.Runs.{one_more, nothing_runs, run_none, run_one, runs-append, run-append}
-use Rattle.law_emissions.specs.Putting.{wanted_by}
+use Rattle.law_works.specs.Passed.{wanted_by}
 use Rattle.law_works.proofs.Merging.{in_order_is_a_merge}
 use Rattle.world_state.specs.Stands.{Stands}
 use Rattle.world_state.specs.Tallied.{Tallied}

@@ -39,8 +39,8 @@ use Rattle.law_others.specs.Touched.{touches_lane, Lease, Frames, Wire, changes_
 use Rattle.law_others.proofs.LaneParts.{step_part}
 use Rattle.law_others.proofs.Frames.{frame_stays}
 use Rattle.law_ticks.specs.Sending.{IsEmission}
-use Rattle.law_emissions.proofs.Replies.{event_none, delivery_none}
-use Rattle.law_emissions.proofs.Planned.{plan_adds}
+use Rattle.law_works.proofs.Passed.{event_none, delivery_none}
+use Rattle.law_works.proofs.Passed.{plan_adds}
 use Rattle.world_turns.specs.Turning.{asked_with, planner}
 
 no_part : (b : Bool) → (b && false) ≡ false

@@ -1,4 +1,5 @@
 pub mod Leases
 pub mod Order
+pub mod Passed
 pub mod Taking
 pub mod Turning

@@ -11,7 +11,7 @@ use Rattle.net_model.specs.Step.{step, run, IsStep, IsRun}
 use Rattle.net_model.specs.BlockOrder.{IsMerge}
 use Rattle.net_model.specs.Tick.{Emission}
 use Rattle.run_model.specs.Works.{Work, actions_in, flat, plain_work, done_from}
-use Rattle.law_emissions.specs.Putting.{wanted_by}
+use Rattle.law_works.specs.Passed.{wanted_by}
 use Rattle.run_blocks.specs.declared.job.Job.{Job}
 use Rattle.run_blocks.specs.declared.done_block.Turned.{Turned}
 use Rattle.run_blocks.specs.Jobs.{is_job, asked_by}

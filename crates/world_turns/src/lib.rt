@@ -6,3 +6,4 @@ mod turns;
 
 pub use next::Next;
 pub use turns::Turns;
+pub use world_state;

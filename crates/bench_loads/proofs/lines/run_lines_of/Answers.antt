@@ -8,14 +8,14 @@ use Rattle.run_acts.specs.Acting.{IsReady}
 use Rattle.run_acts.specs.Runnable.{IsEntryFor}
 use Rattle.load_lines.specs.Loaded.{RanLoad}
 use Rattle.run_model.specs.Report.{tasks}
-use Rattle.world_state.specs.Rests.{Rests}
-use Rattle.world_state.specs.Stands.{Stands}
-use Rattle.world_state.specs.Tallied.{Tallied}
-use Rattle.world_state.specs.declared.state.State.{State}
-use Rattle.world_bench.specs.Laid.{IsLaidOut, IsPutBack}
-use Rattle.world_bench.specs.New.{network_on}
-use Rattle.world_bench.proofs.Firsts.{stands_first}
-use Rattle.world_runs.specs.declared.running.Running.{Running}
+use Rattle.bench_runs.specs.Passed.{Rests}
+use Rattle.bench_runs.specs.Passed.{Stands}
+use Rattle.bench_runs.specs.Passed.{Tallied}
+use Rattle.bench_runs.specs.Passed.{State}
+use Rattle.bench_runs.specs.Passed.{IsLaidOut, IsPutBack}
+use Rattle.bench_runs.specs.Passed.{network_on}
+use Rattle.bench_runs.proofs.Passed.{stands_first}
+use Rattle.bench_runs.specs.Passed.{Running}
 use Rattle.bench_runs.proofs.Rooms.{first_is_quiet, whole_again}
 use Rattle.bench_loads.proofs.Headlines.{headlines}
 use Rattle.bench_loads.proofs.lines.run_lines_of.Goals as goal

@@ -1,6 +1,6 @@
 -- The answers of a run over a bench.
 use Rattle.std.proofs.Common.{inr}
-use Rattle.world_state.specs.declared.state.State.{State}
+use Rattle.world_bench.specs.Passed.{State}
 use Rattle.bench_runs.proofs.Headlines.{headlines}
 use Rattle.bench_runs.proofs.Rooms.{whole_again}
 use Rattle.bench_runs.proofs.running.run_scenario.Goals as goal

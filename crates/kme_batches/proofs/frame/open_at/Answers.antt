@@ -5,7 +5,7 @@ use Rattle.qkd_base.specs.declared.lane.Way.{Way}
 use Rattle.qkd_base.specs.declared.lane.Way.TheVariants as ways
 use Rattle.net_model.specs.View.{Port, incoming_octets}
 use Rattle.link_segments.specs.Lanes.{Held}
-use Rattle.lane_ports.specs.Places.{LinkEnds}
+use Rattle.kme_node.specs.Passed.{LinkEnds}
 use Rattle.hop_frames.specs.Opening.{Opens, open_of}
 use Rattle.kme_batches.proofs.frame.open_at.Goals as goal
 

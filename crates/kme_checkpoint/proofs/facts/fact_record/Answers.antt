@@ -2,7 +2,7 @@ use Rattle.std.proofs.Common.{sym, ap, subst, ◌∙◌}
 use Rattle.net_model.specs.declared.fact.Fact.{Fact}
 use Rattle.net_model.specs.declared.record.Record.TheVariants.{Learned, Bare}
 use Rattle.net_model.specs.Formed.{IsBareFact}
-use Rattle.kept_facts.specs.Needs.{kept_view}
+use Rattle.kme_node.specs.Passed.{kept_view}
 use Rattle.kme_checkpoint.proofs.Listed.{sees_itself, bare_at, record_by}
 use Rattle.kme_checkpoint.proofs.facts.fact_record.Goals as goal
 

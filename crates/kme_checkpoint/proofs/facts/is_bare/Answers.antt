@@ -1,6 +1,6 @@
 use Rattle.std.proofs.Common.{Bool, not, ◌&&◌, sym, ap, ◌∙◌}
 use Rattle.net_model.specs.Needed.{is_needed}
-use Rattle.kept_facts.specs.Needs.{needs_at}
+use Rattle.kme_node.specs.Passed.{needs_at}
 use Rattle.kme_checkpoint.proofs.facts.is_bare.Goals as goal
 
 pub returns-then-is_secret : goal.returns-then-is_secret

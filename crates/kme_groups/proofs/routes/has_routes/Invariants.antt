@@ -2,7 +2,7 @@ use Rattle.std.proofs.Common.{◌≡◌, ℕ, Bool, drop}
 use Rattle.std.specs.Prelude.{is_some}
 use Rattle.declared_site.specs.SiteOf.{site_of}
 use Rattle.net_model.specs.Groups.{routes_to}
-use Rattle.kme_site.specs.Up.{AreUp}
+use Rattle.kme_keys.specs.Passed.{AreUp}
 use Rattle.kme_groups.proofs.routes.has_routes.Given as goal
 
 abbrev pub invariant-loop-slave : goal.invariant-loop-slave

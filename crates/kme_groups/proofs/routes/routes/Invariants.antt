@@ -1,7 +1,7 @@
 use Rattle.std.proofs.Common.{◌≡◌, ℕ, Bool, drop}
 use Rattle.declared_site.specs.SiteOf.{site_of}
 use Rattle.net_model.specs.Groups.{routes_to}
-use Rattle.kme_site.specs.Up.{AreUp}
+use Rattle.kme_keys.specs.Passed.{AreUp}
 use Rattle.kme_groups.proofs.Routed.{with_front}
 use Rattle.kme_groups.proofs.routes.routes.Given as goal
 

@@ -9,7 +9,7 @@ use Rattle.journal_records.specs.declared.version.Version.TheVariants.{Second}
 use Rattle.net_model.specs.Journal.{checkpoint_batches, checkpoint_need, checkpoint_place, is_checkpoint_due}
 use Rattle.journal_snapshot.specs.Snapshots.{journal_of, need_of, fits_in}
 use Rattle.journal_snapshot.specs.Refused.{place_of}
-use Rattle.kme_node.specs.Holdings.{view}
+use Rattle.kme_checkpoint.specs.Passed.{view}
 use Rattle.kme_checkpoint.proofs.Whole.{if_ok}
 use Rattle.kme_recovery.specs.Putting.{HoldsEither, checkpoint_bodies, disk_of}
 use Rattle.kme_recovery.proofs.Put.{is_ripe, ripe_due, unripe_due, kept_as, put_as, untouched, under, held_as}

@@ -1,6 +1,6 @@
 use Rattle.declared_site.specs.SiteOf.{site_of}
 use Rattle.net_model.specs.View.{View}
-use Rattle.kme_node.specs.Holdings.{view}
+use Rattle.kme_checkpoint.specs.Passed.{view}
 use Rattle.kme_checkpoint.proofs.Whole.{bodies_need}
 use Rattle.kme_recovery.specs.Recovery.{GivesBack}
 use Rattle.kme_recovery.proofs.Started.{back_as, left_as, put_moments, stopped_moments, told_after, untouched_by}

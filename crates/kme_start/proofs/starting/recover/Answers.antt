@@ -1,5 +1,5 @@
 use Rattle.std.proofs.Common.{Ok, Err, refl}
-use Rattle.kme_node.specs.Holdings.{view}
+use Rattle.kme_recovery.specs.Passed.{view}
 use Rattle.kme_start.proofs.Told.{told_by}
 use Rattle.kme_start.proofs.starting.recover.Goals as goal
 

@@ -5,7 +5,7 @@ use Rattle.source_devices.specs.declared.shortage.Shortage.TheVariants.{Failed}
 use Rattle.route_table.specs.Layer.{bit_is_set}
 use Rattle.kme_step.specs.Random.{with_random}
 use Rattle.kme_step.specs.declared.step.Step.{Step}
-use Rattle.kme_node.specs.Holdings.{view, Fits, HasRoom}
+use Rattle.kme_batches.specs.Passed.{view, Fits, HasRoom}
 use Rattle.kme_batches.proofs.Bodies.{body_some}
 use Rattle.kme_batches.proofs.Decided.{AreOver}
 use Rattle.kme_store.specs.Drawing.{Gives}

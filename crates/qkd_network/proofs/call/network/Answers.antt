@@ -5,7 +5,7 @@ use Rattle.run_lines.specs.declared.stop.Stop.TheVariants as stops
 use Rattle.run_model.specs.Course.{Words, Load}
 use Rattle.run_model.specs.Load.{load_scenario}
 use Rattle.run_model.specs.Headline as headline
-use Rattle.bench_runs.specs.Running.{HasHeadlines, ended}
+use Rattle.bench_veils.specs.Passed.{HasHeadlines, ended}
 use Rattle.bench_veils.specs.Veiling.{HasVeiled}
 use Rattle.word_forms.specs.Forms.{wanted_of}
 use Rattle.word_forms.specs.declared.form.Form.{Form}

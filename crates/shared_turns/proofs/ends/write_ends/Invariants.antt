@@ -1,7 +1,7 @@
 use Rattle.std.proofs.Common.{slice_index}
 use Rattle.declared_site.specs.SiteOf.{site_of}
 use Rattle.turn_desks.proofs.Writing.{WroteTo}
-use Rattle.world_state.specs.Stands.{place_of}
+use Rattle.world_turns.specs.Passed.{place_of}
 use Rattle.shared_turns.proofs.ends.write_ends.Given as goal
 
 abbrev pub invariant-loop-place : goal.invariant-loop-place

@@ -5,7 +5,7 @@ use Rattle.std.proofs.lemmas.List.{map-append}
 use Rattle.net_model.specs.Site.{count_up}
 use Rattle.net_model.specs.World.{Network, World}
 use Rattle.run_acts.specs.Acting.{IsReady}
-use Rattle.world_state.specs.Stands.{Stands}
+use Rattle.world_turns.specs.Passed.{Stands}
 use Rattle.shared_turns.specs.Sheets.{IsFresh}
 use Rattle.shared_machines.proofs.Lasts.{put_back, all_back, all_first, the_last, all_and_one, all_reversed, no_items, count_down, last_there}
 use Rattle.shared_turns.proofs.seating.sit.Goals as goal

@@ -15,7 +15,7 @@ use Rattle.shared_turns.proofs.Shifts.{long_jobs}
 use Rattle.shared_turns.proofs.Taken.{shifts_taken, few_replies, sides_of, no_replies, start_sides, armed_in, took_in}
 use Rattle.shared_machines.proofs.Lasts.{same_vec}
 use Rattle.shared_turns.specs.Ends.{AreMixed}
-use Rattle.world_state.specs.Armed.{most_armed}
+use Rattle.world_turns.specs.Passed.{most_armed}
 use Rattle.shared_turns.proofs.taking.take_in_room.Goals as goal
 
 pub sit-requires-clause-count : goal.sit-requires-clause-count

@@ -1,5 +1,5 @@
 use Rattle.std.proofs.Common.{sym, ◌∙◌}
-use Rattle.world_posts.proofs.Handles.{handled_up, handled_on_down, handled_off}
+use Rattle.world_turns.proofs.Passed.{handled_up, handled_on_down, handled_off}
 use Rattle.turn_desks.proofs.putting.put.Goals as goal
 
 pub act-requires : goal.act-requires

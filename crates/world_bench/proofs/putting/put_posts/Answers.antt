@@ -1,7 +1,7 @@
 use Rattle.std.proofs.Common.{◌++◌, map, Some, sym, ap, subst, ◌∙◌, arith}
 use Rattle.std.specs.List.{All}
 use Rattle.std.proofs.lemmas.List.Elements.{All-push}
-use Rattle.world_posts.specs.Counts.{disk_of, entropy_of}
+use Rattle.world_state.specs.Passed.{disk_of, entropy_of}
 use Rattle.world_bench.specs.Laid.{IsOnDisk}
 use Rattle.world_bench.proofs.Lists.{put_last}
 use Rattle.world_bench.proofs.putting.put_posts.Goals as goal

@@ -1,6 +1,6 @@
 use Rattle.std.proofs.Common.{◌≡◌, ◌≤◌, ◌+◌, ◌++◌, map, Some, vec_len, vec_capacity}
 use Rattle.std.specs.List.{All}
-use Rattle.world_posts.specs.Counts.{disk_of, entropy_of}
+use Rattle.world_state.specs.Passed.{disk_of, entropy_of}
 use Rattle.world_bench.specs.Laid.{IsOnDisk}
 use Rattle.world_bench.proofs.putting.put_posts.Given as goal
 

@@ -1,7 +1,7 @@
 use Rattle.std.proofs.Common.{◌∙◌}
 use Rattle.std.specs.Prelude.{Result, Ok, Err, IfOk}
 use Rattle.std.specs.Result.{IsErr}
-use Rattle.world_state.proofs.Endings.{on_err}
+use Rattle.world_frames.proofs.Passed.{on_err}
 use Rattle.world_blocks.proofs.InOrder.{start, may_put_over}
 use Rattle.world_blocks.proofs.AllDone.{nobody_asked, all_done, all_ended}
 use Rattle.world_blocks.proofs.block.together.Goals as goal

@@ -2,11 +2,11 @@ use denote.Param.Send.{sendable}
 use Rattle.std.proofs.Common.{sym, subst}
 use Rattle.declared_site.specs.SiteOf.{IsDeclared}
 use Rattle.declared_site.specs.declared.site.Site.{Site as Declared}
-use Rattle.world_state.specs.Armed.{most_armed}
-use Rattle.world_state.specs.Rests.{Rests}
-use Rattle.world_state.specs.Stands.{Stands}
-use Rattle.world_state.specs.Tallied.{Tallied}
-use Rattle.world_state.specs.declared.state.State.{State}
+use Rattle.world_blocks.specs.Passed.{most_armed}
+use Rattle.world_blocks.specs.Passed.{Rests}
+use Rattle.world_blocks.specs.Passed.{Stands}
+use Rattle.world_blocks.specs.Passed.{Tallied}
+use Rattle.world_blocks.specs.Passed.{State}
 use Rattle.world_runs.specs.declared.running.Running.{Running}
 use Rattle.world_runs.proofs.Carried.{together_in, together_out}
 use Rattle.world_runs.proofs.Sizes.{sized_together}

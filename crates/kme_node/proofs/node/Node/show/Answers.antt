@@ -1,7 +1,7 @@
 use Rattle.std.proofs.Common.{◌≡◌, IfOk, refl, sym, subst, ap, ◌∙◌}
 use Rattle.net_model.specs.Decide.{decide}
 use Rattle.net_model.specs.Show.{show}
-use Rattle.stream_core.specs.Kept.{Sees}
+use Rattle.kept_facts.specs.Passed.{Sees}
 use Rattle.kme_step.specs.Steps.{orders_of}
 use Rattle.kme_node.specs.Holdings.{view}
 use Rattle.kme_node.proofs.Sights.{sees}

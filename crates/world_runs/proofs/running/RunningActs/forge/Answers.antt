@@ -3,9 +3,9 @@ use Rattle.net_model.specs.Action.{Forge}
 use Rattle.net_model.specs.Action.{Ok as Fine}
 use Rattle.run_model.specs.Script.{asks}
 use Rattle.run_acts.specs.Acting.{tampered}
-use Rattle.world_state.specs.Rests.{Rests}
-use Rattle.world_state.specs.Stands.{Stands}
-use Rattle.world_state.specs.Tallied.{Tallied}
+use Rattle.world_blocks.specs.Passed.{Rests}
+use Rattle.world_blocks.specs.Passed.{Stands}
+use Rattle.world_blocks.specs.Passed.{Tallied}
 use Rattle.world_runs.specs.declared.running.Running.{Running}
 use Rattle.world_runs.proofs.Carried.{ok_out, err_out}
 use Rattle.world_runs.proofs.running.RunningActs.forge.Goals as goal

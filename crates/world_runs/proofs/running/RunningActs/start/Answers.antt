@@ -2,9 +2,9 @@ use Rattle.std.proofs.Common.{[], false}
 use Rattle.net_model.specs.Action.{Start, Recovers}
 use Rattle.run_model.specs.Script.{asks}
 use Rattle.run_turns.specs.Reported.{started}
-use Rattle.world_state.specs.Rests.{Rests}
-use Rattle.world_state.specs.Stands.{Stands}
-use Rattle.world_state.specs.Tallied.{Tallied}
+use Rattle.world_blocks.specs.Passed.{Rests}
+use Rattle.world_blocks.specs.Passed.{Stands}
+use Rattle.world_blocks.specs.Passed.{Tallied}
 use Rattle.world_runs.specs.declared.running.Running.{Running}
 use Rattle.world_runs.proofs.Carried.{ok_out, err_out}
 use Rattle.world_runs.proofs.running.RunningActs.start.Goals as goal

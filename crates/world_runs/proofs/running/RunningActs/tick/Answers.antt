@@ -1,7 +1,7 @@
 use Rattle.run_model.specs.Lines.{ticked}
-use Rattle.world_state.specs.Rests.{Rests}
-use Rattle.world_state.specs.Stands.{Stands}
-use Rattle.world_state.specs.Tallied.{Tallied}
+use Rattle.world_blocks.specs.Passed.{Rests}
+use Rattle.world_blocks.specs.Passed.{Stands}
+use Rattle.world_blocks.specs.Passed.{Tallied}
 use Rattle.world_runs.specs.declared.running.Running.{Running}
 use Rattle.world_runs.proofs.Carried.{plays_out, err_out}
 use Rattle.world_runs.proofs.running.RunningActs.tick.Goals as goal

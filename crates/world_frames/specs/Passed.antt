@@ -1,0 +1,7 @@
+-- What stands below this crate, for those above it that name it no other way.
+pub use Rattle.world_state.specs.Armed.{most_armed}
+pub use Rattle.world_state.specs.Passed.{Post, entropy_of}
+pub use Rattle.world_state.specs.Rests.{Rests}
+pub use Rattle.world_state.specs.Stands.{Stands}
+pub use Rattle.world_state.specs.Tallied.{Counted, IsArmedBy, PostTallied, Tallied}
+pub use Rattle.world_state.specs.declared.state.State.{State}
