@@ -51,12 +51,8 @@ impl Api {
         let Event::Status { master, slave } = event else {
             return Err(Memory);
         };
-        let Some((master, source)) = self.end(*master) else {
-            return Err(Memory);
-        };
-        let Some((slave, target)) = self.end(*slave) else {
-            return Err(Memory);
-        };
+        let (master, source) = self.end(*master).ok_or(Memory)?;
+        let (slave, target) = self.end(*slave).ok_or(Memory)?;
         let pool = Pool {
             master,
             slave,

@@ -95,9 +95,7 @@ pub(crate) fn slaves(
     let Some(given) = object.get("additional_slave_SAE_IDs") else {
         return Ok(slaves);
     };
-    let Some(items) = given.as_array() else {
-        return Err(CallFault::SlavesRefused);
-    };
+    let items = given.as_array().ok_or(CallFault::SlavesRefused)?;
     choose(entitlements, slaves, items.as_slice())
 }
 
@@ -133,12 +131,8 @@ pub(crate) fn key_ids(alloc: Global, object: &Value) -> Result<Names, CallFault>
     ensures { Gives (key_ids_in (view object.now)) result }
 {
     let names = Names::new(alloc);
-    let Some(given) = object.get("key_IDs") else {
-        return Err(CallFault::BadKeyIds);
-    };
-    let Some(items) = given.as_array() else {
-        return Err(CallFault::BadKeyIds);
-    };
+    let given = object.get("key_IDs").ok_or(CallFault::BadKeyIds)?;
+    let items = given.as_array().ok_or(CallFault::BadKeyIds)?;
     let names = listed(names, items.as_slice())?;
     if names.is_empty() {
         return Err(CallFault::BadKeyIds);

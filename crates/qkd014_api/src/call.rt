@@ -46,16 +46,16 @@ impl Api {
     {
         let path = path(request.target.as_slice());
         let method = request.method.as_slice();
-        let Some(resource) = self.resource(path, method) else {
-            return Err(CallFault::UnknownResource);
-        };
-        let Some(caller) = only_value(request.fields.as_slice(), b"x-sae-id") else {
-            return Err(CallFault::MissingCaller);
-        };
+        let resource = self
+            .resource(path, method)
+            .ok_or(CallFault::UnknownResource)?;
+        let caller = only_value(request.fields.as_slice(), b"x-sae-id").ok_or(
+            CallFault::MissingCaller,
+        )?;
         let other = sae_part(path, resource);
-        let Some(pair) = self.pair(node, resource, caller, other) else {
-            return Err(CallFault::NotAllowed);
-        };
+        let pair = self
+            .pair(node, resource, caller, other)
+            .ok_or(CallFault::NotAllowed)?;
         let posts = is_post(method);
         self.event(alloc, resource, posts, request, pair.0, pair.1)
     }

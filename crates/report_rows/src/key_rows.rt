@@ -34,19 +34,10 @@ fn key_list(alloc: Global, rest: &[u8]) -> Result<Keys, LineRefusal>
     let mut keys = Keys::new(alloc);
     let mut left = rest;
     while let Some((name_word, behind_name)) = word(left) {
-        let Some((hex, others)) = word(behind_name) else {
-            return Err(LineRefusal::NotALine);
-        };
-        let Some(name) = name(name_word) else {
-            return Err(LineRefusal::NotALine);
-        };
-        match octets(alloc, hex) {
-            Ok(octets) => match keys.push((name, octets)) {
-                Ok(()) => {}
-                Err(_) => return Err(LineRefusal::Memory),
-            },
-            Err(refusal) => return Err(refusal),
-        }
+        let (hex, others) = word(behind_name).ok_or(LineRefusal::NotALine)?;
+        let name = name(name_word).ok_or(LineRefusal::NotALine)?;
+        let octets = octets(alloc, hex)?;
+        keys.push((name, octets))?;
         left = others;
     }
     Ok(keys)

@@ -45,9 +45,7 @@ pub fn read_form(words: &Texts) -> Result<Form, usize>
     ensures form { MatchResult result (λ form. asked_by words.now ≡ Ok (wanted_of form)) (λ place. asked_by words.now ≡ Err place) }
     ensures range { IfOk result IsInRange }
 {
-    let Some(first) = words.get(0) else {
-        return Err(0);
-    };
+    let first = words.get(0).ok_or(0usize)?;
     if first.as_str() == "run" {
         return run_form(words);
     }
@@ -99,12 +97,7 @@ fn run_form(words: &Texts) -> Result<Form, usize>
     ensures form { MatchResult result (λ form. run_form (drop 1 words.now) ≡ Ok (wanted_of form)) (λ place. run_form (drop 1 words.now) ≡ Err place) }
     ensures range { IfOk result IsInRange }
 {
-    let Some(count) = words.get(1) else {
-        return Err(1);
-    };
-    let Some(workers) = number_in(1, 32, count.as_str().as_bytes()) else {
-        return Err(1);
-    };
+    let workers = count_at(words, 1, 1, 32).ok_or(1usize)?;
     if words.len() > 2 {
         return Err(2);
     }
@@ -118,12 +111,7 @@ fn load_form(words: &Texts) -> Result<Form, usize>
     ensures form { MatchResult result (λ form. load_form (drop 1 words.now) ≡ Ok (wanted_of form)) (λ place. load_form (drop 1 words.now) ≡ Err place) }
     ensures range { IfOk result IsInRange }
 {
-    let Some(count) = words.get(1) else {
-        return Err(1);
-    };
-    let Some(rounds) = number_in(1, 500, count.as_str().as_bytes()) else {
-        return Err(1);
-    };
+    let rounds = count_at(words, 1, 1, 500).ok_or(1usize)?;
     if words.len() > 2 {
         return Err(2);
     }
@@ -148,15 +136,9 @@ fn serve_form(words: &Texts) -> Result<Form, usize>
     ensures form { MatchResult result (λ form. serve_form (drop 1 words.now) ≡ Ok (wanted_of form)) (λ place. serve_form (drop 1 words.now) ≡ Err place) }
     ensures range { IfOk result IsInRange }
 {
-    let Some(workers) = count_at(words, 1, 1, 32) else {
-        return Err(1);
-    };
-    let Some(connections) = count_at(words, 2, 1, 10_000) else {
-        return Err(2);
-    };
-    let Some(port) = count_at(words, 3, 1, 65_520) else {
-        return Err(3);
-    };
+    let workers = count_at(words, 1, 1, 32).ok_or(1usize)?;
+    let connections = count_at(words, 2, 1, 10_000).ok_or(2usize)?;
+    let port = count_at(words, 3, 1, 65_520).ok_or(3usize)?;
     if words.len() > 4 {
         return Err(4);
     }
@@ -194,18 +176,12 @@ fn bound_form(words: &Texts) -> Result<Form, usize>
     ensures form { MatchResult result (λ form. bound_form (drop 1 words.now) ≡ Ok (wanted_of form)) (λ place. bound_form (drop 1 words.now) ≡ Err place) }
     ensures range { IfOk result IsInRange }
 {
-    let Some(a) = text_at(words, 1) else {
-        return Err(1);
-    };
-    let Some(b) = text_at(words, 2) else {
-        return Err(2);
-    };
+    let a = text_at(words, 1).ok_or(1usize)?;
+    let b = text_at(words, 2).ok_or(2usize)?;
     if a.as_slice() == b.as_slice() {
         return Err(2);
     }
-    let Some(difference) = number_at(words, 3) else {
-        return Err(3);
-    };
+    let difference = number_at(words, 3).ok_or(3usize)?;
     if words.len() > 4 {
         return Err(4);
     }
