@@ -1,3 +1,4 @@
 pub mod Octets
 pub mod Spans
 pub mod Streams
+pub mod Words

@@ -1,7 +1,7 @@
 -- The octets that a generator tells: a key stream of ChaCha20 (RFC 8439, with a block counter of 64 bits).
-use Rattle.std.specs.Prelude.{ℕ, ◌+◌, ◌*◌, ◌/◌, ◌%◌, ◌^◌, List, ◌∷◌, replicate, Option, Some, None}
+use Rattle.std.specs.Prelude.{ℕ, ◌+◌, ◌*◌, ◌/◌, ◌%◌, ◌^◌, List, ◌∷◌, replicate, Some, None}
 use Rattle.rand_chacha.specs.ChaCha.{word_at, key_of}
-use Rattle.net_model.specs.OctetSequence.{OctetSequence}
+use Rattle.net_model.specs.OctetSequence.{OctetSequence, octets_from}
 
 -- a key of 32 octets: a letter, a number and thirty zeros
 abbrev pub seed : ℕ → ℕ → List ℕ
@@ -28,6 +28,13 @@ pub record StreamForm : Type 0 where
   pub letter : ℕ
   pub number : ℕ
   pub place : ℕ
+
+-- its next n octets, and where it stands after them
+abbrev pub next_octets : StreamForm → ℕ → List ℕ
+next_octets s n = octets_from (stream_octet s.letter s.number) s.place n
+
+abbrev pub moved : StreamForm → ℕ → StreamForm
+moved s n = record s { place = (s.place + n) % 2 ^ 70 }
 
 -- what a generator tells from its place on
 abbrev pub told_from : StreamForm → OctetSequence

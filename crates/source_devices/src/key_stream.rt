@@ -1,11 +1,11 @@
 // The octets of a key stream of ChaCha20.
 ghost use Rattle.std.specs.Prelude.{◌≡◌, ◌+◌, ◌*◌, ◌%◌, ◌^◌, ◌<◌, length};
 ghost use Rattle.net_model.specs.OctetSequence.{octets_from};
-ghost use Rattle.source_devices.specs.KeyStream.{octet_at, octet_of, stream_octet};
+ghost use Rattle.source_devices.specs.KeyStream.{octet_at, octet_of, stream_octet, next_octets, moved};
 
 use rand_chacha::ChaCha20Rng;
 use rand_core::SeedableRng;
-use rand_core::utils::NextWord;
+use rand_core::utils::{NextWord, fill_bytes_via_u32};
 use std::marker::Model;
 
 // How many octets a stream has: 2^68 words of four. After them it begins again.
@@ -83,14 +83,59 @@ impl KeyStream {
         ((self.held >> (8 * within)) % 256) as u8
     }
 
-    /// Fills the buffer with the next octets.
-    pub fn read(&mut self, into: &mut [u8])
-        ensures octets { into.new ≡ octets_from (stream_octet self.old.letter self.old.number) self.old.place (length into.old) }
-        ensures place { self.new ≡ record self.old { place = (self.old.place + length into.old) % 2 ^ 70 } }
+    // How many octets are left of the word that was begun.
+    fn left_of_word(&self) -> usize
+        ensures whole { (self.now.place + result) % 4 ≡ 0 }
+        ensures within { self.now.place < 2 ^ 70 }
+    {
+        ((4 - self.place % 4) % 4) as usize
+    }
+
+    // Fills the buffer octet by octet.
+    fn read_octets(&mut self, into: &mut [u8])
+        ensures octets { into.new ≡ next_octets self.old (length into.old) }
+        ensures place { self.new ≡ moved self.old (length into.old) }
     {
         self.within();
         for octet in into.iter_mut() {
             *octet = self.next();
         }
+    }
+
+    // Fills the buffer with whole words.
+    fn read_words(&mut self, into: &mut [u8])
+        requires begun { self.old.place % 4 ≡ 0 }
+        requires whole { length into.old % 4 ≡ 0 }
+        ensures octets { into.new ≡ next_octets self.old (length into.old) }
+        ensures place { self.new ≡ moved self.old (length into.old) }
+    {
+        fill_bytes_via_u32(&mut self.generator, into);
+        self.place = (self.place + into.len() as u128) % PERIOD;
+    }
+
+    // Fills the buffer from the first octet of a word on.
+    fn read_from_word(&mut self, into: &mut [u8])
+        requires begun { self.old.place % 4 ≡ 0 }
+        ensures octets { into.new ≡ next_octets self.old (length into.old) }
+        ensures place { self.new ≡ moved self.old (length into.old) }
+    {
+        let (words, over) = into.split_at_mut(into.len() / 4 * 4);
+        self.read_words(words);
+        self.read_octets(over);
+    }
+
+    /// Fills the buffer with the next octets.
+    pub fn read(&mut self, into: &mut [u8])
+        ensures octets { into.new ≡ octets_from (stream_octet self.old.letter self.old.number) self.old.place (length into.old) }
+        ensures place { self.new ≡ record self.old { place = (self.old.place + length into.old) % 2 ^ 70 } }
+    {
+        let left = self.left_of_word();
+        if into.len() < left {
+            self.read_octets(into);
+            return;
+        }
+        let (first, rest) = into.split_at_mut(left);
+        self.read_octets(first);
+        self.read_from_word(rest);
     }
 }

@@ -1,6 +1,6 @@
 use Rattle.std.proofs.Common.{◌≡◌, ℕ, ◌+◌, ◌%◌, ◌^◌, ◌<◌, get_or}
 use Rattle.source_devices.specs.KeyStream.{stream_octet}
-use Rattle.source_devices.proofs.key_stream.KeyStream.read.Given as goal
+use Rattle.source_devices.proofs.key_stream.KeyStream.read_octets.Given as goal
 
 abbrev pub invariant-loop-octet : goal.invariant-loop-octet
 invariant-loop-octet l = record {
