@@ -1,16 +1,17 @@
 -- What waits without its bytes waits where it waited.
-use Rattle.std.proofs.Common.{◌≡◌, ℕ, zero, suc, Bool, ◌&&◌, List, [], ◌∷◌, length, refl, sym, ◌∙◌, ap, subst, arith, Some, ◌⊎◌, inl, inr}
+use Rattle.std.proofs.Common.{◌≡◌, ℕ, zero, suc, Bool, ◌&&◌, ◌||◌, List, [], ◌∷◌, length, refl, sym, ◌∙◌, ap, subst, arith, take, Some, ◌⊎◌, inl, inr}
 use Rattle.std.specs.Prelude.{slice_get, ◌==◌}
+use Rattle.std.specs.List.{list_any}
 use Rattle.std.proofs.lemmas.List.{length-replicate}
 use Rattle.net_model.specs.declared.fact.Fact.{Fact}
 use Rattle.net_model.specs.declared.fact.Fact.TheVariants.{Key, Chunk, Stored, Open, Joined, Part}
-use Rattle.net_model.specs.Table.{without_bytes, zeros_for}
+use Rattle.net_model.specs.Table.{without_bytes, zeros_for, is_stored_about}
 use Rattle.qkd_base.specs.Name.{Name, name_eq}
 use Rattle.relay_core.specs.Knowledge.{forgotten}
 use Rattle.end_store.specs.declared.pool.Pool.{Pool}
 use Rattle.end_store.specs.declared.pool.Line.{Line}
 use Rattle.end_store.specs.declared.pool.Line.TheVariants.{Stock, Keys, Parts}
-use Rattle.end_store.specs.Waiting.{own, is_in, stands, is_taken, AreWaiting}
+use Rattle.end_store.specs.Waiting.{own, is_in, stands, is_taken, is_noted, AreWaiting}
 
 pub in_stays : (p : Pool) (m s : ℕ) (bytes : List ℕ) → is_in p m s (zeros_for bytes) ≡ is_in p m s bytes
 in_stays p m s bytes = ap (λ (k : ℕ). (m == p.master) && (s == p.slave) && (k == p.octets)) (length-replicate (length bytes) 0)
@@ -37,6 +38,31 @@ taken_stays handed (Open stream source peer size route) = refl
 taken_stays handed (Joined note about route) = refl
 taken_stays handed (Part name key m s route bytes) = refl
 
+pub note_stays : (n : Name) (f : Fact) → is_stored_about n (without_bytes f) ≡ is_stored_about n f
+note_stays n (Key name m s route bytes) = refl
+note_stays n (Chunk name stream index route bytes) = refl
+note_stays n (Stored note about route) = refl
+note_stays n (Open stream source peer size route) = refl
+note_stays n (Joined note about route) = refl
+note_stays n (Part name key m s route bytes) = refl
+
+pub notes_stay : (n : Name) (facts : List Fact) (p : ℕ) → list_any (is_stored_about n) (forgotten facts p) ≡ list_any (is_stored_about n) facts
+notes_stay n [] p = refl
+notes_stay n (x ∷ xs) zero = ap (λ (b : Bool). b || list_any (is_stored_about n) xs) (note_stays n x)
+notes_stay n (x ∷ xs) (suc p) = ap (λ (b : Bool). is_stored_about n x || b) (notes_stay n xs p)
+
+front_notes : (n : Name) (facts : List Fact) (p c : ℕ) → list_any (is_stored_about n) (take c (forgotten facts p)) ≡ list_any (is_stored_about n) (take c facts)
+front_notes n [] p c = refl
+front_notes n (x ∷ xs) zero zero = refl
+front_notes n (x ∷ xs) (suc p) zero = refl
+front_notes n (x ∷ xs) zero (suc c) = ap (λ (b : Bool). b || list_any (is_stored_about n) (take c xs)) (note_stays n x)
+front_notes n (x ∷ xs) (suc p) (suc c) = ap (λ (b : Bool). is_stored_about n x || b) (front_notes n xs p c)
+
+noted_stays : (me : ℕ) (facts : List Fact) (l : Line) (c p count : ℕ) → is_noted me (take count (forgotten facts p)) l c ≡ is_noted me (take count facts) l c
+noted_stays me facts (Stock q) c p count = refl
+noted_stays me facts (Keys q) c p count = front_notes (own me c) facts p count
+noted_stays me facts (Parts q) c p count = refl
+
 -- what stands at a place afterwards stood there, maybe with its bytes
 record StoodAt (facts : List Fact) (i : ℕ) (f : Fact) : Type 0 where
   pub old : Fact
@@ -58,11 +84,12 @@ length_stays (x ∷ xs) (suc p) = let e = length_stays xs p in omega arith
 waiting_stays : (me : ℕ) (facts : List Fact) (handed : List (Name × ℕ)) (es : List (List ℕ)) (count p : ℕ) → AreWaiting me facts handed es count → AreWaiting me (forgotten facts p) handed es count
 waiting_stays me facts handed es count p w = record {
   within = let k = w.within in let e = length_stays facts p in omega arith;
-  complete = λ l c i f lt there at free.
+  complete = λ l c i f lt there at free noted.
       let was = stood facts p i f there in
       w.complete l c i was.old lt was.there
       (sym (as_it_stood (stands me l c i) f was.old (stands_stays me l c i was.old) was.same) ∙ at)
-      (sym (as_it_stood (is_taken handed) f was.old (taken_stays handed was.old) was.same) ∙ free);
+      (sym (as_it_stood (is_taken handed) f was.old (taken_stays handed was.old) was.same) ∙ free)
+      (sym (noted_stays me facts l c p count) ∙ noted);
 }
   where
     as_it_stood : (t : Fact → Bool) (f g : Fact) → t (without_bytes g) ≡ t g → (f ≡ g) ⊎ (f ≡ without_bytes g) → t f ≡ t g

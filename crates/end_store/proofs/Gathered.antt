@@ -1,5 +1,5 @@
 -- The ready keys of a pool, one after the other.
-use Rattle.std.proofs.Common.{subst, length-append, append_assoc, ◌≡◌, ℕ, zero, suc, ◌+◌, ◌*◌, ◌/◌, ◌%◌, ◌<◌, ◌≤◌, ◌^◌, Bool, true, false, cond, not, ◌&&◌, List, [], ◌∷◌, ◌++◌, length, refl, sym, ◌∙◌, ap, arith, take, Option, Some, None, ◌⊎◌, inl, inr}
+use Rattle.std.proofs.Common.{subst, length-append, append_assoc, length-take, min, ◌≡◌, ℕ, zero, suc, ◌+◌, ◌*◌, ◌/◌, ◌%◌, ◌<◌, ◌≤◌, ◌^◌, Bool, true, false, cond, not, ◌&&◌, List, [], ◌∷◌, ◌++◌, length, refl, sym, ◌∙◌, ap, arith, take, Option, Some, None, ◌⊎◌, inl, inr}
 use Rattle.std.specs.Prelude.{filter, is_some, ◌==◌, nat_le, nat_lt, if◌then◌else◌}
 use Rattle.std.specs.List.{list_any}
 use Rattle.std.proofs.lemmas.Bool.Decides.{nat_tests}
@@ -19,7 +19,7 @@ use Rattle.relay_core.proofs.Names.{and_left, name_eq_from, eq_from, eq_same}
 use Rattle.end_store.specs.declared.pool.Pool.{Pool}
 use Rattle.end_store.specs.declared.pool.Line.TheVariants.{Keys}
 use Rattle.end_store.specs.Waiting.{own, is_free_key, is_free_key_at, IsNextWaiting, IsLastWaiting}
-use Rattle.end_store.specs.Pooled.{octets_pool, is_ready}
+use Rattle.end_store.specs.Pooled.{octets_pool, is_ready, ready_names}
 use Rattle.end_store.proofs.Lines.{keys_bound}
 
 module _ (P : Name → Bool) (me : ℕ) where
@@ -99,7 +99,7 @@ pub found_all : (me : ℕ) (facts : List Fact) (handed : List (Name × ℕ)) (p 
 found_all me facts handed p number after names h last =
     let few = h.few in
     let same : ready_up_to me facts handed p (last_count me facts) ≡ names =
-    skip (is_ready me facts handed p) me after (last_count me facts) h.within (λ d lt le. ap (λ (b : Bool). b && list_any (is_stored_about (own me d)) facts) (last.none d (omega arith))) ∙ sym h.are in
+    skip (is_ready me facts handed p) me after (last_count me facts) h.within (λ d lt le. last.none d (omega arith)) ∙ sym h.are in
     sym (ap (take number) same ∙ take_all number names few)
 
 pub found_enough : (me : ℕ) (facts : List Fact) (handed : List (Name × ℕ)) (p : Pool) (number after : ℕ) (names : List Name) → HasFirst me facts handed p number after names →
@@ -111,36 +111,16 @@ found_enough me facts handed p number after names h enough =
 
 module _ (me : ℕ) (facts : List Fact) (handed : List (Name × ℕ)) (p : Pool) (number after count : ℕ) (names : List Name)
     (h : HasFirst me facts handed p number after names) (next : IsNextWaiting me facts handed (Keys p) (after + 1) count) where
-  between : (d : ℕ) → after < d → d < count → is_ready me facts handed p (own me d) ≡ false
-  between d lt gt = ap (λ (b : Bool). b && list_any (is_stored_about (own me d)) facts) (next.first d (omega arith) gt)
-
-  pub found_one : length names < number → list_any (is_stored_about (own me count)) facts ≡ true → HasFirst me facts handed p number count (names ++ own me count ∷ [])
-  found_one room note =
+  pub found_one : length names < number → HasFirst me facts handed p number count (names ++ own me count ∷ [])
+  found_one room =
       let behind = next.behind in
       record {
         are = ap (λ (xs : List Name). xs ++ own me count ∷ []) h.are
-            ∙ ap (λ (b : Bool). ready_up_to me facts handed p after ++ cond b (own me count ∷ []) []) (sym passes)
-            ∙ sym (next_one (is_ready me facts handed p) me after count (omega arith) between);
+            ∙ ap (λ (b : Bool). ready_up_to me facts handed p after ++ cond b (own me count ∷ []) []) (sym next.waits)
+            ∙ sym (next_one (is_ready me facts handed p) me after count (omega arith) (λ d lt gt. next.first d (omega arith) gt));
         within = keys_bound me facts handed p count next.waits;
         few = let e = length-append names (own me count ∷ []) in omega arith;
       }
-    where
-      passes : is_ready me facts handed p (own me count) ≡ true
-      passes = (λ i. next.waits i && note i)
-
-  pub found_other : list_any (is_stored_about (own me count)) facts ≡ false → HasFirst me facts handed p number count names
-  found_other note =
-      let behind = next.behind in
-      record {
-        are = h.are ∙ sym (append_nil (is_ready me facts handed p) me (ready_up_to me facts handed p after))
-            ∙ ap (λ (b : Bool). ready_up_to me facts handed p after ++ cond b (own me count ∷ []) []) (sym fails)
-            ∙ sym (next_one (is_ready me facts handed p) me after count (omega arith) between);
-        within = keys_bound me facts handed p count next.waits;
-        few = h.few;
-      }
-    where
-      fails : is_ready me facts handed p (own me count) ≡ false
-      fails = (λ i. next.waits i && note i)
 
 pub named_as : (me node count : ℕ) (name : Name) → node ≡ me → Some name ≡ (if nat_le 1 count && nat_lt count (2 ^ 48) then Some (record { node = node; kind = KeyKind; count = count }) else None) → name ≡ own me count
 named_as me node count name e h = by_test (nat_le 1 count && nat_lt count (2 ^ 48)) h
@@ -156,21 +136,22 @@ pub record HasCounted (me : ℕ) (facts : List Fact) (handed : List (Name × ℕ
   pub count : ready ≡ length (ready_up_to me facts handed p after)
 
 pub counted_all : (me : ℕ) (facts : List Fact) (handed : List (Name × ℕ)) (p : Pool) (number after ready : ℕ) → HasCounted me facts handed p number after ready →
-    IsLastWaiting me facts handed (Keys p) (after + 1) → ready ≡ length (take number (ready_up_to me facts handed p (last_count me facts)))
-counted_all me facts handed p number after ready h none = h.count ∙ ap length (found_all me facts handed p number after (ready_up_to me facts handed p after) h.names none)
+    IsLastWaiting me facts handed (Keys p) (after + 1) → ready ≡ min number (length (ready_names me facts handed p))
+counted_all me facts handed p number after ready h none =
+    h.count ∙ ap length (found_all me facts handed p number after (ready_up_to me facts handed p after) h.names none) ∙ length-take number (ready_names me facts handed p)
 
 pub counted_enough : (me : ℕ) (facts : List Fact) (handed : List (Name × ℕ)) (p : Pool) (number after ready : ℕ) → HasCounted me facts handed p number after ready →
-    number ≤ ready → ready ≡ length (take number (ready_up_to me facts handed p (last_count me facts)))
+    number ≤ ready → ready ≡ min number (length (ready_names me facts handed p))
 counted_enough me facts handed p number after ready h enough =
     let c = h.count in
-    c ∙ ap length (found_enough me facts handed p number after (ready_up_to me facts handed p after) h.names (omega arith))
+    c ∙ ap length (found_enough me facts handed p number after (ready_up_to me facts handed p after) h.names (omega arith)) ∙ length-take number (ready_names me facts handed p)
 
 module _ (me : ℕ) (facts : List Fact) (handed : List (Name × ℕ)) (p : Pool) (number after count ready : ℕ)
     (h : HasCounted me facts handed p number after ready) (next : IsNextWaiting me facts handed (Keys p) (after + 1) count) where
-  pub counted_one : ready < number → list_any (is_stored_about (own me count)) facts ≡ true → HasCounted me facts handed p number count (ready + 1)
-  counted_one room note =
+  pub counted_one : ready < number → HasCounted me facts handed p number count (ready + 1)
+  counted_one room =
       let c = h.count in
-      let f = found_one me facts handed p number after count (ready_up_to me facts handed p after) h.names next (omega arith) note in
+      let f = found_one me facts handed p number after count (ready_up_to me facts handed p after) h.names next (omega arith) in
       let e = length-append (ready_up_to me facts handed p after) (own me count ∷ []) in
       let l = ap length f.are in
       record {
@@ -178,18 +159,8 @@ module _ (me : ℕ) (facts : List Fact) (handed : List (Name × ℕ)) (p : Pool)
         count = omega arith;
       }
 
-  pub counted_other : list_any (is_stored_about (own me count)) facts ≡ false → HasCounted me facts handed p number count ready
-  counted_other note =
-      let f = found_other me facts handed p number after count (ready_up_to me facts handed p after) h.names next note in
-      record {
-        names = subst (HasFirst me facts handed p number count) f.are f;
-        count = h.count ∙ ap length f.are;
-      }
-
 pub counted_none : (me : ℕ) (facts : List Fact) (handed : List (Name × ℕ)) (p : Pool) (number : ℕ) → HasCounted me facts handed p number 0 0
 counted_none me facts handed p number = record { names = found_none me facts handed p number; count = refl }
-
--- what is ready is in the pool
 
 -- what is ready is in the pool
 
@@ -241,7 +212,7 @@ keyed handed m s bits n (Stored note about route) whole e = refl
 keyed handed m s bits n (Open stream source peer size route) whole e = refl
 keyed handed m s bits n (Joined note about route) whole e = refl
 
-found_as : (facts : List Fact) (n : Name) (f : Fact) → fact_at facts n ≡ Some f → name_of f ≡ n
+pub found_as : (facts : List Fact) (n : Name) (f : Fact) → fact_at facts n ≡ Some f → name_of f ≡ n
 found_as facts n f e =
     let at = somewhere (λ x. name_eq (name_of x) n) facts (ap is_some e) in
     let same : Some at.item ≡ Some f = sym at.found ∙ e in

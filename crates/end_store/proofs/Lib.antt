@@ -5,3 +5,5 @@ pub mod Counted
 pub mod Numbers
 pub mod Forgotten
 pub mod Stocked
+pub mod Readied
+pub mod Learning

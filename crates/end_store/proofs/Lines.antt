@@ -1,25 +1,28 @@
 -- What stands at a count of a line, and its entries.
-use Rattle.std.proofs.Common.{◌≡◌, ℕ, zero, suc, ◌+◌, ◌<◌, ◌≤◌, ◌^◌, max, Bool, true, false, ◌&&◌, ◌||◌, List, [], ◌∷◌, ◌++◌, length, refl, sym, ◌∙◌, ap, arith, Option, Some, None, ◌⊎◌, inl, inr}
+use Rattle.std.proofs.Common.{◌≡◌, ℕ, zero, suc, ◌+◌, ◌<◌, ◌≤◌, ◌^◌, max, Bool, true, false, ◌&&◌, ◌||◌, List, [], ◌∷◌, ◌++◌, length, refl, sym, ◌∙◌, ap, arith, take, Option, Some, None, ◌⊎◌, inl, inr}
 use Rattle.std.specs.Prelude.{slice_get, slice_index, is_some, not, nat_le, nat_lt, ◌==◌, if◌then◌else◌}
 use Rattle.std.specs.List.{list_any}
 use Rattle.std.specs.Str.{bytes_eq}
 use Rattle.std.proofs.lemmas.Slice.Eq.{bytes_eq-Decides}
+use Rattle.std.proofs.lemmas.List.{take-append-le, take_all}
 use Rattle.qkd_base.specs.declared.key_name.NameKind.TheVariants.{Key as KeyKind}
 use Rattle.qkd_base.specs.Name.{Name, IsName, name_eq, kind_eq}
 use Rattle.net_model.specs.declared.fact.Fact.{Fact}
 use Rattle.net_model.specs.declared.fact.Fact.TheVariants.{Key, Chunk, Stored, Open, Joined, Part}
-use Rattle.net_model.specs.Table.{was_handed, fact_at, has_fact, name_of, is_part_of, part_of}
+use Rattle.net_model.specs.Table.{was_handed, fact_at, has_fact, name_of, is_part_of, is_stored_about, part_of}
 use Rattle.net_model.specs.Decision.{last_count, count_if, group_count}
-use Rattle.relay_core.proofs.Kept.{somewhere, any_somewhere}
+use Rattle.relay_core.proofs.Kept.{IsSomewhere, somewhere, any_somewhere}
+use Rattle.relay_core.specs.Knowledge.{AreDistinct}
 use Rattle.relay_core.specs.Firsts.{IsFirstFrom, IsNoneFrom}
 use Rattle.std.proofs.lemmas.Bool.Decides.{nat_tests}
 use Rattle.ordered_entries.specs.Entries.{has_entry, entry_at, IsNextIn, IsLastIn}
-use Rattle.relay_core.proofs.Firsts.{get_within, not_true, any_at}
-use Rattle.relay_core.proofs.Names.{name_eq_from, eq_same, eq_from, and_left, and_right}
+use Rattle.relay_core.proofs.Firsts.{get_within, not_true, any_at, find_hits}
+use Rattle.relay_core.proofs.Names.{name_eq_from, names_same, eq_same, eq_from, and_left, and_right}
+use Rattle.end_store.proofs.Pairs.{any_take}
 use Rattle.end_store.specs.declared.pool.Pool.{Pool}
 use Rattle.end_store.specs.declared.pool.Line.{Line}
 use Rattle.end_store.specs.declared.pool.Line.TheVariants.{Stock, Keys, Parts}
-use Rattle.end_store.specs.Waiting.{own, is_in, is_own, pool_of, stands, is_taken, is_waiting, is_free_key, is_free_key_at, is_part_in, is_part_in_at, pool_entry, line_entry, place_entry, count_entry, GrowsBy, AreWaiting, IsLastWaiting}
+use Rattle.end_store.specs.Waiting.{own, is_in, is_own, pool_of, stands, is_taken, is_waiting, is_free_key, is_free_key_at, is_part_in, is_part_in_at, pool_entry, line_entry, is_noted, place_entry, count_entry, free_entry, brought_entry, GrowsBy, AreWaiting, IsLastWaiting}
 
 bytes_same : (a b : List ℕ) → a ≡ b → bytes_eq a b ≡ true
 bytes_same a b e = (bytes_eq-Decides a b).1 e
@@ -50,38 +53,10 @@ entries_same tag p m s bytes c d pool e =
     ∙ ap (λ (x : ℕ). tag ∷ p.master ∷ p.slave ∷ x ∷ 0 ∷ 0 ∷ 0 ∷ c ∷ []) pool.octets
     ∙ ap (λ (x : ℕ). tag ∷ p.master ∷ p.slave ∷ p.octets ∷ 0 ∷ 0 ∷ 0 ∷ x ∷ []) e
 
-own_is : (me c : ℕ) (n : Name) → name_eq n (own me c) ≡ true → (is_own me n ≡ true) × (n.count ≡ c)
+pub own_is : (me c : ℕ) (n : Name) → name_eq n (own me c) ≡ true → (is_own me n ≡ true) × (n.count ≡ c)
 own_is me c n h =
     let e = name_eq_from n (own me c) h in
     (ap (λ (m : Name). is_own me m) e ∙ ap (λ (b : Bool). b && kind_eq KeyKind KeyKind) (eq_same me), ap (λ (m : Name). m.count) e)
-
--- what stands there has its entry among its own two
-pub own_entry : (me : ℕ) (l : Line) (c i : ℕ) (f : Fact) → stands me l c i f ≡ true → (place_entry i f ≡ Some (line_entry l c)) ⊎ (count_entry me f ≡ Some (line_entry l c))
-own_entry me (Stock p) c i (Key name m s route bytes) h =
-    inl (ap Some (entries_same 0 p m s bytes i c (in_pool p m s bytes (and_left (is_in p m s bytes) (i == c) h)) (eq_from i c (and_right (is_in p m s bytes) (i == c) h))))
-own_entry me (Keys p) c i (Key name m s route bytes) h =
-    let at = own_is me c name (and_right (is_in p m s bytes) (name_eq name (own me c)) h) in
-    inr (ap (λ (b : Bool). if b then Some (line_entry (Keys (pool_of m s bytes)) name.count) else None) at.0
-    ∙ ap Some (entries_same 1 p m s bytes name.count c (in_pool p m s bytes (and_left (is_in p m s bytes) (name_eq name (own me c)) h)) at.1))
-own_entry me (Parts p) c i (Part name key m s route bytes) h =
-    let at = own_is me c key (and_right (is_in p m s bytes) (name_eq key (own me c)) h) in
-    inr (ap (λ (b : Bool). if b then Some (line_entry (Parts (pool_of m s bytes)) key.count) else None) at.0
-    ∙ ap Some (entries_same 2 p m s bytes key.count c (in_pool p m s bytes (and_left (is_in p m s bytes) (name_eq key (own me c)) h)) at.1))
-own_entry me (Stock p) c i (Chunk name stream index route bytes) h = cc
-own_entry me (Stock p) c i (Stored note about route) h = cc
-own_entry me (Stock p) c i (Open stream source peer size route) h = cc
-own_entry me (Stock p) c i (Joined note about route) h = cc
-own_entry me (Stock p) c i (Part name key m s route bytes) h = cc
-own_entry me (Keys p) c i (Chunk name stream index route bytes) h = cc
-own_entry me (Keys p) c i (Stored note about route) h = cc
-own_entry me (Keys p) c i (Open stream source peer size route) h = cc
-own_entry me (Keys p) c i (Joined note about route) h = cc
-own_entry me (Keys p) c i (Part name key m s route bytes) h = cc
-own_entry me (Parts p) c i (Key name m s route bytes) h = cc
-own_entry me (Parts p) c i (Chunk name stream index route bytes) h = cc
-own_entry me (Parts p) c i (Stored note about route) h = cc
-own_entry me (Parts p) c i (Open stream source peer size route) h = cc
-own_entry me (Parts p) c i (Joined note about route) h = cc
 
 -- listing
 
@@ -105,7 +80,7 @@ pub waiting_kept : (me : ℕ) (facts : List Fact) (handed : List (Name × ℕ)) 
     AreWaiting me facts handed new count
 waiting_kept me facts handed old new count o waiting grows = record {
   within = waiting.within;
-  complete = λ l c i f lt there at free. grown_kept old new o (line_entry l c) grows (waiting.complete l c i f lt there at free);
+  complete = λ l c i f lt there at free noted. grown_kept old new o (line_entry l c) grows (waiting.complete l c i f lt there at free noted);
 }
 
 below : (p count : ℕ) → p < count + 1 → (p < count) ⊎ (p ≡ count)
@@ -117,19 +92,141 @@ below p count lt = split p count (omega arith)
     split (suc p) zero le = absurd (omega arith)
     split (suc p) (suc c) le = elim (split p c (omega arith)) [ inl h ↦ inl (omega arith) | inr h ↦ inr (omega arith) ]
 
-pub waiting_more : (me : ℕ) (facts : List Fact) (handed : List (Name × ℕ)) (old mid new : List (List ℕ)) (count : ℕ) (f : Fact) → AreWaiting me facts handed old count → slice_get facts count ≡ Some f →
-    GrowsBy old mid (place_entry count f) → GrowsBy mid new (count_entry me f) → AreWaiting me facts handed new (count + 1)
-waiting_more me facts handed old mid new count f waiting there a b = record {
+-- the fact of a name that stands at a place
+pub found_at : (facts : List Fact) (n : Name) (i : ℕ) (f : Fact) → AreDistinct facts → slice_get facts i ≡ Some f → name_of f ≡ n → fact_at facts n ≡ Some f
+found_at facts n i f d there named = same (somewhere (λ g. name_eq (name_of g) n) facts (find_hits (λ g. name_eq (name_of g) n) facts i f there (names_same (name_of f) n named)))
+  where
+    same : IsSomewhere (λ g. name_eq (name_of g) n) facts → fact_at facts n ≡ Some f
+    same at =
+        let one : at.place ≡ i = d.apart at.place i n (record { fact = at.item; there = at.there; named = name_eq_from (name_of at.item) n at.passes }) (record { fact = f; there = there; named = named }) in
+        at.found ∙ sym at.there ∙ ap (slice_get facts) one ∙ there
+
+-- what is confirmed with one more fact
+
+or_cases : (a b : Bool) → (a || b) ≡ true → (a ≡ true) ⊎ (b ≡ true)
+or_cases true b h = inl refl
+or_cases false b h = inr h
+
+any_front : {A : Type 0} (t : A → Bool) (xs : List A) (c : ℕ) → list_any t (take c xs) ≡ true → list_any t xs ≡ true
+any_front t [] zero h = h
+any_front t [] (suc c) h = h
+any_front t (x ∷ xs) zero h = cc
+any_front t (x ∷ xs) (suc c) h = elim (or_cases (t x) (list_any t (take c xs)) h) [
+  | inl e ↦ or_left (t x) (list_any t xs) e
+  | inr e ↦ or_right (t x) (list_any t xs) (any_front t xs c e)
+]
+
+any_one : {A : Type 0} (t : A → Bool) (xs : List A) (c : ℕ) (x : A) → slice_get xs c ≡ Some x → list_any t (take (c + 1) xs) ≡ true → (list_any t (take c xs) ≡ true) ⊎ (t x ≡ true)
+any_one t xs c x there h = or_cases (list_any t (take c xs)) (t x) (sym (any_take t xs c x there) ∙ h)
+
+noted_one : (me : ℕ) (facts : List Fact) (l : Line) (c count : ℕ) (f : Fact) → slice_get facts count ≡ Some f → is_noted me (take (count + 1) facts) l c ≡ true →
+    (is_noted me (take count facts) l c ≡ true) ⊎ (is_stored_about (own me c) f ≡ true)
+noted_one me facts (Stock p) c count f there h = inl refl
+noted_one me facts (Keys p) c count f there h = any_one (is_stored_about (own me c)) facts count f there h
+noted_one me facts (Parts p) c count f there h = inl refl
+
+-- no master takes a note
+not_taken : (handed : List (Name × ℕ)) (n : Name) (f : Fact) → is_taken handed f ≡ true → is_stored_about n f ≡ false
+not_taken handed n (Key name m s route bytes) h = refl
+not_taken handed n (Part name key m s route bytes) h = refl
+not_taken handed n (Chunk name stream index route bytes) h = refl
+not_taken handed n (Stored note about route) h = cc
+not_taken handed n (Open stream source peer size route) h = refl
+not_taken handed n (Joined note about route) h = refl
+
+-- a key by its count
+stands_named : (me : ℕ) (p : Pool) (c i : ℕ) (f : Fact) → stands me (Keys p) c i f ≡ true → name_of f ≡ own me c
+stands_named me p c i (Key name m s route bytes) h = name_eq_from name (own me c) (and_right (is_in p m s bytes) (name_eq name (own me c)) h)
+stands_named me p c i (Part name key m s route bytes) h = cc
+stands_named me p c i (Chunk name stream index route bytes) h = cc
+stands_named me p c i (Stored note about route) h = cc
+stands_named me p c i (Open stream source peer size route) h = cc
+stands_named me p c i (Joined note about route) h = cc
+
+stands_key : (me : ℕ) (p : Pool) (c i : ℕ) (f : Fact) → stands me (Keys p) c i f ≡ true → count_entry me f ≡ Some (line_entry (Keys p) c)
+stands_key me p c i (Key name m s route bytes) h =
+    let at = own_is me c name (and_right (is_in p m s bytes) (name_eq name (own me c)) h) in
+    ap (λ (b : Bool). if b then Some (line_entry (Keys (pool_of m s bytes)) name.count) else None) at.0
+    ∙ ap Some (entries_same 1 p m s bytes name.count c (in_pool p m s bytes (and_left (is_in p m s bytes) (name_eq name (own me c)) h)) at.1)
+stands_key me p c i (Part name key m s route bytes) h = cc
+stands_key me p c i (Chunk name stream index route bytes) h = cc
+stands_key me p c i (Stored note about route) h = cc
+stands_key me p c i (Open stream source peer size route) h = cc
+stands_key me p c i (Joined note about route) h = cc
+
+-- what stands there and is confirmed has its entry among its own two
+own_entry : (me : ℕ) (facts : List Fact) (handed : List (Name × ℕ)) (l : Line) (c i : ℕ) (f : Fact) → stands me l c i f ≡ true → is_noted me facts l c ≡ true →
+    (place_entry i f ≡ Some (line_entry l c)) ⊎ (brought_entry me facts handed f ≡ Some (line_entry l c))
+own_entry me facts handed (Stock p) c i (Key name m s route bytes) h noted =
+    inl (ap Some (entries_same 0 p m s bytes i c (in_pool p m s bytes (and_left (is_in p m s bytes) (i == c) h)) (eq_from i c (and_right (is_in p m s bytes) (i == c) h))))
+own_entry me facts handed (Keys p) c i (Key name m s route bytes) h noted =
+    let is = stands_named me p c i (Key name m s route bytes) h in
+    inr (ap (λ (b : Bool). if b then count_entry me (Key name m s route bytes) else None) (ap (λ (n : Name). list_any (is_stored_about n) facts) is ∙ noted)
+    ∙ stands_key me p c i (Key name m s route bytes) h)
+own_entry me facts handed (Parts p) c i (Part name key m s route bytes) h noted =
+    let at = own_is me c key (and_right (is_in p m s bytes) (name_eq key (own me c)) h) in
+    inr (ap (λ (b : Bool). if b then Some (line_entry (Parts (pool_of m s bytes)) key.count) else None) at.0
+    ∙ ap Some (entries_same 2 p m s bytes key.count c (in_pool p m s bytes (and_left (is_in p m s bytes) (name_eq key (own me c)) h)) at.1))
+own_entry me facts handed (Stock p) c i (Part name key m s route bytes) h noted = cc
+own_entry me facts handed (Stock p) c i (Chunk name stream index route bytes) h noted = cc
+own_entry me facts handed (Stock p) c i (Stored note about route) h noted = cc
+own_entry me facts handed (Stock p) c i (Open stream source peer size route) h noted = cc
+own_entry me facts handed (Stock p) c i (Joined note about route) h noted = cc
+own_entry me facts handed (Keys p) c i (Part name key m s route bytes) h noted = cc
+own_entry me facts handed (Keys p) c i (Chunk name stream index route bytes) h noted = cc
+own_entry me facts handed (Keys p) c i (Stored note about route) h noted = cc
+own_entry me facts handed (Keys p) c i (Open stream source peer size route) h noted = cc
+own_entry me facts handed (Keys p) c i (Joined note about route) h noted = cc
+own_entry me facts handed (Parts p) c i (Key name m s route bytes) h noted = cc
+own_entry me facts handed (Parts p) c i (Chunk name stream index route bytes) h noted = cc
+own_entry me facts handed (Parts p) c i (Stored note about route) h noted = cc
+own_entry me facts handed (Parts p) c i (Open stream source peer size route) h noted = cc
+own_entry me facts handed (Parts p) c i (Joined note about route) h noted = cc
+
+-- and the note that confirms a key brings the key's
+note_brings : (me : ℕ) (facts : List Fact) (handed : List (Name × ℕ)) (p : Pool) (c i : ℕ) (x f : Fact) → AreDistinct facts → slice_get facts i ≡ Some x → stands me (Keys p) c i x ≡ true →
+    is_taken handed x ≡ false → is_stored_about (own me c) f ≡ true → brought_entry me facts handed f ≡ Some (line_entry (Keys p) c)
+note_brings me facts handed p c i x (Stored note about route) d there stood free h =
+    ap (λ (n : Name). free_entry me handed (fact_at facts n)) (name_eq_from about (own me c) h)
+    ∙ ap (free_entry me handed) (found_at facts (own me c) i x d there (stands_named me p c i x stood))
+    ∙ ap (λ (b : Bool). if b then None else count_entry me x) free
+    ∙ stands_key me p c i x stood
+note_brings me facts handed p c i x (Key name m s route bytes) d there stood free h = cc
+note_brings me facts handed p c i x (Part name key m s route bytes) d there stood free h = cc
+note_brings me facts handed p c i x (Chunk name stream index route bytes) d there stood free h = cc
+note_brings me facts handed p c i x (Open stream source peer size route) d there stood free h = cc
+note_brings me facts handed p c i x (Joined note about route) d there stood free h = cc
+
+line_brings : (me : ℕ) (facts : List Fact) (handed : List (Name × ℕ)) (l : Line) (c i count : ℕ) (x f : Fact) → AreDistinct facts → slice_get facts count ≡ Some f → slice_get facts i ≡ Some x → stands me l c i x ≡ true →
+    is_taken handed x ≡ false → is_noted me (take (count + 1) facts) l c ≡ true → (is_noted me (take count facts) l c ≡ true) ⊎ (brought_entry me facts handed f ≡ Some (line_entry l c))
+line_brings me facts handed (Stock p) c i count x f d here there stood free noted = inl refl
+line_brings me facts handed (Parts p) c i count x f d here there stood free noted = inl refl
+line_brings me facts handed (Keys p) c i count x f d here there stood free noted = elim (any_one (is_stored_about (own me c)) facts count f here noted) [
+  | inl e ↦ inl e
+  | inr e ↦ inr (note_brings me facts handed p c i x f d there stood free e)
+]
+
+noted_all : (me : ℕ) (facts : List Fact) (l : Line) (c count : ℕ) → is_noted me (take count facts) l c ≡ true → is_noted me facts l c ≡ true
+noted_all me facts (Stock p) c count h = refl
+noted_all me facts (Keys p) c count h = any_front (is_stored_about (own me c)) facts count h
+noted_all me facts (Parts p) c count h = refl
+
+pub waiting_more : (me : ℕ) (facts : List Fact) (handed : List (Name × ℕ)) (old mid new : List (List ℕ)) (count : ℕ) (f : Fact) → AreDistinct facts → AreWaiting me facts handed old count →
+    slice_get facts count ≡ Some f → GrowsBy old mid (place_entry count f) → GrowsBy mid new (brought_entry me facts handed f) → AreWaiting me facts handed new (count + 1)
+waiting_more me facts handed old mid new count f d waiting there a b = record {
   within = let lt = get_within facts count f there in omega arith;
-  complete = λ l c i x lt at stood free. elim (below i count lt) [
-    | inl le ↦ grown_kept mid new (count_entry me f) (line_entry l c) b (grown_kept old mid (place_entry count f) (line_entry l c) a (waiting.complete l c i x le at stood free))
+  complete = λ l c i x lt at stood free noted. elim (below i count lt) [
+    | inl le ↦ elim (line_brings me facts handed l c i count x f d there at stood free noted) [
+      | inl was ↦ grown_kept mid new (brought_entry me facts handed f) (line_entry l c) b (grown_kept old mid (place_entry count f) (line_entry l c) a (waiting.complete l c i x le at stood free was))
+      | inr h ↦ grown_has mid new (brought_entry me facts handed f) (line_entry l c) b h
+    ]
     | inr e ↦
         let x_is : Some x ≡ Some f = sym at ∙ ap (slice_get facts) e ∙ there in
         let same : x ≡ f = cc in
         let here : stands me l c count f ≡ true = sym (ap (λ (j : ℕ). stands me l c j x) e ∙ ap (stands me l c count) same) ∙ stood in
-        elim (own_entry me l c count f here) [
-          | inl h ↦ grown_kept mid new (count_entry me f) (line_entry l c) b (grown_has old mid (place_entry count f) (line_entry l c) a h)
-          | inr h ↦ grown_has mid new (count_entry me f) (line_entry l c) b h
+        elim (own_entry me facts handed l c count f here (noted_all me facts l c (count + 1) noted)) [
+          | inl h ↦ grown_kept mid new (brought_entry me facts handed f) (line_entry l c) b (grown_has old mid (place_entry count f) (line_entry l c) a h)
+          | inr h ↦ grown_has mid new (brought_entry me facts handed f) (line_entry l c) b h
         ]
   ];
 }
@@ -138,8 +235,11 @@ pub waiting_skip : (me : ℕ) (facts : List Fact) (handed : List (Name × ℕ)) 
     is_taken handed f ≡ true → AreWaiting me facts handed es (count + 1)
 waiting_skip me facts handed es count f waiting there taken = record {
   within = let lt = get_within facts count f there in omega arith;
-  complete = λ l c i x lt at stood free. elim (below i count lt) [
-    | inl le ↦ waiting.complete l c i x le at stood free
+  complete = λ l c i x lt at stood free noted. elim (below i count lt) [
+    | inl le ↦ elim (noted_one me facts l c count f there noted) [
+      | inl was ↦ waiting.complete l c i x le at stood free was
+      | inr e ↦ let t : true ≡ false = sym e ∙ not_taken handed (own me c) f taken in let u : ⊥ = cc in absurd u
+    ]
     | inr e ↦
         let x_is : Some x ≡ Some f = sym at ∙ ap (slice_get facts) e ∙ there in
         let same : x ≡ f = cc in
@@ -151,7 +251,9 @@ waiting_skip me facts handed es count f waiting there taken = record {
 pub waiting_push : (me : ℕ) (facts : List Fact) (handed : List (Name × ℕ)) (es : List (List ℕ)) (count : ℕ) (f : Fact) → AreWaiting me facts handed es count → AreWaiting me (facts ++ f ∷ []) handed es count
 waiting_push me facts handed es count f waiting = record {
   within = let w = waiting.within in let s = length_push facts in omega arith;
-  complete = λ l c i x lt there stood free. waiting.complete l c i x lt (sym (front facts i (let w = waiting.within in omega arith)) ∙ there) stood free;
+  complete = λ l c i x lt there stood free noted.
+      waiting.complete l c i x lt (sym (front facts i (let w = waiting.within in omega arith)) ∙ there) stood free
+      (sym (ap (λ (fs : List Fact). is_noted me fs l c) (take-append-le count facts (f ∷ []) waiting.within)) ∙ noted);
 }
   where
     length_push : (xs : List Fact) → length (xs ++ f ∷ []) ≡ length xs + 1
@@ -249,15 +351,15 @@ other_part pool key facts from place first miss before p x lt there = elim (side
 -- a name that no key can have
 
 pub none_of : (handed : List (Name × ℕ)) (p : Pool) (facts : List Fact) (me c : ℕ) (o : Option Name) → ((n : Name) → has_fact facts n ≡ true → IsName n) → 1 ≤ c → o ≡ None →
-    o ≡ (if nat_le 1 c && nat_lt c (2 ^ 48) then Some (own me c) else None) → false ≡ (nat_le 1 c && is_free_key_at handed p (fact_at facts (own me c)))
+    o ≡ (if nat_le 1 c && nat_lt c (2 ^ 48) then Some (own me c) else None) → false ≡ is_waiting me facts handed (Keys p) c
 none_of handed p facts me c o named low none is = by (fact_at facts (own me c)) refl
   where
-    by : (x : Option Fact) → fact_at facts (own me c) ≡ x → false ≡ (nat_le 1 c && is_free_key_at handed p x)
-    by None e = sym (and_false (nat_le 1 c))
+    by : (x : Option Fact) → fact_at facts (own me c) ≡ x → false ≡ (nat_le 1 c && is_free_key_at handed p x && list_any (is_stored_about (own me c)) facts)
+    by None e = sym (no_key (nat_le 1 c))
       where
-        and_false : (b : Bool) → (b && false) ≡ false
-        and_false true = refl
-        and_false false = refl
+        no_key : (b : Bool) → (b && false && list_any (is_stored_about (own me c)) facts) ≡ false
+        no_key true = refl
+        no_key false = refl
     by (Some f) e =
         let is_name = named (own me c) (ap is_some e) in
         let small = is_name.count in
@@ -284,6 +386,7 @@ pub record StandsFree (me : ℕ) (facts : List Fact) (handed : List (Name × ℕ
   pub there : slice_get facts place ≡ Some fact
   pub stands : stands me l c place fact ≡ true
   pub free : is_taken handed fact ≡ false
+  pub noted : is_noted me facts l c ≡ true
 
 not_from : (b : Bool) → not b ≡ true → b ≡ false
 not_from true h = cc
@@ -332,13 +435,19 @@ part_taken me handed p c (Stored note about route) h = cc
 part_taken me handed p c (Open stream source peer size route) h = cc
 part_taken me handed p c (Joined note about route) h = cc
 
+-- a key that waits is in the pool, and its master hasn't got it
+key_free : (me : ℕ) (facts : List Fact) (handed : List (Name × ℕ)) (p : Pool) (c : ℕ) → is_waiting me facts handed (Keys p) c ≡ true → is_free_key_at handed p (fact_at facts (own me c)) ≡ true
+key_free me facts handed p c h =
+    and_right (nat_le 1 c) (is_free_key_at handed p (fact_at facts (own me c)))
+    (and_left (nat_le 1 c && is_free_key_at handed p (fact_at facts (own me c))) (list_any (is_stored_about (own me c)) facts) h)
+
 pub waiting_stands : (me : ℕ) (facts : List Fact) (handed : List (Name × ℕ)) (l : Line) (c : ℕ) → is_waiting me facts handed l c ≡ true → StandsFree me facts handed l c
 waiting_stands me facts handed (Stock p) c h = by (slice_get facts c) refl h
   where
     by : (o : Option Fact) → slice_get facts c ≡ o → is_free_key_at handed p o ≡ true → StandsFree me facts handed (Stock p) c
     by None e g = cc
-    by (Some f) e g = record { place = c; fact = f; there = e; stands = stock_stands me handed p c f g; free = free_key handed p f true g }
-waiting_stands me facts handed (Keys p) c h = by (fact_at facts (own me c)) refl (and_right (nat_le 1 c) (is_free_key_at handed p (fact_at facts (own me c))) h)
+    by (Some f) e g = record { place = c; fact = f; there = e; stands = stock_stands me handed p c f g; free = free_key handed p f true g; noted = refl }
+waiting_stands me facts handed (Keys p) c h = by (fact_at facts (own me c)) refl (key_free me facts handed p c h)
   where
     by : (o : Option Fact) → fact_at facts (own me c) ≡ o → is_free_key_at handed p o ≡ true → StandsFree me facts handed (Keys p) c
     by None e g = cc
@@ -352,6 +461,7 @@ waiting_stands me facts handed (Keys p) c h = by (fact_at facts (own me c)) refl
           there = at.there ∙ ap Some same;
           stands = key_stands me handed p c at.place f g (sym (ap (λ (x : Fact). name_eq (name_of x) (own me c)) same) ∙ at.passes);
           free = free_key handed p f true g;
+          noted = and_right (nat_le 1 c && is_free_key_at handed p (fact_at facts (own me c))) (list_any (is_stored_about (own me c)) facts) h;
         }
 waiting_stands me facts handed (Parts p) c h =
     let front = and_left (nat_le 1 c && list_any (is_part_in p (own me c)) facts) (not (was_handed handed (own me c) p.master)) h in
@@ -362,6 +472,7 @@ waiting_stands me facts handed (Parts p) c h =
       there = at.there;
       stands = part_stands me p c at.place at.item at.passes;
       free = part_taken me handed p c at.item at.passes ∙ not_from (was_handed handed (own me c) p.master) (and_right (nat_le 1 c && list_any (is_part_in p (own me c)) facts) (not (was_handed handed (own me c) p.master)) h);
+      noted = refl;
     }
 
 -- no count past the names and the places
@@ -401,7 +512,7 @@ key_known handed p None h = cc
 key_known handed p (Some f) h = refl
 
 pub keys_bound : (me : ℕ) (facts : List Fact) (handed : List (Name × ℕ)) (p : Pool) (d : ℕ) → is_waiting me facts handed (Keys p) d ≡ true → d ≤ last_count me facts
-keys_bound me facts handed p d h = named_bound me facts d (key_known handed p (fact_at facts (own me d)) (and_right (nat_le 1 d) (is_free_key_at handed p (fact_at facts (own me d))) h))
+keys_bound me facts handed p d h = named_bound me facts d (key_known handed p (fact_at facts (own me d)) (key_free me facts handed p d h))
 
 pub waiting_bound : (me : ℕ) (facts : List Fact) (handed : List (Name × ℕ)) (l : Line) (size last end : ℕ) → size ≡ length facts → last ≡ last_count me facts → end ≡ max size (last + 1) →
     (d : ℕ) → is_waiting me facts handed l d ≡ true → d < end
@@ -414,7 +525,7 @@ waiting_bound me facts handed (Stock p) size last end is_size is_last is_end d h
     here None e g = cc
     here (Some f) e g = get_within facts d f e
 waiting_bound me facts handed (Keys p) size last end is_size is_last is_end d h =
-    let le = named_bound me facts d (key_known handed p (fact_at facts (own me d)) (and_right (nat_le 1 d) (is_free_key_at handed p (fact_at facts (own me d))) h)) in
+    let le = named_bound me facts d (key_known handed p (fact_at facts (own me d)) (key_free me facts handed p d h)) in
     omega arith
 waiting_bound me facts handed (Parts p) size last end is_size is_last is_end d h =
     let le = part_bound me p facts d (and_right (nat_le 1 d) (list_any (is_part_in p (own me d)) facts) (and_left (nat_le 1 d && list_any (is_part_in p (own me d)) facts) (not (was_handed handed (own me d) p.master)) h)) in
@@ -426,7 +537,8 @@ unlisted : (me : ℕ) (facts : List Fact) (handed : List (Name × ℕ)) (es : Li
     is_waiting me facts handed l d ≡ false
 unlisted me facts handed es l d waiting miss = not_true (is_waiting me facts handed l d) (λ h.
     let at = waiting_stands me facts handed l d h in
-    let hit = waiting.complete l d at.place at.fact (get_within facts at.place at.fact at.there) at.there at.stands at.free in
+    let hit = waiting.complete l d at.place at.fact (get_within facts at.place at.fact at.there) at.there at.stands at.free
+    (ap (λ (fs : List Fact). is_noted me fs l d) (take_all (length facts) facts (omega arith)) ∙ at.noted) in
     let t : true ≡ false = sym hit ∙ miss in
     let u : ⊥ = cc in u)
 

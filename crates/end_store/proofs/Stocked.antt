@@ -15,14 +15,14 @@ use Rattle.net_model.specs.declared.fact.Fact.TheVariants.{Key, Chunk, Stored, O
 use Rattle.net_model.specs.Table.{name_of, fact_at, was_handed, without_bytes}
 use Rattle.net_model.specs.Fold.{marked}
 use Rattle.relay_core.specs.Knowledge.{AreDistinct, forgotten}
-use Rattle.relay_core.proofs.Firsts.{find_hits}
-use Rattle.relay_core.proofs.Names.{name_eq_from, name_eq_same, names_same, eq_same, eq_from, and_left, and_right}
+use Rattle.relay_core.proofs.Names.{name_eq_from, name_eq_same, eq_same, eq_from, and_left, and_right}
 use Rattle.relay_core.proofs.Kept.{IsSomewhere, somewhere}
 use Rattle.end_store.specs.declared.pool.Pool.{Pool}
 use Rattle.end_store.specs.Waiting.{is_in, is_free_key, pool_of}
 use Rattle.end_store.specs.Stocked.{pool_key, pool_eq, stock_at, IsPut, AreStocks, all_but_last, last_of_facts, free_pool, key_pool}
 use Rattle.end_store.proofs.Counted.{count_is, number_of}
 use Rattle.end_store.proofs.Forgotten.{in_stays}
+use Rattle.end_store.proofs.Lines.{found_at}
 use Rattle.end_store.proofs.Numbers.{one_of, none_of, number-push, number_same, number_one, last_at}
 
 -- pools by their keys
@@ -77,11 +77,11 @@ was_not_put m n p t absent same = record {
 
 -- a key waits in one pool
 
-abbrev fits : Option Pool → Pool → Bool
+abbrev pub fits : Option Pool → Pool → Bool
 fits None p = false
 fits (Some q) p = pool_eq q p
 
-and_none : (a : Bool) → (a && false) ≡ false
+pub and_none : (a : Bool) → (a && false) ≡ false
 and_none true = refl
 and_none false = refl
 
@@ -89,7 +89,7 @@ and_all : (a : Bool) → (a && true) ≡ a
 and_all true = refl
 and_all false = refl
 
-free_is : (handed : List (Name × ℕ)) (p : Pool) (f : Fact) → is_free_key handed p f ≡ fits (free_pool handed (Some f)) p
+pub free_is : (handed : List (Name × ℕ)) (p : Pool) (f : Fact) → is_free_key handed p f ≡ fits (free_pool handed (Some f)) p
 free_is handed p (Key name m s route bytes) =
     elim (was_handed handed name m) as (λ b. (is_in p m s bytes && not b) ≡ fits (if b then None else Some (pool_of m s bytes)) p) [ true ↦ and_none (is_in p m s bytes) | false ↦ and_all (is_in p m s bytes) ]
 free_is handed p (Chunk name stream index route bytes) = refl
@@ -125,7 +125,7 @@ module _ (facts : List Fact) (handed : List (Name × ℕ)) (some : 0 < length fa
     count_more : (p : Pool) → fits (free_pool handed (Some f)) p ≡ true → count_by (is_free_key handed p) facts ≡ count_by (is_free_key handed p) (all_but_last facts) + 1
     count_more p hit = let c = count_last (is_free_key handed p) in let z = one_of (is_free_key handed p f) (free_is handed p f ∙ hit) in omega arith
 
-  no_last : last_of_facts facts ≡ None → ⊥
+  pub no_last : last_of_facts facts ≡ None → ⊥
   no_last h = by facts (length facts - 1) (omega arith) h
     where
       by : (fs : List Fact) (k : ℕ) → k < length fs → slice_get fs k ≡ None → ⊥
@@ -168,11 +168,11 @@ module _ (facts : List Fact) (handed : List (Name × ℕ)) (some : 0 < length fa
 
 -- what is handed
 
-or_none : (a : Bool) → (a || (false || false)) ≡ a
+pub or_none : (a : Bool) → (a || (false || false)) ≡ a
 or_none true = refl
 or_none false = refl
 
-or_all : (a : Bool) → (a || (true || false)) ≡ true
+pub or_all : (a : Bool) → (a || (true || false)) ≡ true
 or_all true = refl
 or_all false = refl
 
@@ -180,17 +180,17 @@ eq_turned : (a b : ℕ) → (a == b) ≡ false → (b == a) ≡ false
 eq_turned a b h = grind (arith, nat_tests)
 
 module _ (facts : List Fact) (handed : List (Name × ℕ)) (n : Name) (x : ℕ) (d : AreDistinct facts) (fresh : was_handed handed n x ≡ false) where
-  is_marked : marked handed n x ≡ handed ++ (n, x) ∷ []
+  pub is_marked : marked handed n x ≡ handed ++ (n, x) ∷ []
   is_marked = ap (λ (b : Bool). if b then handed else handed ++ (n, x) ∷ []) fresh
 
-  was_more : (m : Name) (y : ℕ) → was_handed (handed ++ (n, x) ∷ []) m y ≡ (was_handed handed m y || ((name_eq n m && (x == y)) || false))
+  pub was_more : (m : Name) (y : ℕ) → was_handed (handed ++ (n, x) ∷ []) m y ≡ (was_handed handed m y || ((name_eq n m && (x == y)) || false))
   was_more m y = list_any-append (λ h. name_eq h.0 m && (h.1 == y)) handed ((n, x) ∷ [])
 
   was_same : (m : Name) (y : ℕ) → (name_eq n m && (x == y)) ≡ false → was_handed (handed ++ (n, x) ∷ []) m y ≡ was_handed handed m y
   was_same m y miss = was_more m y ∙ ap (λ (b : Bool). was_handed handed m y || (b || false)) miss ∙ or_none (was_handed handed m y)
 
   -- a key of another name
-  other_name : (p : Pool) (f : Fact) → name_eq n (name_of f) ≡ false → is_free_key (handed ++ (n, x) ∷ []) p f ≡ is_free_key handed p f
+  pub other_name : (p : Pool) (f : Fact) → name_eq n (name_of f) ≡ false → is_free_key (handed ++ (n, x) ∷ []) p f ≡ is_free_key handed p f
   other_name p (Key name m s route bytes) miss = ap (λ (b : Bool). is_in p m s bytes && not b) (was_same name m (ap (λ (b : Bool). b && (x == m)) miss))
   other_name p (Chunk name stream index route bytes) miss = refl
   other_name p (Stored note about route) miss = refl
@@ -199,7 +199,7 @@ module _ (facts : List Fact) (handed : List (Name × ℕ)) (n : Name) (x : ℕ) 
   other_name p (Part name key m s route bytes) miss = refl
 
   -- one of another master or pool
-  other_pool : (p : Pool) (f : Fact) → fits (key_pool x (Some f)) p ≡ false → is_free_key (handed ++ (n, x) ∷ []) p f ≡ is_free_key handed p f
+  pub other_pool : (p : Pool) (f : Fact) → fits (key_pool x (Some f)) p ≡ false → is_free_key (handed ++ (n, x) ∷ []) p f ≡ is_free_key handed p f
   other_pool p (Key name m s route bytes) miss = by (m == x) refl miss
     where
       by : (b : Bool) → (m == x) ≡ b → fits (if b then Some (pool_of m s bytes) else None) p ≡ false →
@@ -212,14 +212,6 @@ module _ (facts : List Fact) (handed : List (Name × ℕ)) (n : Name) (x : ℕ) 
   other_pool p (Joined note about route) miss = refl
   other_pool p (Part name key m s route bytes) miss = refl
 
-  found : (i : ℕ) (f : Fact) → slice_get facts i ≡ Some f → name_of f ≡ n → fact_at facts n ≡ Some f
-  found i f there named = same (somewhere (λ g. name_eq (name_of g) n) facts (find_hits (λ g. name_eq (name_of g) n) facts i f there (names_same (name_of f) n named)))
-    where
-      same : IsSomewhere (λ g. name_eq (name_of g) n) facts → fact_at facts n ≡ Some f
-      same at =
-          let one : at.place ≡ i = d.apart at.place i n (record { fact = at.item; there = at.there; named = name_eq_from (name_of at.item) n at.passes }) (record { fact = f; there = there; named = named }) in
-          at.found ∙ sym at.there ∙ ap (slice_get facts) one ∙ there
-
   -- pools in which nothing of this name waited for this master
   others_same : (p : Pool) → fits (key_pool x (fact_at facts n)) p ≡ false → count_by (is_free_key handed p) facts ≡ count_by (is_free_key (handed ++ (n, x) ∷ []) p) facts
   others_same p miss =
@@ -228,7 +220,7 @@ module _ (facts : List Fact) (handed : List (Name × ℕ)) (n : Name) (x : ℕ) 
       ∙ sym (count_is (is_free_key (handed ++ (n, x) ∷ []) p) facts)
     where
       by : (i : ℕ) (f : Fact) → slice_get facts i ≡ Some f → (b : Bool) → name_eq n (name_of f) ≡ b → is_free_key (handed ++ (n, x) ∷ []) p f ≡ is_free_key handed p f
-      by i f there true e = other_pool p f (sym (ap (λ (o : Option Fact). fits (key_pool x o) p) (found i f there (sym (name_eq_from n (name_of f) e)))) ∙ miss)
+      by i f there true e = other_pool p f (sym (ap (λ (o : Option Fact). fits (key_pool x o) p) (found_at facts n i f d there (sym (name_eq_from n (name_of f) e)))) ∙ miss)
       by i f there false e = other_name p f e
 
   -- the key of this name and master, which waited
@@ -255,7 +247,7 @@ module _ (facts : List Fact) (handed : List (Name × ℕ)) (n : Name) (x : ℕ) 
         pooled = sym (ap (key_pool x) at.found) ∙ sym is;
       }
 
-  was_free : (q : Pool) (f : Fact) → name_of f ≡ n → key_pool x (Some f) ≡ Some q → (hs : List (Name × ℕ)) → is_free_key hs q f ≡ not (was_handed hs n x)
+  pub was_free : (q : Pool) (f : Fact) → name_of f ≡ n → key_pool x (Some f) ≡ Some q → (hs : List (Name × ℕ)) → is_free_key hs q f ≡ not (was_handed hs n x)
   was_free q (Key name m s route bytes) named pooled hs = by (m == x) refl pooled
     where
       by : (b : Bool) → (m == x) ≡ b → (if b then Some (pool_of m s bytes) else None) ≡ Some q → (is_in q m s bytes && not (was_handed hs name m)) ≡ not (was_handed hs n x)
@@ -321,7 +313,7 @@ pub handing_twice : (facts : List Fact) (handed : List (Name × ℕ)) (n : Name)
 handing_twice facts handed n x stocks was right =
     subst (λ (hs : List (Name × ℕ)). AreStocks facts hs stocks) (sym (ap (λ (b : Bool). if b then handed else handed ++ (n, x) ∷ []) was)) right
 
-bare_free : (handed : List (Name × ℕ)) (p : Pool) (f : Fact) → is_free_key handed p (without_bytes f) ≡ is_free_key handed p f
+pub bare_free : (handed : List (Name × ℕ)) (p : Pool) (f : Fact) → is_free_key handed p (without_bytes f) ≡ is_free_key handed p f
 bare_free handed p (Key name m s route bytes) = ap (λ (b : Bool). b && not (was_handed handed name m)) (in_stays p m s bytes)
 bare_free handed p (Chunk name stream index route bytes) = refl
 bare_free handed p (Stored note about route) = refl

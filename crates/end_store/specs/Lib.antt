@@ -2,3 +2,5 @@ pub mod Marked
 pub mod Waiting
 pub mod Pooled
 pub mod Stocked
+pub mod Readied
+pub mod Store

@@ -1,10 +1,11 @@
 -- Pools as a manager's view has them.
-use Rattle.std.specs.Prelude.{◌≡◌, ℕ, ◌/◌, ◌%◌, ◌==◌, ◌&&◌, Bool, List, [], Option, Some, None, if◌then◌else◌}
-use Rattle.std.specs.List.{list_any}
+use Rattle.std.specs.Prelude.{◌≡◌, ℕ, ◌/◌, ◌%◌, ◌==◌, Bool, List, [], filter, Option, Some, None, if◌then◌else◌}
 use Rattle.qkd_base.specs.Name.{Name}
+use Rattle.qkd_base.specs.declared.key_name.NameKind.TheVariants.{Key as KeyKind}
 use Rattle.qkd_base.specs.declared.pool_no.PoolNo.{PoolNo}
 use Rattle.net_model.specs.declared.fact.Fact.{Fact}
-use Rattle.net_model.specs.Table.{is_stored_about}
+use Rattle.net_model.specs.Decision.{last_count}
+use Rattle.net_model.specs.Pools.{names_up_to}
 use Rattle.net_model.specs.World.{no_volatile}
 use Rattle.net_model.specs.View.{View}
 use Rattle.end_store.specs.declared.pool.Pool.{Pool}
@@ -37,4 +38,7 @@ octets_pool p = if p.bits % 8 == 0 then Some (record { master = p.master; slave 
 
 -- the key of a count waits, and is confirmed
 abbrev pub is_ready : ℕ → List Fact → List (Name × ℕ) → Pool → Name → Bool
-is_ready me facts handed p n = is_waiting me facts handed (Keys p) n.count && list_any (is_stored_about n) facts
+is_ready me facts handed p n = is_waiting me facts handed (Keys p) n.count
+
+abbrev pub ready_names : ℕ → List Fact → List (Name × ℕ) → Pool → List Name
+ready_names me facts handed p = filter (is_ready me facts handed p) (names_up_to me KeyKind (last_count me facts))

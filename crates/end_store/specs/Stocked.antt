@@ -8,7 +8,7 @@ use Rattle.net_model.specs.declared.fact.Fact.{Fact}
 use Rattle.net_model.specs.declared.fact.Fact.TheVariants.{Key}
 use Rattle.end_store.specs.declared.pool.Pool.{Pool}
 use Rattle.net_model.specs.Table.{was_handed}
-use Rattle.end_store.specs.Waiting.{is_free_key, pool_of, AreWaiting}
+use Rattle.end_store.specs.Waiting.{is_free_key, pool_of}
 
 abbrev pub pool_key : Pool → List ℕ
 pool_key p = p.master ∷ p.slave ∷ p.octets ∷ []
@@ -45,8 +45,3 @@ free_pool handed _ = None
 
 abbrev pub last_of_facts : List Fact → Option Fact
 last_of_facts facts = slice_get facts (length facts - 1)
-
--- what waits has its entries, and is counted
-pub record IsStore (me : ℕ) (facts : List Fact) (handed : List (Name × ℕ)) (entries : List (List ℕ)) (listed : ℕ) (stocks : List (List ℕ × ℕ)) : Type 0 where
-  pub waiting : AreWaiting me facts handed entries listed
-  pub counted : AreStocks facts handed stocks

@@ -1,12 +1,12 @@
 -- Keys that wait for their masters, and how they are found.
-use Rattle.std.specs.Prelude.{◌≡◌, ℕ, ◌<◌, ◌≤◌, ◌==◌, ◌&&◌, ◌||◌, not, if◌then◌else◌, nat_le, Bool, true, false, List, [], ◌∷◌, length, slice_get, Option, Some, None}
+use Rattle.std.specs.Prelude.{◌≡◌, ℕ, ◌<◌, ◌≤◌, ◌==◌, ◌&&◌, ◌||◌, not, if◌then◌else◌, nat_le, Bool, true, false, List, [], ◌∷◌, length, take, slice_get, Option, Some, None}
 use Rattle.std.specs.List.{list_any}
 use Rattle.std.specs.Str.{bytes_eq}
 use Rattle.qkd_base.specs.Name.{Name, name_eq, kind_eq}
 use Rattle.qkd_base.specs.declared.key_name.NameKind.TheVariants.{Key as KeyKind}
 use Rattle.net_model.specs.declared.fact.Fact.{Fact}
-use Rattle.net_model.specs.declared.fact.Fact.TheVariants.{Key, Part}
-use Rattle.net_model.specs.Table.{was_handed, fact_at}
+use Rattle.net_model.specs.declared.fact.Fact.TheVariants.{Key, Part, Stored}
+use Rattle.net_model.specs.Table.{was_handed, fact_at, is_stored_about}
 use Rattle.ordered_entries.specs.Entries.{has_entry}
 use Rattle.relay_core.specs.Knowledge.{Knowledge}
 use Rattle.end_store.specs.declared.pool.Pool.{Pool}
@@ -44,11 +44,11 @@ abbrev pub is_part_in_at : Pool → Name → Option Fact → Bool
 is_part_in_at p n None = false
 is_part_in_at p n (Some f) = is_part_in p n f
 
--- Something waits for its master at a count of a line. The stock has all keys of a pool by place; keys and parts of group keys that
--- this node named stand by the counts of these names, which are from 1 on.
+-- Something waits for its master at a count of a line. The stock has all keys of a pool by place; ready keys and parts of group keys that
+-- this node named stand by the counts of these names, which are from 1 on. A key is ready once it is confirmed.
 abbrev pub is_waiting : ℕ → List Fact → List (Name × ℕ) → Line → ℕ → Bool
 is_waiting me facts handed (Stock p) c = is_free_key_at handed p (slice_get facts c)
-is_waiting me facts handed (Keys p) c = nat_le 1 c && is_free_key_at handed p (fact_at facts (own me c))
+is_waiting me facts handed (Keys p) c = nat_le 1 c && is_free_key_at handed p (fact_at facts (own me c)) && list_any (is_stored_about (own me c)) facts
 is_waiting me facts handed (Parts p) c = nat_le 1 c && list_any (is_part_in p (own me c)) facts && not (was_handed handed (own me c) p.master)
 
 -- the first count of a line from a count on at which something waits
@@ -83,11 +83,17 @@ is_taken handed (Key name m s route bytes) = was_handed handed name m
 is_taken handed (Part name key m s route bytes) = was_handed handed key m
 is_taken handed _ = false
 
+-- what stands at a count of a line is confirmed, where it has to be
+abbrev pub is_noted : ℕ → List Fact → Line → ℕ → Bool
+is_noted me facts (Stock p) c = true
+is_noted me facts (Keys p) c = list_any (is_stored_about (own me c)) facts
+is_noted me facts (Parts p) c = true
+
 -- What waits among the first facts has an entry. Others may have one, too.
 pub record AreWaiting (me : ℕ) (facts : List Fact) (handed : List (Name × ℕ)) (entries : List (List ℕ)) (count : ℕ) : Type 0 where
   pub within : count ≤ length facts
   pub complete : (l : Line) (c i : ℕ) (f : Fact) → i < count → slice_get facts i ≡ Some f → stands me l c i f ≡ true → is_taken handed f ≡ false →
-      has_entry entries (line_entry l c) ≡ true
+      is_noted me (take count facts) l c ≡ true → has_entry entries (line_entry l c) ≡ true
 
 -- the entries of a fact: by its place, and by the count of the name under which it is handed out, where this node gave it
 
@@ -105,6 +111,17 @@ abbrev pub count_entry : ℕ → Fact → Option (List ℕ)
 count_entry me (Key name m s route bytes) = if is_own me name then Some (line_entry (Keys (pool_of m s bytes)) name.count) else None
 count_entry me (Part name key m s route bytes) = if is_own me key then Some (line_entry (Parts (pool_of m s bytes)) key.count) else None
 count_entry me _ = None
+
+-- the entry by a count of what its master hasn't got
+abbrev pub free_entry : ℕ → List (Name × ℕ) → Option Fact → Option (List ℕ)
+free_entry me handed None = None
+free_entry me handed (Some f) = if is_taken handed f then None else count_entry me f
+
+-- The entry by a count that is listed with a fact. A key and the note that confirms it come in either order: the later one brings it.
+abbrev pub brought_entry : ℕ → List Fact → List (Name × ℕ) → Fact → Option (List ℕ)
+brought_entry me facts handed (Key name m s route bytes) = if list_any (is_stored_about name) facts then count_entry me (Key name m s route bytes) else None
+brought_entry me facts handed (Stored note about route) = free_entry me handed (fact_at facts about)
+brought_entry me facts handed f = count_entry me f
 
 -- the index with one more entry
 pub record Grows (old new : List (List ℕ)) (entry : List ℕ) : Type 0 where

@@ -5,6 +5,7 @@ mod listing;
 mod marks;
 mod pool;
 mod pools;
+mod readying;
 mod stocking;
 mod stocks;
 mod store;

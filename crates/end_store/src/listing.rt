@@ -1,6 +1,7 @@
 // How what waits is put into an index and taken out of it. The index may lag behind the facts where memory was wanting.
 ghost use Rattle.std.specs.Prelude.{◌≡◌, ◌+◌, IsTrue, false};
-ghost use Rattle.end_store.specs.Waiting.{is_own, is_taken, pool_of, place_entry, count_entry, GrowsBy, ShrinksBy, AreWaiting};
+ghost use Rattle.net_model.specs.Table.{fact_at};
+ghost use Rattle.end_store.specs.Waiting.{is_own, is_taken, pool_of, place_entry, count_entry, free_entry, brought_entry, GrowsBy, ShrinksBy, AreWaiting};
 
 use crate::{Line, Marks, Pool};
 use net_model::Fact;
@@ -30,8 +31,8 @@ pub fn pool_of(master: SaeNo, slave: SaeNo, bytes: &Octets) -> Pool
     }
 }
 
-// Whether this node gave the name of a key.
-fn is_own(name: KeyName, me: NodeNo) -> bool
+/// Whether this node gave the name of a key.
+pub fn is_own(name: KeyName, me: NodeNo) -> bool
     ensures { result ≡ is_own me name }
 {
     name.node() == me && name.kind() == NameKind::Key
@@ -87,6 +88,39 @@ fn count_entry(fact: &Fact, me: NodeNo) -> Option<Entry>
     }
 }
 
+// The entry by a count of the fact of a name, unless its master has got it.
+fn free_entry(known: &Known, handed: &Marks, name: KeyName) -> Option<Entry>
+    ensures { result ≡ free_entry known.now.me handed.now.pairs (fact_at known.now.facts name) }
+{
+    match known.fact(name) {
+        None => None,
+        Some(fact) => {
+            if is_taken(fact, handed) {
+                None
+            } else {
+                count_entry(fact, known.me())
+            }
+        }
+    }
+}
+
+// The entry by a count that is listed with a fact: of a key and the note that confirms it, the later one brings it.
+fn brought_entry(known: &Known, handed: &Marks, fact: &Fact) -> Option<Entry>
+    ensures { result ≡ brought_entry known.now.me known.now.facts handed.now.pairs fact.now }
+{
+    match fact {
+        Fact::Key { name, .. } => {
+            if known.is_confirmed(*name) {
+                count_entry(fact, known.me())
+            } else {
+                None
+            }
+        }
+        Fact::Stored { about, .. } => free_entry(known, handed, *about),
+        _ => count_entry(fact, known.me()),
+    }
+}
+
 // Puts an entry into the index, if there is one. False where memory is wanting.
 fn add(index: &mut Entries, entry: Option<Entry>) -> bool
     ensures done { IsTrue result → GrowsBy index.old index.new entry }
@@ -117,6 +151,8 @@ fn list_one(index: &mut Entries, known: &Known, handed: &Marks, place: usize) ->
     ensures done { IsTrue result → AreWaiting known.now.me known.now.facts handed.now.pairs index.new (place + 1) }
     ensures not_done { result ≡ false → AreWaiting known.now.me known.now.facts handed.now.pairs index.new place }
 {
+    // That names differ is what it says.
+    let _places = known.len();
     match known.at(place) {
         None => false,
         Some(fact) => {
@@ -126,7 +162,7 @@ fn list_one(index: &mut Entries, known: &Known, handed: &Marks, place: usize) ->
             if !add(index, place_entry(fact, place)) {
                 return false;
             }
-            add(index, count_entry(fact, known.me()))
+            add(index, brought_entry(known, handed, fact))
         }
     }
 }

@@ -18,7 +18,7 @@ pub struct Pool {
 pub enum Line {
     /// All keys of a pool, by place.
     Stock(Pool),
-    /// The keys of a pool that this node named, by the counts of their names.
+    /// The ready keys of a pool that this node named, by the counts of their names.
     Keys(Pool),
     /// The parts of group keys that this node named, by the counts of these names.
     Parts(Pool),

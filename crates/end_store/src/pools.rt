@@ -1,11 +1,7 @@
 // The keys of pools in order of name (ETSI GS QKD 014, Get key and Get status).
-ghost use Rattle.std.specs.Prelude.{◌≡◌, ◌*◌, ◌/◌, ◌%◌, ◌==◌, IfOk, length, take};
-ghost use Rattle.std.specs.List.{list_any};
-ghost use Rattle.net_model.specs.Decision.{last_count};
-ghost use Rattle.net_model.specs.Pools.{pool as pool_names, names_up_to, unhanded};
-ghost use Rattle.qkd_base.specs.declared.key_name.NameKind.TheVariants.{Key};
-ghost use Rattle.end_store.specs.Pooled.{ends_view, octets_pool, is_ready};
-ghost use Rattle.std.specs.Prelude.{filter, min};
+ghost use Rattle.std.specs.Prelude.{◌≡◌, ◌*◌, ◌/◌, ◌%◌, ◌==◌, IfOk, length, take, min};
+ghost use Rattle.net_model.specs.Pools.{pool as pool_names, unhanded};
+ghost use Rattle.end_store.specs.Pooled.{ends_view, octets_pool, ready_names};
 
 use crate::{EndStore, Line, Pool};
 use qkd_base::{KeyName, Memory, NameKind, PoolNo};
@@ -26,32 +22,6 @@ fn octets_pool(pool: &PoolNo) -> Option<Pool>
     }
 }
 
-// How many keys of a pool are ready, counted up to a number.
-fn count_ready(store: &EndStore, pool: &Pool, number: usize) -> usize
-    ensures { result ≡ length (take number (filter (is_ready store.now.known.me store.now.known.facts store.now.handed pool.now)
-        (names_up_to store.now.known.me Key (last_count store.now.known.me store.now.known.facts)))) }
-{
-    let me = store.known().me();
-    // That no name of this node has a greater count is what it says.
-    let _last = store.known().last_count();
-    let mut ready = 0;
-    let mut after = 0;
-    while ready < number {
-        match store.next(&Line::Keys(*pool), after + 1) {
-            None => return ready,
-            Some(count) => {
-                after = count;
-                if let Some(name) = KeyName::new(me, NameKind::Key, count) {
-                    if store.known().is_confirmed(name) {
-                        ready += 1;
-                    }
-                }
-            }
-        }
-    }
-    ready
-}
-
 // The first ready keys of a pool in order of name, at most so many.
 fn first_ready(
     alloc: Global,
@@ -59,8 +29,7 @@ fn first_ready(
     pool: &Pool,
     number: usize,
 ) -> Result<Vec<KeyName>, Memory>
-    ensures { IfOk result (λ names. names.items ≡ take number (filter (is_ready store.now.known.me store.now.known.facts store.now.handed pool.now)
-        (names_up_to store.now.known.me Key (last_count store.now.known.me store.now.known.facts)))) }
+    ensures { IfOk result (λ names. names.items ≡ take number (ready_names store.now.known.me store.now.known.facts store.now.handed pool.now)) }
 {
     let me = store.known().me();
     // That no name of this node has a greater count is what it says.
@@ -73,9 +42,7 @@ fn first_ready(
             Some(count) => {
                 after = count;
                 if let Some(name) = KeyName::new(me, NameKind::Key, count) {
-                    if store.known().is_confirmed(name) {
-                        names.push(name)?;
-                    }
+                    names.push(name)?;
                 }
             }
         }
@@ -100,7 +67,7 @@ impl EndStore {
     {
         match octets_pool(pool) {
             None => 0,
-            Some(keys) => count_ready(self, &keys, number),
+            Some(keys) => self.ready(&keys, number),
         }
     }
 

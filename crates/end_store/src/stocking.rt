@@ -64,13 +64,45 @@ fn key_pool(fact: &Fact, sae: SaeNo) -> Option<Pool>
     }
 }
 
-// The pool of the fact of a name, if it is a key of this master.
-fn pool_named(known: &Known, name: KeyName, sae: SaeNo) -> Option<Pool>
+/// The pool of the fact of a name, if it is a key of this master.
+pub fn pool_named(known: &Known, name: KeyName, sae: SaeNo) -> Option<Pool>
     ensures { result ≡ key_pool sae (fact_at known.now.facts name) }
 {
     match known.fact(name) {
         None => None,
         Some(fact) => key_pool(fact, sae),
+    }
+}
+
+// The pool of a fact, if it is a key that its master hasn't got.
+fn free_pool(fact: &Fact, handed: &Marks) -> Option<Pool>
+    ensures { result ≡ free_pool handed.now.pairs (Some fact.now) }
+{
+    match fact {
+        Fact::Key {
+            name,
+            master,
+            slave,
+            bytes,
+            ..
+        } => {
+            if handed.has(*name, *master) {
+                None
+            } else {
+                Some(pool_of(*master, *slave, bytes))
+            }
+        }
+        _ => None,
+    }
+}
+
+/// The pool of the fact of a name, if it is a key that its master hasn't got.
+pub fn free_pool_named(known: &Known, handed: &Marks, name: KeyName) -> Option<Pool>
+    ensures { result ≡ free_pool handed.now.pairs (fact_at known.now.facts name) }
+{
+    match known.fact(name) {
+        None => None,
+        Some(fact) => free_pool(fact, handed),
     }
 }
 
@@ -80,22 +112,8 @@ fn last_pool(known: &Known, handed: &Marks) -> Option<Pool>
     ensures { result ≡ free_pool handed.now.pairs (last_of_facts known.now.facts) }
 {
     match known.at(known.len() - 1) {
-        Some(
-            Fact::Key {
-                name,
-                master,
-                slave,
-                bytes,
-                ..
-            },
-        ) => {
-            if handed.has(*name, *master) {
-                None
-            } else {
-                Some(pool_of(*master, *slave, bytes))
-            }
-        }
-        _ => None,
+        None => None,
+        Some(fact) => free_pool(fact, handed),
     }
 }
 

@@ -1,4 +1,4 @@
-// How many keys of pools wait for their masters.
+// How many keys of pools wait for their masters, or are ready.
 ghost use Rattle.std.specs.Prelude.{◌≡◌, None};
 ghost use Rattle.end_store.specs.declared.pool.Pool.{Pool as PoolValue};
 ghost use Rattle.end_store.specs.Stocked.{pool_key, stock_at, IsPut};
@@ -8,7 +8,7 @@ use std::alloc::Global;
 use std::collections::BTreeMap;
 use std::marker::Model;
 
-/// The numbers of keys of pools that their masters haven't got. One may be missing where memory was wanting.
+/// Numbers of keys of pools, of all that their masters haven't got or of the ready ones. One may be missing where memory was wanting.
 #[derive(Drop)]
 pub struct Stocks {
     numbers: BTreeMap<[u64; 3], u64>,

@@ -1,11 +1,13 @@
 // What an end of keys keeps.
-ghost use Rattle.std.specs.Prelude.{◌≡◌, ◌+◌, ◌<◌, ◌≤◌, [], IfSome, IfNone, IfOk, IsOk, OnOk, OnErr, not, min, count_by};
+ghost use Rattle.std.specs.Prelude.{◌≡◌, ◌+◌, ◌<◌, ◌≤◌, [], IfSome, IfNone, IfOk, IsOk, OnOk, OnErr, not, min, count_by, length};
 ghost use Rattle.net_model.specs.Table.{name_of, has_fact, learned, was_handed};
 ghost use Rattle.net_model.specs.Fold.{marked};
 ghost use Rattle.relay_core.specs.Knowledge.{acked_with, forgotten};
 ghost use Rattle.end_store.specs.Waiting.{IsNextWaiting, IsLastWaiting, is_free_key};
+ghost use Rattle.end_store.specs.Pooled.{ready_names};
 
 use crate::listing::{list_more, release_name};
+use crate::readying::{count_ready, readied_pool, ready_handing, ready_last};
 use crate::stocking::{count_stock, stock_handing, stock_last};
 use crate::stocks::Stocks;
 use crate::waiting::next;
@@ -26,18 +28,21 @@ pub struct EndStore {
     waiting: Entries,
     // So many of the first facts are in `waiting`, where they wait for their masters.
     listed: usize,
+    // So many keys of a pool their master hasn't got.
     stocks: Stocks,
+    // So many of these are ready.
+    readies: Stocks,
 }
 
 impl Model for EndStore {
     ghost use Rattle.end_store.specs.Waiting.{Ends};
-    ghost use Rattle.end_store.specs.Stocked.{IsStore};
+    ghost use Rattle.end_store.specs.Store.{IsStore};
 
     ghost Value = { Ends };
 
     ghost view = { λ e. record { known = e.known; handed = e.handed.pairs; handed_spare = e.handed.spare } };
 
-    ghost invariant = { λ e. IsStore e.known.me e.known.facts e.handed.pairs e.waiting e.listed e.stocks };
+    ghost invariant = { λ e. IsStore e.known.me e.known.facts e.handed.pairs e.waiting e.listed e.stocks e.readies };
 }
 
 impl EndStore {
@@ -52,6 +57,7 @@ impl EndStore {
             waiting: Entries::new(alloc),
             listed: 0,
             stocks: Stocks::new(alloc),
+            readies: Stocks::new(alloc),
         }
     }
 
@@ -114,6 +120,29 @@ impl EndStore {
         }
     }
 
+    // How many keys of a pool are ready, counted up to a number.
+    pub(crate) fn ready(&self, pool: &Pool, number: usize) -> usize
+        ensures { result ≡ min number (length (ready_names self.now.known.me self.now.known.facts self.now.handed pool.now)) }
+    {
+        match self.readies.find(pool) {
+            None => count_ready(
+                &self.waiting,
+                self.listed,
+                &self.known,
+                &self.handed,
+                pool,
+                number,
+            ),
+            Some(ready) => {
+                if ready < number as u64 {
+                    ready as usize
+                } else {
+                    number
+                }
+            }
+        }
+    }
+
     /// Makes room for so many more facts. An `Err` changes nothing.
     pub fn room(&mut self, more: u32) -> Result<(), Memory>
         ensures kept { (self.new.known.me ≡ self.old.known.me) × (self.new.known.facts ≡ self.old.known.facts) × (self.new.known.acked ≡ self.old.known.acked)
@@ -157,6 +186,7 @@ impl EndStore {
         ensures room { 0 < self.old.known.facts_spare → IsOk result }
         ensures err { OnErr result (self.new ≡ self.old) }
     {
+        let readied = readied_pool(&self.known, &self.handed, &fact);
         let new = self.known.learn(fact)?;
         self.listed = list_more(&mut self.waiting, &self.known, &self.handed, self.listed);
         if new {
@@ -166,6 +196,14 @@ impl EndStore {
                 self.listed,
                 &self.known,
                 &self.handed,
+            );
+            ready_last(
+                &mut self.readies,
+                &self.waiting,
+                self.listed,
+                &self.known,
+                &self.handed,
+                &readied,
             );
         }
         Ok(new)
@@ -191,6 +229,7 @@ impl EndStore {
         ensures spare { self.old.handed_spare ≤ self.new.handed_spare + 1 }
     {
         stock_handing(&mut self.stocks, &self.known, &self.handed, name, sae);
+        ready_handing(&mut self.readies, &self.known, &self.handed, name, sae);
         self.handed.mark(name, sae);
         release_name(
             &mut self.waiting,

@@ -90,7 +90,7 @@ fn is_stock_waiting(known: &Known, handed: &Marks, pool: &Pool, place: u64) -> b
     }
 }
 
-// Whether the key of a name is in a pool and waits.
+// Whether the key of a name is in a pool, is confirmed and waits.
 fn is_key_waiting(known: &Known, handed: &Marks, pool: &Pool, count: u64) -> bool
     requires { 1 ≤ count }
     ensures { result ≡ is_waiting known.now.me known.now.facts handed.now.pairs (Keys pool.now) count }
@@ -101,7 +101,7 @@ fn is_key_waiting(known: &Known, handed: &Marks, pool: &Pool, count: u64) -> boo
         None => false,
         Some(name) => match known.fact(name) {
             None => false,
-            Some(fact) => is_free_key(fact, handed, pool),
+            Some(fact) => is_free_key(fact, handed, pool) && known.is_confirmed(name),
         },
     }
 }

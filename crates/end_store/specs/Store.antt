@@ -1,0 +1,13 @@
+-- What a store keeps beside its lists.
+use Rattle.std.specs.Prelude.{ℕ, List}
+use Rattle.qkd_base.specs.Name.{Name}
+use Rattle.net_model.specs.declared.fact.Fact.{Fact}
+use Rattle.end_store.specs.Waiting.{AreWaiting}
+use Rattle.end_store.specs.Stocked.{AreStocks}
+use Rattle.end_store.specs.Readied.{AreReady}
+
+-- what waits has its entries, and is counted; so is what is ready
+pub record IsStore (me : ℕ) (facts : List Fact) (handed : List (Name × ℕ)) (entries : List (List ℕ)) (listed : ℕ) (stocks readies : List (List ℕ × ℕ)) : Type 0 where
+  pub waiting : AreWaiting me facts handed entries listed
+  pub counted : AreStocks facts handed stocks
+  pub ready : AreReady me facts handed readies

@@ -1,0 +1,138 @@
+// How the numbers of ready keys keep up with what is learned and handed.
+ghost use Rattle.std.specs.Prelude.{◌≡◌, ◌<◌, ◌&&◌, min, length, Some};
+ghost use Rattle.net_model.specs.Fold.{marked};
+ghost use Rattle.end_store.specs.Waiting.{AreWaiting};
+ghost use Rattle.end_store.specs.Pooled.{ready_names};
+ghost use Rattle.end_store.specs.Stocked.{all_but_last, last_of_facts};
+ghost use Rattle.end_store.specs.Readied.{AreReady, readied_pool, ready_pool_of};
+
+use crate::listing::{is_own, pool_of};
+use crate::stocking::{free_pool_named, pool_named};
+use crate::stocks::Stocks;
+use crate::waiting::next;
+use crate::{Line, Marks, Pool};
+use net_model::Fact;
+use ordered_entries::Entries;
+use qkd_base::{KeyName, SaeNo};
+use relay_core::Known;
+
+/// How many keys of a pool are ready, counted one by one up to a number.
+pub fn count_ready(
+    index: &Entries,
+    listed: usize,
+    known: &Known,
+    handed: &Marks,
+    pool: &Pool,
+    number: usize,
+) -> usize
+    requires { AreWaiting known.now.me known.now.facts handed.now.pairs index.now listed }
+    ensures { result ≡ min number (length (ready_names known.now.me known.now.facts handed.now.pairs pool.now)) }
+{
+    // That no name of this node has a greater count is what it says.
+    let _last = known.last_count();
+    let mut ready = 0;
+    let mut after = 0;
+    while ready < number {
+        match next(index, listed, known, handed, &Line::Keys(*pool), after + 1) {
+            None => return ready,
+            Some(count) => {
+                after = count;
+                ready += 1;
+            }
+        }
+    }
+    ready
+}
+
+/// The pool in which a key becomes ready when a fact is learned whose name isn't known.
+pub fn readied_pool(known: &Known, handed: &Marks, fact: &Fact) -> Option<Pool>
+    ensures { result ≡ readied_pool known.now.me known.now.facts handed.now.pairs (Some fact.now) }
+{
+    match fact {
+        Fact::Key {
+            name,
+            master,
+            slave,
+            bytes,
+            ..
+        } => {
+            if is_own(*name, known.me())
+                && known.is_confirmed(*name)
+                && !handed.has(*name, *master)
+            {
+                Some(pool_of(*master, *slave, bytes))
+            } else {
+                None
+            }
+        }
+        Fact::Stored { about, .. } => {
+            if is_own(*about, known.me()) && !known.is_confirmed(*about) {
+                free_pool_named(known, handed, *about)
+            } else {
+                None
+            }
+        }
+        _ => None,
+    }
+}
+
+// The pool of the ready key of a name, if this is its master.
+fn ready_pool_of(known: &Known, name: KeyName, sae: SaeNo) -> Option<Pool>
+    ensures { result ≡ ready_pool_of known.now.me known.now.facts name sae }
+{
+    if is_own(name, known.me()) && known.is_confirmed(name) {
+        pool_named(known, name, sae)
+    } else {
+        None
+    }
+}
+
+/// Counts what became ready by the fact that was learned last.
+pub fn ready_last(
+    readies: &mut Stocks,
+    index: &Entries,
+    listed: usize,
+    known: &Known,
+    handed: &Marks,
+    readied: &Option<Pool>,
+)
+    requires some { 0 < length known.now.facts }
+    requires waiting { AreWaiting known.now.me known.now.facts handed.now.pairs index.now listed }
+    requires readied { readied.now ≡ readied_pool known.now.me (all_but_last known.now.facts) handed.now.pairs (last_of_facts known.now.facts) }
+    requires readies { AreReady known.now.me (all_but_last known.now.facts) handed.now.pairs readies.old }
+    ensures { AreReady known.now.me known.now.facts handed.now.pairs readies.new }
+{
+    // How many names this node may have given, and that names differ, is what they say.
+    let last = known.last_count();
+    let _places = known.len();
+    match readied {
+        None => {}
+        Some(pool) => match readies.find(pool) {
+            Some(number) => readies.put(pool, number + 1),
+            None => {
+                let number = count_ready(index, listed, known, handed, pool, last as usize);
+                readies.put(pool, number as u64);
+            }
+        },
+    }
+}
+
+/// Counts a handing that is to be noted, where it is that of a ready key to its master and new.
+pub fn ready_handing(readies: &mut Stocks, known: &Known, handed: &Marks, name: KeyName, sae: SaeNo)
+    requires { AreReady known.now.me known.now.facts handed.now.pairs readies.old }
+    ensures { AreReady known.now.me known.now.facts (marked handed.now.pairs name sae) readies.new }
+{
+    if handed.has(name, sae) {
+        return;
+    }
+    // That names are names, and that they differ, is what they say.
+    let _last = known.last_count();
+    let _places = known.len();
+    match ready_pool_of(known, name, sae) {
+        None => {}
+        Some(pool) => match readies.find(&pool) {
+            None => {}
+            Some(number) => readies.put(&pool, number - 1),
+        },
+    }
+}
