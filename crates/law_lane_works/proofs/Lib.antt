@@ -1,0 +1,11 @@
+pub mod Lanes
+pub mod InOrder
+pub mod Counted
+pub mod AllClaims
+pub mod AllPuts
+pub mod Block
+pub mod WantedOnce
+pub mod Found
+pub mod ClaimedWorld
+pub mod PutFor
+pub mod OneBlock

@@ -1,0 +1,51 @@
+-- What a lane does in a block for the plans of its sender, in any order of them.
+use Rattle.std.specs.Prelude.{◌≡◌, ℕ, Bool, true, List, [], ◌∷◌, filter, count_by}
+use Rattle.qkd_base.specs.Lane.{lane_eq}
+use Rattle.qkd_base.specs.declared.lane.Lane.{Lane}
+use Rattle.net_model.specs.declared.order.Order.{Order}
+use Rattle.net_model.specs.declared.repeat.Repeat.{Repeat}
+use Rattle.net_model.specs.Tick.{Emission, Again, New}
+use Rattle.net_model.specs.Action.{Environment}
+use Rattle.net_model.specs.BlockOrder.{is_wire_answer}
+use Rattle.law_emissions.specs.Putting.{lane_of}
+
+-- An order of the plan of the line at a place gets the lane's next bytes. The frame of one of these claims is put, which count from 0. For the
+-- plan of the line at a place an older frame is put once more. Each put has the wire's answer.
+pub data Deed : Type 0 where
+  Claims : (place : ℕ) → (order : Order) → Deed
+  Puts : (claim : ℕ) → (answer : Environment) → Deed
+  Repeats : (place : ℕ) → (repeat : Repeat) → (answer : Environment) → Deed
+
+-- the claims, each with the place of its line
+abbrev pub claims_in : List Deed → List (ℕ × Order)
+claims_in [] = []
+claims_in (Claims place order ∷ log) = (place, order) ∷ claims_in log
+claims_in (Puts claim answer ∷ log) = claims_in log
+claims_in (Repeats place repeat answer ∷ log) = claims_in log
+
+-- the claims whose frames are put
+abbrev pub claims_put : List Deed → List ℕ
+claims_put [] = []
+claims_put (Claims place order ∷ log) = claims_put log
+claims_put (Puts claim answer ∷ log) = claim ∷ claims_put log
+claims_put (Repeats place repeat answer ∷ log) = claims_put log
+
+-- what is done for plans: new orders are claimed, and frames repeated
+abbrev pub done_for_plans : List Deed → List (ℕ × Emission)
+done_for_plans [] = []
+done_for_plans (Claims place order ∷ log) = (place, New order) ∷ done_for_plans log
+done_for_plans (Puts claim answer ∷ log) = done_for_plans log
+done_for_plans (Repeats place repeat answer ∷ log) = (place, Again repeat) ∷ done_for_plans log
+
+-- what plans want of a lane
+abbrev pub wanted_on : Lane → List (ℕ × Emission) → List (ℕ × Emission)
+wanted_on l wanted = filter (λ (x : ℕ × Emission). lane_eq (lane_of x.1) l) wanted
+
+abbrev pub is_answered : Deed → Bool
+is_answered (Claims place order) = true
+is_answered (Puts claim answer) = is_wire_answer answer
+is_answered (Repeats place repeat answer) = is_wire_answer answer
+
+-- the same members in any order: as many of each kind
+abbrev pub HaveTheSame : {A : Type 0} → List A → List A → Type 0
+HaveTheSame {A} xs ys = (kind : A → Bool) → count_by kind xs ≡ count_by kind ys
