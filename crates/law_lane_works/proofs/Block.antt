@@ -154,7 +154,7 @@ module _ (net : Network) (network : IsNetwork net) (workers : ℕ) (w : World) (
       ∙ ap (λ (os : List Outgoing). os ++ fresh (length (start.frames l)) (orders_of (claims_in (logs l)))) (remains.outgoing l)
 
   -- each as often as it is put
-  frames_counted : (l : Lane) (j : ℕ) → count_by (λ i. i == j) (put_on l (actions_in (works_in (all_puts net.site start logs)))) ≡ count_by (λ (o : Outgoing). o.frame == j) (after.outgoing l)
+  pub frames_counted : (l : Lane) (j : ℕ) → count_by (λ i. i == j) (put_on l (actions_in (works_in (all_puts net.site start logs)))) ≡ count_by (λ (o : Outgoing). o.frame == j) (after.outgoing l)
   frames_counted l j =
       let is_it : LaneFrame → Bool = λ (f : LaneFrame). f.number == j in
       let older : List Allocation = start.frames l in

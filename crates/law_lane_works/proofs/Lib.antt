@@ -9,3 +9,10 @@ pub mod Found
 pub mod ClaimedWorld
 pub mod PutFor
 pub mod OneBlock
+pub mod OnePut
+pub mod Reported
+pub mod Rest
+pub mod Reports
+pub mod LastWorld
+pub mod Failures
+pub mod TurnPlacings

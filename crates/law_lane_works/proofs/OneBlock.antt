@@ -1,21 +1,33 @@
 -- What lanes do in any order is what the workers may do.
-use Rattle.std.proofs.Common.{ℕ, ◌≤◌, List, refl}
+use Rattle.std.proofs.Common.{◌≡◌, ℕ, ◌≤◌, List, refl, ◌∙◌, ap}
+use Rattle.std.specs.Prelude.{count_by}
 use Rattle.qkd_base.specs.declared.lane.Lane.{Lane}
+use Rattle.net_model.specs.Action.{Action}
 use Rattle.net_model.specs.World.{Network, World}
 use Rattle.net_model.specs.Premises.{IsNetwork}
 use Rattle.net_model.specs.Invariant.{Conserved}
-use Rattle.run_model.specs.Works.{Work}
+use Rattle.net_model.specs.BlockOrder.{completions}
+use Rattle.net_model.specs.Faults.{disk_faults, entropy_faults, device_faults, wire_faults, armings}
+use Rattle.net_model.specs.Step.{run}
+use Rattle.run_model.specs.Works.{Work, Works, flat, block_run}
 use Rattle.run_acts.specs.Quiet.{IsQuiet}
 use Rattle.run_blocks.specs.declared.job.Job.{Job}
 use Rattle.run_blocks.specs.Together.{AreWorks}
 use Rattle.law_lane_works.specs.Logs.{Deed}
-use Rattle.law_lane_works.specs.LaneWorks.{AreLaneWorks, works_of, IsLaneBlock}
-use Rattle.law_lane_works.proofs.Block.{alone, is_block}
+use Rattle.law_lane_works.specs.LaneWorks.{AreLaneWorks, works_of, wire_faults_in, IsLaneBlock}
+use Rattle.law_lane_works.proofs.AllClaims.{all_orders}
+use Rattle.law_lane_works.proofs.Block.{alone, are_turns, put_here, is_block}
+use Rattle.law_lane_works.proofs.Failures.{in_block, fails, disks_in_turns, entropies_in_turns, devices_in_turns, armed_in_turns, failures, wires_in_logs}
+use Rattle.law_lane_works.proofs.LastWorld.{begun, all, made, last, is_run, leads_to, last_is, is_quiet}
 use Rattle.law_lane_works.proofs.PutFor.{put_for}
+use Rattle.law_lane_works.proofs.Reports.{puts_lane, frames_reported}
 
 module _ (net : Network) (network : IsNetwork net) (workers : ℕ) (some : 1 ≤ workers) (w : World) (c : Conserved net w) (quiet : IsQuiet w) (jobs : List Job) (histories : List (List Work))
     (logs : Lane → List Deed) (h : AreLaneWorks net workers w jobs histories logs) where
-  are : AreWorks net workers w jobs (works_of net w histories logs)
+  abbrev done : Works
+  done = works_of net w histories logs
+
+  are : AreWorks net workers w jobs done
   are = record {
     whole = refl;
     block = is_block net network workers w c quiet jobs histories logs h;
@@ -23,5 +35,31 @@ module _ (net : Network) (network : IsNetwork net) (workers : ℕ) (some : 1 ≤
     put = put_for net network workers some w c quiet jobs histories logs h;
   }
 
+  abbrev turns : List Action
+  turns = all net network workers some w c quiet jobs histories logs h
+
+  run_is : block_run net done ≡ in_block net turns (all_orders net.site logs) (made net network workers some w c quiet jobs histories logs h)
+  run_is = is_run net network workers some w c quiet jobs histories logs h
+
+  wire_failures : (l : Lane) → wire_faults l (block_run net done) ≡ wire_faults_in (logs l)
+  wire_failures l =
+      ap (wire_faults l) run_is
+      ∙ wires_in_logs net (flat histories) (all_orders net.site logs) (made net network workers some w c quiet jobs histories logs h) l (are_turns net network workers w c quiet jobs histories logs h)
+      ∙ ap (count_by fails) (puts_lane net network workers some w c quiet jobs histories logs h l)
+      ∙ failures (begun net network workers some w c quiet jobs histories logs h) l (logs l) (put_here net network workers w c quiet jobs histories logs h l)
+
   pub one_block : IsLaneBlock net workers w jobs histories logs
-  one_block = record { are = are; turns = (alone net network workers w c quiet jobs histories logs h).same }
+  one_block = record {
+    are = are;
+    turns = (alone net network workers w c quiet jobs histories logs h).same;
+    reported = frames_reported net network workers some w c quiet jobs histories logs h;
+    placings = (last net network workers some w c quiet jobs histories logs h).placings;
+    after = leads_to net network workers some w c quiet jobs histories logs h
+        ∙ ap (λ (x : World). run net x (completions net)) (last_is net network workers some w c quiet jobs histories logs h);
+    quiet = is_quiet net network workers some w c quiet jobs histories logs h;
+    disks = λ v. ap (disk_faults net.site v) run_is ∙ disks_in_turns net turns (all_orders net.site logs) (made net network workers some w c quiet jobs histories logs h) v;
+    entropies = λ v. ap (entropy_faults v) run_is ∙ entropies_in_turns net turns (all_orders net.site logs) (made net network workers some w c quiet jobs histories logs h) v;
+    devices = λ link. ap (device_faults link) run_is ∙ devices_in_turns net turns (all_orders net.site logs) (made net network workers some w c quiet jobs histories logs h) link;
+    wires = wire_failures;
+    armed = λ v. ap (armings v) run_is ∙ armed_in_turns net turns (all_orders net.site logs) (made net network workers some w c quiet jobs histories logs h) v;
+  }

@@ -1,23 +1,27 @@
 -- A block whose lanes do what the plans want of them in any order.
-use Rattle.std.specs.Prelude.{◌≡◌, ℕ, true, false, List, [], length, map, slice_get, Some, None}
+use Rattle.std.specs.Prelude.{◌≡◌, ℕ, ◌==◌, true, false, List, [], length, map, filter, count_by, slice_get, Some, None}
 use Rattle.std.specs.List.{list_all, flat_map}
 use Rattle.qkd_base.specs.declared.lane.Lane.{Lane}
-use Rattle.net_model.specs.Site.{count_up}
+use Rattle.net_model.specs.declared.placing.Placing.{Placing}
+use Rattle.net_model.specs.Site.{sender, count_up}
 use Rattle.net_model.specs.World.{Network, World}
 use Rattle.net_model.specs.Events.{is_lane}
 use Rattle.net_model.specs.Tick.{ordered}
 use Rattle.net_model.specs.Action.{Environment, Action, Allocate, Transmit}
-use Rattle.net_model.specs.Step.{IsRun}
-use Rattle.net_model.specs.BlockOrder.{IsMerge}
+use Rattle.net_model.specs.Step.{run, IsRun}
+use Rattle.net_model.specs.BlockOrder.{IsMerge, completions}
+use Rattle.net_model.specs.Faults.{disk_faults, entropy_faults, device_faults, wire_faults, armings}
 use Rattle.run_model.specs.Lines.{all_lanes}
-use Rattle.run_model.specs.Works.{Work, Works, actions_in, flat, plain_work, done_from, turns_done}
+use Rattle.run_model.specs.Works.{Work, Works, actions_in, flat, plain_work, done_from, turns_done, block_run}
+use Rattle.run_model.specs.Block.{puts_on}
+use Rattle.run_acts.specs.Quiet.{IsQuiet}
 use Rattle.run_blocks.specs.declared.job.Job.{Job}
 use Rattle.run_blocks.specs.Jobs.{asked_by}
-use Rattle.run_blocks.specs.Together.{AreWorks, turn_done}
+use Rattle.run_blocks.specs.Together.{AreWorks, turn_done, puts_reported}
 use Rattle.law_emissions.specs.Putting.{wanted_by}
 use Rattle.law_works.specs.InOrder.{turns_over}
-use Rattle.law_lane_works.specs.Logs.{Deed, claims_in, claims_put, done_for_plans, is_answered, HaveTheSame, wanted_on}
-use Rattle.law_lane_works.specs.Puts.{LaneFrame, frames_put}
+use Rattle.law_lane_works.specs.Logs.{Deed, claims_in, claims_put, done_for_plans, is_answered, is_wire_failure, HaveTheSame, wanted_on}
+use Rattle.law_lane_works.specs.Puts.{LaneFrame, frames_put, own_after, frames_after, wire_after, reported_on, placings_on}
 
 -- Each manager did what so many workers ask of it: its history is a merge of what they ask, each in order of place. Then, or meanwhile, on each
 -- lane just what the plans want of it was done, each once and in any order: new orders were claimed, frames repeated, and the frame of each claim put.
@@ -51,7 +55,40 @@ works_of net w histories logs =
       left_out = None;
     }
 
--- What is done so is what so many workers may do of the jobs.
+-- ---- what is left
+
+-- what became of the frames of the lanes that leave a node, lane by lane
+abbrev pub placings_after : Network → World → (Lane → List Deed) → ℕ → List Placing
+placings_after net w logs v = flat_map (λ l. placings_on net w l (logs l)) (filter (λ (l : Lane). sender net.site l == v) (all_lanes net.site))
+
+-- What a world becomes as its lanes do all that they are to do: each lane's bytes, frames and wire, and what became of the frames. Nothing is on its way to
+-- a wire any more. All else stays.
+abbrev pub world_after : Network → World → (Lane → List Deed) → World
+world_after net w logs =
+    record w {
+      durable = record (w.durable) { own = λ l. own_after w l (logs l) };
+      frames = λ l. frames_after w l (logs l);
+      wire = λ l. wire_after w l (logs l);
+      unclaimed = λ l. [];
+      outgoing = λ l. [];
+      placings = placings_after net w logs;
+    }
+
+-- how often a wire failed
+abbrev pub wire_faults_in : List Deed → ℕ
+wire_faults_in log = count_by is_wire_failure log
+
+-- What is done so is what so many workers may do of the jobs. The turns reply as they did. What is reported of the frames, the world that is left and how
+-- often parts failed is told by the turns and the logs alone.
 pub record IsLaneBlock (net : Network) (workers : ℕ) (w : World) (jobs : List Job) (histories : List (List Work)) (logs : Lane → List Deed) : Type 0 where
   pub are : AreWorks net workers w jobs (works_of net w histories logs)
   pub turns : map turn_done (flat (turns_done net w (works_of net w histories logs))) ≡ map turn_done (done_from net w (flat histories))
+  pub reported : puts_reported net w (works_of net w histories logs) ≡ flat_map (λ l. puts_on (reported_on (turns_over net w histories) l (logs l)) l) (all_lanes net.site)
+  pub placings : ℕ → List Placing
+  pub after : run net w (block_run net (works_of net w histories logs)) ≡ run net (record (world_after net (turns_over net w histories) logs) { placings = placings }) (completions net)
+  pub quiet : IsQuiet (run net w (block_run net (works_of net w histories logs)))
+  pub disks : (v : ℕ) → disk_faults net.site v (block_run net (works_of net w histories logs)) ≡ disk_faults net.site v (actions_in (flat histories))
+  pub entropies : (v : ℕ) → entropy_faults v (block_run net (works_of net w histories logs)) ≡ entropy_faults v (actions_in (flat histories))
+  pub devices : (link : ℕ) → device_faults link (block_run net (works_of net w histories logs)) ≡ device_faults link (actions_in (flat histories))
+  pub wires : (l : Lane) → wire_faults l (block_run net (works_of net w histories logs)) ≡ wire_faults_in (logs l)
+  pub armed : (v : ℕ) → armings v (block_run net (works_of net w histories logs)) ≡ armings v (actions_in (flat histories))

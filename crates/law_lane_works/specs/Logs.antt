@@ -1,11 +1,11 @@
 -- What a lane does in a block for the plans of its sender, in any order of them.
-use Rattle.std.specs.Prelude.{◌≡◌, ℕ, Bool, true, List, [], ◌∷◌, filter, count_by}
+use Rattle.std.specs.Prelude.{◌≡◌, ℕ, Bool, true, false, List, [], ◌∷◌, filter, count_by}
 use Rattle.qkd_base.specs.Lane.{lane_eq}
 use Rattle.qkd_base.specs.declared.lane.Lane.{Lane}
 use Rattle.net_model.specs.declared.order.Order.{Order}
 use Rattle.net_model.specs.declared.repeat.Repeat.{Repeat}
 use Rattle.net_model.specs.Tick.{Emission, Again, New}
-use Rattle.net_model.specs.Action.{Environment}
+use Rattle.net_model.specs.Action.{Environment, is_io_fault}
 use Rattle.net_model.specs.BlockOrder.{is_wire_answer}
 use Rattle.law_emissions.specs.Putting.{lane_of}
 
@@ -45,6 +45,12 @@ abbrev pub is_answered : Deed → Bool
 is_answered (Claims place order) = true
 is_answered (Puts claim answer) = is_wire_answer answer
 is_answered (Repeats place repeat answer) = is_wire_answer answer
+
+-- the wire failed at it
+abbrev pub is_wire_failure : Deed → Bool
+is_wire_failure (Claims place order) = false
+is_wire_failure (Puts claim answer) = is_io_fault answer
+is_wire_failure (Repeats place repeat answer) = is_io_fault answer
 
 -- the same members in any order: as many of each kind
 abbrev pub HaveTheSame : {A : Type 0} → List A → List A → Type 0

@@ -4,9 +4,12 @@ use Rattle.std.specs.List.{flat_map}
 use Rattle.qkd_base.specs.declared.lane.Lane.{Lane}
 use Rattle.net_model.specs.declared.fact.Fact.{Fact}
 use Rattle.net_model.specs.declared.order.Order.{Order}
-use Rattle.net_model.specs.Item.{Item, item_of, need}
-use Rattle.net_model.specs.World.{World, Allocation, Owner, Frame}
+use Rattle.net_model.specs.declared.placing.Placing.{Placing}
+use Rattle.net_model.specs.Item.{Item, item_of, item_name, need}
+use Rattle.net_model.specs.World.{Network, World, Allocation, Owner, Frame}
+use Rattle.net_model.specs.Window.{room_octets}
 use Rattle.net_model.specs.Handle.{frame_at}
+use Rattle.net_model.specs.Frames.{frame_octets}
 use Rattle.net_model.specs.Tick.{Emission, Again, New, item_in}
 use Rattle.net_model.specs.Action.{Environment, Outcome, Put, Unsent, is_no_memory, is_io_fault}
 use Rattle.run_model.specs.Outcomes.{put_items}
@@ -101,3 +104,29 @@ reported_from facts l count (p ∷ ps) =
 
 abbrev pub reported_on : World → Lane → List Deed → List PutDone
 reported_on w l log = reported_from w.durable.facts l (length (w.wire l)) (frames_put w l log)
+
+-- ---- what their sender is to note of them
+
+abbrev pub number_at : (count : ℕ) → Environment → Option ℕ
+number_at count answer = if is_no_memory answer || is_io_fault answer then None else Some count
+
+abbrev pub placed : Network → World → Lane → LaneFrame → Option ℕ → Placing
+placed net w l f number =
+    let frame = frame_octets net w l (Some (allocation_of f)) in
+    record {
+      lane = l;
+      offset = f.offset;
+      name = item_name (item_sent f.emission);
+      ack_of = answered_by f.emission;
+      fresh = is_new f.emission;
+      number = number;
+      length = length frame;
+      frame = room_octets frame;
+    }
+
+abbrev pub placings_from : Network → World → Lane → (count : ℕ) → List (LaneFrame × Environment) → List Placing
+placings_from net w l count [] = []
+placings_from net w l count (p ∷ ps) = placed net w l p.0 (number_at count p.1) ∷ placings_from net w l (count_after count p.1) ps
+
+abbrev pub placings_on : Network → World → Lane → List Deed → List Placing
+placings_on net w l log = placings_from net w l (length (w.wire l)) (frames_put w l log)
