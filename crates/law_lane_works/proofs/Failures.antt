@@ -1,13 +1,13 @@
 -- How often the outside fails in a block: in the managers' turns as often as in the block, and a wire as often as its lane's log says.
-use Rattle.std.proofs.Common.{◌≡◌, ℕ, zero, suc, ◌+◌, ◌≤◌, Bool, true, false, ◌&&◌, List, [], ◌∷◌, ◌++◌, length, map, refl, sym, ◌∙◌, ap, subst, arith, append-nil, Option, Some, None}
-use Rattle.std.specs.Prelude.{◌==◌, nat_lt, filter_map, count_by, slice_get, if◌then◌else◌}
-use Rattle.std.specs.List.{list_all, flat_map, cons_option, AllByRecursion}
+use Rattle.std.proofs.Common.{◌≡◌, ℕ, zero, suc, ◌+◌, ◌≤◌, Bool, true, false, ◌&&◌, List, [], ◌∷◌, ◌++◌, length, map, refl, ◌∙◌, ap, arith, append-nil, Option, Some, None}
+use Rattle.std.specs.Prelude.{nat_lt, filter_map, count_by, slice_get, if◌then◌else◌}
+use Rattle.std.specs.List.{list_all, flat_map, cons_option}
 use Rattle.std.proofs.lemmas.Bool.Decides.{nat_tests}
 use Rattle.std.proofs.lemmas.List.Folds.{list_all-append}
 use Rattle.qkd_base.specs.Lane.{lane_eq}
 use Rattle.qkd_base.specs.declared.lane.Lane.{Lane}
 use Rattle.net_model.specs.declared.order.Order.{Order}
-use Rattle.net_model.specs.Site.{Site, count_up}
+use Rattle.net_model.specs.Site.{count_up}
 use Rattle.net_model.specs.World.{Network, World, Allocation, Transmission}
 use Rattle.net_model.specs.Tick.{ordered}
 use Rattle.net_model.specs.Action.{Environment, Action, Ask, Deliver, Allocate, Transmit, Complete, is_io_fault}
@@ -19,7 +19,7 @@ use Rattle.law_blocks.proofs.Counting.{one_if, count_more}
 use Rattle.law_ticks.proofs.Lists.{on}
 use Rattle.law_emissions.specs.Remaining.{AreTurns}
 use Rattle.law_works.proofs.Claims.{claim}
-use Rattle.law_works.proofs.Counting.{count-append, count-map}
+use Rattle.law_works.proofs.Counting.{count-append}
 use Rattle.law_lane_works.specs.Logs.{Deed, Claims, Puts, Repeats, claims_in, claims_put, is_wire_failure, HaveTheSame}
 use Rattle.law_lane_works.specs.Puts.{LaneFrame, new_frames, with_answer, put_by, frames_put}
 use Rattle.law_lane_works.specs.LaneWorks.{wire_faults_in}

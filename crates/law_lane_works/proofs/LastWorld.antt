@@ -7,15 +7,15 @@ use Rattle.qkd_base.specs.declared.lane.Lane.{Lane}
 use Rattle.net_model.specs.declared.order.Order.{Order}
 use Rattle.net_model.specs.declared.placing.Placing.{Placing}
 use Rattle.net_model.specs.Site.{sender}
-use Rattle.net_model.specs.World.{Network, World, Transmission, Owner}
+use Rattle.net_model.specs.World.{Network, World, Transmission}
 use Rattle.net_model.specs.Premises.{IsNetwork}
 use Rattle.net_model.specs.Invariant.{Conserved}
 use Rattle.net_model.specs.Window.{transmission_eq}
 use Rattle.net_model.specs.Action.{Action}
 use Rattle.net_model.specs.BlockOrder.{is_claim, completions, claimed_on, block_actions}
-use Rattle.net_model.specs.Step.{step, run, IsRun}
+use Rattle.net_model.specs.Step.{run, IsRun}
 use Rattle.run_model.specs.Lines.{all_lanes}
-use Rattle.run_model.specs.Works.{Work, Works, actions_in, flat, block_run}
+use Rattle.run_model.specs.Works.{Work, actions_in, flat, block_run}
 use Rattle.run_acts.specs.Quiet.{IsQuiet}
 use Rattle.run_blocks.specs.declared.job.Job.{Job}
 use Rattle.law_blocks.proofs.Chains.{kept}

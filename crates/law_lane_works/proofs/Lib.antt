@@ -16,3 +16,7 @@ pub mod Reports
 pub mod LastWorld
 pub mod Failures
 pub mod TurnPlacings
+pub mod OldWindows
+pub mod Apart
+pub mod Noted
+pub mod Placings

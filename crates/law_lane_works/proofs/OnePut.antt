@@ -1,13 +1,10 @@
 -- What one put changes, and what it answers.
-use Rattle.std.proofs.Common.{◌≡◌, ℕ, Bool, true, false, ◌&&◌, ◌||◌, List, [], ◌∷◌, ◌++◌, length, refl, sym, ◌∙◌, ap, subst, Option, Some, None}
+use Rattle.std.proofs.Common.{◌≡◌, ℕ, Bool, true, false, ◌&&◌, ◌||◌, List, [], ◌∷◌, ◌++◌, length, refl, sym, ◌∙◌, ap, Option, Some, None}
 use Rattle.std.specs.Prelude.{◌==◌, is_some, if◌then◌else◌}
-use Rattle.qkd_base.specs.Family.{lane_set, number_set}
 use Rattle.qkd_base.specs.declared.lane.Lane.{Lane}
-use Rattle.net_model.specs.declared.placing.Placing.{Placing}
-use Rattle.net_model.specs.Site.{sender}
 use Rattle.net_model.specs.World.{Network, World, Outgoing}
 use Rattle.net_model.specs.Events.{is_lane}
-use Rattle.net_model.specs.Frames.{outgoing_of, without_frame, placing_of, put, transmit_one, transmit}
+use Rattle.net_model.specs.Frames.{outgoing_of, put, transmit_one, transmit}
 use Rattle.net_model.specs.Action.{Environment, Transmit, Outcome, Put, Unsent, is_no_memory, is_io_fault, is_shown}
 use Rattle.net_model.specs.Step.{step, is_enabled, IsStep}
 use Rattle.law_records.proofs.Base.{and_left, and_right, eq_from}

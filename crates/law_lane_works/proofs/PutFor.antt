@@ -60,11 +60,11 @@ any_self older (s ∷ rs) zero r at =
 any_self older (s ∷ rs) (suc n) r at =
     or_right (frame_at older s.offset == frame_at older r.offset) (list_any (λ (o : Outgoing). o.frame == frame_at older r.offset) (map (repeated older) rs)) (any_self older rs n r at)
 
-all_old : (older : List Allocation) (rs : List Repeat) → AllByRecursion (λ (o : Outgoing). o.fresh ≡ false) (map (repeated older) rs)
+pub all_old : (older : List Allocation) (rs : List Repeat) → AllByRecursion (λ (o : Outgoing). o.fresh ≡ false) (map (repeated older) rs)
 all_old older [] = tt
 all_old older (r ∷ rs) = (refl, all_old older rs)
 
-mapped_get : (older : List Allocation) (rs : List Repeat) (n : ℕ) (r : Repeat) → slice_get rs n ≡ Some r → slice_get (map (repeated older) rs) n ≡ Some (repeated older r)
+pub mapped_get : (older : List Allocation) (rs : List Repeat) (n : ℕ) (r : Repeat) → slice_get rs n ≡ Some r → slice_get (map (repeated older) rs) n ≡ Some (repeated older r)
 mapped_get older [] n r at = cc
 mapped_get older (s ∷ rs) zero r at = let is : s ≡ r = cc in ap (λ (q : Repeat). Some (repeated older q)) is
 mapped_get older (s ∷ rs) (suc n) r at = mapped_get older rs n r at
@@ -108,7 +108,7 @@ module _ (net : Network) (network : IsNetwork net) (workers : ℕ) (some : 1 ≤
   abbrev then' : World
   then' = after net network workers w c quiet jobs histories logs h
 
-  abbrev all : List (ℕ × Emission)
+  abbrev pub all : List (ℕ × Emission)
   all = wanted net network workers w c quiet jobs histories logs h
 
   abbrev turns_made : List Done
@@ -126,16 +126,16 @@ module _ (net : Network) (network : IsNetwork net) (workers : ℕ) (some : 1 ≤
       (on_lane lane_claimed (λ k. claims_in (logs k)) (claims_mine net network workers w c quiet jobs histories logs h) net.site (λ k e. ap claims_in (h.undeclared k e)) l)
 
   module _ (l : Lane) where
-    abbrev older : List Allocation
+    abbrev pub older : List Allocation
     older = begun.frames l
 
-    abbrev again : List Repeat
+    abbrev pub again : List Repeat
     again = filter (λ (r : Repeat). lane_eq r.lane l) (repeats_in (what all))
 
     abbrev log : List Deed
     log = logs l
 
-    outgoing_before : begun.outgoing l ≡ map (repeated older) again
+    pub outgoing_before : begun.outgoing l ≡ map (repeated older) again
     outgoing_before = (remains net network workers w c quiet jobs histories logs h).outgoing l
 
     again_known : (n : ℕ) (r : Repeat) → slice_get again n ≡ Some r → (place : ℕ) → is_known then' l older (place, Again r) ≡ true
@@ -170,7 +170,7 @@ module _ (net : Network) (network : IsNetwork net) (workers : ℕ) (some : 1 ≤
               | false ↦ λ e. kept_both rs a.1
             ] refl
 
-    repeats_here : repeats_in (what (wanted_on l all)) ≡ again
+    pub repeats_here : repeats_in (what (wanted_on l all)) ≡ again
     repeats_here = ap repeats_in (sym (map_kept (λ (e : Emission). lane_eq (lane_of e) l) (λ (x : ℕ × Emission). x.1) all)) ∙ sym (repeats_on_lane l (what all))
 
     all_known : list_all (is_known then' l older) (done_for_plans log) ≡ true
@@ -180,7 +180,7 @@ module _ (net : Network) (network : IsNetwork net) (workers : ℕ) (some : 1 ≤
         (subst (AllByRecursion (λ (r : Repeat). (place : ℕ) → is_known then' l older (place, Again r) ≡ true)) (sym repeats_here)
         (all_from (λ (r : Repeat). (place : ℕ) → is_known then' l older (place, Again r) ≡ true) again again_known)))
 
-    below : AreBelow (length older) (map (repeated older) again)
+    pub below : AreBelow (length older) (map (repeated older) again)
     below =
         subst (AreBelow (length older)) outgoing_before
         (all_from (λ (o : Outgoing). o.frame < length older) (begun.outgoing l) (λ n o at.

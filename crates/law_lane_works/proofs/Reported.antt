@@ -1,28 +1,27 @@
 -- What puts leave on a wire, and what is reported of them, lane by lane.
-use Rattle.std.proofs.Common.{◌≡◌, ℕ, ◌+◌, ◌-◌, Bool, true, false, ◌&&◌, ◌||◌, not, List, [], ◌∷◌, ◌++◌, length, map, refl, sym, ◌∙◌, ap, subst, append_assoc, append-nil, Option, Some, None}
+use Rattle.std.proofs.Common.{◌≡◌, ℕ, ◌+◌, ◌-◌, Bool, true, false, ◌||◌, not, List, [], ◌∷◌, ◌++◌, length, map, refl, sym, ◌∙◌, ap, subst, append_assoc, append-nil, Option, Some}
 use Rattle.std.specs.Prelude.{filter, slice_get, if◌then◌else◌}
 use Rattle.std.specs.List.{AllByRecursion}
 use Rattle.std.proofs.lemmas.List.{length-append}
 use Rattle.qkd_base.specs.Lane.{lane_eq}
-use Rattle.qkd_base.specs.Family.{lane_set}
 use Rattle.qkd_base.specs.declared.lane.Lane.{Lane}
 use Rattle.net_model.specs.declared.fact.Fact.{Fact}
 use Rattle.net_model.specs.Item.{need}
-use Rattle.net_model.specs.World.{Network, World, Allocation, Outgoing}
-use Rattle.net_model.specs.Frames.{offset_or_zero, put}
-use Rattle.net_model.specs.Action.{Environment, Action, Transmit, Outcome, Put, Unsent, is_no_memory, is_io_fault}
+use Rattle.net_model.specs.World.{Network, World, Allocation}
+use Rattle.net_model.specs.Frames.{offset_or_zero}
+use Rattle.net_model.specs.Action.{Environment, Outcome, Put, Unsent, is_no_memory, is_io_fault}
 use Rattle.net_model.specs.Step.{step, run, IsRun}
 use Rattle.run_model.specs.Outcomes.{put_items}
-use Rattle.run_model.specs.Works.{Work, Done, actions_in, done_from}
+use Rattle.run_model.specs.Works.{actions_in, done_from}
 use Rattle.run_model.specs.Block.{PutDone, payload_size, puts_of}
 use Rattle.run_model.specs.Block.{put_of as put_done_of, is_put as took_it}
-use Rattle.law_records.proofs.Base.{lane_eq_from, lane_same, when_true, when_false}
+use Rattle.law_records.proofs.Base.{lane_eq_from, lane_same}
 use Rattle.law_blocks.proofs.Claims.{lanes_apart}
 use Rattle.law_blocks.proofs.Runs.{first_step, later_steps, run_none, run_one}
 use Rattle.law_ticks.proofs.Lists.{on}
 use Rattle.law_lane_works.specs.Puts.{LaneFrame, item_sent, allocation_of, is_taken, numbers_taken, answer_at, count_after, reported_from}
-use Rattle.law_lane_works.proofs.AllPuts.{LanePut, put_lane, put_work, put_action, works_in}
-use Rattle.law_lane_works.proofs.OnePut.{wire_with, number_at, IsPutOf, IsPutOfAny, one_put}
+use Rattle.law_lane_works.proofs.AllPuts.{LanePut, put_lane, put_action, works_in}
+use Rattle.law_lane_works.proofs.OnePut.{wire_with, IsPutOfAny, one_put}
 
 abbrev pub puts_at : Lane → List LanePut → List (LaneFrame × Environment)
 puts_at k ps = map (λ (p : LanePut). p.1) (on put_lane k ps)

@@ -1,15 +1,14 @@
 -- What is reported of a block's frames, lane by lane.
-use Rattle.std.proofs.Common.{◌≡◌, ℕ, ◌≤◌, Bool, true, false, not, ◌&&◌, List, [], ◌∷◌, ◌++◌, length, map, refl, sym, ◌∙◌, ap, subst}
+use Rattle.std.proofs.Common.{◌≡◌, ℕ, ◌≤◌, Bool, true, false, not, ◌&&◌, List, [], ◌∷◌, ◌++◌, length, map, refl, sym, ◌∙◌, ap}
 use Rattle.std.specs.Prelude.{filter, if◌then◌else◌}
 use Rattle.std.specs.List.{flat_map, AllByRecursion}
 use Rattle.qkd_base.specs.Lane.{lane_eq}
 use Rattle.qkd_base.specs.declared.lane.Lane.{Lane}
 use Rattle.net_model.specs.declared.fact.Fact.{Fact}
-use Rattle.net_model.specs.World.{Network, World, Allocation}
+use Rattle.net_model.specs.World.{Network, World}
 use Rattle.net_model.specs.Premises.{IsNetwork}
 use Rattle.net_model.specs.Invariant.{Conserved}
-use Rattle.net_model.specs.BlockOrder.{all_histories}
-use Rattle.net_model.specs.Step.{run, IsRun}
+use Rattle.net_model.specs.Step.{IsRun}
 use Rattle.run_model.specs.Lines.{all_lanes}
 use Rattle.run_model.specs.Works.{Work, Works, actions_in, claimed, done_from}
 use Rattle.run_model.specs.Block.{PutDone, puts_of, puts_on, sorted}
@@ -19,7 +18,7 @@ use Rattle.run_blocks.specs.Together.{puts_reported}
 use Rattle.law_blocks.proofs.Puts.{puts_run}
 use Rattle.law_ticks.proofs.Lists.{all_weaker}
 use Rattle.law_lane_works.specs.Logs.{Deed}
-use Rattle.law_lane_works.specs.Puts.{LaneFrame, frames_put, reported_from, reported_on}
+use Rattle.law_lane_works.specs.Puts.{frames_put, reported_from, reported_on}
 use Rattle.law_lane_works.specs.LaneWorks.{AreLaneWorks, works_of}
 use Rattle.law_lane_works.proofs.AllClaims.{all_claims}
 use Rattle.law_lane_works.proofs.AllPuts.{LanePut, works_in, on_that, puts_are, puts_on_lane, works_put, each_put}
@@ -67,7 +66,7 @@ module _ (net : Network) (network : IsNetwork net) (workers : ℕ) (some : 1 ≤
       puts_run net (actions_in (works_in made)) then' (works_put net.site made (each_put net.site begun logs h.undeclared h.answered))
       (frames_counted net network workers w c quiet jobs histories logs h)
 
-  have_places : AllByRecursion (HasPlace then'.frames) made
+  pub have_places : AllByRecursion (HasPlace then'.frames) made
   have_places =
       all_weaker (IsFoundThere net network workers some w c quiet jobs histories logs h) (HasPlace then'.frames) (λ p f. f.frame) made (all_there net network workers some w c quiet jobs histories logs h)
 

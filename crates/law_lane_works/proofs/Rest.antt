@@ -1,10 +1,9 @@
 -- What claims and puts leave as it was.
 use Rattle.std.proofs.Common.{◌≡◌, ℕ, List, [], ◌∷◌, map, refl, sym, ◌∙◌, ap, subst}
-use Rattle.qkd_base.specs.declared.lane.Lane.{Lane}
 use Rattle.net_model.specs.declared.order.Order.{Order}
 use Rattle.net_model.specs.World.{Network, World}
 use Rattle.net_model.specs.Frames.{allocate}
-use Rattle.net_model.specs.Step.{step, run, IsRun}
+use Rattle.net_model.specs.Step.{step, IsRun}
 use Rattle.run_model.specs.Works.{actions_in}
 use Rattle.law_blocks.proofs.Runs.{run_none, run_one}
 use Rattle.law_works.proofs.Claims.{claim}

@@ -3,7 +3,6 @@ use Rattle.std.proofs.Common.{◌≡◌, ℕ, true, List, [], ◌∷◌, refl, �
 use Rattle.qkd_base.specs.declared.lane.Lane.{Lane}
 use Rattle.net_model.specs.declared.event.Event.{Event}
 use Rattle.net_model.specs.declared.payload.Payload.{Payload}
-use Rattle.net_model.specs.declared.placing.Placing.{Placing}
 use Rattle.net_model.specs.Item.{payload}
 use Rattle.net_model.specs.Site.{receiver}
 use Rattle.net_model.specs.World.{Network, World}

@@ -84,8 +84,7 @@ pub record IsLaneBlock (net : Network) (workers : ℕ) (w : World) (jobs : List 
   pub are : AreWorks net workers w jobs (works_of net w histories logs)
   pub turns : map turn_done (flat (turns_done net w (works_of net w histories logs))) ≡ map turn_done (done_from net w (flat histories))
   pub reported : puts_reported net w (works_of net w histories logs) ≡ flat_map (λ l. puts_on (reported_on (turns_over net w histories) l (logs l)) l) (all_lanes net.site)
-  pub placings : ℕ → List Placing
-  pub after : run net w (block_run net (works_of net w histories logs)) ≡ run net (record (world_after net (turns_over net w histories) logs) { placings = placings }) (completions net)
+  pub after : run net w (block_run net (works_of net w histories logs)) ≡ run net (world_after net (turns_over net w histories) logs) (completions net)
   pub quiet : IsQuiet (run net w (block_run net (works_of net w histories logs)))
   pub disks : (v : ℕ) → disk_faults net.site v (block_run net (works_of net w histories logs)) ≡ disk_faults net.site v (actions_in (flat histories))
   pub entropies : (v : ℕ) → entropy_faults v (block_run net (works_of net w histories logs)) ≡ entropy_faults v (actions_in (flat histories))
