@@ -135,7 +135,7 @@ claimed_counted p facts number offset (x ∷ xs) =
 
 -- ---- numbers below a number
 
-count_first : (p : ℕ → Bool) (n : ℕ) → count_by p (count_up (suc n)) ≡ one_if (p 0) + count_by (λ k. p (suc k)) (count_up n)
+pub count_first : (p : ℕ → Bool) (n : ℕ) → count_by p (count_up (suc n)) ≡ one_if (p 0) + count_by (λ k. p (suc k)) (count_up n)
 count_first p zero = count_more p 0 []
 count_first p (suc n) =
     let rest = count_first p n in

@@ -20,3 +20,4 @@ pub mod OldWindows
 pub mod Apart
 pub mod Noted
 pub mod Placings
+pub mod Numbered

@@ -1,3 +1,4 @@
 pub mod Logs
 pub mod Puts
 pub mod LaneWorks
+pub mod Places
