@@ -148,7 +148,7 @@ module _ (net : Network) (network : IsNetwork net) (workers : ℕ) (some : 1 ≤
   ready : IsDone net last
   ready = subst (IsDone net) (sym last_is) (record { orders = λ l. refl; puts = λ l. refl })
 
-  last_conserved : Conserved net last
+  pub last_conserved : Conserved net last
   last_conserved =
       kept net network frames then' (kept net network claims begun (conserved net network workers w c quiet jobs histories logs h) claims_go) (puts_go net network workers some w c quiet jobs histories logs h)
 

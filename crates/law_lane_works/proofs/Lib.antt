@@ -21,3 +21,4 @@ pub mod Apart
 pub mod Noted
 pub mod Placings
 pub mod Numbered
+pub mod LanesLeft

@@ -1,5 +1,5 @@
 -- What lanes do in any order is what the workers may do.
-use Rattle.std.proofs.Common.{◌≡◌, ℕ, ◌≤◌, List, refl, ◌∙◌, ap}
+use Rattle.std.proofs.Common.{◌≡◌, ℕ, ◌≤◌, List, refl, ◌∙◌, ap, subst}
 use Rattle.std.specs.Prelude.{count_by}
 use Rattle.qkd_base.specs.declared.lane.Lane.{Lane}
 use Rattle.net_model.specs.Action.{Action}
@@ -19,7 +19,8 @@ use Rattle.law_lane_works.specs.LaneWorks.{AreLaneWorks, works_of, world_after, 
 use Rattle.law_lane_works.proofs.AllClaims.{all_orders}
 use Rattle.law_lane_works.proofs.Block.{alone, are_turns, put_here, is_block}
 use Rattle.law_lane_works.proofs.Failures.{in_block, fails, disks_in_turns, entropies_in_turns, devices_in_turns, armed_in_turns, failures, wires_in_logs}
-use Rattle.law_lane_works.proofs.LastWorld.{begun, all, made, last, is_run, leads_to, last_is, is_quiet}
+use Rattle.law_lane_works.proofs.LastWorld.{last_conserved, begun, all, made, last, is_run, leads_to, last_is, is_quiet}
+use Rattle.law_lane_works.proofs.LanesLeft.{left}
 use Rattle.law_lane_works.proofs.Placings.{placings_are}
 use Rattle.law_lane_works.proofs.PutFor.{put_for}
 use Rattle.law_lane_works.proofs.Reports.{puts_lane, frames_reported}
@@ -50,8 +51,8 @@ module _ (net : Network) (network : IsNetwork net) (workers : ℕ) (some : 1 ≤
       ∙ ap (count_by fails) (puts_lane net network workers some w c quiet jobs histories logs h l)
       ∙ failures (begun net network workers some w c quiet jobs histories logs h) l (logs l) (put_here net network workers w c quiet jobs histories logs h l)
 
-  left : last net network workers some w c quiet jobs histories logs h ≡ world_after net (turns_over net w histories) logs
-  left =
+  left_is : last net network workers some w c quiet jobs histories logs h ≡ world_after net (turns_over net w histories) logs
+  left_is =
       last_is net network workers some w c quiet jobs histories logs h
       ∙ λ i. record (world_after net (turns_over net w histories) logs) { placings = λ v. placings_are net network workers some w c quiet jobs histories logs h v i }
 
@@ -60,7 +61,9 @@ module _ (net : Network) (network : IsNetwork net) (workers : ℕ) (some : 1 ≤
     are = are;
     turns = (alone net network workers w c quiet jobs histories logs h).same;
     reported = frames_reported net network workers some w c quiet jobs histories logs h;
-    after = leads_to net network workers some w c quiet jobs histories logs h ∙ ap (λ (x : World). run net x (completions net)) left;
+    after = leads_to net network workers some w c quiet jobs histories logs h ∙ ap (λ (x : World). run net x (completions net)) left_is;
+    conserved = subst (Conserved net) left_is (last_conserved net network workers some w c quiet jobs histories logs h);
+    lanes = left net network workers some w c quiet jobs histories logs h;
     quiet = is_quiet net network workers some w c quiet jobs histories logs h;
     disks = λ v. ap (disk_faults net.site v) run_is ∙ disks_in_turns net turns (all_orders net.site logs) (made net network workers some w c quiet jobs histories logs h) v;
     entropies = λ v. ap (entropy_faults v) run_is ∙ entropies_in_turns net turns (all_orders net.site logs) (made net network workers some w c quiet jobs histories logs h) v;

@@ -1,10 +1,12 @@
 -- A block whose lanes do what the plans want of them in any order.
-use Rattle.std.specs.Prelude.{◌≡◌, ℕ, ◌==◌, true, false, List, [], length, map, filter, count_by, slice_get, Some, None}
-use Rattle.std.specs.List.{list_all, flat_map}
+use Rattle.std.specs.Prelude.{◌≡◌, ℕ, ◌+◌, ◌==◌, true, false, List, [], ◌++◌, length, map, filter, count_by, slice_get, Some, None}
+use Rattle.std.specs.List.{list_all, flat_map, AllByRecursion}
 use Rattle.qkd_base.specs.declared.lane.Lane.{Lane}
 use Rattle.net_model.specs.declared.placing.Placing.{Placing}
 use Rattle.net_model.specs.Site.{sender, count_up}
 use Rattle.net_model.specs.World.{Network, World}
+use Rattle.net_model.specs.Ledger.{is_burnt}
+use Rattle.net_model.specs.Invariant.{Conserved}
 use Rattle.net_model.specs.Events.{is_lane}
 use Rattle.net_model.specs.Tick.{ordered}
 use Rattle.net_model.specs.Action.{Environment, Action, Allocate, Transmit}
@@ -21,7 +23,7 @@ use Rattle.run_blocks.specs.Together.{AreWorks, turn_done, puts_reported}
 use Rattle.law_emissions.specs.Putting.{wanted_by}
 use Rattle.law_works.specs.InOrder.{turns_over}
 use Rattle.law_lane_works.specs.Logs.{Deed, claims_in, claims_put, done_for_plans, is_answered, is_wire_failure, HaveTheSame, wanted_on}
-use Rattle.law_lane_works.specs.Puts.{LaneFrame, frames_put, own_after, frames_after, wire_after, reported_on, placings_on}
+use Rattle.law_lane_works.specs.Puts.{LaneFrame, allocation_of, octets_claimed, octets_on_wire, octets_taken, frames_put, own_after, frames_after, wire_after, reported_on, placings_on}
 
 -- Each manager did what so many workers ask of it: its history is a merge of what they ask, each in order of place. Then, or meanwhile, on each
 -- lane just what the plans want of it was done, each once and in any order: new orders were claimed, frames repeated, and the frame of each claim put.
@@ -74,6 +76,14 @@ world_after net w logs =
       placings = placings_after net w logs;
     }
 
+-- A lane that its log leaves: the bytes claimed are used and none is burnt; each frame that was put has its place; and on the wire stand, behind those that
+-- stood there, the octets of the frames that it took.
+pub record IsLeft (net : Network) (w : World) (logs : Lane → List Deed) (l : Lane) : Type 0 where
+  pub used : length (own_after w l (logs l)) ≡ length (w.durable.own l) + octets_claimed w.durable.facts (claims_in (logs l))
+  pub burnt : count_by is_burnt (own_after w l (logs l)) ≡ count_by is_burnt (w.durable.own l)
+  pub places : AllByRecursion (λ (p : LaneFrame × Environment). slice_get (frames_after w l (logs l)) (p.0).number ≡ Some (allocation_of p.0)) (frames_put w l (logs l))
+  pub wire : octets_on_wire net (world_after net w logs) l ≡ octets_on_wire net w l ++ octets_taken net w l (logs l)
+
 -- how often a wire failed
 abbrev pub wire_faults_in : List Deed → ℕ
 wire_faults_in log = count_by is_wire_failure log
@@ -85,6 +95,8 @@ pub record IsLaneBlock (net : Network) (workers : ℕ) (w : World) (jobs : List 
   pub turns : map turn_done (flat (turns_done net w (works_of net w histories logs))) ≡ map turn_done (done_from net w (flat histories))
   pub reported : puts_reported net w (works_of net w histories logs) ≡ flat_map (λ l. puts_on (reported_on (turns_over net w histories) l (logs l)) l) (all_lanes net.site)
   pub after : run net w (block_run net (works_of net w histories logs)) ≡ run net (world_after net (turns_over net w histories) logs) (completions net)
+  pub conserved : Conserved net (world_after net (turns_over net w histories) logs)
+  pub lanes : (l : Lane) → IsLeft net (turns_over net w histories) logs l
   pub quiet : IsQuiet (run net w (block_run net (works_of net w histories logs)))
   pub disks : (v : ℕ) → disk_faults net.site v (block_run net (works_of net w histories logs)) ≡ disk_faults net.site v (actions_in (flat histories))
   pub entropies : (v : ℕ) → entropy_faults v (block_run net (works_of net w histories logs)) ≡ entropy_faults v (actions_in (flat histories))

@@ -77,6 +77,11 @@ own_after w l log = w.durable.own l ++ flat_map (owners w.durable.facts) (new_fr
 abbrev pub frames_after : World → Lane → List Deed → List Allocation
 frames_after w l log = w.frames l ++ map allocation_of (new_frames w l log)
 
+-- how many bytes are claimed
+abbrev pub octets_claimed : List Fact → List (ℕ × Order) → ℕ
+octets_claimed facts [] = 0
+octets_claimed facts (x ∷ xs) = need facts (item_in (x.1).payload) + octets_claimed facts xs
+
 abbrev pub numbers_taken : List (LaneFrame × Environment) → List ℕ
 numbers_taken puts = map (λ (p : LaneFrame × Environment). (p.0).number) (filter (λ (p : LaneFrame × Environment). is_taken p.1) puts)
 
@@ -130,3 +135,13 @@ placings_from net w l count (p ∷ ps) = placed net w l p.0 (number_at count p.1
 
 abbrev pub placings_on : Network → World → Lane → List Deed → List Placing
 placings_on net w l log = placings_from net w l (length (w.wire l)) (frames_put w l log)
+
+-- ---- the octets of frames
+
+abbrev pub octets_on_wire : Network → World → Lane → List (List ℕ)
+octets_on_wire net w l = map (λ j. frame_octets net w l (slice_get (w.frames l) j)) (w.wire l)
+
+-- those that the wire took
+abbrev pub octets_taken : Network → World → Lane → List Deed → List (List ℕ)
+octets_taken net w l log =
+    map (λ (p : LaneFrame × Environment). frame_octets net w l (Some (allocation_of p.0))) (filter (λ (p : LaneFrame × Environment). is_taken p.1) (frames_put w l log))
