@@ -1,5 +1,5 @@
 -- What a block leaves of each lane.
-use Rattle.std.proofs.Common.{◌≡◌, ℕ, zero, suc, ◌+◌, ◌<◌, ◌≤◌, Bool, true, false, not, List, [], ◌∷◌, ◌++◌, length, map, refl, sym, ◌∙◌, ap, subst, arith, Option, Some, None}
+use Rattle.std.proofs.Common.{◌≡◌, ℕ, zero, suc, ◌+◌, ◌<◌, ◌≤◌, Bool, true, false, List, [], ◌∷◌, ◌++◌, length, map, refl, sym, ◌∙◌, ap, arith, Some}
 use Rattle.std.specs.Prelude.{filter, replicate, count_by, slice_get, if◌then◌else◌}
 use Rattle.std.specs.List.{flat_map, AllByRecursion}
 use Rattle.std.proofs.lemmas.List.{length-append, length-replicate, map-append}
@@ -7,7 +7,7 @@ use Rattle.qkd_base.specs.declared.lane.Lane.{Lane}
 use Rattle.net_model.specs.declared.fact.Fact.{Fact}
 use Rattle.net_model.specs.declared.order.Order.{Order}
 use Rattle.net_model.specs.Item.{need}
-use Rattle.net_model.specs.World.{Network, World, Allocation, Owner, Frame}
+use Rattle.net_model.specs.World.{Network, World, Allocation, Frame}
 use Rattle.net_model.specs.Ledger.{is_burnt}
 use Rattle.net_model.specs.Premises.{IsNetwork}
 use Rattle.net_model.specs.Invariant.{Conserved}
@@ -18,12 +18,12 @@ use Rattle.run_model.specs.Works.{Work}
 use Rattle.run_acts.specs.Quiet.{IsQuiet}
 use Rattle.run_blocks.specs.declared.job.Job.{Job}
 use Rattle.law_records.proofs.Base.{slice_get-append_left}
-use Rattle.law_blocks.proofs.Counting.{one_if, count_more}
+use Rattle.law_blocks.proofs.Counting.{count_more}
 use Rattle.law_lanes.proofs.Lists.{all_from}
 use Rattle.law_ticks.proofs.Lists.{all_weaker}
 use Rattle.law_works.proofs.Counting.{count-append}
 use Rattle.law_lane_works.specs.Logs.{Deed, claims_in}
-use Rattle.law_lane_works.specs.Puts.{LaneFrame, item_sent, allocation_of, claimed_from, new_frames, frames_put, owners, own_after, frames_after, octets_claimed, is_taken, numbers_taken, octets_on_wire, octets_taken}
+use Rattle.law_lane_works.specs.Puts.{LaneFrame, item_sent, allocation_of, claimed_from, new_frames, frames_put, owners, frames_after, octets_claimed, is_taken, numbers_taken, octets_on_wire, octets_taken}
 use Rattle.law_lane_works.specs.LaneWorks.{AreLaneWorks, world_after, IsLeft}
 use Rattle.law_lane_works.proofs.Block.{start, after, conserved}
 use Rattle.law_lane_works.proofs.Found.{IsFound}

@@ -22,3 +22,5 @@ pub mod Noted
 pub mod Placings
 pub mod Numbered
 pub mod LanesLeft
+pub mod ByWorker
+pub mod FrameByFrame

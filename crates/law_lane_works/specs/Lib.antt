@@ -2,3 +2,4 @@ pub mod Logs
 pub mod Puts
 pub mod LaneWorks
 pub mod Places
+pub mod Workers

@@ -1,17 +1,21 @@
 //! Laws of a block whose lanes do what the plans want of them in any order: it is what its workers may do.
 #![tactic(auto)]
 
-ghost use Rattle.std.specs.Prelude.{◌≤◌, ℕ, List};
+ghost use Rattle.std.specs.Prelude.{◌≡◌, ◌<◌, ◌≤◌, ℕ, List};
 ghost use Rattle.qkd_base.specs.declared.lane.Lane.{Lane as LaneValue};
 ghost use Rattle.net_model.specs.World.{Network, World};
 ghost use Rattle.net_model.specs.Premises.{IsNetwork};
 ghost use Rattle.net_model.specs.Invariant.{Conserved};
+ghost use Rattle.net_model.specs.Tick.{Emission};
 ghost use Rattle.run_model.specs.Works.{Work};
 ghost use Rattle.run_acts.specs.Quiet.{IsQuiet};
 ghost use Rattle.run_blocks.specs.declared.job.Job.{Job as JobValue};
+ghost use Rattle.law_emissions.specs.Putting.{Putting};
+ghost use Rattle.law_works.specs.InOrder.{IsInOrder};
 ghost use Rattle.law_lane_works.specs.Logs.{Deed, claims_put, HaveTheSame};
 ghost use Rattle.law_lane_works.specs.LaneWorks.{AreLaneWorks, IsLaneBlock};
 ghost use Rattle.law_lane_works.specs.Places.{claimed_at, IsNumbered};
+ghost use Rattle.law_lane_works.specs.Workers.{of_worker, logs_in_order};
 
 /// Where each lane does just what the plans want of it, each once and in any order, claims and puts among each other, that is a block
 /// that its workers may do. Premises: the network is one, quiet before, and all that is conserved holds.
@@ -25,4 +29,17 @@ pub fn law_lane_works_are_one_block()
 /// is put once, it is so by number, and what is claimed and repeated and what the wire answered is the same.
 pub fn law_claims_have_numbers()
     ensures { (log : List Deed) → HaveTheSame (claims_put log) (claimed_at 0 log) → IsNumbered log }
+{}
+
+/// Where each worker does on a lane, in its own order, what the plans of its lines want there, just what all plans want is done.
+pub fn law_each_worker_does_its_own()
+    ensures { (workers : ℕ) (done wanted : List (ℕ × Emission)) → 1 ≤ workers →
+        ((k : ℕ) → k < workers → of_worker workers k done ≡ of_worker workers k wanted) → HaveTheSame done wanted }
+{}
+
+/// What is done in order of node and of lane, each order claimed and its frame put at once, is one of the orders in which lanes may do
+/// what the plans want.
+pub fn law_in_order_is_lane_works()
+    ensures { (net : Network) (workers : ℕ) (w : World) (jobs : List JobValue) (histories : List (List Work)) (ps : List Putting) →
+        IsInOrder net workers w jobs histories ps → AreLaneWorks net workers w jobs histories (logs_in_order net.site ps) }
 {}
