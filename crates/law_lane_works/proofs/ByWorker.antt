@@ -16,7 +16,7 @@ module _ (workers : ℕ) (kind : ℕ × Emission → Bool) where
   worker x = x.0 % workers
 
   -- of the first workers
-  abbrev among : ℕ → ℕ × Emission → Bool
+  abbrev pub among : ℕ → ℕ × Emission → Bool
   among n x = kind x && nat_lt (worker x) n
 
   one_more_worker : (b : Bool) (r n : ℕ) → one_if (b && nat_lt r (suc n)) ≡ one_if (b && nat_lt r n) + one_if (b && (r == n))
@@ -49,7 +49,7 @@ module _ (workers : ℕ) (kind : ℕ × Emission → Bool) where
         | false ↦ λ m. let none : one_if (kind x && false) ≡ 0 = ap one_if (and-false (kind x)) in omega (arith, rest, m, none)
       ] more
 
-  of_more : (n : ℕ) (xs : List (ℕ × Emission)) → count_by (among (suc n)) xs ≡ count_by (among n) xs + count_by kind (of_worker workers n xs)
+  pub of_more : (n : ℕ) (xs : List (ℕ × Emission)) → count_by (among (suc n)) xs ≡ count_by (among n) xs + count_by kind (of_worker workers n xs)
   of_more n [] = refl
   of_more n (x ∷ xs) =
       let rest = of_more n xs in
@@ -61,7 +61,7 @@ module _ (workers : ℕ) (kind : ℕ × Emission → Bool) where
       let all = of_one n (x ∷ xs) in
       omega (arith, rest, a, b, d, one, first, all)
 
-  of_none : (x : ℕ × Emission) → among 0 x ≡ false
+  pub of_none : (x : ℕ × Emission) → among 0 x ≡ false
   of_none x = ap (λ (b : Bool). kind x && b) (none_below (worker x)) ∙ and-false (kind x)
     where
       none_below : (r : ℕ) → nat_lt r 0 ≡ false
@@ -76,7 +76,7 @@ module _ (workers : ℕ) (kind : ℕ × Emission → Bool) where
       let b = of_more n ys in
       omega (arith, rest, one, a, b)
 
-  of_all : 1 ≤ workers → (x : ℕ × Emission) → among workers x ≡ kind x
+  pub of_all : 1 ≤ workers → (x : ℕ × Emission) → among workers x ≡ kind x
   of_all some x = ap (λ (b : Bool). kind x && b) (lt-ltb (worker x) workers (mod-lt x.0 some)) ∙ and-true (kind x)
 
 pub each_its_own : (workers : ℕ) (xs ys : List (ℕ × Emission)) → 1 ≤ workers → ((k : ℕ) → k < workers → of_worker workers k xs ≡ of_worker workers k ys) → HaveTheSame xs ys

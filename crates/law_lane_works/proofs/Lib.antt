@@ -24,3 +24,4 @@ pub mod Numbered
 pub mod LanesLeft
 pub mod ByWorker
 pub mod FrameByFrame
+pub mod WorkersCalls

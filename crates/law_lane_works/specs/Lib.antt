@@ -3,3 +3,4 @@ pub mod Puts
 pub mod LaneWorks
 pub mod Places
 pub mod Workers
+pub mod Calls

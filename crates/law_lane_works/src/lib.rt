@@ -14,7 +14,8 @@ ghost use Rattle.law_emissions.specs.Putting.{Putting};
 ghost use Rattle.law_works.specs.InOrder.{IsInOrder};
 ghost use Rattle.law_lane_works.specs.Logs.{Deed, claims_put, HaveTheSame};
 ghost use Rattle.law_lane_works.specs.LaneWorks.{AreLaneWorks, IsLaneBlock};
-ghost use Rattle.law_lane_works.specs.Places.{claimed_at, IsNumbered};
+ghost use Rattle.law_lane_works.specs.Places.{claimed_at, numbered, IsNumbered};
+ghost use Rattle.law_lane_works.specs.Calls.{AreWorkersWorks};
 ghost use Rattle.law_lane_works.specs.Workers.{of_worker, logs_in_order};
 
 /// Where each lane does just what the plans want of it, each once and in any order, claims and puts among each other, that is a block
@@ -42,4 +43,12 @@ pub fn law_each_worker_does_its_own()
 pub fn law_in_order_is_lane_works()
     ensures { (net : Network) (workers : ℕ) (w : World) (jobs : List JobValue) (histories : List (List Work)) (ps : List Putting) →
         IsInOrder net workers w jobs histories ps → AreLaneWorks net workers w jobs histories (logs_in_order net.site ps) }
+{}
+
+/// Where each lane's log is a merge of what the workers did there, and each worker did in its own order what the plans of its lines
+/// want, naming its claims by their places in the log, just what all plans want is done on each lane.
+pub fn law_workers_works_are_lane_works()
+    ensures { (net : Network) (workers : ℕ) (w : World) (jobs : List JobValue) (histories : List (List Work)) (calls : LaneValue → List (List (ℕ × Deed)))
+        (logs : LaneValue → List Deed) → 1 ≤ workers → AreWorkersWorks net workers w jobs histories calls logs →
+        AreLaneWorks net workers w jobs histories (λ l. numbered (logs l)) }
 {}

@@ -1,0 +1,50 @@
+-- What each worker did on the lanes of a block, each deed with its place in the lane's log.
+use Rattle.std.specs.Prelude.{◌≡◌, ℕ, ◌+◌, true, false, List, [], ◌∷◌, length, map, slice_get, Some}
+use Rattle.std.specs.List.{list_all}
+use Rattle.qkd_base.specs.declared.lane.Lane.{Lane}
+use Rattle.net_model.specs.Site.{count_up}
+use Rattle.net_model.specs.World.{Network, World}
+use Rattle.net_model.specs.Events.{is_lane}
+use Rattle.net_model.specs.Tick.{Emission}
+use Rattle.net_model.specs.Step.{IsRun}
+use Rattle.net_model.specs.BlockOrder.{IsMerge}
+use Rattle.run_model.specs.Works.{Work, actions_in, flat, plain_work, done_from}
+use Rattle.run_blocks.specs.declared.job.Job.{Job}
+use Rattle.run_blocks.specs.Jobs.{asked_by}
+use Rattle.law_emissions.specs.Putting.{wanted_by}
+use Rattle.law_lane_works.specs.Logs.{Deed, Claims, Puts, Repeats, claims_put, done_for_plans, is_answered, wanted_on}
+use Rattle.law_lane_works.specs.Workers.{of_worker}
+
+abbrev pub placed_from : (place : ℕ) → List Deed → List (ℕ × Deed)
+placed_from place [] = []
+placed_from place (deed ∷ log) = (place, deed) ∷ placed_from (place + 1) log
+
+abbrev pub deeds : List (ℕ × Deed) → List Deed
+deeds calls = map (λ (c : ℕ × Deed). c.1) calls
+
+-- where the claims among them stand
+abbrev pub claims_made : List (ℕ × Deed) → List ℕ
+claims_made [] = []
+claims_made ((place, Claims line order) ∷ calls) = place ∷ claims_made calls
+claims_made ((place, Puts claim answer) ∷ calls) = claims_made calls
+claims_made ((place, Repeats line repeat answer) ∷ calls) = claims_made calls
+
+-- In its own order a worker did what the plans of its lines want of a lane, and put the frame of each of its claims, which it names by their places.
+pub record DidItsOwn (workers k : ℕ) (wanted : List (ℕ × Emission)) (mine : List (ℕ × Deed)) : Type 0 where
+  pub wants : done_for_plans (deeds mine) ≡ of_worker workers k wanted
+  pub puts : claims_put (deeds mine) ≡ claims_made mine
+  pub answered : list_all is_answered (deeds mine) ≡ true
+
+-- the log of a lane is a merge of what all workers did
+pub record IsOfWorkers (workers : ℕ) (wanted : List (ℕ × Emission)) (calls : List (List (ℕ × Deed))) (log : List Deed) : Type 0 where
+  pub callers : length calls ≡ workers
+  pub merged : IsMerge calls (placed_from 0 log)
+  pub each : (k : ℕ) (mine : List (ℕ × Deed)) → slice_get calls k ≡ Some mine → DidItsOwn workers k wanted mine
+
+-- the managers' turns as ever, and on each lane what the workers did
+pub record AreWorkersWorks (net : Network) (workers : ℕ) (w : World) (jobs : List Job) (histories : List (List Work)) (calls : Lane → List (List (ℕ × Deed))) (logs : Lane → List Deed) : Type 0 where
+  pub nodes : length histories ≡ net.site.nodes
+  pub merged : (v : ℕ) (h : List Work) → slice_get histories v ≡ Some h → IsMerge (map (λ k. asked_by net.site workers k v 0 jobs) (count_up workers)) (map plain_work h)
+  pub turns : IsRun net w (actions_in (flat histories))
+  pub lanes : (l : Lane) → is_lane net.site l ≡ true → IsOfWorkers workers (wanted_on l (wanted_by (done_from net w (flat histories)))) (calls l) (logs l)
+  pub undeclared : (l : Lane) → is_lane net.site l ≡ false → logs l ≡ []
