@@ -25,3 +25,4 @@ pub mod LanesLeft
 pub mod ByWorker
 pub mod FrameByFrame
 pub mod WorkersCalls
+pub mod Sealed

@@ -29,7 +29,7 @@ module _ (all : List Deed) where
   claims_same (Puts place answer ∷ log) = claims_same log
   claims_same (Repeats place r answer ∷ log) = claims_same log
 
-  wanted_same : (log : List Deed) → done_for_plans (as_numbered log) ≡ done_for_plans log
+  pub wanted_same : (log : List Deed) → done_for_plans (as_numbered log) ≡ done_for_plans log
   wanted_same [] = refl
   wanted_same (Claims place o ∷ log) = ap (λ (xs : List (ℕ × Emission)). (place, New o) ∷ xs) (wanted_same log)
   wanted_same (Puts place answer ∷ log) = wanted_same log

@@ -1,5 +1,5 @@
 -- What workers did on the lanes, each its own, is what lanes do in any order.
-use Rattle.std.proofs.Common.{◌≡◌, ℕ, zero, suc, ◌+◌, ◌<◌, ◌≤◌, Bool, true, false, ◌&&◌, List, [], ◌∷◌, ◌++◌, length, map, refl, sym, ◌∙◌, ap, subst, arith, Some}
+use Rattle.std.proofs.Common.{◌≡◌, ℕ, zero, suc, ◌+◌, ◌≤◌, Bool, true, ◌&&◌, List, [], ◌∷◌, ◌++◌, length, refl, sym, ◌∙◌, ap, subst, arith, Some}
 use Rattle.std.specs.Prelude.{◌==◌, count_by, slice_get}
 use Rattle.std.specs.List.{list_all}
 use Rattle.qkd_base.specs.declared.lane.Lane.{Lane}
@@ -15,7 +15,6 @@ use Rattle.law_works.proofs.Merges.{merge_holds}
 use Rattle.law_lane_works.specs.Logs.{Deed, Claims, Puts, Repeats, claims_put, done_for_plans, is_answered, HaveTheSame}
 use Rattle.law_lane_works.specs.LaneWorks.{AreLaneWorks}
 use Rattle.law_lane_works.specs.Places.{claimed_at, numbered}
-use Rattle.law_lane_works.specs.Workers.{of_worker}
 use Rattle.law_lane_works.specs.Calls.{placed_from, deeds, claims_made, DidItsOwn, IsOfWorkers, AreWorkersWorks}
 use Rattle.law_lane_works.proofs.ByWorker.{among, of_more, of_none, of_all}
 use Rattle.law_lane_works.proofs.Numbered.{is_numbered}
@@ -87,7 +86,7 @@ made_total q ((place, Repeats line repeat answer) ∷ calls) = let rest = made_t
 
 -- ---- of the whole log
 
-deeds_placed : (place : ℕ) (log : List Deed) → deeds (placed_from place log) ≡ log
+pub deeds_placed : (place : ℕ) (log : List Deed) → deeds (placed_from place log) ≡ log
 deeds_placed place [] = refl
 deeds_placed place (deed ∷ log) = ap (λ (ds : List Deed). deed ∷ ds) (deeds_placed (place + 1) log)
 

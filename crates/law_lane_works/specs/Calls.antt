@@ -1,18 +1,21 @@
 -- What each worker did on the lanes of a block, each deed with its place in the lane's log.
-use Rattle.std.specs.Prelude.{◌≡◌, ℕ, ◌+◌, true, false, List, [], ◌∷◌, length, map, slice_get, Some}
+use Rattle.std.specs.Prelude.{◌≡◌, ℕ, ◌+◌, true, false, List, [], ◌∷◌, length, map, take, slice_get, Some}
 use Rattle.std.specs.List.{list_all}
 use Rattle.qkd_base.specs.declared.lane.Lane.{Lane}
-use Rattle.net_model.specs.Site.{count_up}
+use Rattle.net_model.specs.Site.{sender, count_up}
 use Rattle.net_model.specs.World.{Network, World}
 use Rattle.net_model.specs.Events.{is_lane}
-use Rattle.net_model.specs.Tick.{Emission}
+use Rattle.net_model.specs.Frames.{octets_sent, frame_octets}
+use Rattle.net_model.specs.Tick.{Emission, Again, New}
 use Rattle.net_model.specs.Step.{IsRun}
 use Rattle.net_model.specs.BlockOrder.{IsMerge}
 use Rattle.run_model.specs.Works.{Work, actions_in, flat, plain_work, done_from}
 use Rattle.run_blocks.specs.declared.job.Job.{Job}
 use Rattle.run_blocks.specs.Jobs.{asked_by}
-use Rattle.law_emissions.specs.Putting.{wanted_by}
+use Rattle.law_ticks.specs.Sending.{IsEmission}
+use Rattle.law_emissions.specs.Putting.{lane_of, wanted_by}
 use Rattle.law_lane_works.specs.Logs.{Deed, Claims, Puts, Repeats, claims_put, done_for_plans, is_answered, wanted_on}
+use Rattle.law_lane_works.specs.Puts.{LaneFrame, allocation_of}
 use Rattle.law_lane_works.specs.Workers.{of_worker}
 
 abbrev pub placed_from : (place : ℕ) → List Deed → List (ℕ × Deed)
@@ -48,3 +51,16 @@ pub record AreWorkersWorks (net : Network) (workers : ℕ) (w : World) (jobs : L
   pub turns : IsRun net w (actions_in (flat histories))
   pub lanes : (l : Lane) → is_lane net.site l ≡ true → IsOfWorkers workers (wanted_on l (wanted_by (done_from net w (flat histories)))) (calls l) (logs l)
   pub undeclared : (l : Lane) → is_lane net.site l ≡ false → logs l ≡ []
+
+-- ---- the frames that are put
+
+-- what stands for a frame before it is put: an order's payload, sealed at its offset, or the octets that a repeat carries
+abbrev pub octets_given : Network → World → Lane → (offset : ℕ) → Emission → List ℕ
+octets_given net w l offset (New o) = net.sealing.seal l (octets_sent net w l) offset o.payload
+octets_given net w l offset (Again r) = take r.length r.frame.octets
+
+-- a frame is of an emission of its lane's sender, and has just those octets
+pub record IsSealed (net : Network) (w : World) (l : Lane) (f : LaneFrame) : Type 0 where
+  pub lane : lane_of f.emission ≡ l
+  pub emission : IsEmission net w (sender net.site l) f.emission
+  pub octets : frame_octets net w l (Some (allocation_of f)) ≡ octets_given net w l f.offset f.emission

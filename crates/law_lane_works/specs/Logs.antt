@@ -9,8 +9,8 @@ use Rattle.net_model.specs.Action.{Environment, is_io_fault}
 use Rattle.net_model.specs.BlockOrder.{is_wire_answer}
 use Rattle.law_emissions.specs.Putting.{lane_of}
 
--- An order of the plan of the line at a place gets the lane's next bytes. The frame of one of these claims is put, which count from 0. For the
--- plan of the line at a place an older frame is put once more. Each put has the wire's answer.
+-- What a lane does for the plan of the line at a place: it claims its next bytes for an order of the plan; it puts the frame of a claim, and claims count
+-- from 0; it puts an older frame once more. Each put has the wire's answer.
 pub data Deed : Type 0 where
   Claims : (place : ℕ) → (order : Order) → Deed
   Puts : (claim : ℕ) → (answer : Environment) → Deed

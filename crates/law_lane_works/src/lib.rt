@@ -1,21 +1,25 @@
 //! Laws of a block whose lanes do what the plans want of them in any order: it is what its workers may do.
 #![tactic(auto)]
 
-ghost use Rattle.std.specs.Prelude.{◌≡◌, ◌<◌, ◌≤◌, ℕ, List};
+ghost use Rattle.std.specs.Prelude.{◌≡◌, ◌<◌, ◌≤◌, ℕ, List, true};
+ghost use Rattle.std.specs.List.{AllByRecursion};
 ghost use Rattle.qkd_base.specs.declared.lane.Lane.{Lane as LaneValue};
 ghost use Rattle.net_model.specs.World.{Network, World};
 ghost use Rattle.net_model.specs.Premises.{IsNetwork};
 ghost use Rattle.net_model.specs.Invariant.{Conserved};
+ghost use Rattle.net_model.specs.Events.{is_lane};
 ghost use Rattle.net_model.specs.Tick.{Emission};
+ghost use Rattle.net_model.specs.Action.{Environment};
 ghost use Rattle.run_model.specs.Works.{Work};
 ghost use Rattle.run_acts.specs.Quiet.{IsQuiet};
 ghost use Rattle.run_blocks.specs.declared.job.Job.{Job as JobValue};
 ghost use Rattle.law_emissions.specs.Putting.{Putting};
-ghost use Rattle.law_works.specs.InOrder.{IsInOrder};
+ghost use Rattle.law_works.specs.InOrder.{IsInOrder, turns_over};
 ghost use Rattle.law_lane_works.specs.Logs.{Deed, claims_put, HaveTheSame};
+ghost use Rattle.law_lane_works.specs.Puts.{LaneFrame, frames_put};
 ghost use Rattle.law_lane_works.specs.LaneWorks.{AreLaneWorks, IsLaneBlock};
 ghost use Rattle.law_lane_works.specs.Places.{claimed_at, numbered, IsNumbered};
-ghost use Rattle.law_lane_works.specs.Calls.{AreWorkersWorks};
+ghost use Rattle.law_lane_works.specs.Calls.{AreWorkersWorks, IsSealed};
 ghost use Rattle.law_lane_works.specs.Workers.{of_worker, logs_in_order};
 
 /// Where each lane does just what the plans want of it, each once and in any order, claims and puts among each other, that is a block
@@ -51,4 +55,13 @@ pub fn law_workers_works_are_lane_works()
     ensures { (net : Network) (workers : ℕ) (w : World) (jobs : List JobValue) (histories : List (List Work)) (calls : LaneValue → List (List (ℕ × Deed)))
         (logs : LaneValue → List Deed) → 1 ≤ workers → AreWorkersWorks net workers w jobs histories calls logs →
         AreLaneWorks net workers w jobs histories (λ l. numbered (logs l)) }
+{}
+
+/// Each frame that is put so is of what a plan wants of the lane, and has the octets that are given for it: those of an order's payload,
+/// sealed over the lane's bytes at the frame's offset, or those that a repeat carries. Premises as of the block.
+pub fn law_frames_have_octets_given()
+    ensures { (net : Network) (workers : ℕ) (w : World) (jobs : List JobValue) (histories : List (List Work)) (calls : LaneValue → List (List (ℕ × Deed)))
+        (logs : LaneValue → List Deed) → 1 ≤ workers → IsNetwork net → Conserved net w → IsQuiet w → AreWorkersWorks net workers w jobs histories calls logs →
+        (l : LaneValue) → is_lane net.site l ≡ true →
+        AllByRecursion (λ (p : LaneFrame × Environment). IsSealed net (turns_over net w histories) l p.0) (frames_put (turns_over net w histories) l (numbered (logs l))) }
 {}
