@@ -26,3 +26,4 @@ pub mod ByWorker
 pub mod FrameByFrame
 pub mod WorkersCalls
 pub mod Sealed
+pub mod SideBySide

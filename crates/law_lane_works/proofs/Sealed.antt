@@ -1,5 +1,5 @@
 -- The frames that workers put are of what their plans want, and have the octets that are given for them.
-use Rattle.std.proofs.Common.{◌≡◌, ℕ, zero, suc, ◌+◌, ◌≤◌, true, false, List, [], ◌∷◌, ◌++◌, length, take, refl, sym, ◌∙◌, ap, subst, Some}
+use Rattle.std.proofs.Common.{◌≡◌, ℕ, zero, suc, ◌+◌, ◌≤◌, true, false, List, [], ◌∷◌, length, take, refl, sym, ◌∙◌, ap, subst, Some}
 use Rattle.std.specs.Prelude.{◌==◌, ◌-◌, ◌%◌, replicate, slice_get, if◌then◌else◌}
 use Rattle.std.specs.List.{flat_map, AllByRecursion}
 use Rattle.std.proofs.lemmas.List.{take_at}
@@ -17,12 +17,12 @@ use Rattle.net_model.specs.Events.{is_lane}
 use Rattle.net_model.specs.Frames.{frame_octets, sealed}
 use Rattle.net_model.specs.Tick.{Emission, Again, New, item_in}
 use Rattle.net_model.specs.Action.{Environment}
-use Rattle.net_model.specs.BlockOrder.{IsMerge, Done, Next}
 use Rattle.run_model.specs.Works.{Work, flat, done_from}
 use Rattle.run_acts.specs.Quiet.{IsQuiet}
 use Rattle.run_blocks.specs.declared.job.Job.{Job}
 use Rattle.law_records.proofs.Base.{lane_eq_from}
 use Rattle.law_lanes.proofs.Lists.{all_both, all_from, all_kept}
+use Rattle.law_merges.proofs.Holding.{all_of_merge}
 use Rattle.law_ticks.specs.Sending.{IsAgain, IsEmission}
 use Rattle.law_emissions.specs.Putting.{lane_of, wanted_by}
 use Rattle.law_works.specs.InOrder.{turns_over}
@@ -35,20 +35,6 @@ use Rattle.law_lane_works.proofs.Block.{what, remains}
 use Rattle.law_lane_works.proofs.Counted.{again_frame}
 use Rattle.law_lane_works.proofs.Numbered.{wanted_same}
 use Rattle.law_lane_works.proofs.WorkersCalls.{are_lane_works, deeds_placed}
-
--- ---- what holds of all parts holds of all of their merge
-
-module _ {A : Type 0} (P : A → Type 0) where
-  abbrev AllOfAll : List (List A) → Type 0
-  AllOfAll parts = AllByRecursion (λ xs. AllByRecursion P xs) parts
-
-  first_of : (before after : List (List A)) (x : A) (rest : List A) → AllOfAll (before ++ (x ∷ rest) ∷ after) → P x × AllOfAll (before ++ rest ∷ after)
-  first_of [] after x rest h = (h.0.0, (h.0.1, h.1))
-  first_of (xs ∷ before) after x rest h = let more = first_of before after x rest h.1 in (more.0, (h.0, more.1))
-
-  all_merged : (parts : List (List A)) (out : List A) → IsMerge parts out → AllOfAll parts → AllByRecursion P out
-  all_merged _ [] (Done parts none) h = tt
-  all_merged _ _ (Next before after x rest out merged) h = let first = first_of before after x rest h in (first.0, all_merged (before ++ rest ∷ after) out merged first.1)
 
 -- ---- of what is done for plans, and so of deeds
 
@@ -75,7 +61,7 @@ module _ (Q : ℕ × Emission → Type 0) where
   of_all_workers workers wanted calls log h all =
       subst (λ (ds : List Deed). AllByRecursion Q (done_for_plans ds)) (deeds_placed 0 log)
       (from_deeds (placed_from 0 log)
-      (all_merged OfDeed calls (placed_from 0 log) h.merged
+      (all_of_merge OfDeed h.merged
       (all_from (λ (mine : List (ℕ × Deed)). AllByRecursion OfDeed mine) calls (λ k mine at.
       to_deeds mine (subst (AllByRecursion Q) (sym (h.each k mine at).wants) (all_kept Q (λ (x : ℕ × Emission). x.0 % workers == k) wanted all))))))
 

@@ -18,9 +18,10 @@ use Rattle.law_lane_works.specs.Logs.{Deed, Claims, Puts, Repeats, claims_put, d
 use Rattle.law_lane_works.specs.Puts.{LaneFrame, allocation_of}
 use Rattle.law_lane_works.specs.Workers.{of_worker}
 
-abbrev pub placed_from : (place : ℕ) → List Deed → List (ℕ × Deed)
+-- the entries of a log with their places
+abbrev pub placed_from : {A : Type 0} → (place : ℕ) → List A → List (ℕ × A)
 placed_from place [] = []
-placed_from place (deed ∷ log) = (place, deed) ∷ placed_from (place + 1) log
+placed_from place (x ∷ log) = (place, x) ∷ placed_from (place + 1) log
 
 abbrev pub deeds : List (ℕ × Deed) → List Deed
 deeds calls = map (λ (c : ℕ × Deed). c.1) calls

@@ -4,3 +4,4 @@ pub mod LaneWorks
 pub mod Places
 pub mod Workers
 pub mod Calls
+pub mod Beside

@@ -1,7 +1,7 @@
 //! Laws of a block whose lanes do what the plans want of them in any order: it is what its workers may do.
 #![tactic(auto)]
 
-ghost use Rattle.std.specs.Prelude.{◌≡◌, ◌<◌, ◌≤◌, ℕ, List, true};
+ghost use Rattle.std.specs.Prelude.{◌≡◌, ◌<◌, ◌≤◌, ℕ, List, map, true};
 ghost use Rattle.std.specs.List.{AllByRecursion};
 ghost use Rattle.qkd_base.specs.declared.lane.Lane.{Lane as LaneValue};
 ghost use Rattle.net_model.specs.World.{Network, World};
@@ -10,6 +10,7 @@ ghost use Rattle.net_model.specs.Invariant.{Conserved};
 ghost use Rattle.net_model.specs.Events.{is_lane};
 ghost use Rattle.net_model.specs.Tick.{Emission};
 ghost use Rattle.net_model.specs.Action.{Environment};
+ghost use Rattle.net_model.specs.BlockOrder.{IsMerge};
 ghost use Rattle.run_model.specs.Works.{Work};
 ghost use Rattle.run_acts.specs.Quiet.{IsQuiet};
 ghost use Rattle.run_blocks.specs.declared.job.Job.{Job as JobValue};
@@ -19,7 +20,8 @@ ghost use Rattle.law_lane_works.specs.Logs.{Deed, claims_put, HaveTheSame};
 ghost use Rattle.law_lane_works.specs.Puts.{LaneFrame, frames_put};
 ghost use Rattle.law_lane_works.specs.LaneWorks.{AreLaneWorks, IsLaneBlock};
 ghost use Rattle.law_lane_works.specs.Places.{claimed_at, numbered, IsNumbered};
-ghost use Rattle.law_lane_works.specs.Calls.{AreWorkersWorks, IsSealed};
+ghost use Rattle.law_lane_works.specs.Calls.{placed_from, AreWorkersWorks, IsSealed};
+ghost use Rattle.law_lane_works.specs.Beside.{IsMade, at_its_place, HasLog};
 ghost use Rattle.law_lane_works.specs.Workers.{of_worker, logs_in_order};
 
 /// Where each lane does just what the plans want of it, each once and in any order, claims and puts among each other, that is a block
@@ -64,4 +66,16 @@ pub fn law_frames_have_octets_given()
         (logs : LaneValue → List Deed) → 1 ≤ workers → IsNetwork net → Conserved net w → IsQuiet w → AreWorkersWorks net workers w jobs histories calls logs →
         (l : LaneValue) → is_lane net.site l ≡ true →
         AllByRecursion (λ (p : LaneFrame × Environment). IsSealed net (turns_over net w histories) l p.0) (frames_put (turns_over net w histories) l (numbered (logs l))) }
+{}
+
+/// A merge of what is made of things, part by part, is made of a merge of these things.
+pub fn law_merge_is_of_what_it_is_made<A, B>()
+    ensures { (made : B → A) (kept : List (List B)) (out : List A) → IsMerge (map (map made) kept) out → IsMade made kept out }
+{}
+
+/// Where callers of a lane's machine keep of each of their calls what is its entry in the history of all calls, and what deed it was, the
+/// deeds are a log, which is a merge of what each caller did.
+pub fn law_deeds_are_a_log<E, P>()
+    ensures { (entry : P → E) (deed : P → Deed) (kept : List (List (ℕ × P))) (history : List E) →
+        IsMerge (map (map (at_its_place entry)) kept) (placed_from 0 history) → HasLog entry deed kept history }
 {}
