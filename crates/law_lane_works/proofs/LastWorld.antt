@@ -96,7 +96,7 @@ module _ (net : Network) (network : IsNetwork net) (workers : ℕ) (some : 1 ≤
       (wanted_here net network workers w c quiet jobs histories logs h l) t
       ∙ ap (count_by (transmission_eq t)) (sym ((remains net network workers w c quiet jobs histories logs h).unclaimed l))
 
-  claims_go : IsRun net begun claims
+  pub claims_go : IsRun net begun claims
   claims_go = claims_are_run net claims begun each as_wanted
 
   none_unclaimed : (l : Lane) → then'.unclaimed l ≡ []

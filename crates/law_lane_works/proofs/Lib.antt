@@ -27,3 +27,4 @@ pub mod FrameByFrame
 pub mod WorkersCalls
 pub mod Sealed
 pub mod SideBySide
+pub mod Unseen

@@ -1,9 +1,10 @@
 -- What lanes do in any order is what the workers may do.
-use Rattle.std.proofs.Common.{◌≡◌, ℕ, ◌≤◌, List, refl, ◌∙◌, ap, subst}
+use Rattle.std.proofs.Common.{sym, ◌≡◌, ℕ, ◌≤◌, List, refl, ◌∙◌, ap, subst}
 use Rattle.std.specs.Prelude.{count_by}
 use Rattle.qkd_base.specs.declared.lane.Lane.{Lane}
 use Rattle.net_model.specs.Action.{Action}
 use Rattle.net_model.specs.World.{Network, World}
+use Rattle.net_model.specs.Needed.{view_of}
 use Rattle.net_model.specs.Premises.{IsNetwork}
 use Rattle.net_model.specs.Invariant.{Conserved}
 use Rattle.net_model.specs.BlockOrder.{completions}
@@ -16,13 +17,14 @@ use Rattle.run_blocks.specs.Together.{AreWorks}
 use Rattle.law_works.specs.InOrder.{turns_over}
 use Rattle.law_lane_works.specs.Logs.{Deed}
 use Rattle.law_lane_works.specs.LaneWorks.{AreLaneWorks, works_of, world_after, wire_faults_in, IsLaneBlock}
-use Rattle.law_lane_works.proofs.AllClaims.{all_orders}
+use Rattle.law_lane_works.proofs.AllClaims.{all_claims, all_orders}
 use Rattle.law_lane_works.proofs.Block.{alone, are_turns, put_here, is_block}
 use Rattle.law_lane_works.proofs.Failures.{in_block, fails, disks_in_turns, entropies_in_turns, devices_in_turns, armed_in_turns, failures, wires_in_logs}
-use Rattle.law_lane_works.proofs.LastWorld.{last_conserved, begun, all, made, last, is_run, leads_to, last_is, is_quiet}
+use Rattle.law_lane_works.proofs.LastWorld.{then', claims_go, last_conserved, begun, all, made, last, is_run, leads_to, last_is, is_quiet}
 use Rattle.law_lane_works.proofs.LanesLeft.{left}
 use Rattle.law_lane_works.proofs.Placings.{placings_are}
 use Rattle.law_lane_works.proofs.PutFor.{put_for}
+use Rattle.law_lane_works.proofs.Unseen.{claims_unseen, puts_unseen}
 use Rattle.law_lane_works.proofs.Reports.{puts_lane, frames_reported}
 
 module _ (net : Network) (network : IsNetwork net) (workers : ℕ) (some : 1 ≤ workers) (w : World) (c : Conserved net w) (quiet : IsQuiet w) (jobs : List Job) (histories : List (List Work))
@@ -56,6 +58,12 @@ module _ (net : Network) (network : IsNetwork net) (workers : ℕ) (some : 1 ≤
       last_is net network workers some w c quiet jobs histories logs h
       ∙ λ i. record (world_after net (turns_over net w histories) logs) { placings = λ v. placings_are net network workers some w c quiet jobs histories logs h v i }
 
+  sees_the_same : (v : ℕ) → view_of net (world_after net (turns_over net w histories) logs) v ≡ view_of net (turns_over net w histories) v
+  sees_the_same v =
+      ap (λ (x : World). view_of net x v) (sym left_is)
+      ∙ puts_unseen net v (made net network workers some w c quiet jobs histories logs h) (then' net network workers some w c quiet jobs histories logs h)
+      ∙ claims_unseen net v (all_claims net.site logs) (turns_over net w histories) (claims_go net network workers some w c quiet jobs histories logs h)
+
   pub one_block : IsLaneBlock net workers w jobs histories logs
   one_block = record {
     are = are;
@@ -63,6 +71,15 @@ module _ (net : Network) (network : IsNetwork net) (workers : ℕ) (some : 1 ≤
     reported = frames_reported net network workers some w c quiet jobs histories logs h;
     after = leads_to net network workers some w c quiet jobs histories logs h ∙ ap (λ (x : World). run net x (completions net)) left_is;
     conserved = subst (Conserved net) left_is (last_conserved net network workers some w c quiet jobs histories logs h);
+    managers = λ v. record {
+      view = sees_the_same v;
+      up = refl;
+      drawn = refl;
+      journal = refl;
+      interrupted = refl;
+      in_doubt = refl;
+      volatile = refl;
+    };
     lanes = left net network workers some w c quiet jobs histories logs h;
     quiet = is_quiet net network workers some w c quiet jobs histories logs h;
     disks = λ v. ap (disk_faults net.site v) run_is ∙ disks_in_turns net turns (all_orders net.site logs) (made net network workers some w c quiet jobs histories logs h) v;

@@ -20,6 +20,7 @@ use Rattle.run_acts.specs.Quiet.{IsQuiet}
 use Rattle.run_blocks.specs.declared.job.Job.{Job}
 use Rattle.run_blocks.specs.Jobs.{asked_by}
 use Rattle.run_blocks.specs.Together.{AreWorks, turn_done, puts_reported}
+use Rattle.law_others.specs.Touched.{ManagerStays}
 use Rattle.law_emissions.specs.Putting.{wanted_by}
 use Rattle.law_works.specs.InOrder.{turns_over}
 use Rattle.law_lane_works.specs.Logs.{Deed, claims_in, claims_put, done_for_plans, is_answered, is_wire_failure, HaveTheSame, wanted_on}
@@ -89,13 +90,14 @@ abbrev pub wire_faults_in : List Deed → ℕ
 wire_faults_in log = count_by is_wire_failure log
 
 -- What is done so is what so many workers may do of the jobs. The turns reply as they did. What is reported of the frames, the world that is left and how
--- often parts failed is told by the turns and the logs alone.
+-- often parts failed is told by the turns and the logs alone. Until it notes what became of its frames each manager is as its turns left it.
 pub record IsLaneBlock (net : Network) (workers : ℕ) (w : World) (jobs : List Job) (histories : List (List Work)) (logs : Lane → List Deed) : Type 0 where
   pub are : AreWorks net workers w jobs (works_of net w histories logs)
   pub turns : map turn_done (flat (turns_done net w (works_of net w histories logs))) ≡ map turn_done (done_from net w (flat histories))
   pub reported : puts_reported net w (works_of net w histories logs) ≡ flat_map (λ l. puts_on (reported_on (turns_over net w histories) l (logs l)) l) (all_lanes net.site)
   pub after : run net w (block_run net (works_of net w histories logs)) ≡ run net (world_after net (turns_over net w histories) logs) (completions net)
   pub conserved : Conserved net (world_after net (turns_over net w histories) logs)
+  pub managers : (v : ℕ) → ManagerStays net v (turns_over net w histories) (world_after net (turns_over net w histories) logs)
   pub lanes : (l : Lane) → IsLeft net (turns_over net w histories) logs l
   pub quiet : IsQuiet (run net w (block_run net (works_of net w histories logs)))
   pub disks : (v : ℕ) → disk_faults net.site v (block_run net (works_of net w histories logs)) ≡ disk_faults net.site v (actions_in (flat histories))
