@@ -9,13 +9,9 @@ use Rattle.run_acts.specs.Runnable.{IsEntryFor}
 use Rattle.run_tasks.specs.Tasks.{RanTasks}
 use Rattle.run_model.specs.Report.{tasks}
 use Rattle.run_model.specs.Course.{tasks_of}
-use Rattle.world_state.specs.Armed.{most_armed}
 use Rattle.site_requests.specs.Speaking.{IsTextsOf}
-use Rattle.world_state.specs.Rests.{Rests}
-use Rattle.world_state.specs.Stands.{Stands}
-use Rattle.world_state.specs.Tallied.{Tallied}
-use Rattle.world_state.specs.declared.state.State.{State}
 use Rattle.world_bench.specs.New.{network_on}
+use Rattle.world_bench.specs.Passed.{most_armed, Rests, Stands, State, Tallied}
 use Rattle.world_runs.specs.declared.running.Running.{Running}
 use Rattle.world_runs.specs.Sized.{IsSized}
 use Rattle.bench_runs.proofs.Headlines.{of_states, ready_after}
