@@ -1,0 +1,5 @@
+pub mod Wanting
+pub mod Calling
+pub mod Onward
+pub mod Steps
+pub mod Ready
