@@ -3,3 +3,4 @@ pub mod Calling
 pub mod Onward
 pub mod Steps
 pub mod Ready
+pub mod Issuing

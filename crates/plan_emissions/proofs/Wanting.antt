@@ -31,15 +31,19 @@ turns_more i xs ys = ap (sum_by turns_for) (filter-append (is_at i) xs ys) ∙ s
 pub bytes_more : (i : ℕ) (xs ys : List Emission) → bytes_at i (xs ++ ys) ≡ bytes_at i xs + bytes_at i ys
 bytes_more i xs ys = ap (sum_by bytes_for) (filter-append (is_at i) xs ys) ∙ sum_by-append bytes_for (filter (is_at i) xs) (filter (is_at i) ys)
 
--- a list of which one item more is put out
-module _ {A : Type 0} (mk : A → Emission) (xs : List A) (i : ℕ) (x : A) (below : i < length xs) (is : x ≡ get_or xs i x) where
-  pub take_on : map mk (take (i + 1) xs) ≡ map mk (take i xs) ++ mk x ∷ []
-  take_on = ap (map mk) (take_more xs i x below ∙ ap (λ (y : A). take i xs ++ y ∷ []) (sym is)) ∙ map-append mk (take i xs) (x ∷ [])
+-- a list of which one item more is gone through
+module _ {A : Type 0} (xs : List A) (i : ℕ) (x : A) (below : i < length xs) (is : x ≡ get_or xs i x) where
+  pub taken : take (i + 1) xs ≡ take i xs ++ x ∷ []
+  taken = take_more xs i x below ∙ ap (λ (y : A). take i xs ++ y ∷ []) (sym is)
 
-  left : drop i xs ≡ x ∷ drop (i + 1) xs
+  pub left : drop i xs ≡ x ∷ drop (i + 1) xs
   left =
       let next : suc i ≡ i + 1 = omega arith in
       drop-cons xs i x below ∙ ap (λ (y : A). y ∷ drop (suc i) xs) (sym is) ∙ ap (λ (n : ℕ). x ∷ drop n xs) next
 
-  pub drop_on : (es : List Emission) → map mk (drop i xs) ++ es ≡ mk x ∷ (map mk (drop (i + 1) xs) ++ es)
-  drop_on es = ap (λ (ys : List A). map mk ys ++ es) left
+  module _ (mk : A → Emission) where
+    pub take_on : map mk (take (i + 1) xs) ≡ map mk (take i xs) ++ mk x ∷ []
+    take_on = ap (map mk) taken ∙ map-append mk (take i xs) (x ∷ [])
+
+    pub drop_on : (es : List Emission) → map mk (drop i xs) ++ es ≡ mk x ∷ (map mk (drop (i + 1) xs) ++ es)
+    drop_on es = ap (λ (ys : List A). map mk ys ++ es) left

@@ -1,3 +1,4 @@
 pub mod Wants
 pub mod Calls
 pub mod Emitting
+pub mod Granting

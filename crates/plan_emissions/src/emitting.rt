@@ -1,28 +1,16 @@
 // Frames go out by turns of their lanes.
 ghost use Rattle.std.specs.Prelude.{◌≡◌, ◌+◌, ◌<◌, ◌≤◌, [], ◌∷◌, ◌++◌, List, map, length, vec_len, vec_capacity};
-ghost use Rattle.qkd_base.specs.Lane.{lane_place};
 ghost use Rattle.net_model.specs.Tick.{Emission, Again, New};
 ghost use Rattle.plan_emissions.specs.Wants.{wanted};
 ghost use Rattle.plan_emissions.specs.Emitting.{MayEmit, HasEmitted};
 
+use crate::place::place_of;
 use crate::{Emitted, Lanes, Plan, Sender};
 use edge_io::Gate;
 use lane_desks::{LaneDesk, again, claim_and_seal};
 use net_model::{Order, Repeat};
-use qkd_base::{Lane, Way};
 use source_devices::Wire;
 use std::sync::Wait;
-
-// The place of a lane among all lanes.
-fn place_of(lane: Lane) -> usize
-    ensures { result ≡ lane_place lane }
-{
-    let way = match lane.way {
-        Way::Up => 0,
-        Way::Down => 1,
-    };
-    2 * usize::from(lane.link.get()) + way
-}
 
 // Puts the frame of a repeat on its wire once more, by a turn of its lane.
 fn emit_repeat<'a, R: Wait, X: Wire>(

@@ -4,10 +4,13 @@
 
 mod emitted;
 mod emitting;
+mod granting;
+mod place;
 mod sender;
 
 pub use emitted::Emitted;
 pub use emitting::emit_plan;
+pub use granting::grant_plan;
 pub use lane_desks;
 pub use sender::{Lanes, Plan, Sender};
 pub use shared_machines;
