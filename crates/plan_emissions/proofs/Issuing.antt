@@ -1,6 +1,6 @@
 -- Issuers give what orders take.
 use Rattle.std.proofs.Common.{◌≡◌, ◌⊎◌, ℕ, ◌+◌, ◌-◌, ◌<◌, ◌≤◌, true, false, List, [], ◌∷◌, ◌++◌, length, map, set, get_or, slice_get, Some, eqb, refl, sym, ap, subst, ◌∙◌, arith, inl, inr}
-use Rattle.std.specs.List.{AllZip, AllByRecursion}
+use Rattle.std.specs.List.{AllZip}
 use Rattle.std.proofs.lemmas.List.{map-append}
 use Rattle.std.proofs.lemmas.Option.{slice_get_read, slice_get-get_or}
 use Rattle.std.proofs.lemmas.Bool.Decides.{eqb_tells}
@@ -11,7 +11,7 @@ use Rattle.lane_shares.specs.declared.share.Share.{Share}
 use Rattle.lane_shares.specs.declared.shares.Shares.{Shares}
 use Rattle.lane_shares.specs.declared.view.View.{View}
 use Rattle.lane_shares.specs.Names.{knows as has, lane_cap, Fits}
-use Rattle.lane_shares.specs.Views.{with_amount, spent, joined}
+use Rattle.lane_shares.specs.Views.{with_amount, spent}
 use Rattle.lane_sides.specs.Lane.{frame_need}
 use Rattle.shared_machines.proofs.Zips.{zip_at, zip_set, zip_same, was_at, new_at, other_at, same_item}
 use Rattle.plan_emissions.specs.Wants.{bytes_for, bytes_at}

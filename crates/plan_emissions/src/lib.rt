@@ -7,6 +7,8 @@ mod emitting;
 mod granting;
 mod place;
 mod sender;
+#[cfg(test)]
+mod tests;
 
 pub use emitted::Emitted;
 pub use emitting::emit_plan;

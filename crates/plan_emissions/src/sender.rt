@@ -9,9 +9,10 @@ use turnstile::{Machine, Turnstile};
 
 /// The lanes of a network in a block, in order of link and the lane up before the lane down: each behind a turnstile, with the shares
 /// of the bytes that were issued on it.
+#[derive(Drop)]
 pub struct Lanes<'d, 'a, X: Wire> {
     pub desks: &'d [Turnstile<LaneDesk<'a, X>>],
-    pub shares: &'d [Shares],
+    pub shares: &'a [Shares],
 }
 
 /// What a worker has at machines, which are the lanes' desks, in their order.
@@ -26,6 +27,7 @@ pub struct Sender<M: Machine> {
 }
 
 /// What the plan of a line wants put.
+#[derive(Drop)]
 pub struct Plan<'p> {
     /// The line's place in its block.
     pub place: usize,

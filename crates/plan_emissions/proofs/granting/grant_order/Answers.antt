@@ -1,4 +1,4 @@
-use Rattle.std.proofs.Common.{arith, ◌≡◌, ◌+◌, ◌-◌, ℕ, List, [], ◌∷◌, set, slice_get, get_or, refl, sym, ap, subst, ◌∙◌}
+use Rattle.std.proofs.Common.{arith, ◌≡◌, ◌+◌, ◌-◌, ℕ, set, slice_get, get_or, ap, subst, ◌∙◌}
 use Rattle.lane_shares.specs.declared.shares.Shares.{Shares}
 use Rattle.lane_shares.specs.Names.{knows, Fits}
 use Rattle.lane_shares.specs.Views.{with_amount}
@@ -72,8 +72,8 @@ returns-clause-granted c =
     let grant = get_or c.args.granted.now k c.index-granted-at.result in
     let more = raised (lease_at k c.args.leases.now) (knows issuer) in
     granted_one c.args.order.now k home c.args.leases.now c.args.issuers.now c.args.granted.now issuer c.grant-part.new.issuer grant c.join.new.share (issuer_at may k home c.index-issuers-at.result) (granted_at may k home c.index-granted-at.result)
-        (c.grant-part.ensures.issuer ∙ ap (λ (n : ℕ). with_amount more (more.amount - n)) many)
-        (c.join.ensures.joined ∙ ap (λ (n : ℕ). with_amount (knows grant) ((knows grant).amount + n)) (c.grant-part.ensures.grant.has ∙ many))
+    (c.grant-part.ensures.issuer ∙ ap (λ (n : ℕ). with_amount more (more.amount - n)) many)
+    (c.join.ensures.joined ∙ ap (λ (n : ℕ). with_amount (knows grant) ((knows grant).amount + n)) (c.grant-part.ensures.grant.has ∙ many))
 
 pub returns-clause-rest : goal.returns-clause-rest
 returns-clause-rest c = λ os may.
@@ -89,7 +89,7 @@ returns-clause-rest c = λ os may.
     let one = shares_at may k home c.index-shares-at.result c.index-shares-at.is in
     let two = shares_at may k home c.index-shares-at-2.result c.index-shares-at-2.is in
     may_grant_on c.args.shares.now c.args.leases.now c.args.order.now os c.args.issuers.now (set c.args.issuers.now k c.grant-part.new.issuer) c.args.granted.now (set c.args.granted.now k c.join.new.share)
-        (issuers_fit may k home c.index-shares-at.result one c.grant-part.new.issuer c.grant-part.ensures.fits) (grants_fit may k home c.index-shares-at-2.result two c.join.new.share c.join.ensures.fits)
-        (granted_one c.args.order.now k home c.args.leases.now c.args.issuers.now c.args.granted.now issuer c.grant-part.new.issuer grant c.join.new.share (issuer_at may k home c.index-issuers-at.result) (granted_at may k home c.index-granted-at.result)
-        (c.grant-part.ensures.issuer ∙ ap (λ (n : ℕ). with_amount more (more.amount - n)) many)
-        (c.join.ensures.joined ∙ ap (λ (n : ℕ). with_amount (knows grant) ((knows grant).amount + n)) (c.grant-part.ensures.grant.has ∙ many))) may
+    (issuers_fit may k home c.index-shares-at.result one c.grant-part.new.issuer c.grant-part.ensures.fits) (grants_fit may k home c.index-shares-at-2.result two c.join.new.share c.join.ensures.fits)
+    (granted_one c.args.order.now k home c.args.leases.now c.args.issuers.now c.args.granted.now issuer c.grant-part.new.issuer grant c.join.new.share (issuer_at may k home c.index-issuers-at.result) (granted_at may k home c.index-granted-at.result)
+    (c.grant-part.ensures.issuer ∙ ap (λ (n : ℕ). with_amount more (more.amount - n)) many)
+    (c.join.ensures.joined ∙ ap (λ (n : ℕ). with_amount (knows grant) ((knows grant).amount + n)) (c.grant-part.ensures.grant.has ∙ many))) may

@@ -1,4 +1,4 @@
-use Rattle.std.proofs.Common.{List, [], ◌∷◌, ◌++◌, ◌+◌, take, drop, refl, sym, ap, subst}
+use Rattle.std.proofs.Common.{List, [], ◌∷◌, ◌++◌, ◌+◌, take, drop, sym, ap, subst}
 use Rattle.net_model.specs.declared.order.Order.{Order}
 use Rattle.plan_emissions.specs.Granting.{MayGrant, HasGranted}
 use Rattle.plan_emissions.proofs.Wanting.{taken, left}
