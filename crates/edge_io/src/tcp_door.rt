@@ -53,11 +53,13 @@ impl TcpDoor {
     }
 }
 
-// The next connection, twice: to read from and to write to.
+// The next connection, twice: to read from and to write to. What is written goes out at once, since a peer that has asked
+// several times may wait for all answers before it says more.
 fn next_stream(listener: &TcpListener, patience: Duration) -> io::Result<(TcpStream, TcpStream)> {
     let (stream, _) = listener.accept()?;
     stream.set_read_timeout(Some(patience))?;
     stream.set_write_timeout(Some(patience))?;
+    stream.set_nodelay(true)?;
     let other = stream.try_clone()?;
     Ok((stream, other))
 }
