@@ -30,7 +30,7 @@ issues_on lease planned need v h under =
     let below = h.under in
     record { issues = h.issues; rest = omega (arith, rest, below, under); under = omega (arith, rest, below, under) }
 
-need_more : (i : ℕ) (xs ys : List Order) → need_at i (xs ++ ys) ≡ need_at i xs + need_at i ys
+pub need_more : (i : ℕ) (xs ys : List Order) → need_at i (xs ++ ys) ≡ need_at i xs + need_at i ys
 need_more i xs ys = ap (bytes_at i) (map-append New xs ys) ∙ bytes_more i (map New xs) (map New ys)
 
 -- nothing is granted, or one thing after another

@@ -4,3 +4,4 @@ pub mod Onward
 pub mod Steps
 pub mod Ready
 pub mod Issuing
+pub mod Leasing

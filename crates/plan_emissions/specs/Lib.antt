@@ -2,3 +2,4 @@ pub mod Wants
 pub mod Calls
 pub mod Emitting
 pub mod Granting
+pub mod Leases

@@ -5,6 +5,7 @@
 mod emitted;
 mod emitting;
 mod granting;
+mod leases;
 mod place;
 mod sender;
 #[cfg(test)]
@@ -14,5 +15,6 @@ pub use emitted::Emitted;
 pub use emitting::emit_plan;
 pub use granting::grant_plan;
 pub use lane_desks;
+pub use leases::law_plans_are_leased;
 pub use sender::{Lanes, Plan, Sender};
 pub use shared_machines;
