@@ -33,10 +33,10 @@ pub as_many : {M Q A C : Type 0} (ts : List (Turnstile M Q A C)) (first left : L
 as_many ts first left e = omega (arith, ap length e, length-append (map opening ts) (reverse left), length-map ts opening, length-reverse left, length-reverse first)
 
 -- one machine, from before to after
-record Ended {M Q A : Type 0} (turn : M → Q → A → M → Type 0) (calls : List (ℕ × (Q × A))) (m n : M) : Type 0 where
-  log : List (Q × A)
-  leads : Leads turn m log n
-  whole : IsWhole calls log
+pub record Ended {M Q A : Type 0} (turn : M → Q → A → M → Type 0) (calls : List (ℕ × (Q × A))) (m n : M) : Type 0 where
+  pub log : List (Q × A)
+  pub leads : Leads turn m log n
+  pub whole : IsWhole calls log
 
 module _ {M Q A C : Type 0} {g : Ghosts M Q A C} where
   module _ (calls : ℕ) where
@@ -69,7 +69,7 @@ module _ {M Q A C : Type 0} {g : Ghosts M Q A C} where
     come_back ts ps first left after last opened closed turned none =
         turned_round left closed.ended after last closed.behind turned ∙ ap (λ (ms : List M). ms ++ reverse left) (unmade_end ts ps closed.ended closed.ends none) ∙ opened
 
-    ends_same : (ts : List (Turnstile M Q A C)) (ps : List (Post M Q A C g)) (ended : List M) → EndAll turn ts ps ended → length ended ≡ length ts
+    pub ends_same : (ts : List (Turnstile M Q A C)) (ps : List (Post M Q A C g)) (ended : List M) → EndAll turn ts ps ended → length ended ≡ length ts
     ends_same [] [] [] h = refl
     ends_same [] [] (m ∷ ms) h = absurd h
     ends_same [] (p ∷ ps) ms h = absurd h
@@ -77,7 +77,7 @@ module _ {M Q A C : Type 0} {g : Ghosts M Q A C} where
     ends_same (t ∷ ts) (p ∷ ps) [] h = absurd h
     ends_same (t ∷ ts) (p ∷ ps) (m ∷ ms) h = ap suc (ends_same ts ps ms h.1)
 
-    ended_at : (ts : List (Turnstile M Q A C)) (ps : List (Post M Q A C g)) (ended : List M) (i : ℕ) (m n : M) → EndAll turn ts ps ended → slice_get (map opening ts) i ≡ Some m → slice_get ended i ≡ Some n → Ended turn (calls_at i ps) m n
+    pub ended_at : (ts : List (Turnstile M Q A C)) (ps : List (Post M Q A C g)) (ended : List M) (i : ℕ) (m n : M) → EndAll turn ts ps ended → slice_get (map opening ts) i ≡ Some m → slice_get ended i ≡ Some n → Ended turn (calls_at i ps) m n
     ended_at [] [] [] i m n h e f = cc
     ended_at [] [] (k ∷ ks) i m n h e f = absurd h
     ended_at [] (p ∷ ps) ks i m n h e f = absurd h

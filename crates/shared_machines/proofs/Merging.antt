@@ -30,11 +30,11 @@ pub map_twice : {X Y Z : Type 0} (f : X → Y) (h : Y → Z) (xs : List X) → m
 map_twice f h [] = refl
 map_twice {X} {Y} {Z} f h (x ∷ xs) = ap (λ (zs : List Z). h (f x) ∷ zs) (map_twice f h xs)
 
-flat_together : {X Y : Type 0} (f : X → List Y) (xs : List X) → flat_map f xs ≡ together (map f xs)
+pub flat_together : {X Y : Type 0} (f : X → List Y) (xs : List X) → flat_map f xs ≡ together (map f xs)
 flat_together f [] = refl
 flat_together {X} {Y} f (x ∷ xs) = ap (λ (ys : List Y). f x ++ ys) (flat_together f xs)
 
-no_requests : {X Y : Type 0} (f : X → Y) (xs : List X) → map f xs ≡ [] → xs ≡ []
+pub no_requests : {X Y : Type 0} (f : X → Y) (xs : List X) → map f xs ≡ [] → xs ≡ []
 no_requests f [] h = refl
 no_requests f (x ∷ xs) h = cc
 
@@ -45,7 +45,7 @@ none_whole (e ∷ es) h = let z : 0 ≡ once_below 0 (suc (length es)) = h.1 0 i
 
 module _ {M Q A C : Type 0} {g : Ghosts M Q A C} where
   -- the calls of each place rise, since those past the end are none
-  rising_at : (ts : List (Turnstile M Q A C)) (i : ℕ) (posts : List (Post M Q A C g)) → AllZip Sits ts posts → Rises (calls_at i posts)
+  pub rising_at : (ts : List (Turnstile M Q A C)) (i : ℕ) (posts : List (Post M Q A C g)) → AllZip Sits ts posts → Rises (calls_at i posts)
   rising_at [] i [] h = tt
   rising_at [] i (p ∷ ps) h = absurd h
   rising_at (t ∷ ts) i [] h = absurd h

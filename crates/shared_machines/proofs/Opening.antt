@@ -56,7 +56,7 @@ module _ {M Q A C : Type 0} {g : Ghosts M Q A C} where
         let b = fresh_budget ts i posts h (omega (arith, lt, zip_same (IsFresh calls) ts posts h)) in
         omega (arith, n, b)
 
-    fresh_sits : (t : Turnstile M Q A C) (p : Post M Q A C g) → IsFresh calls t p → Sits t p
+    pub fresh_sits : (t : Turnstile M Q A C) (p : Post M Q A C g) → IsFresh calls t p → Sits t p
     fresh_sits t p h = record {
       fits = h.fits;
       stands = subst (λ (own : List (ℕ × (Q × A))). Stands own (knows p.seat).seen) (sym h.none) tt;

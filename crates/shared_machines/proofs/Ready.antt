@@ -25,7 +25,7 @@ taken_rest : {X : Type 0} (P : X → Type 0) (x : X) (xs : List X) → All P (x 
 taken_rest P x xs h = λ k d lt. h (suc k) d (omega arith)
 
 -- an item of a list that a function makes is made of one
-made_of : {X Y : Type 0} (f : X → Y) (xs : List X) (k : ℕ) (y : Y) → slice_get (map f xs) k ≡ Some y → (x : X) × (slice_get xs k ≡ Some x) × (f x ≡ y)
+pub made_of : {X Y : Type 0} (f : X → Y) (xs : List X) (k : ℕ) (y : Y) → slice_get (map f xs) k ≡ Some y → (x : X) × (slice_get xs k ≡ Some x) × (f x ≡ y)
 made_of f [] k y e = cc
 made_of f (x ∷ xs) zero y e = let p : f x ≡ y = cc in (x, refl, p)
 made_of f (x ∷ xs) (suc k) y e = made_of f xs k y e

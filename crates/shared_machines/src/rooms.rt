@@ -1,17 +1,18 @@
 // The memory of a block of calls.
 ghost use Rattle.std.specs.Prelude.{◌≡◌, ◌≤◌, [], All, IfOk, vec_len, vec_capacity};
 
-use crate::pass::{Pass, Post};
+use crate::pass::Post;
 use qkd_base::Memory;
 use std::alloc::Global;
 use turnstile::{Machine, Turnstile};
 
-/// Memory, nothing of it used: for the turnstiles, for the seats that are kept, for each worker's seats, and for the passes.
-pub struct Rooms<M: Machine> {
+/// Memory, nothing of it used: for the turnstiles, for the seats that are kept, for each worker's seats, and for what each worker
+/// has.
+pub struct Rooms<M: Machine, P> {
     pub turnstiles: Vec<Turnstile<M>>,
     pub kept: Vec<Post<M>>,
     pub rows: Vec<Vec<Post<M>>>,
-    pub passes: Vec<Pass<M>>,
+    pub passes: Vec<P>,
 }
 
 // So many empty rows, each with room for so many seats.
@@ -26,10 +27,7 @@ fn rows<M: Machine>(alloc: Global, count: usize, each: usize) -> Result<Vec<Vec<
     Ok(rows)
 }
 
-impl<M: Machine> Rooms<M>
-where
-    M::Request: Drop,
-{
+impl<M: Machine, P: Drop> Rooms<M, P> {
     /// Memory for so many workers and machines.
     pub fn new(alloc: Global, workers: usize, machines: usize) -> Result<Self, Memory>
         ensures turnstiles { IfOk result (λ rooms. (rooms.turnstiles.items ≡ []) × (machines ≤ vec_capacity rooms.turnstiles)) }

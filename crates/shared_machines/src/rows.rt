@@ -6,8 +6,8 @@ ghost use Rattle.shared_machines.specs.Seats.{calls_at, budget_at, Belongs, IsFr
 use crate::pass::{Pass, Post, Shift};
 use turnstile::{Machine, Turnstile};
 
-// Splits a seat off each one that is kept.
-fn split_row<M: Machine>(
+/// Splits a seat off each one that is kept.
+pub fn split_row<M: Machine>(
     turnstiles: &[Turnstile<M>],
     kept: &mut [Post<M>],
     row: &mut Vec<Post<M>>,
@@ -59,8 +59,8 @@ where
     }
 }
 
-// Joins each seat into the one that is kept.
-fn join_row<M: Machine>(turnstiles: &[Turnstile<M>], kept: &mut [Post<M>], mut row: Vec<Post<M>>)
+/// Joins each seat into the one that is kept.
+pub fn join_row<M: Machine>(turnstiles: &[Turnstile<M>], kept: &mut [Post<M>], mut row: Vec<Post<M>>)
     requires kept { AllZip Belongs turnstiles.now kept.old }
     requires row { AllZip Belongs turnstiles.now row.items }
     ensures kept { AllZip Belongs turnstiles.now kept.new }
