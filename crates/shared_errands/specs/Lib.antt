@@ -1,0 +1,5 @@
+pub mod Said
+pub mod Calling
+pub mod Working
+pub mod Done
+pub mod Laws
