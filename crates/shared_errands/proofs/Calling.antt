@@ -1,5 +1,5 @@
 -- What one call makes of a row of seats.
-use Rattle.std.proofs.Common.{◌≡◌, ◌⊎◌, ℕ, ◌+◌, ◌<◌, Bool, true, false, List, [], ◌∷◌, ◌++◌, map, length, set, slice_get, Option, Some, eqb, if◌then◌else◌, refl, sym, ap, subst, ◌∙◌, arith, inl, inr}
+use Rattle.std.proofs.Common.{◌≡◌, ◌⊎◌, ℕ, ◌+◌, ◌<◌, Bool, true, false, List, [], ◌∷◌, ◌++◌, map, length, set, slice_get, Some, eqb, if◌then◌else◌, refl, sym, ap, subst, ◌∙◌, arith, inl, inr}
 use Rattle.std.specs.List.{AllZip}
 use Rattle.std.proofs.lemmas.List.{append-nil, map-append}
 use Rattle.std.proofs.lemmas.Option.{slice_get_within}
@@ -16,7 +16,7 @@ use Rattle.shared_machines.specs.Asked.{IsTaken}
 use Rattle.shared_machines.specs.Seats.{calls_at, budget_at, Sits}
 use Rattle.shared_machines.proofs.Zips.{zip_at, zip_set, zip_same, was_at, new_at, other_at, same_item}
 use Rattle.shared_machines.proofs.Ready.{Called, called_sits, made_of}
-use Rattle.shared_errands.specs.Said.{Said, said_on}
+use Rattle.shared_errands.specs.Said.{Said}
 use Rattle.shared_errands.proofs.Gathering.{at_map}
 use Rattle.shared_errands.specs.Calling.{seen_at, HasSaid, IsAnswered}
 

@@ -1,5 +1,5 @@
 -- A worker's jobs, one after the other.
-use Rattle.std.proofs.Common.{◌≡◌, ℕ, List, [], ◌∷◌, ◌++◌, refl, sym, subst, ◌∙◌}
+use Rattle.std.proofs.Common.{ℕ, List, [], ◌∷◌, refl, sym, subst}
 use Rattle.std.specs.List.{AllZip}
 use Rattle.block_run.specs.Jobs.{Chains}
 use Rattle.turnstile.specs.declared.machine.Machine.{Ghosts}
@@ -7,7 +7,6 @@ use Rattle.turnstile.specs.declared.turnstile.Turnstile.{Turnstile}
 use Rattle.shared_machines.specs.declared.pass.Post.{Post}
 use Rattle.shared_machines.specs.Seats.{Sits}
 use Rattle.shared_errands.specs.Said.{Said, all_said}
-use Rattle.shared_errands.specs.Calling.{HasSaid}
 use Rattle.shared_errands.specs.Working.{HasTold, HasGone}
 use Rattle.shared_errands.specs.Laws.{said_none, said_more}
 

@@ -1,5 +1,5 @@
 -- The machines, as the errands leave them.
-use Rattle.std.proofs.Common.{◌≡◌, ℕ, List, [], ◌++◌, map, reverse, length, slice_get, Some, sym, ap, subst, ◌∙◌}
+use Rattle.std.proofs.Common.{◌≡◌, ℕ, List, [], ◌++◌, map, reverse, sym, ap, subst, ◌∙◌}
 use Rattle.std.proofs.lemmas.List.{append-nil, length-map}
 use Rattle.net_model.specs.BlockOrder.{IsMerge}
 use Rattle.turnstile.specs.declared.machine.Machine.{Ghosts}
@@ -10,7 +10,7 @@ use Rattle.shared_machines.specs.declared.pass.Post.{Post}
 use Rattle.shared_machines.specs.Seats.{calls_at, EndAll, Closes}
 use Rattle.shared_machines.proofs.Ending.{turned_round, ends_same, ended_at}
 use Rattle.shared_errands.specs.Said.{Said, said_on}
-use Rattle.shared_errands.specs.Done.{HasAnswered, HaveAnswered}
+use Rattle.shared_errands.specs.Done.{HaveAnswered}
 
 -- where no machine is left all are behind turnstiles
 pub all_opened : {M Q A C : Type 0} (ts : List (Turnstile M Q A C)) (left first : List M) → map opening ts ++ reverse left ≡ first → left ≡ [] → map opening ts ≡ first

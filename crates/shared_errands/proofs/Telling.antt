@@ -1,13 +1,13 @@
 -- What the workers said, machine by machine.
-use Rattle.std.proofs.Common.{◌≡◌, ℕ, zero, suc, ◌+◌, ◌*◌, slice_get, Some, List, [], ◌∷◌, ◌++◌, map, length, refl, sym, ap, ap₂, subst, ◌∙◌, arith, length-append}
-use Rattle.std.proofs.lemmas.List.{append-nil, length-map}
+use Rattle.std.proofs.Common.{◌≡◌, ℕ, suc, ◌+◌, ◌*◌, slice_get, Some, List, [], ◌∷◌, ◌++◌, map, length, refl, ap, ap₂, subst, ◌∙◌, arith, length-append}
+use Rattle.std.proofs.lemmas.List.{length-map}
 use Rattle.std.specs.List.{AllZip, AllByRecursion, flat_map, sum_by}
 use Rattle.std.proofs.lemmas.List.Sums.{sum_by-cons}
 use Rattle.net_model.specs.BlockOrder.{IsMerge}
 use Rattle.turnstile.specs.declared.machine.Machine.{Ghosts}
 use Rattle.turnstile.specs.declared.turnstile.Turnstile.{Turnstile}
 use Rattle.turnstile.specs.Views.{IsWhole}
-use Rattle.law_merges.specs.Rising.{Rises, entries, together}
+use Rattle.law_merges.specs.Rising.{Rises, entries}
 use Rattle.law_merges.proofs.Calls.{calls_merge}
 use Rattle.shared_machines.specs.declared.pass.Post.{Post}
 use Rattle.shared_machines.specs.Seats.{calls_at, budget_at, Belongs, Sits}

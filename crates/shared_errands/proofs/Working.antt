@@ -1,5 +1,5 @@
 -- What the workers are ready for, and what they did.
-use Rattle.std.proofs.Common.{◌≡◌, ℕ, zero, suc, ◌+◌, ◌*◌, ◌<◌, ◌≤◌, true, false, List, [], ◌∷◌, map, length, slice_get, Some, refl, sym, ap, subst, ◌∙◌, arith, suc-mul, le_trans, mul-le-mul_right}
+use Rattle.std.proofs.Common.{◌≡◌, ℕ, suc, ◌*◌, ◌<◌, ◌≤◌, true, false, List, [], ◌∷◌, map, length, slice_get, Some, refl, sym, ap, subst, ◌∙◌, arith, suc-mul, mul-le-mul_right}
 use Rattle.std.proofs.lemmas.List.{length-map}
 use Rattle.std.specs.List.{AllZip, AllByRecursion}
 use Rattle.block_run.specs.Jobs.{jobs_of, Chains}
@@ -12,7 +12,7 @@ use Rattle.shared_machines.proofs.Zips.{zip_weaker, zip_same}
 use Rattle.shared_machines.proofs.Opening.{jobs_few, each_at, fresh_budget, fresh_sits}
 use Rattle.shared_machines.proofs.Ready.{made_of}
 use Rattle.shared_errands.specs.Said.{Said, said_on, all_said}
-use Rattle.shared_errands.specs.Calling.{HasSaid, HasCalled}
+use Rattle.shared_errands.specs.Calling.{HasCalled}
 use Rattle.shared_errands.specs.Working.{HasTold, HaveTold, IsReady, HaveWorked}
 use Rattle.shared_errands.specs.Laws.{said_none}
 use Rattle.shared_errands.proofs.Chaining.{Talked}

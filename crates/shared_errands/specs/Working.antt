@@ -6,7 +6,7 @@ use Rattle.turnstile.specs.declared.turnstile.Turnstile.{Turnstile}
 use Rattle.turnstile.specs.Names.{opening}
 use Rattle.shared_machines.specs.declared.pass.Post.{Post}
 use Rattle.shared_machines.specs.Seats.{budget_at, Sits}
-use Rattle.shared_errands.specs.Said.{Said, said_on, all_said}
+use Rattle.shared_errands.specs.Said.{Said, all_said}
 use Rattle.shared_errands.specs.Calling.{HasSaid}
 use Rattle.shared_errands.specs.Done.{HaveTalked}
 

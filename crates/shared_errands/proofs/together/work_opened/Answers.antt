@@ -54,10 +54,10 @@ returns-clause-ok g c =
     (λ w. (
       w.talks,
       subst (λ (ls : List _). HaveTalked (g.T.Errands.does c.args.errands.now) c.args.jobs c.args.keeps.items w.talks ls) (sym c.join_workers.ensures.keeps)
-      (subst (λ (ks : List _). HaveTalked (g.T.Errands.does c.args.errands.now) c.args.jobs ks w.talks (map (λ p. p.keep) c.work_seated-ended.result.1.items)) c.seat_workers.ensures.keeps (w.well refl)),
+          (subst (λ (ks : List _). HaveTalked (g.T.Errands.does c.args.errands.now) c.args.jobs ks w.talks (map (λ p. p.keep) c.work_seated-ended.result.1.items)) c.seat_workers.ensures.keeps (w.well refl)),
       λ i log whole.
-      kept_merged c.args.turnstiles.now (λ p. p.posts.items) c.args.calls (vec_len c.args.keeps * c.args.calls) c.seat_workers.new.passes.items c.work_seated-ended.result.1.items
-      c.args.kept.now c.seat_workers.new.kept c.join_workers.new.kept c.requires.opened c.seat_workers.ensures.fresh c.seat_workers.ensures.own c.join_workers.ensures.own (map all_said w.talks) w.told i log whole,
+          kept_merged c.args.turnstiles.now (λ p. p.posts.items) c.args.calls (vec_len c.args.keeps * c.args.calls) c.seat_workers.new.passes.items c.work_seated-ended.result.1.items
+          c.args.kept.now c.seat_workers.new.kept c.join_workers.new.kept c.requires.opened c.seat_workers.ensures.fresh c.seat_workers.ensures.own c.join_workers.ensures.own (map all_said w.talks) w.told i log whole,
     ))
     c.work_seated-ended.ensures
 
@@ -70,8 +70,8 @@ returns-clause-err g c =
     (λ w. (
       c.join_workers.ensures.keeps ∙ (w.idle refl).0 ∙ c.seat_workers.ensures.keeps,
       λ i log whole.
-      kept_unmade c.args.turnstiles.now (λ p. p.posts.items) c.args.calls (vec_len c.args.keeps * c.args.calls) c.seat_workers.new.passes.items c.work_seated-ended.result.1.items
-      c.args.kept.now c.seat_workers.new.kept c.join_workers.new.kept c.requires.opened c.seat_workers.ensures.fresh c.seat_workers.ensures.own c.join_workers.ensures.own (map all_said w.talks) w.told
-      (subst (λ (saids : List (List _)). AllByRecursion (λ said. said ≡ []) saids) (sym (w.idle refl).1) (all_nothing _ (map (λ p. p.keep) c.seat_workers.new.passes.items))) i log whole,
+          kept_unmade c.args.turnstiles.now (λ p. p.posts.items) c.args.calls (vec_len c.args.keeps * c.args.calls) c.seat_workers.new.passes.items c.work_seated-ended.result.1.items
+          c.args.kept.now c.seat_workers.new.kept c.join_workers.new.kept c.requires.opened c.seat_workers.ensures.fresh c.seat_workers.ensures.own c.join_workers.ensures.own (map all_said w.talks) w.told
+          (subst (λ (saids : List (List _)). AllByRecursion (λ said. said ≡ []) saids) (sym (w.idle refl).1) (all_nothing _ (map (λ p. p.keep) c.seat_workers.new.passes.items))) i log whole,
     ))
     c.work_seated-ended.ensures

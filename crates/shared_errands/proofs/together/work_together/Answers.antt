@@ -78,20 +78,20 @@ returns-in-Ok-ended-clause-ok g c =
 pub returns-clause-err : goal.returns-clause-err
 returns-clause-err g c = (
   come_back (turn_of g.M.Machine.charter g.M.Machine.takes g.M.Machine.turns) c.open_all.new.turnstiles.items c.match-open_all.kept.items c.args.machines.items c.open_all.new.machines.items c.close_all.new.machines.items
-  c.reverse-2.new.self.items
-  (c.open_all.ensures.machines ∙ ap reverse c.reverse.ensures.items ∙ reverse-reverse c.args.machines.items) c.close_all.ensures c.reverse-2.ensures.items
-  (λ i log whole.
-  elim c.match-open_all.branch [
-    | in-Ok-open_all w ↦
-        let holds = subst (λ (ts : List _). AllZip (HoldsAll {g = g.M.Machine}) ts w.work_opened.new.kept) w.deref.ensures.value w.work_opened.ensures.whole in
-        let is = ap (λ v. v.items) w.kept-is
-        ∙ written_over (c.len-4.result * (c.from.result * c.args.most)) c.open_all.new.turnstiles.items c.open_all.new.kept.items w.work_opened.new.kept c.open_all.new.kept.len c.open_all.ensures.opened holds c.open_all.new.kept.ok.0 in
-        (IfErr-at_err (λ _. (w.work_opened.result.1.items ≡ c.args.keeps.items) × ((i : ℕ) (log : List _) → IsWhole (calls_at i w.work_opened.new.kept) log → log ≡ []))
-        (sym (ap (λ r. r.0) w.ended-is) ∙ c.in-Err-ended.is) w.work_opened.ensures.err).1 i log (subst (λ (ps : List _). IsWhole (calls_at {g = g.M.Machine} i ps) log) is whole)
-    | in-Err w ↦
-        opened_unmade (c.len-4.result * (c.from.result * c.args.most)) c.open_all.new.turnstiles.items c.open_all.new.kept.items c.open_all.ensures.opened i log
-        (subst (λ (ps : List _). IsWhole (calls_at {g = g.M.Machine} i ps) log) (ap (λ v. v.items) w.kept-is) whole)
-  ]),
+      c.reverse-2.new.self.items
+      (c.open_all.ensures.machines ∙ ap reverse c.reverse.ensures.items ∙ reverse-reverse c.args.machines.items) c.close_all.ensures c.reverse-2.ensures.items
+      (λ i log whole.
+      elim c.match-open_all.branch [
+        | in-Ok-open_all w ↦
+            let holds = subst (λ (ts : List _). AllZip (HoldsAll {g = g.M.Machine}) ts w.work_opened.new.kept) w.deref.ensures.value w.work_opened.ensures.whole in
+            let is = ap (λ v. v.items) w.kept-is
+            ∙ written_over (c.len-4.result * (c.from.result * c.args.most)) c.open_all.new.turnstiles.items c.open_all.new.kept.items w.work_opened.new.kept c.open_all.new.kept.len c.open_all.ensures.opened holds c.open_all.new.kept.ok.0 in
+            (IfErr-at_err (λ _. (w.work_opened.result.1.items ≡ c.args.keeps.items) × ((i : ℕ) (log : List _) → IsWhole (calls_at i w.work_opened.new.kept) log → log ≡ []))
+            (sym (ap (λ r. r.0) w.ended-is) ∙ c.in-Err-ended.is) w.work_opened.ensures.err).1 i log (subst (λ (ps : List _). IsWhole (calls_at {g = g.M.Machine} i ps) log) is whole)
+        | in-Err w ↦
+            opened_unmade (c.len-4.result * (c.from.result * c.args.most)) c.open_all.new.turnstiles.items c.open_all.new.kept.items c.open_all.ensures.opened i log
+            (subst (λ (ps : List _). IsWhole (calls_at {g = g.M.Machine} i ps) log) (ap (λ v. v.items) w.kept-is) whole)
+      ]),
   elim c.match-open_all.branch [
     | in-Ok-open_all w ↦
         ap (λ r. r.1.items) w.ended-is

@@ -1,4 +1,4 @@
-use Rattle.std.proofs.Common.{◌∷◌, sym, ap, subst}
+use Rattle.std.proofs.Common.{◌∷◌, sym, subst}
 use Rattle.std.specs.List.{AllZip}
 use Rattle.shared_machines.specs.Seats.{Sits}
 use Rattle.shared_errands.specs.Calling.{HasCalled}
