@@ -60,7 +60,11 @@ where
 }
 
 /// Joins each seat into the one that is kept.
-pub fn join_row<M: Machine>(turnstiles: &[Turnstile<M>], kept: &mut [Post<M>], mut row: Vec<Post<M>>)
+pub fn join_row<M: Machine>(
+    turnstiles: &[Turnstile<M>],
+    kept: &mut [Post<M>],
+    mut row: Vec<Post<M>>,
+)
     requires kept { AllZip Belongs turnstiles.now kept.old }
     requires row { AllZip Belongs turnstiles.now row.items }
     ensures kept { AllZip Belongs turnstiles.now kept.new }
