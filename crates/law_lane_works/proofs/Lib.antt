@@ -28,3 +28,4 @@ pub mod WorkersCalls
 pub mod Sealed
 pub mod SideBySide
 pub mod Unseen
+pub mod Passed

@@ -23,7 +23,7 @@ module _ (all : List Deed) where
   puts_numbered (Puts place answer ∷ log) = ap (λ (ns : List ℕ). claims_before all place ∷ ns) (puts_numbered log)
   puts_numbered (Repeats place r answer ∷ log) = puts_numbered log
 
-  claims_same : (log : List Deed) → claims_in (as_numbered log) ≡ claims_in log
+  pub claims_same : (log : List Deed) → claims_in (as_numbered log) ≡ claims_in log
   claims_same [] = refl
   claims_same (Claims place o ∷ log) = ap (λ (xs : List (ℕ × Order)). (place, o) ∷ xs) (claims_same log)
   claims_same (Puts place answer ∷ log) = claims_same log

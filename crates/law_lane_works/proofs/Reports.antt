@@ -41,7 +41,7 @@ kept_twice q l (d ∷ ds) =
       | false ↦ λ e. kept_twice q l ds
     ] refl
 
-on_its_lane : (l : Lane) (ds : List PutDone) → puts_on ds l ≡ puts_on (reported_at l ds) l
+pub on_its_lane : (l : Lane) (ds : List PutDone) → puts_on ds l ≡ puts_on (reported_at l ds) l
 on_its_lane l ds =
     ap (λ (xs : List PutDone). xs ++ sorted (filter (λ (d : PutDone). lane_eq d.lane l && not d.took) ds)) (kept_twice (λ (d : PutDone). d.took) l ds)
     ∙ ap (λ (xs : List PutDone). filter (λ (d : PutDone). lane_eq d.lane l && d.took) (reported_at l ds) ++ sorted xs) (kept_twice (λ (d : PutDone). not d.took) l ds)

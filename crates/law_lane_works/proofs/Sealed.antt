@@ -92,7 +92,8 @@ module _ (Q : ℕ × Emission → Type 0) (P : LaneFrame → Type 0) (holds : (f
 -- ---- octets
 
 module _ (net : Network) (u : World) (l : Lane) where
-  abbrev IsOfLane : ℕ × Emission → Type 0
+  -- what is put is on the lane, and of its sender
+  abbrev pub IsOfLane : ℕ × Emission → Type 0
   IsOfLane x = (lane_of x.1 ≡ l) × IsEmission net u (sender net.site l) x.1
 
   repeat_octets : (r : Repeat) → r.lane ≡ l → IsAgain net u (sender net.site l) r → frame_octets net u l (Some (record { offset = r.offset; item = item_of r.ack_of r.name })) ≡ take r.length r.frame.octets
@@ -129,16 +130,23 @@ module _ (net : Network) (u : World) (l : Lane) where
     | false ↦ λ e. emissions_on xs h.1
   ] refl
 
+-- what is done for plans on a lane is of its sender
+pub all_of_lane : (net : Network) (workers : ℕ) (w : World) (jobs : List Job) (histories : List (List Work)) (calls : Lane → List (List (ℕ × Deed))) (logs : Lane → List Deed) → 1 ≤ workers →
+    IsNetwork net → Conserved net w → IsQuiet w → AreWorkersWorks net workers w jobs histories calls logs → (l : Lane) → is_lane net.site l ≡ true →
+    AllByRecursion (IsOfLane net (turns_over net w histories) l) (done_for_plans (logs l))
+all_of_lane net workers w jobs histories calls logs some network c quiet h l declared =
+    let u : World = turns_over net w histories in
+    let wanted : List (ℕ × Emission) = wanted_by (done_from net w (flat histories)) in
+    let lane_works = are_lane_works net workers w jobs histories calls logs some h in
+    let each = (remains net network workers w c quiet jobs histories (λ k. numbered (logs k)) lane_works).each in
+    of_all_workers (IsOfLane net u l) workers (wanted_on l wanted) (calls l) (logs l) (h.lanes l declared) (emissions_on net u l wanted each)
+
 pub all_sealed : (net : Network) (workers : ℕ) (w : World) (jobs : List Job) (histories : List (List Work)) (calls : Lane → List (List (ℕ × Deed))) (logs : Lane → List Deed) → 1 ≤ workers →
     IsNetwork net → Conserved net w → IsQuiet w → AreWorkersWorks net workers w jobs histories calls logs → (l : Lane) → is_lane net.site l ≡ true →
     AllByRecursion (λ (p : LaneFrame × Environment). IsSealed net (turns_over net w histories) l p.0) (frames_put (turns_over net w histories) l (numbered (logs l)))
 all_sealed net workers w jobs histories calls logs some network c quiet h l declared =
     let u : World = turns_over net w histories in
-    let wanted : List (ℕ × Emission) = wanted_by (done_from net w (flat histories)) in
-    let lane_works = are_lane_works net workers w jobs histories calls logs some h in
-    let each = (remains net network workers w c quiet jobs histories (λ k. numbered (logs k)) lane_works).each in
-    let of_log : AllByRecursion (IsOfLane net u l) (done_for_plans (logs l)) =
-    of_all_workers (IsOfLane net u l) workers (wanted_on l wanted) (calls l) (logs l) (h.lanes l declared) (emissions_on net u l wanted each) in
+    let of_log = all_of_lane net workers w jobs histories calls logs some network c quiet h l declared in
     let of_numbered : AllByRecursion (IsOfLane net u l) (done_for_plans (numbered (logs l))) = subst (AllByRecursion (IsOfLane net u l)) (sym (wanted_same (logs l) (logs l))) of_log in
     let holds : (f : LaneFrame) → IsOfLane net u l (f.place, f.emission) → ((r : Repeat) → f.emission ≡ Again r → f.offset ≡ r.offset) → IsSealed net u l f =
     λ f q offset. sealed_one net u l f f.emission refl q.0 q.1 offset in

@@ -4,12 +4,6 @@ use Rattle.net_model.specs.BlockOrder.{IsMerge}
 use Rattle.law_lane_works.specs.Logs.{Deed}
 use Rattle.law_lane_works.specs.Calls.{placed_from}
 
--- a merge of what is kept, of which a merge is made
-pub record IsMade {A B : Type 0} (made : B → A) (kept : List (List B)) (out : List A) : Type 0 where
-  pub merge : List B
-  pub is : IsMerge kept merge
-  pub of : map made merge ≡ out
-
 -- what of a call is its entry in the history, at the same place
 abbrev pub at_its_place : {P E : Type 0} → (P → E) → ℕ × P → ℕ × E
 at_its_place entry call = (call.0, entry call.1)

@@ -14,14 +14,10 @@ use Rattle.run_blocks.specs.declared.job.Job.{Job}
 use Rattle.run_blocks.specs.Jobs.{asked_by}
 use Rattle.law_ticks.specs.Sending.{IsEmission}
 use Rattle.law_emissions.specs.Putting.{lane_of, wanted_by}
+pub use Rattle.law_merges.specs.Rising.{placed_from}
 use Rattle.law_lane_works.specs.Logs.{Deed, Claims, Puts, Repeats, claims_put, done_for_plans, is_answered, wanted_on}
 use Rattle.law_lane_works.specs.Puts.{LaneFrame, allocation_of}
 use Rattle.law_lane_works.specs.Workers.{of_worker}
-
--- the entries of a log with their places
-abbrev pub placed_from : {A : Type 0} → (place : ℕ) → List A → List (ℕ × A)
-placed_from place [] = []
-placed_from place (x ∷ log) = (place, x) ∷ placed_from (place + 1) log
 
 abbrev pub deeds : List (ℕ × Deed) → List Deed
 deeds calls = map (λ (c : ℕ × Deed). c.1) calls

@@ -5,3 +5,4 @@ pub mod Places
 pub mod Workers
 pub mod Calls
 pub mod Beside
+pub mod Passed

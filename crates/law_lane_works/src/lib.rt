@@ -21,7 +21,7 @@ ghost use Rattle.law_lane_works.specs.Puts.{LaneFrame, frames_put};
 ghost use Rattle.law_lane_works.specs.LaneWorks.{AreLaneWorks, IsLaneBlock};
 ghost use Rattle.law_lane_works.specs.Places.{claimed_at, numbered, IsNumbered};
 ghost use Rattle.law_lane_works.specs.Calls.{placed_from, AreWorkersWorks, IsSealed};
-ghost use Rattle.law_lane_works.specs.Beside.{IsMade, at_its_place, HasLog};
+ghost use Rattle.law_lane_works.specs.Beside.{at_its_place, HasLog};
 ghost use Rattle.law_lane_works.specs.Workers.{of_worker, logs_in_order};
 
 /// Where each lane does just what the plans want of it, each once and in any order, claims and puts among each other, that is a block
@@ -66,11 +66,6 @@ pub fn law_frames_have_octets_given()
         (logs : LaneValue → List Deed) → 1 ≤ workers → IsNetwork net → Conserved net w → IsQuiet w → AreWorkersWorks net workers w jobs histories calls logs →
         (l : LaneValue) → is_lane net.site l ≡ true →
         AllByRecursion (λ (p : LaneFrame × Environment). IsSealed net (turns_over net w histories) l p.0) (frames_put (turns_over net w histories) l (numbered (logs l))) }
-{}
-
-/// A merge of what is made of things, part by part, is made of a merge of these things.
-pub fn law_merge_is_of_what_it_is_made<A, B>()
-    ensures { (made : B → A) (kept : List (List B)) (out : List A) → IsMerge (map (map made) kept) out → IsMade made kept out }
 {}
 
 /// Where callers of a lane's machine keep of each of their calls what is its entry in the history of all calls, and what deed it was, the

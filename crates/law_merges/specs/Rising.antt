@@ -1,5 +1,5 @@
 -- What callers of one machine did: each its calls, with their places in the history of all.
-use Rattle.std.specs.Prelude.{ℕ, ◌<◌, List, [], ◌∷◌, map}
+use Rattle.std.specs.Prelude.{ℕ, ◌+◌, ◌<◌, List, [], ◌∷◌, map}
 use Rattle.std.specs.List.{AllByRecursion, flat_map}
 use Rattle.turnstile.specs.Views.{places}
 
@@ -16,3 +16,8 @@ module _ {E : Type 0} where
 -- one list behind the other
 abbrev pub together : {A : Type 0} → List (List A) → List A
 together {A} parts = flat_map (λ (xs : List A). xs) parts
+
+-- the entries of a history with their places
+abbrev pub placed_from : {A : Type 0} → (place : ℕ) → List A → List (ℕ × A)
+placed_from place [] = []
+placed_from place (x ∷ log) = (place, x) ∷ placed_from (place + 1) log
