@@ -2,6 +2,7 @@
 use Rattle.std.proofs.Common.{◌≡◌, ℕ, List, [], ◌++◌, map, reverse, sym, ap, subst, ◌∙◌}
 use Rattle.std.proofs.lemmas.List.{append-nil, length-map}
 use Rattle.net_model.specs.BlockOrder.{IsMerge}
+use Rattle.law_merges.specs.Rising.{placed_from}
 use Rattle.turnstile.specs.declared.machine.Machine.{Ghosts}
 use Rattle.turnstile.specs.declared.turnstile.Turnstile.{Turnstile}
 use Rattle.turnstile.specs.Names.{opening}
@@ -17,7 +18,7 @@ pub all_opened : {M Q A C : Type 0} (ts : List (Turnstile M Q A C)) (left first 
 all_opened {M} ts left first opened none = sym (append-nil (map opening ts)) ∙ ap (λ (ms : List M). map opening ts ++ reverse ms) (sym none) ∙ opened
 
 module _ {M Q A C : Type 0} {g : Ghosts M Q A C} (turn : M → Q → A → M → Type 0) (ts : List (Turnstile M Q A C)) (ps : List (Post M Q A C g)) (saids : List (List (Said Q A)))
-    (merged : (i : ℕ) (log : List (Q × A)) → IsWhole (calls_at i ps) log → IsMerge (map (said_on i) saids) log) where
+    (merged : (i : ℕ) (log : List (Q × A)) → IsWhole (calls_at i ps) log → IsMerge (map (said_on i) saids) (placed_from 0 log)) where
   answered_all : (ended : List M) → EndAll turn ts ps ended → HaveAnswered turn saids (map opening ts) ended
   answered_all ended ends = record {
     same = ends_same turn ts ps ended ends ∙ sym (length-map ts opening);

@@ -4,6 +4,7 @@ use Rattle.std.proofs.lemmas.List.{length-map}
 use Rattle.std.specs.List.{AllZip, AllByRecursion, flat_map, sum_by}
 use Rattle.std.proofs.lemmas.List.Sums.{sum_by-cons}
 use Rattle.net_model.specs.BlockOrder.{IsMerge}
+use Rattle.law_merges.specs.Rising.{placed_from}
 use Rattle.turnstile.specs.declared.machine.Machine.{Ghosts}
 use Rattle.turnstile.specs.declared.turnstile.Turnstile.{Turnstile}
 use Rattle.turnstile.specs.Views.{IsWhole}
@@ -60,7 +61,7 @@ module _ {M Q A C : Type 0} {g : Ghosts M Q A C} (ts : List (Turnstile M Q A C))
       let l = ap length (all_calls i) in
       omega (arith, a, b, s, l, product))
 
-  pub kept_merged : (i : ℕ) (log : List (Q × A)) → IsWhole (calls_at i last) log → IsMerge (map (said_on i) saids) log
+  pub kept_merged : (i : ℕ) (log : List (Q × A)) → IsWhole (calls_at i last) log → IsMerge (map (said_on i) saids) (placed_from 0 log)
   kept_merged i log whole = merged_all ts i saids (map posts ps) (map posts qs) log told (none_fresh i) (subst (λ (made : List (ℕ × (Q × A))). IsWhole made log) (all_calls i) whole)
 
   pub kept_unmade : AllByRecursion (λ said. said ≡ []) saids → (i : ℕ) (log : List (Q × A)) → IsWhole (calls_at i last) log → log ≡ []

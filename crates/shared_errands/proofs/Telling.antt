@@ -1,19 +1,18 @@
 -- What the workers said, machine by machine.
 use Rattle.std.proofs.Common.{◌≡◌, ℕ, suc, ◌+◌, ◌*◌, slice_get, Some, List, [], ◌∷◌, ◌++◌, map, length, refl, ap, ap₂, subst, ◌∙◌, arith, length-append}
-use Rattle.std.proofs.lemmas.List.{length-map}
 use Rattle.std.specs.List.{AllZip, AllByRecursion, flat_map, sum_by}
 use Rattle.std.proofs.lemmas.List.Sums.{sum_by-cons}
 use Rattle.net_model.specs.BlockOrder.{IsMerge}
 use Rattle.turnstile.specs.declared.machine.Machine.{Ghosts}
 use Rattle.turnstile.specs.declared.turnstile.Turnstile.{Turnstile}
 use Rattle.turnstile.specs.Views.{IsWhole}
-use Rattle.law_merges.specs.Rising.{Rises, entries}
-use Rattle.law_merges.proofs.Calls.{calls_merge}
+use Rattle.law_merges.specs.Rising.{Rises, placed_from}
+use Rattle.law_merges.proofs.Placing.{placed_calls_merge}
 use Rattle.shared_machines.specs.declared.pass.Post.{Post}
 use Rattle.shared_machines.specs.Seats.{calls_at, budget_at, Belongs, Sits}
 use Rattle.shared_machines.specs.Shares.{share_of}
 use Rattle.shared_machines.proofs.Zips.{zip_weaker}
-use Rattle.shared_machines.proofs.Merging.{rising_at, flat_together, no_requests, none_whole}
+use Rattle.shared_machines.proofs.Merging.{rising_at, flat_together, none_whole}
 use Rattle.shared_errands.specs.Said.{Said, said_on}
 use Rattle.shared_errands.specs.Working.{HasTold, HaveTold}
 
@@ -49,7 +48,7 @@ module _ {M Q A C : Type 0} {g : Ghosts M Q A C} (ts : List (Turnstile M Q A C))
   -- a worker's share of a machine's calls, made and left, stays
   same_share : (i : ℕ) (said : List (Said Q A)) (p q : List (Post M Q A C g)) → HasTold ts said p q → share_of i q ≡ share_of i p
   same_share i said p q h =
-      omega (arith, h.told.budget i, ap length (h.told.calls i), length-append (entries (calls_at i p)) (said_on i said), length-map (calls_at i p) (λ c. c.1), length-map (calls_at i q) (λ c. c.1))
+      omega (arith, h.told.budget i, ap length (h.told.calls i), length-append (calls_at i p) (said_on i said))
 
   -- of each worker's budget all is made or left
   pub shares_all : (i n : ℕ) (saids : List (List (Said Q A))) (ps qs : List (List (Post M Q A C g))) → HaveTold ts saids ps qs → AllByRecursion (λ p. share_of i p ≡ n) ps →
@@ -67,22 +66,22 @@ module _ {M Q A C : Type 0} {g : Ghosts M Q A C} (ts : List (Turnstile M Q A C))
       omega (arith, rest, b, l, w, s.0)
 
   -- the calls of workers that had made none are what they said
-  said_all : (i : ℕ) (saids : List (List (Said Q A))) (ps qs : List (List (Post M Q A C g))) → HaveTold ts saids ps qs → AllByRecursion (λ p. calls_at i p ≡ []) ps → map entries (map (calls_at i) qs) ≡ map (said_on i) saids
+  said_all : (i : ℕ) (saids : List (List (Said Q A))) (ps qs : List (List (Post M Q A C g))) → HaveTold ts saids ps qs → AllByRecursion (λ p. calls_at i p ≡ []) ps → map (calls_at i) qs ≡ map (said_on i) saids
   said_all i [] [] [] h none = refl
   said_all i [] [] (q ∷ qs) h none = absurd h
   said_all i [] (p ∷ ps) qs h none = absurd h
   said_all i (s ∷ ss) [] qs h none = absurd h
   said_all i (s ∷ ss) (p ∷ ps) [] h none = absurd h
   said_all i (s ∷ ss) (p ∷ ps) (q ∷ qs) h none =
-      ap₂ (λ (x : List (Q × A)) (xs : List (List (Q × A))). x ∷ xs)
-      (h.0.told.calls i ∙ ap (λ (own : List (ℕ × (Q × A))). entries own ++ said_on i s) none.0)
+      ap₂ (λ (x : List (ℕ × (Q × A))) (xs : List (List (ℕ × (Q × A)))). x ∷ xs)
+      (h.0.told.calls i ∙ ap (λ (own : List (ℕ × (Q × A))). own ++ said_on i s) none.0)
       (said_all i ss ps qs h.1 none.1)
 
   pub merged_all : (i : ℕ) (saids : List (List (Said Q A))) (ps qs : List (List (Post M Q A C g))) (log : List (Q × A)) → HaveTold ts saids ps qs → AllByRecursion (λ p. calls_at i p ≡ []) ps →
-      IsWhole (flat_map (calls_at i) qs) log → IsMerge (map (said_on i) saids) log
+      IsWhole (flat_map (calls_at i) qs) log → IsMerge (map (said_on i) saids) (placed_from 0 log)
   merged_all i saids ps qs log h none whole =
-      subst (λ (parts : List (List (Q × A))). IsMerge parts log) (said_all i saids ps qs h none)
-      (calls_merge (map (calls_at i) qs) log (all_rise i saids ps qs h) (subst (λ (own : List (ℕ × (Q × A))). IsWhole own log) (flat_together (calls_at i) qs) whole))
+      subst (λ (parts : List (List (ℕ × (Q × A)))). IsMerge parts (placed_from 0 log)) (said_all i saids ps qs h none)
+      (placed_calls_merge (map (calls_at i) qs) log (all_rise i saids ps qs h) (subst (λ (own : List (ℕ × (Q × A))). IsWhole own log) (flat_together (calls_at i) qs) whole))
 
   -- where nothing was said there are no calls
   none_made : (i : ℕ) (saids : List (List (Said Q A))) (ps qs : List (List (Post M Q A C g))) → HaveTold ts saids ps qs → AllByRecursion (λ p. calls_at i p ≡ []) ps → AllByRecursion (λ said. said ≡ []) saids → flat_map (calls_at i) qs ≡ []
@@ -92,9 +91,7 @@ module _ {M Q A C : Type 0} {g : Ghosts M Q A C} (ts : List (Turnstile M Q A C))
   none_made i (s ∷ ss) [] qs h none hush = absurd h
   none_made i (s ∷ ss) (p ∷ ps) [] h none hush = absurd h
   none_made i (s ∷ ss) (p ∷ ps) (q ∷ qs) h none hush =
-      let own : calls_at i q ≡ [] =
-      no_requests (λ (c : ℕ × (Q × A)). c.1) (calls_at i q)
-      (h.0.told.calls i ∙ ap (λ (own : List (ℕ × (Q × A))). entries own ++ said_on i s) none.0 ∙ ap (said_on i) hush.0) in
+      let own : calls_at i q ≡ [] = h.0.told.calls i ∙ ap (λ (own : List (ℕ × (Q × A))). own ++ said_on i s) none.0 ∙ ap (said_on i) hush.0 in
       ap₂ (λ (xs ys : List (ℕ × (Q × A))). xs ++ ys) own (none_made i ss ps qs h.1 none.1 hush.1)
 
   pub unmade_all : (i : ℕ) (saids : List (List (Said Q A))) (ps qs : List (List (Post M Q A C g))) (log : List (Q × A)) → HaveTold ts saids ps qs → AllByRecursion (λ p. calls_at i p ≡ []) ps → AllByRecursion (λ said. said ≡ []) saids →

@@ -5,7 +5,6 @@ use Rattle.turnstile.specs.declared.machine.Machine.{Ghosts}
 use Rattle.turnstile.specs.declared.turnstile.Turnstile.{Turnstile}
 use Rattle.turnstile.specs.Names.{knows}
 use Rattle.turnstile.specs.Turns.{Leads}
-use Rattle.law_merges.specs.Rising.{entries}
 use Rattle.shared_machines.specs.declared.pass.Post.{Post}
 use Rattle.shared_machines.specs.Seats.{calls_at, budget_at}
 use Rattle.shared_errands.specs.Said.{Said, said_on}
@@ -18,7 +17,7 @@ module _ {M Q A C : Type 0} {g : Ghosts M Q A C} where
   -- Calls were made from the seats: at each machine what was said with it is behind what was said before, and took as many of the
   -- calls that were left.
   pub record HasSaid (said : List (Said Q A)) (posts posts' : List (Post M Q A C g)) : Type 0 where
-    pub calls : (i : ℕ) → entries (calls_at i posts') ≡ entries (calls_at i posts) ++ said_on i said
+    pub calls : (i : ℕ) → calls_at i posts' ≡ calls_at i posts ++ said_on i said
     pub budget : (i : ℕ) → budget_at i posts' + length (said_on i said) ≡ budget_at i posts
 
   -- The same at turnstiles, which stay.
@@ -37,5 +36,6 @@ module _ {M Q A : Type 0} (turn : M → Q → A → M → Type 0) where
     pub after : M
     pub leads : Leads turn opening earlier before
     pub turned : turn before said.request said.reply after
+    pub place : length earlier ≡ said.place
     pub prefix : IsPrefix seen earlier
     pub now_seen : seen' ≡ earlier ++ (said.request, said.reply) ∷ []

@@ -3,6 +3,7 @@ use Rattle.std.specs.Prelude.{◌≡◌, ℕ, List, map, length, Some, slice_get
 use Rattle.block_run.specs.Jobs.{jobs_of, Chains}
 use Rattle.net_model.specs.BlockOrder.{IsMerge}
 use Rattle.turnstile.specs.Turns.{Leads}
+use Rattle.law_merges.specs.Rising.{placed_from}
 use Rattle.shared_errands.specs.Said.{Said, said_on, all_said}
 
 module _ {Q A K : Type 0} (does : ℕ → K → List (Said Q A) → K → Type 0) where
@@ -14,11 +15,12 @@ module _ {Q A K : Type 0} (does : ℕ → K → List (Said Q A) → K → Type 0
         Chains does (jobs_of w (length before) jobs) k talk l
 
 module _ {M Q A : Type 0} (turn : M → Q → A → M → Type 0) where
-  -- one history leads from the machine before to the machine after, and is a merge of what each worker said with it
-  pub record HasAnswered (said : List (List (Q × A))) (before after : M) : Type 0 where
+  -- One history leads from the machine before to the machine after, and is a merge of what each worker said with it, each call at the place that the
+  -- worker was told.
+  pub record HasAnswered (said : List (List (ℕ × (Q × A)))) (before after : M) : Type 0 where
     pub log : List (Q × A)
     pub leads : Leads turn before log after
-    pub merged : IsMerge said log
+    pub merged : IsMerge said (placed_from 0 log)
 
   -- each machine has a history of its own
   pub record HaveAnswered (said : List (List (Said Q A))) (before after : List M) : Type 0 where

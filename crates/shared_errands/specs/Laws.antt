@@ -4,14 +4,13 @@ use Rattle.std.proofs.lemmas.List.{append-nil}
 use Rattle.turnstile.specs.declared.machine.Machine.{Ghosts}
 use Rattle.turnstile.specs.declared.turnstile.Turnstile.{Turnstile}
 use Rattle.turnstile.specs.Names.{opening}
-use Rattle.law_merges.specs.Rising.{entries}
 use Rattle.shared_machines.specs.declared.pass.Post.{Post}
 use Rattle.shared_machines.specs.Seats.{calls_at, budget_at}
 use Rattle.shared_errands.specs.Said.{Said, said_on}
 use Rattle.shared_errands.specs.Calling.{HasSaid, HasCalled}
 
 module _ {Q A : Type 0} where
-  one_more : (b : Bool) (x : Q × A) (xs ys : List (Q × A)) → (if b then x ∷ (xs ++ ys) else (xs ++ ys)) ≡ (if b then x ∷ xs else xs) ++ ys
+  one_more : (b : Bool) (x : ℕ × (Q × A)) (xs ys : List (ℕ × (Q × A))) → (if b then x ∷ (xs ++ ys) else (xs ++ ys)) ≡ (if b then x ∷ xs else xs) ++ ys
   one_more true x xs ys = refl
   one_more false x xs ys = refl
 
@@ -19,20 +18,20 @@ module _ {Q A : Type 0} where
   pub said_behind : (i : ℕ) (xs ys : List (Said Q A)) → said_on i (xs ++ ys) ≡ said_on i xs ++ said_on i ys
   said_behind i [] ys = refl
   said_behind i (x ∷ xs) ys =
-      ap (λ (zs : List (Q × A)). if eqb x.machine i then (x.request, x.reply) ∷ zs else zs) (said_behind i xs ys)
-      ∙ one_more (eqb x.machine i) (x.request, x.reply) (said_on i xs) (said_on i ys)
+      ap (λ (zs : List (ℕ × (Q × A))). if eqb x.machine i then (x.place, (x.request, x.reply)) ∷ zs else zs) (said_behind i xs ys)
+      ∙ one_more (eqb x.machine i) (x.place, (x.request, x.reply)) (said_on i xs) (said_on i ys)
 
 module _ {M Q A C : Type 0} {g : Ghosts M Q A C} where
   -- nothing was said
   pub said_none : (posts : List (Post M Q A C g)) → HasSaid [] posts posts
-  said_none posts = record { calls = λ i. sym (append-nil (entries (calls_at i posts))); budget = λ i. omega arith }
+  said_none posts = record { calls = λ i. sym (append-nil (calls_at i posts)); budget = λ i. omega arith }
 
   -- one conversation, and then another
   pub said_more : (xs ys : List (Said Q A)) (p q r : List (Post M Q A C g)) → HasSaid xs p q → HasSaid ys q r → HasSaid (xs ++ ys) p r
   said_more xs ys p q r h k = record {
     calls = λ i.
-        k.calls i ∙ ap (λ (zs : List (Q × A)). zs ++ said_on i ys) (h.calls i) ∙ append_assoc (entries (calls_at i p)) (said_on i xs) (said_on i ys)
-        ∙ ap (λ (zs : List (Q × A)). entries (calls_at i p) ++ zs) (sym (said_behind i xs ys));
+        k.calls i ∙ ap (λ (zs : List (ℕ × (Q × A))). zs ++ said_on i ys) (h.calls i) ∙ append_assoc (calls_at i p) (said_on i xs) (said_on i ys)
+        ∙ ap (λ (zs : List (ℕ × (Q × A))). calls_at i p ++ zs) (sym (said_behind i xs ys));
     budget = λ i.
         let l = ap length (said_behind i xs ys) in
         omega (arith, h.budget i, k.budget i, l, length-append (said_on i xs) (said_on i ys));

@@ -29,11 +29,10 @@ impl<M: Machine> Calls<M> for Caller<'_, M> {
 
     ghost went = { λ a said b. HasCalled said a.turnstiles.now a.posts.items b.turnstiles.now b.posts.items };
 
-    fn call<R: Wait>(&mut self, rt: &R, machine: usize, request: M::Request) -> M::Reply {
+    fn call<R: Wait>(&mut self, rt: &R, machine: usize, request: M::Request) -> (u64, M::Reply) {
         let turnstiles = self.turnstiles;
         let post = &mut self.posts[machine];
-        let (_, reply) = turnstiles[machine].call(rt, &mut post.seat, request);
-        reply
+        turnstiles[machine].call(rt, &mut post.seat, request)
     }
 
     ghost still = { λ c. called_none c.turnstiles.now c.posts.items };

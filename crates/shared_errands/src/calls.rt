@@ -25,15 +25,15 @@ pub trait Calls<M: Machine> {
     /// This was said from the one moment to the other.
     ghost went: { Self → List (Said M.Request M.Reply) → Self → Type 0 };
 
-    /// Calls a machine that takes the request: waits for its turn, and answers the reply. The call has a place in the machine's
-    /// history, behind all that was seen of it.
-    fn call<R: Wait>(&mut self, rt: &R, machine: usize, request: M::Request) -> M::Reply
+    /// Calls a machine that takes the request: waits for its turn, and answers the call's place in the machine's history, which is
+    /// behind all that was seen of it, and the reply.
+    fn call<R: Wait>(&mut self, rt: &R, machine: usize, request: M::Request) -> (u64, M::Reply)
         requires placed { placed self.old }
         requires taken { IsTaken M.charter M.takes (openings self.old) (record { machine = machine; request = request }) }
         requires budget { 0 < budget self.old machine }
         ensures placed { placed self.new }
-        ensures went { went self.old (record { machine = machine; request = request; reply = result } ∷ []) self.new }
-        ensures answered { IsAnswered (turn_of M.charter M.takes M.turns) (openings self.old) (record { machine = machine; request = request; reply = result }) (seen self.old machine) (seen self.new machine) }
+        ensures went { went self.old (record { machine = machine; place = result.0; request = request; reply = result.1 } ∷ []) self.new }
+        ensures answered { IsAnswered (turn_of M.charter M.takes M.turns) (openings self.old) (record { machine = machine; place = result.0; request = request; reply = result.1 }) (seen self.old machine) (seen self.new machine) }
         ensures others { (i : ℕ) → i ≢ machine → seen self.new i ≡ seen self.old i };
 
     /// Between a moment and itself nothing was said.

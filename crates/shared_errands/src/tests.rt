@@ -52,8 +52,8 @@ impl Errands<Sum> for Tickets {
 
     ghost may = { λ t machines keep jobs. length machines ≡ 2 };
 
-    ghost does = { λ t job keep said next. (ticket : ℕ) × (reply : ℕ) × (next ≡ (keep + ticket) % 2 ^ 64)
-        × (said ≡ record { machine = 0; request = 1; reply = ticket } ∷ record { machine = 1; request = ticket; reply = reply } ∷ []) };
+    ghost does = { λ t job keep said next. (ticket : ℕ) × (reply : ℕ) × (first : ℕ) × (second : ℕ) × (next ≡ (keep + ticket) % 2 ^ 64)
+        × (said ≡ record { machine = 0; place = first; request = 1; reply = ticket } ∷ record { machine = 1; place = second; request = ticket; reply = reply } ∷ []) };
 
     ghost most = { λ t. 1 };
 
@@ -65,7 +65,7 @@ impl Errands<Sum> for Tickets {
         caller: &mut C,
         keep: &mut u64,
     ) {
-        let ticket = caller.call(rt, 0, 1);
+        let (_, ticket) = caller.call(rt, 0, 1);
         gate.seal(0, ticket);
         caller.call(rt, 1, ticket);
         *keep = keep.wrapping_add(ticket);

@@ -3,6 +3,7 @@ ghost use Rattle.std.specs.Prelude.{◌≡◌, ℕ, ◌≤◌, ◌<◌, ◌+◌,
 ghost use Rattle.std.specs.List.{AllZip};
 ghost use Rattle.block_run.specs.Jobs.{jobs_of};
 ghost use Rattle.net_model.specs.BlockOrder.{IsMerge};
+ghost use Rattle.law_merges.specs.Rising.{placed_from};
 ghost use Rattle.turnstile.specs.Names.{opening};
 ghost use Rattle.turnstile.specs.Turns.{turn_of};
 ghost use Rattle.turnstile.specs.Views.{IsWhole};
@@ -85,7 +86,7 @@ where
     requires opened { AllZip (IsOpened (vec_len keeps * calls)) turnstiles.now kept.old }
     ensures whole { AllZip HoldsAll turnstiles.now kept.new }
     ensures ok { IfOk result.0 (λ _. (talks : List (List (ℕ × List (Said M.Request M.Reply)))) × HaveTalked (T.does errands.now) jobs keeps.items talks result.1.items
-        × ((i : ℕ) (log : List _) → IsWhole (calls_at i kept.new) log → IsMerge (map (said_on i) (map all_said talks)) log)) }
+        × ((i : ℕ) (log : List _) → IsWhole (calls_at i kept.new) log → IsMerge (map (said_on i) (map all_said talks)) (placed_from 0 log))) }
     ensures err { IfErr result.0 (λ _. (result.1.items ≡ keeps.items) × ((i : ℕ) (log : List _) → IsWhole (calls_at i kept.new) log → log ≡ [])) }
 {
     seat_workers(turnstiles, kept, &mut rows, keeps, &mut passes, calls);

@@ -2,6 +2,7 @@ use Rattle.std.proofs.Common.{◌≡◌, ◌∙◌, ℕ, ◌*◌, List, [], map,
 use Rattle.std.specs.List.{AllZip, AllByRecursion}
 use Rattle.std.proofs.lemmas.List.{length-map}
 use Rattle.net_model.specs.BlockOrder.{IsMerge}
+use Rattle.law_merges.specs.Rising.{placed_from}
 use Rattle.turnstile.specs.Views.{IsWhole}
 use Rattle.shared_machines.specs.Seats.{calls_at, Belongs}
 use Rattle.shared_machines.proofs.Opening.{fresh_budget, opened_fresh, opened_belong}
@@ -50,7 +51,7 @@ returns-clause-ok g c =
     (λ well. HaveWorked {g = g.M.Machine} (g.T.Errands.does c.args.errands.now) c.args.turnstiles.now well c.args.jobs (map (λ p. p.posts.items) c.seat_workers.new.passes.items) (map (λ p. p.keep) c.seat_workers.new.passes.items)
     (map (λ p. p.posts.items) c.work_seated-ended.result.1.items) (map (λ p. p.keep) c.work_seated-ended.result.1.items))
     ((talks : List (List (ℕ × List _))) × HaveTalked (g.T.Errands.does c.args.errands.now) c.args.jobs c.args.keeps.items talks c.join_workers.new.keeps.items
-    × ((i : ℕ) (log : List _) → IsWhole (calls_at i c.join_workers.new.kept) log → IsMerge (map (said_on i) (map all_said talks)) log))
+    × ((i : ℕ) (log : List _) → IsWhole (calls_at i c.join_workers.new.kept) log → IsMerge (map (said_on i) (map all_said talks)) (placed_from 0 log)))
     (λ w. (
       w.talks,
       subst (λ (ls : List _). HaveTalked (g.T.Errands.does c.args.errands.now) c.args.jobs c.args.keeps.items w.talks ls) (sym c.join_workers.ensures.keeps)

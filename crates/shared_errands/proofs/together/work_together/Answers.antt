@@ -4,6 +4,7 @@ use Rattle.std.proofs.lemmas.Result.{IfOk-at_ok, IfErr-at_err}
 use Rattle.std.specs.List.{AllZip}
 use Rattle.block_run.specs.Jobs.{jobs_of}
 use Rattle.net_model.specs.BlockOrder.{IsMerge}
+use Rattle.law_merges.specs.Rising.{placed_from}
 use Rattle.turnstile.specs.Names.{opening}
 use Rattle.turnstile.specs.Turns.{turn_of}
 use Rattle.turnstile.specs.Views.{IsWhole}
@@ -62,7 +63,7 @@ returns-in-Ok-ended-clause-ok g c =
           let is = ap (λ v. v.items) w.kept-is
           ∙ written_over (c.len-4.result * (c.from.result * c.args.most)) c.open_all.new.turnstiles.items c.open_all.new.kept.items w.work_opened.new.kept c.open_all.new.kept.len c.open_all.ensures.opened holds c.open_all.new.kept.ok.0 in
           let well = IfOk-at_ok (λ _. (talks : List (List (ℕ × List _))) × HaveTalked (g.T.Errands.does c.args.errands.now) c.args.jobs c.args.keeps.items talks w.work_opened.result.1.items
-          × ((i : ℕ) (log : List _) → IsWhole (calls_at i w.work_opened.new.kept) log → IsMerge (map (said_on i) (map all_said talks)) log))
+          × ((i : ℕ) (log : List _) → IsWhole (calls_at i w.work_opened.new.kept) log → IsMerge (map (said_on i) (map all_said talks)) (placed_from 0 log)))
           (sym (ap (λ r. r.0) w.ended-is) ∙ c.in-Ok-ended.is) w.work_opened.ensures.ok in
           record {
             talks = well.0;

@@ -20,8 +20,8 @@ one_of false true x y h = omega arith
 one_of false false x y h = omega arith
 
 -- no machine is called twice
-few : (q r a b i : ℕ) → length (said_on i (record { machine = 0; request = q; reply = a } ∷ record { machine = 1; request = r; reply = b } ∷ [])) ≤ 1
-few q r a b i = one_of (eqb 0 i) (eqb 1 i) (q, a) (r, b) (clash i)
+few : (k l q r a b i : ℕ) → length (said_on i (record { machine = 0; place = k; request = q; reply = a } ∷ record { machine = 1; place = l; request = r; reply = b } ∷ [])) ≤ 1
+few k l q r a b i = one_of (eqb 0 i) (eqb 1 i) (k, (q, a)) (l, (r, b)) (clash i)
 
 pub call-ticket-requires-clause-taken : goal.call-ticket-requires-clause-taken
 call-ticket-requires-clause-taken g c = let o = item_at (g.C.Calls.openings c.args.caller.now) 0 (omega (arith, c.requires.may.1)) in (o.0, o.1, tt)
@@ -34,8 +34,8 @@ call-requires-clause-taken g c =
 
 pub returns-clause-does : goal.returns-clause-does
 returns-clause-does g c = (
-  record { machine = 0; request = 1; reply = c.call-ticket.result } ∷ record { machine = 1; request = c.call-ticket.result; reply = c.call.result } ∷ [],
-  (c.call-ticket.result, c.call.result, search rules, refl),
+  record { machine = 0; place = c.call-ticket.result.0; request = 1; reply = c.call-ticket.result.1 } ∷ record { machine = 1; place = c.call.result.0; request = c.call-ticket.result.1; reply = c.call.result.1 } ∷ [],
+  (c.call-ticket.result.1, c.call.result.1, c.call-ticket.result.0, c.call.result.0, search rules, refl),
   g.met.C.Calls.onward _ _ _ _ _ c.call-ticket.ensures.went c.call.ensures.went,
-  few 1 c.call-ticket.result c.call-ticket.result c.call.result,
+  few c.call-ticket.result.0 c.call.result.0 1 c.call-ticket.result.1 c.call-ticket.result.1 c.call.result.1,
 )
