@@ -1,5 +1,4 @@
 pub mod Asking
 pub mod Following
 pub mod Grants
-pub mod Sending
 pub mod Turns

@@ -5,6 +5,8 @@ use Rattle.source_devices.specs.declared.wire.WireFailed.{WireFailed}
 use Rattle.source_devices.specs.declared.wire.WireFailed.TheVariants.{Fault}
 use Rattle.source_devices.specs.Frames.{TakesFrame}
 use Rattle.hop_frames.specs.Frame.{hash_key}
+use Rattle.lane_shares.specs.declared.shares.Shares.{Shares}
+use Rattle.lane_shares.specs.Names.{lane_cap}
 use Rattle.lane_sides.specs.declared.claimed.Claimed.{Claimed}
 use Rattle.lane_sides.specs.Lane.{LaneForm, claimed, reaching}
 use Rattle.lane_sides.specs.Sending.{TakesNumbered}
@@ -12,6 +14,7 @@ use Rattle.lane_desks.specs.declared.ask.LaneAsk.{LaneAsk}
 use Rattle.lane_desks.specs.declared.ask.LaneAsk.TheVariants.{Claim, Put, Again}
 use Rattle.lane_desks.specs.declared.ask.LaneAnswer.{LaneAnswer}
 use Rattle.lane_desks.specs.declared.ask.LaneAnswer.TheVariants as answers
+use Rattle.lane_desks.specs.declared.charter.LaneCharter.{LaneCharter}
 
 -- The next bytes were claimed, and are handed out unspent with the lane's hash key. With those used before they are at most as many as may be
 -- issued. The wire is as it was.
@@ -38,3 +41,11 @@ module _ {X : Type 0} (frames : X → Option (List (List ℕ))) (counted faults 
   Turns cap old (Put frame length) (answers.Placed answer) new = Puts (λ f f' a. TakesFrame f f' a (take length frame.octets)) old new answer
   Turns cap old (Again number frame length) (answers.Placed answer) new = Puts (λ f f' a. TakesNumbered (counted old.wire) f f' a number (take length frame.octets)) old new answer
   Turns cap old _ _ new = ⊥
+
+-- what stays of a desk, which has a lane and the shares of its bytes
+abbrev pub desk_charter : {D X : Type 0} → (D → LaneForm X) → (D → Shares) → D → LaneCharter
+desk_charter side shares d = record { lane = (side d).lane; bytes = (side d).bytes; shares = shares d }
+
+-- a turn of a desk is one of its lane, under the cap of what may be issued
+abbrev pub DeskTurns : {D X : Type 0} → (frames : X → Option (List (List ℕ))) → (counted faults : X → ℕ) → (D → LaneForm X) → (D → Shares) → D → LaneAsk → LaneAnswer → D → Type 0
+DeskTurns frames counted faults side shares d ask answer n = Turns frames counted faults (lane_cap (shares d)) (side d) ask answer (side n)

@@ -5,7 +5,7 @@ ghost use Rattle.source_devices.specs.Frames.{TakesFrame};
 ghost use Rattle.lane_sides.specs.Sending.{TakesNumbered};
 ghost use Rattle.lane_desks.specs.Asking.{MayAsk};
 ghost use Rattle.lane_desks.specs.Grants.{IsShareOf};
-ghost use Rattle.lane_desks.specs.Turns.{Claims, Turns};
+ghost use Rattle.lane_desks.specs.Turns.{Claims, desk_charter, DeskTurns};
 
 use crate::{LaneAnswer, LaneAsk, LaneCharter, LaneDesk};
 use lane_shares::Share;
@@ -36,11 +36,11 @@ impl<'a, X: Wire> Machine for LaneDesk<'a, X> {
 
     type Charter = LaneCharter;
 
-    ghost charter = { λ d. record { lane = d.side.lane; bytes = d.side.bytes; shares = d.shares.now } };
+    ghost charter = { desk_charter (λ d. d.side) (λ d. d.shares.now) };
 
-    ghost takes = { λ c ask. MayAsk c ask };
+    ghost takes = { MayAsk };
 
-    ghost turns = { λ d ask answer n. Turns X.frames X.counted X.faults (lane_cap d.shares.now) d.side ask answer n.side };
+    ghost turns = { DeskTurns X.frames X.counted X.faults (λ d. d.side) (λ d. d.shares.now) };
 
     fn turn(&mut self, request: LaneAsk) -> LaneAnswer {
         match request {

@@ -1,21 +1,18 @@
-ghost use Rattle.std.specs.Prelude.{◌≡◌, ◌≤◌, [], IfOk, Some, length};
+ghost use Rattle.std.specs.Prelude.{◌≡◌, IfOk, Some, length};
 ghost use Rattle.qkd_base.specs.Name.{Name};
 ghost use Rattle.qkd_base.specs.declared.lane.Way.TheVariants.{Up as UpWay};
 ghost use Rattle.net_model.specs.declared.payload.Payload.TheVariants.{Ack};
-ghost use Rattle.lane_shares.specs.Names.{knows as has, Fits as IsOne};
-ghost use Rattle.turnstile.specs.Names.{opening, all_calls, knows, Fits};
+ghost use Rattle.lane_desks.specs.Grants.{IsShareOf};
 
-use crate::{LaneDesk, claim_and_seal, close};
-use edge_io::OpenGate;
+use crate::{LaneAnswer, LaneAsk, LaneDesk};
 use lane_shares::{Share, Shares};
-use lane_sides::{LaneSide, Sent};
+use lane_sides::LaneSide;
 use net_model::{Order, Payload};
-use qkd_base::{KeyName, Lane, LinkNo, NameKind, NodeNo, Way};
+use qkd_base::{FrameOctets, KeyName, Lane, LinkNo, NameKind, NodeNo, Way};
 use source_devices::{MemWire, Wire};
 use std::alloc::Global;
-use std::sync::Wait;
 use std::test::*;
-use turnstile::{Seat, Turnstile};
+use turnstile::Machine;
 
 fn lane() -> Lane
     ensures { result ≡ record { link = 0; way = UpWay } }
@@ -53,36 +50,23 @@ fn side(alloc: Global) -> Result<LaneSide<MemWire>, Fail>
     Ok(side)
 }
 
-// Where the frame's bytes begin, and its length.
-fn offset(sent: &Sent) -> (u64, u16) {
-    match sent {
-        Sent::Placed { offset, length, .. } => (*offset, *length),
-        Sent::Unsent { offset, length, .. } => (*offset, *length),
-    }
-}
-
-// Sends an order's frame twice, and ends the lane.
-fn send_twice<'a, R: Wait>(
-    rt: &R,
-    desk: Turnstile<LaneDesk<'a, MemWire>>,
-    mut seat: Seat<LaneDesk<'a, MemWire>>,
-    shares: &Shares,
-    granted: &mut Share,
-    order: &Order,
-) -> (LaneSide<MemWire>, Sent, Sent)
-    requires fits { Fits desk seat }
-    requires budget { (knows seat).budget ≡ 4 }
-    requires none { (knows seat).mine ≡ [] }
-    requires whole { all_calls desk ≡ 4 }
-    requires shares { shares.now ≡ (opening desk).shares.now }
-    requires grant { IsOne shares.now granted.old }
-    requires granted { 50 ≤ (has granted.old).amount }
-    requires lane { order.now.lane ≡ (opening desk).side.lane }
+// Sends an order's frame by two turns, one that claims and one that puts, and seals it between them.
+fn send(desk: &mut LaneDesk<'_, MemWire>, grant: Share, order: &Order) -> (u64, u16, bool)
+    requires grant { IsShareOf desk.old.shares.now 25 grant }
     requires ack { (name : Name) × (order.now.payload ≡ Ack name) }
+    ensures shares { desk.new.shares.now ≡ desk.old.shares.now }
 {
-    let one = claim_and_seal(rt, &OpenGate, &desk, &mut seat, shares, granted, order);
-    let two = claim_and_seal(rt, &OpenGate, &desk, &mut seat, shares, granted, order);
-    (close(desk, seat), one, two)
+    let claimed = match desk.turn(LaneAsk::Claim { need: 25, grant }) {
+        LaneAnswer::Claimed { claimed } => claimed,
+        LaneAnswer::Placed { .. } => unreachable!(),
+    };
+    let offset = claimed.range.start();
+    let mut frame = FrameOctets::new();
+    let length = claimed.seal(order.lane, &order.payload, &mut frame);
+    match desk.turn(LaneAsk::Put { frame, length }) {
+        LaneAnswer::Placed { answer } => (offset, length, answer.is_ok()),
+        LaneAnswer::Claimed { .. } => unreachable!(),
+    }
 }
 
 // They have the bytes behind the key, one behind the other.
@@ -92,10 +76,12 @@ fn frames_go_out_by_two_turns_each(rt: HostRuntime) -> Result<(), Fail> {
     let side = side(rt.alloc())?;
     let (shares, mut issuer) = Shares::open(rt.alloc(), 58, 1024).map_err(|_| "memory")?;
     let share = shares.split(&mut issuer, 8);
-    let desk = LaneDesk::new(side, &shares, share);
-    let (desk, seat) = Turnstile::new(rt.alloc(), desk, 4).ok().ok_or("memory")?;
-    let (side, one, two) = send_twice(&rt, desk, seat, &shares, &mut issuer, &order);
-    assert_eq!(rt; (offset(&one), offset(&two)), ((8, 41), (33, 41)));
+    let one = shares.split(&mut issuer, 25);
+    let two = shares.split(&mut issuer, 25);
+    let mut desk = LaneDesk::new(side, &shares, share);
+    assert_eq!(rt; send(&mut desk, one, &order), (8, 41, true));
+    assert_eq!(rt; send(&mut desk, two, &order), (33, 41, true));
+    let side = desk.into_side();
     assert_eq!(rt; (side.counts().spent, side.wire().count()), (58, 2));
     Ok(())
 }

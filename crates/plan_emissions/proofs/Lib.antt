@@ -1,5 +1,6 @@
 pub mod Wanting
-pub mod Calling
+pub mod Turning
+pub mod Saying
 pub mod Onward
 pub mod Steps
 pub mod Ready

@@ -1,27 +1,23 @@
 -- Frames that went out one after another.
-use Rattle.std.proofs.Common.{◌≡◌, ℕ, ◌+◌, ◌-◌, List, [], ◌∷◌, ◌++◌, length, map, refl, sym, ap, ap₂, subst, ◌∙◌, arith, append_assoc, append-nil, length-append}
+use Rattle.std.proofs.Common.{◌≡◌, ℕ, ◌+◌, ◌-◌, List, [], ◌∷◌, ◌++◌, map, refl, sym, ap, ap₂, subst, ◌∙◌, arith, append_assoc, append-nil}
 use Rattle.std.specs.List.{AllByRecursion}
-use Rattle.std.proofs.lemmas.List.{map-append, length-map}
-use Rattle.std.proofs.lemmas.List.Elements.{filter-append}
+use Rattle.std.proofs.lemmas.List.{map-append}
 use Rattle.net_model.specs.Tick.{Emission}
-use Rattle.turnstile.specs.declared.machine.Machine.{Ghosts}
-use Rattle.turnstile.specs.declared.turnstile.Turnstile.{Turnstile}
-use Rattle.turnstile.specs.Names.{opening}
+use Rattle.either_machines.specs.declared.either.Either.{Either}
+use Rattle.shared_errands.specs.Said.{Said}
 use Rattle.lane_shares.specs.declared.share.Share.{Share}
 use Rattle.lane_shares.specs.declared.view.View.{View}
 use Rattle.lane_shares.specs.Views.{with_amount}
 use Rattle.lane_sides.specs.Lane.{LaneForm}
 use Rattle.lane_desks.specs.declared.ask.LaneAsk.{LaneAsk}
 use Rattle.lane_desks.specs.declared.ask.LaneAnswer.{LaneAnswer}
-use Rattle.lane_desks.specs.declared.charter.LaneCharter.{LaneCharter}
-use Rattle.shared_machines.specs.declared.pass.Post.{Post}
-use Rattle.shared_machines.specs.Seats.{calls_at, budget_at}
 use Rattle.plan_emissions.specs.declared.emitted.Emitted.{Emitted}
-use Rattle.plan_emissions.specs.Wants.{is_at, bytes_at}
-use Rattle.plan_emissions.specs.Calls.{emitted_at, HasCalled}
-use Rattle.plan_emissions.specs.Emitting.{grant_at, IsFor, HasEmitted}
+use Rattle.plan_emissions.specs.declared.frame_log.FrameLog.{FrameLog}
+use Rattle.plan_emissions.specs.Wants.{bytes_at}
+use Rattle.plan_emissions.specs.Calls.{IsOf}
+use Rattle.plan_emissions.specs.Emitting.{grant_at, AreLogged, HasEmitted}
 use Rattle.plan_emissions.proofs.Wanting.{bytes_more}
-use Rattle.plan_emissions.proofs.Calling.{called_none, called_more}
+use Rattle.plan_emissions.proofs.Saying.{says_more}
 
 all_more : {A : Type 0} (P : A → Type 0) (xs ys : List A) → AllByRecursion P xs → AllByRecursion P ys → AllByRecursion P (xs ++ ys)
 all_more P [] ys h k = k
@@ -32,37 +28,34 @@ less_twice v w u a b h k =
     let both : (v.amount - a) - b ≡ v.amount - (a + b) = omega arith in
     k ∙ ap (λ (x : View). with_amount x (x.amount - b)) h ∙ ap (with_amount v) both
 
-module _ {D X : Type 0} {g : Ghosts D LaneAsk LaneAnswer LaneCharter} (desks : List (Turnstile D LaneAsk LaneAnswer LaneCharter)) (side : D → LaneForm X) (place : ℕ) where
-  pub emitted_none : (p : List (Post D LaneAsk LaneAnswer LaneCharter g)) (s : List Share) (l : List Emitted) → HasEmitted desks side place [] p s l p s l
-  emitted_none p s l = record {
-    emitted = [];
+logged_more : (xs ys : List Emitted) (l m n : FrameLog) → AreLogged xs l m → AreLogged ys m n → AreLogged (xs ++ ys) l n
+logged_more xs ys l m n h k = record {
+  whole = λ is. h.whole (k.whole is);
+  added = λ is. k.added is ∙ ap (λ (v : List Emitted). v ++ ys) (h.added (k.whole is)) ∙ append_assoc l.frames.items xs ys;
+}
+
+module _ {M D X Q A : Type 0} (machines : List (Either M D)) (side : D → LaneForm X) (first : ℕ) (line : ℕ) where
+  pub emitted_none : (went : List (Said (Either Q LaneAsk) (Either A LaneAnswer)) → Type 0) (s : List Share) (l : FrameLog) → went [] → HasEmitted machines side first went line [] s l s l
+  emitted_none went s l still = record {
+    said = [];
+    went = still;
+    outs = [];
     all = refl;
-    logged = sym (append-nil l);
-    line = tt;
-    called = λ i t at. called_none (side (opening t)) (calls_at i p) (budget_at i p);
+    told = tt;
+    says = refl;
     less = λ i. let none : (grant_at i s).amount ≡ (grant_at i s).amount - 0 = omega arith in ap (with_amount (grant_at i s)) none;
+    logged = record { whole = λ is. is; added = λ is. sym (append-nil l.frames.items) };
   }
 
-  pub emitted_more : (xs ys : List Emission) (p q r : List (Post D LaneAsk LaneAnswer LaneCharter g)) (s t u : List Share) (l m n : List Emitted) →
-      HasEmitted desks side place xs p s l q t m → HasEmitted desks side place ys q t m r u n → HasEmitted desks side place (xs ++ ys) p s l r u n
-  emitted_more xs ys p q r s t u l m n h k = record {
-    emitted = h.emitted ++ k.emitted;
-    all = map-append (λ (x : Emission × Emitted). x.0) h.emitted k.emitted ∙ ap₂ (λ (a b : List Emission). a ++ b) h.all k.all;
-    logged = k.logged ∙ ap (λ (v : List Emitted). v ++ map (λ x. x.1) k.emitted) h.logged ∙ append_assoc l (map (λ x. x.1) h.emitted) (map (λ x. x.1) k.emitted)
-        ∙ ap (λ (v : List Emitted). l ++ v) (sym (map-append (λ (x : Emission × Emitted). x.1) h.emitted k.emitted));
-    line = all_more (IsFor place) h.emitted k.emitted h.line k.line;
-    called = λ i d at.
-        subst (λ (v : List (Emission × Emitted)). HasCalled (side (opening d)) v (calls_at i p) (calls_at i r) (budget_at i p) (budget_at i r)) (sym (filter-append (λ (x : Emission × Emitted). is_at i x.0) h.emitted k.emitted))
-        (called_more (side (opening d)) (emitted_at i h.emitted) (emitted_at i k.emitted) (calls_at i p) (calls_at i q) (calls_at i r) (budget_at i p) (budget_at i q) (budget_at i r) (h.called i d at) (k.called i d at));
+  pub emitted_more : (one two both : List (Said (Either Q LaneAsk) (Either A LaneAnswer)) → Type 0) → ((a b : List (Said (Either Q LaneAsk) (Either A LaneAnswer))) → one a → two b → both (a ++ b)) →
+      (xs ys : List Emission) (s t u : List Share) (l m n : FrameLog) → HasEmitted machines side first one line xs s l t m → HasEmitted machines side first two line ys t m u n → HasEmitted machines side first both line (xs ++ ys) s l u n
+  emitted_more one two both onward xs ys s t u l m n h k = record {
+    said = h.said ++ k.said;
+    went = onward h.said k.said h.went k.went;
+    outs = h.outs ++ k.outs;
+    all = map-append (λ (x : Emission × Emitted). x.0) h.outs k.outs ∙ ap₂ (λ (a b : List Emission). a ++ b) h.all k.all;
+    told = all_more (λ (x : Emission × Emitted). IsOf line x.0 x.1) h.outs k.outs h.told k.told;
+    says = says_more machines side first h.outs k.outs h.said k.said h.says k.says;
     less = λ i. less_twice (grant_at i s) (grant_at i t) (grant_at i u) (bytes_at i xs) (bytes_at i ys) (h.less i) (k.less i) ∙ ap (λ (b : ℕ). with_amount (grant_at i s) ((grant_at i s).amount - b)) (sym (bytes_more i xs ys));
+    logged = subst (λ (v : List Emitted). AreLogged v l n) (sym (map-append (λ (x : Emission × Emitted). x.1) h.outs k.outs)) (logged_more (map (λ x. x.1) h.outs) (map (λ x. x.1) k.outs) l m n h.logged k.logged);
   }
-
-  -- what came of each frame stands in the log
-  pub emitted_many : (xs : List Emission) (p q : List (Post D LaneAsk LaneAnswer LaneCharter g)) (s t : List Share) (l m : List Emitted) → HasEmitted desks side place xs p s l q t m → length m ≡ length l + length xs
-  emitted_many xs p q s t l m h =
-      let wants = ap length h.all in
-      let logs = ap length h.logged in
-      let one = length-map h.emitted (λ (x : Emission × Emitted). x.0) in
-      let two = length-map h.emitted (λ (x : Emission × Emitted). x.1) in
-      let sum = length-append l (map (λ x. x.1) h.emitted) in
-      omega (arith, wants, logs, one, two, sum)

@@ -1,15 +1,13 @@
 -- One frame goes out.
-use Rattle.std.proofs.Common.{◌≡◌, ◌⊎◌, ℕ, ◌+◌, ◌-◌, Bool, true, false, List, [], ◌∷◌, ◌++◌, length, set, slice_get, Some, cond, eqb, refl, sym, ap, subst, ◌∙◌, arith, inl, inr, append-nil}
+use Rattle.std.proofs.Common.{◌≡◌, ◌⊎◌, ℕ, ◌+◌, ◌-◌, true, false, List, [], ◌∷◌, length, set, slice_get, Some, eqb, refl, sym, ap, subst, ◌∙◌, arith, inl, inr, append-nil}
 use Rattle.std.specs.List.{AllZip}
-use Rattle.std.proofs.lemmas.List.{length-set}
 use Rattle.std.proofs.lemmas.Bool.Decides.{eqb_tells}
 use Rattle.qkd_base.specs.Lane.{lane_place}
 use Rattle.net_model.specs.declared.repeat.Repeat.{Repeat}
 use Rattle.net_model.specs.Tick.{Emission, Again}
-use Rattle.turnstile.specs.declared.machine.Machine.{Ghosts}
-use Rattle.turnstile.specs.declared.turnstile.Turnstile.{Turnstile}
-use Rattle.turnstile.specs.Names.{opening, knows, Fits}
-use Rattle.law_merges.specs.Rising.{entries}
+use Rattle.either_machines.specs.declared.either.Either.{Either}
+use Rattle.shared_machines.proofs.Zips.{was_at, new_at, other_at}
+use Rattle.shared_errands.specs.Said.{Said, said_on}
 use Rattle.lane_shares.specs.declared.share.Share.{Share}
 use Rattle.lane_shares.specs.declared.shares.Shares.{Shares}
 use Rattle.lane_shares.specs.declared.view.View.{View}
@@ -18,16 +16,14 @@ use Rattle.lane_shares.specs.Views.{with_amount, spent}
 use Rattle.lane_sides.specs.Lane.{LaneForm}
 use Rattle.lane_desks.specs.declared.ask.LaneAsk.{LaneAsk}
 use Rattle.lane_desks.specs.declared.ask.LaneAnswer.{LaneAnswer}
-use Rattle.lane_desks.specs.declared.charter.LaneCharter.{LaneCharter}
-use Rattle.shared_machines.specs.declared.pass.Post.{Post}
-use Rattle.shared_machines.specs.Seats.{calls_at, budget_at, Sits}
-use Rattle.shared_machines.proofs.Zips.{zip_at, zip_set, was_at, new_at, other_at, same_item}
 use Rattle.plan_emissions.specs.declared.emitted.Emitted.{Emitted}
-use Rattle.plan_emissions.specs.Wants.{lane_for, is_at, turns_for, bytes_for, turns_at, bytes_at}
-use Rattle.plan_emissions.specs.Calls.{EmitsBy, EmitAllBy, emitted_at, HasCalled}
-use Rattle.plan_emissions.specs.Emitting.{grant_at, IsFor, MayEmit, HasEmitted}
+use Rattle.plan_emissions.specs.declared.frame_log.FrameLog.{FrameLog}
+use Rattle.plan_emissions.specs.Wants.{lane_for, is_at, bytes_for, bytes_at}
+use Rattle.plan_emissions.specs.Calls.{IsOf}
+use Rattle.plan_emissions.specs.Saying.{Goes}
+use Rattle.plan_emissions.specs.Emitting.{grant_at, AreLogged, MayEmit, HasEmitted}
 use Rattle.plan_emissions.proofs.Wanting.{is_here, sum_here, sum_past, turns_more, bytes_more}
-use Rattle.plan_emissions.proofs.Calling.{Emits, many_calls}
+use Rattle.plan_emissions.proofs.Saying.{counted_one}
 
 module _ (e : Emission) (k : ℕ) (home : lane_place (lane_for e) ≡ k) where
   on : is_at k e ≡ true
@@ -70,81 +66,39 @@ module _ (r : Repeat) (granted : List Share) where
       let all : (grant_at i granted).amount ≡ (grant_at i granted).amount - bytes_at i (Again r ∷ []) = omega (arith, none) in
       ap (with_amount (grant_at i granted)) all
 
-module _ {D X : Type 0} {g : Ghosts D LaneAsk LaneAnswer LaneCharter} (desks : List (Turnstile D LaneAsk LaneAnswer LaneCharter)) (side : D → LaneForm X) (e : Emission) (k : ℕ) (home : lane_place (lane_for e) ≡ k)
-    (entry : Emitted) (posts : List (Post D LaneAsk LaneAnswer LaneCharter g)) (p p' : Post D LaneAsk LaneAnswer LaneCharter g) (t : Turnstile D LaneAsk LaneAnswer LaneCharter)
-    (desk : slice_get desks k ≡ Some t) (post : slice_get posts k ≡ Some p) (did : Emits (side (opening t)) e entry.sent (knows p.seat) (knows p'.seat)) where
-  called_here : (u : Turnstile D LaneAsk LaneAnswer LaneCharter) → slice_get desks k ≡ Some u → HasCalled (side (opening u)) (emitted_at k ((e, entry) ∷ [])) (calls_at k posts) (calls_at k (set posts k p')) (budget_at k posts) (budget_at k (set posts k p'))
-  called_here u at =
-      let one : emitted_at k ((e, entry) ∷ []) ≡ (e, entry) ∷ [] = ap (λ (b : Bool). cond b ((e, entry) ∷ []) []) (on e k home) in
-      let new = new_at (λ (s : Post D LaneAsk LaneAnswer LaneCharter g). (knows s.seat).budget) 0 posts k p p' post in
-      let was = was_at (λ (s : Post D LaneAsk LaneAnswer LaneCharter g). (knows s.seat).budget) 0 posts k p post in
-      let left = did.left in
-      record {
-        calls = did.calls;
-        own = new_at (λ (s : Post D LaneAsk LaneAnswer LaneCharter g). (knows s.seat).mine) [] posts k p p' post ∙ did.own
-            ∙ ap (λ (m : List (ℕ × (LaneAsk × LaneAnswer))). m ++ did.calls) (sym (was_at (λ (s : Post D LaneAsk LaneAnswer LaneCharter g). (knows s.seat).mine) [] posts k p post));
-        by = subst (λ (xs : List (Emission × Emitted)). EmitAllBy (side (opening u)) xs (entries did.calls)) (sym one)
-            (entries did.calls, [], sym (append-nil (entries did.calls)), subst (λ (d : Turnstile D LaneAsk LaneAnswer LaneCharter). EmitsBy (side (opening d)) e entry.sent (entries did.calls)) (same_item (slice_get desks k) t u desk at) did.by, refl);
-        left = omega (arith, new, was, left);
-      }
-
-  called_case : (i : ℕ) (u : Turnstile D LaneAsk LaneAnswer LaneCharter) → slice_get desks i ≡ Some u → ((eqb k i ≡ true) × (k ≡ i)) ⊎ ((eqb k i ≡ false) × (k ≡ i → ⊥)) →
-      HasCalled (side (opening u)) (emitted_at i ((e, entry) ∷ [])) (calls_at i posts) (calls_at i (set posts k p')) (budget_at i posts) (budget_at i (set posts k p'))
-  called_case i u at (inl (b, same)) =
-      subst (λ (j : ℕ). slice_get desks j ≡ Some u → HasCalled (side (opening u)) (emitted_at j ((e, entry) ∷ [])) (calls_at j posts) (calls_at j (set posts k p')) (budget_at j posts) (budget_at j (set posts k p'))) same (called_here u) at
-  called_case i u at (inr (b, other)) =
-      let none : emitted_at i ((e, entry) ∷ []) ≡ [] = ap (λ (b : Bool). cond b ((e, entry) ∷ []) []) (off e k home i other) in
-      let same = other_at (λ (s : Post D LaneAsk LaneAnswer LaneCharter g). (knows s.seat).budget) 0 posts k i p' other in
-      record {
-        calls = [];
-        own = other_at (λ (s : Post D LaneAsk LaneAnswer LaneCharter g). (knows s.seat).mine) [] posts k i p' other ∙ sym (append-nil (calls_at i posts));
-        by = subst (λ (xs : List (Emission × Emitted)). EmitAllBy (side (opening u)) xs []) (sym none) refl;
-        left = omega (arith, same);
-      }
-
-  pub emitted_one : (place : ℕ) (granted granted' : List Share) (log : List Emitted) → ((i : ℕ) → grant_at i granted' ≡ with_amount (grant_at i granted) ((grant_at i granted).amount - bytes_at i (e ∷ []))) → IsFor place (e, entry) →
-      HasEmitted desks side place (e ∷ []) posts granted log (set posts k p') granted' (log ++ entry ∷ [])
-  emitted_one place granted granted' log grants line = record {
-    emitted = (e, entry) ∷ [];
+module _ {M D X Q A : Type 0} (machines : List (Either M D)) (side : D → LaneForm X) (first : ℕ) (went : List (Said (Either Q LaneAsk) (Either A LaneAnswer)) → Type 0) (e : Emission) (out : Emitted)
+    (goes : Goes went machines side (first + lane_place (lane_for e)) e out) where
+  pub emitted_one : (line : ℕ) (granted granted' : List Share) (log log' : FrameLog) → IsOf line e out → ((i : ℕ) → grant_at i granted' ≡ with_amount (grant_at i granted) ((grant_at i granted).amount - bytes_at i (e ∷ []))) →
+      AreLogged (out ∷ []) log log' → HasEmitted machines side first went line (e ∷ []) granted log granted' log'
+  emitted_one line granted granted' log log' told less logged = record {
+    said = goes.said;
+    went = goes.went;
+    outs = (e, out) ∷ [];
     all = refl;
-    logged = refl;
-    line = (line, tt);
-    called = λ i u at. called_case i u at (eqb_tells k i);
-    less = grants;
+    told = (told, tt);
+    says = (goes.said, [], sym (append-nil goes.said), goes.by, refl);
+    less = less;
+    logged = logged;
   }
 
-  turns_case : (i : ℕ) → ((eqb k i ≡ true) × (k ≡ i)) ⊎ ((eqb k i ≡ false) × (k ≡ i → ⊥)) → budget_at i (set posts k p') + turns_at i (e ∷ []) ≡ budget_at i posts
-  turns_case i (inl (b, same)) =
-      subst (λ (j : ℕ). budget_at j (set posts k p') + turns_at j (e ∷ []) ≡ budget_at j posts) same
-      (let new = new_at (λ (s : Post D LaneAsk LaneAnswer LaneCharter g). (knows s.seat).budget) 0 posts k p p' post in
-      let was = was_at (λ (s : Post D LaneAsk LaneAnswer LaneCharter g). (knows s.seat).budget) 0 posts k p post in
-      let left = did.left in
-      let many = many_calls (side (opening t)) e entry.sent did.calls did.by in
-      let sum = sum_here turns_for k e [] (on e k home) in
-      omega (arith, new, was, left, many, sum))
-  turns_case i (inr (b, other)) =
-      let same = other_at (λ (s : Post D LaneAsk LaneAnswer LaneCharter g). (knows s.seat).budget) 0 posts k i p' other in
-      let none = sum_past turns_for i e [] (off e k home i other) in
-      omega (arith, same, none)
-
-  pub may_on : (shares_of : D → Shares) (shares : List Shares) (es : List Emission) (granted granted' : List Share) → ((i : ℕ) → grant_at i granted' ≡ with_amount (grant_at i granted) ((grant_at i granted).amount - bytes_at i (e ∷ []))) →
-      length granted' ≡ length granted → AllZip IsOne shares granted' → Fits t p'.seat → MayEmit desks side shares_of shares posts granted (e ∷ es) → MayEmit desks side shares_of shares (set posts k p') granted' es
-  may_on shares_of shares es granted granted' grants long fits sits h =
-      let sat = zip_at Sits desks posts k t p h.sits desk post in
-      record {
-        sits = zip_set Sits desks posts k p' h.sits (λ u at. subst (λ (d : Turnstile D LaneAsk LaneAnswer LaneCharter). Sits d p') (same_item (slice_get desks k) t u desk at) (record { fits = sits; stands = did.stands; rises = did.rises sat.stands sat.rises }));
+  pub may_on : (machines' : List (Either M D)) (budget budget' : ℕ → ℕ) (shares_of : D → Shares) (shares : List Shares) (granted granted' : List Share) (es : List Emission) →
+      (machines' ≡ machines) × ((j : ℕ) → budget' j + length (said_on j goes.said) ≡ budget j) → ((i : ℕ) → grant_at i granted' ≡ with_amount (grant_at i granted) ((grant_at i granted).amount - bytes_at i (e ∷ []))) →
+      length granted' ≡ length granted → AllZip IsOne shares granted' → MayEmit machines side first budget shares_of shares granted (e ∷ es) → MayEmit machines' side first budget' shares_of shares granted' es
+  may_on machines' budget budget' shares_of shares granted granted' es spends less long fits h =
+      subst (λ (ms : List (Either M D)). MayEmit ms side first budget' shares_of shares granted' es) (sym spends.0) (record {
+        few = h.few;
         shared = h.shared;
         fits = fits;
         each = h.each.1;
         turns = λ i lt.
-            let within = length-set posts k p' in
-            let old = h.turns i (omega (arith, lt, within)) in
+            let old = h.turns i lt in
             let both = turns_more i (e ∷ []) es in
-            let now = turns_case i (eqb_tells k i) in
-            omega (arith, old, both, now);
+            let said = counted_one machines side first e out goes.said goes.by i in
+            let left = spends.1 (first + i) in
+            omega (arith, old, both, said, left);
         bytes = λ i lt.
             let old = h.bytes i (omega (arith, lt, long)) in
             let both = bytes_more i (e ∷ []) es in
-            let now = ap (λ (v : View). v.amount) (grants i) in
+            let now = ap (λ (v : View). v.amount) (less i) in
             omega (arith, old, both, now);
-      }
+      })

@@ -1,5 +1,5 @@
 -- What a plan wants on one lane.
-use Rattle.std.proofs.Common.{◌≡◌, ◌⊎◌, ℕ, suc, ◌+◌, ◌<◌, Bool, true, false, List, [], ◌∷◌, ◌++◌, length, map, take, drop, get_or, cond, eqb, refl, sym, ap, ◌∙◌, arith, inl, inr}
+use Rattle.std.proofs.Common.{◌≡◌, ◌⊎◌, ℕ, suc, ◌+◌, ◌<◌, ◌≤◌, Bool, true, false, List, [], ◌∷◌, ◌++◌, length, map, take, drop, get_or, cond, eqb, refl, sym, ap, ◌∙◌, arith, inl, inr}
 use Rattle.std.specs.Prelude.{filter}
 use Rattle.std.specs.List.{sum_by}
 use Rattle.std.proofs.lemmas.List.{map-append, take_more}
@@ -8,15 +8,19 @@ use Rattle.std.proofs.lemmas.List.Elements.{filter-append}
 use Rattle.std.proofs.lemmas.Bool.Decides.{eqb_tells}
 use Rattle.std.proofs.Math.Seq.{drop-cons}
 use Rattle.qkd_base.specs.Lane.{lane_place}
-use Rattle.net_model.specs.Tick.{Emission}
+use Rattle.net_model.specs.declared.order.Order.{Order}
+use Rattle.net_model.specs.Tick.{Emission, New}
 use Rattle.plan_emissions.specs.Wants.{lane_for, is_at, turns_for, bytes_for, turns_at, bytes_at}
 
 same_case : (n : ℕ) → ((eqb n n ≡ true) × (n ≡ n)) ⊎ ((eqb n n ≡ false) × (n ≡ n → ⊥)) → eqb n n ≡ true
 same_case n (inl (t, e)) = t
 same_case n (inr (f, other)) = absurd (other refl)
 
+pub eqb_same : (n : ℕ) → eqb n n ≡ true
+eqb_same n = same_case n (eqb_tells n n)
+
 pub is_here : (e : Emission) → is_at (lane_place (lane_for e)) e ≡ true
-is_here e = same_case (lane_place (lane_for e)) (eqb_tells (lane_place (lane_for e)) (lane_place (lane_for e)))
+is_here e = eqb_same (lane_place (lane_for e))
 
 module _ (f : Emission → ℕ) (i : ℕ) (e : Emission) (es : List Emission) where
   pub sum_here : is_at i e ≡ true → sum_by f (filter (is_at i) (e ∷ es)) ≡ f e + sum_by f (filter (is_at i) es)
@@ -47,3 +51,11 @@ module _ {A : Type 0} (xs : List A) (i : ℕ) (x : A) (below : i < length xs) (i
 
     pub drop_on : (es : List Emission) → map mk (drop i xs) ++ es ≡ mk x ∷ (map mk (drop (i + 1) xs) ++ es)
     drop_on es = ap (λ (ys : List A). map mk ys ++ es) left
+
+-- an order takes two turns of its lane, and none of another
+few_case : (i : ℕ) (o : Order) → ((eqb (lane_place o.lane) i ≡ true) × (lane_place o.lane ≡ i)) ⊎ ((eqb (lane_place o.lane) i ≡ false) × (lane_place o.lane ≡ i → ⊥)) → turns_at i (New o ∷ []) ≤ 2
+few_case i o (inl (b, same)) = let sum = sum_here turns_for i (New o) [] b in omega (arith, sum)
+few_case i o (inr (b, other)) = let sum = sum_past turns_for i (New o) [] b in omega (arith, sum)
+
+pub few_turns : (i : ℕ) (o : Order) → turns_at i (New o ∷ []) ≤ 2
+few_turns i o = few_case i o (eqb_tells (lane_place o.lane) i)

@@ -1,15 +1,16 @@
--- The calls of a lane by which frames go out.
-use Rattle.std.specs.Prelude.{◌≡◌, ℕ, ◌+◌, List, [], ◌∷◌, ◌++◌, length, filter}
+-- The calls of a lane by which frames go out, and what is told of each frame.
+use Rattle.std.specs.Prelude.{◌≡◌, ℕ, ◌-◌, Bool, true, false, Option, List, [], ◌∷◌, ◌++◌, length, filter}
+use Rattle.qkd_base.specs.Name.{Name}
 use Rattle.net_model.specs.declared.order.Order.{Order}
 use Rattle.net_model.specs.declared.repeat.Repeat.{Repeat}
-use Rattle.net_model.specs.Tick.{Emission, Again, New}
+use Rattle.net_model.specs.Facts.{payload_len}
+use Rattle.net_model.specs.Item.{item_name}
+use Rattle.net_model.specs.Tick.{Emission, Again, New, item_in}
 use Rattle.net_model.specs.Window.{room_octets}
 use Rattle.frame_codec.specs.Payload.{payload_octets}
 use Rattle.hop_frames.specs.Frame.{spell}
-use Rattle.law_merges.specs.Rising.{entries}
 use Rattle.lane_shares.specs.declared.share.Share.{Share}
 use Rattle.lane_sides.specs.declared.claimed.Claimed.{Claimed}
-use Rattle.lane_sides.specs.declared.sent.Sent.{Sent}
 use Rattle.lane_sides.specs.Lane.{LaneForm, frame_need}
 use Rattle.lane_sides.specs.Sending.{sent, sent_frame, answer_of}
 use Rattle.lane_desks.specs.declared.ask.LaneAsk.{LaneAsk}
@@ -17,39 +18,62 @@ use Rattle.lane_desks.specs.declared.ask.LaneAsk.TheVariants as asks
 use Rattle.lane_desks.specs.declared.ask.LaneAnswer.{LaneAnswer}
 use Rattle.lane_desks.specs.declared.ask.LaneAnswer.TheVariants as answers
 use Rattle.plan_emissions.specs.declared.emitted.Emitted.{Emitted}
-use Rattle.plan_emissions.specs.Wants.{is_at}
+use Rattle.plan_emissions.specs.Wants.{lane_for, is_at}
+
+-- of a frame the name of what it carries, the offset of the frame that it answers, whether it goes out for the first time, and the octets of its payload
+
+abbrev pub name_for : Emission → Name
+name_for (Again r) = r.name
+name_for (New o) = item_name (item_in o.payload)
+
+abbrev pub ack_for : Emission → Option ℕ
+ack_for (Again r) = r.ack_of
+ack_for (New o) = o.ack_of
+
+abbrev pub fresh_for : Emission → Bool
+fresh_for (Again r) = false
+fresh_for (New o) = true
+
+abbrev pub size_for : Emission → ℕ
+size_for (Again r) = r.length - 24
+size_for (New o) = payload_len o.payload
+
+-- this is told of a frame that the plan of a line wanted put
+pub record IsOf (place : ℕ) (e : Emission) (out : Emitted) : Type 0 where
+  pub line : out.line ≡ place
+  pub lane : out.lane ≡ lane_for e
+  pub name : out.name ≡ name_for e
+  pub ack_of : out.ack_of ≡ ack_for e
+  pub fresh : out.fresh ≡ fresh_for e
+  pub size : out.size ≡ size_for e
+
+-- Calls of a lane have their places in its history.
 
 -- one call puts a frame once more
-pub record RepeatsBy (r : Repeat) (s : Sent) (calls : List (LaneAsk × LaneAnswer)) : Type 0 where
-  pub are : calls ≡ (asks.Again r.number r.frame r.length, answers.Placed (answer_of s)) ∷ []
-  pub says : s ≡ sent r.offset r.length r.frame (answer_of s)
+pub record RepeatsBy (r : Repeat) (out : Emitted) (calls : List (ℕ × (LaneAsk × LaneAnswer))) : Type 0 where
+  pub are : calls ≡ (out.at, (asks.Again r.number r.frame r.length, answers.Placed (answer_of out.sent))) ∷ []
+  pub says : out.sent ≡ sent r.offset r.length r.frame (answer_of out.sent)
 
 -- one call claims, and the next one puts the payload's frame, which is its one spelling over what was claimed
-pub record SendsBy {X : Type 0} (side : LaneForm X) (o : Order) (s : Sent) (calls : List (LaneAsk × LaneAnswer)) : Type 0 where
+pub record SendsBy {X : Type 0} (side : LaneForm X) (o : Order) (out : Emitted) (calls : List (ℕ × (LaneAsk × LaneAnswer))) : Type 0 where
+  pub claim_at : ℕ
   pub grant : Share
   pub claimed : Claimed
   pub frame : List ℕ
-  pub are : calls ≡ (asks.Claim (frame_need o.payload) grant, answers.Claimed claimed) ∷ (asks.Put (room_octets frame) (length frame), answers.Placed (answer_of s)) ∷ []
+  pub are : calls ≡ (claim_at, (asks.Claim (frame_need o.payload) grant, answers.Claimed claimed)) ∷ (out.at, (asks.Put (room_octets frame) (length frame), answers.Placed (answer_of out.sent))) ∷ []
   pub need : claimed.range.len ≡ frame_need o.payload
   pub spelled : frame ≡ spell side.lane claimed.range.start side.bytes (payload_octets o.payload)
-  pub says : s ≡ sent_frame claimed.range.start frame (answer_of s)
+  pub says : out.sent ≡ sent_frame claimed.range.start frame (answer_of out.sent)
 
-abbrev pub EmitsBy : {X : Type 0} → LaneForm X → Emission → Sent → List (LaneAsk × LaneAnswer) → Type 0
-EmitsBy side (Again r) s calls = RepeatsBy r s calls
-EmitsBy side (New o) s calls = SendsBy side o s calls
+abbrev pub CallsBy : {X : Type 0} → LaneForm X → Emission → Emitted → List (ℕ × (LaneAsk × LaneAnswer)) → Type 0
+CallsBy side (Again r) out calls = RepeatsBy r out calls
+CallsBy side (New o) out calls = SendsBy side o out calls
 
 -- frames go out one after another by these calls and no others
-abbrev pub EmitAllBy : {X : Type 0} → LaneForm X → List (Emission × Emitted) → List (LaneAsk × LaneAnswer) → Type 0
-EmitAllBy side [] calls = calls ≡ []
-EmitAllBy side (x ∷ xs) calls = (first rest : List (LaneAsk × LaneAnswer)) × (calls ≡ first ++ rest) × EmitsBy side x.0 x.1.sent first × EmitAllBy side xs rest
+abbrev pub CallAllBy : {X : Type 0} → LaneForm X → List (Emission × Emitted) → List (ℕ × (LaneAsk × LaneAnswer)) → Type 0
+CallAllBy side [] calls = calls ≡ []
+CallAllBy side (x ∷ xs) calls = (first rest : List (ℕ × (LaneAsk × LaneAnswer))) × (calls ≡ first ++ rest) × CallsBy side x.0 x.1 first × CallAllBy side xs rest
 
 -- those that go out on the lane at a place
 abbrev pub emitted_at : ℕ → List (Emission × Emitted) → List (Emission × Emitted)
-emitted_at i emitted = filter (λ x. is_at i x.0) emitted
-
--- A seat's calls are those before, and then just those by which the frames go out. Its budget is less by as many.
-pub record HasCalled {X : Type 0} (side : LaneForm X) (emitted : List (Emission × Emitted)) (mine mine' : List (ℕ × (LaneAsk × LaneAnswer))) (budget budget' : ℕ) : Type 0 where
-  pub calls : List (ℕ × (LaneAsk × LaneAnswer))
-  pub own : mine' ≡ mine ++ calls
-  pub by : EmitAllBy side emitted (entries calls)
-  pub left : budget' + length calls ≡ budget
+emitted_at i outs = filter (λ x. is_at i x.0) outs

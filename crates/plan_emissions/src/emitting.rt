@@ -1,130 +1,140 @@
-// Frames go out by turns of their lanes.
-ghost use Rattle.std.specs.Prelude.{◌≡◌, ◌+◌, ◌<◌, ◌≤◌, [], ◌∷◌, ◌++◌, List, map, length, vec_len, vec_capacity};
+// The frames of a plan go out.
+ghost use Rattle.std.specs.Prelude.{◌≡◌, [], ◌∷◌, ◌++◌, List, map};
 ghost use Rattle.net_model.specs.Tick.{Emission, Again, New};
+ghost use Rattle.lane_shares.specs.declared.share.Share.{Share as ShareValue};
 ghost use Rattle.plan_emissions.specs.Wants.{wanted};
 ghost use Rattle.plan_emissions.specs.Emitting.{MayEmit, HasEmitted};
 
 use crate::place::place_of;
-use crate::{Emitted, Lanes, Plan, Sender};
-use edge_io::Gate;
-use lane_desks::{LaneDesk, again, claim_and_seal};
+use crate::sending::{claim_and_seal, put_again};
+use crate::{Desk, FrameLog, Lanes, Plan, Seals};
+use either_machines::Either;
+use lane_shares::Share;
 use net_model::{Order, Repeat};
-use source_devices::Wire;
+use shared_errands::Calls;
 use std::sync::Wait;
+use turnstile::Machine;
 
-// Puts the frame of a repeat on its wire once more, by a turn of its lane.
-fn emit_repeat<'a, R: Wait, X: Wire>(
+// Puts the frame of a repeat on its wire once more.
+fn emit_repeat<R: Wait, M: Machine, D: Desk, C: Calls<Either<M, D>>>(
     rt: &R,
-    lanes: &Lanes<'_, 'a, X>,
-    sender: &mut Sender<LaneDesk<'a, X>>,
-    place: usize,
+    caller: &mut C,
+    lanes: &Lanes<'_>,
+    line: usize,
     repeat: &Repeat,
+    log: &mut FrameLog,
 )
-    requires may { (es : List Emission) × MayEmit lanes.now.desks.now (λ d. d.side) (λ d. d.shares.now) lanes.now.shares.now sender.old.posts.items sender.old.granted.items (Again repeat.now ∷ es) }
-    requires room { vec_len sender.old.log < vec_capacity sender.old.log }
-    ensures room { vec_capacity sender.new.log ≡ vec_capacity sender.old.log }
-    ensures emitted { HasEmitted lanes.now.desks.now (λ d. d.side) place (Again repeat.now ∷ []) sender.old.posts.items sender.old.granted.items sender.old.log.items sender.new.posts.items sender.new.granted.items sender.new.log.items }
-    ensures rest { (es : List Emission) → MayEmit lanes.now.desks.now (λ d. d.side) (λ d. d.shares.now) lanes.now.shares.now sender.old.posts.items sender.old.granted.items (Again repeat.now ∷ es)
-        → MayEmit lanes.now.desks.now (λ d. d.side) (λ d. d.shares.now) lanes.now.shares.now sender.new.posts.items sender.new.granted.items es }
+    requires placed { C.placed caller.old }
+    requires may { (granted : List ShareValue) × (es : List Emission) × MayEmit (C.openings caller.old) D.side lanes.now.first (λ i. C.budget caller.old i) D.shares lanes.now.shares.now granted (Again repeat.now ∷ es) }
+    ensures placed { C.placed caller.new }
+    ensures emitted { (granted : List ShareValue) → HasEmitted (C.openings caller.old) D.side lanes.now.first (λ said. C.went caller.old said caller.new) line (Again repeat.now ∷ []) granted log.old granted log.new }
+    ensures rest { (granted : List ShareValue) (es : List Emission) → MayEmit (C.openings caller.old) D.side lanes.now.first (λ i. C.budget caller.old i) D.shares lanes.now.shares.now granted (Again repeat.now ∷ es)
+        → MayEmit (C.openings caller.new) D.side lanes.now.first (λ i. C.budget caller.new i) D.shares lanes.now.shares.now granted es }
 {
     let at = place_of(repeat.lane);
-    let post = &mut sender.posts[at];
-    let sent = again(rt, &lanes.desks[at], &mut post.seat, repeat);
-    let lane = repeat.lane;
-    sender.log.push_reserved(Emitted { place, lane, sent });
+    let machine = lanes.first + at;
+    let frame = put_again(rt, caller, machine, line, repeat);
+    log.add(frame);
 }
 
-// Sends the frame of an order, by two turns of its lane.
-fn emit_order<'a, R: Wait, G: Gate, X: Wire>(
+// Sends the frame of an order.
+fn emit_order<R: Wait, S: Seals, M: Machine, D: Desk, C: Calls<Either<M, D>>>(
     rt: &R,
-    gate: &G,
-    lanes: &Lanes<'_, 'a, X>,
-    sender: &mut Sender<LaneDesk<'a, X>>,
-    place: usize,
+    seals: &S,
+    caller: &mut C,
+    lanes: &Lanes<'_>,
+    granted: &mut [Share],
+    line: usize,
     order: &Order,
+    log: &mut FrameLog,
 )
-    requires may { (es : List Emission) × MayEmit lanes.now.desks.now (λ d. d.side) (λ d. d.shares.now) lanes.now.shares.now sender.old.posts.items sender.old.granted.items (New order.now ∷ es) }
-    requires room { vec_len sender.old.log < vec_capacity sender.old.log }
-    ensures room { vec_capacity sender.new.log ≡ vec_capacity sender.old.log }
-    ensures emitted { HasEmitted lanes.now.desks.now (λ d. d.side) place (New order.now ∷ []) sender.old.posts.items sender.old.granted.items sender.old.log.items sender.new.posts.items sender.new.granted.items sender.new.log.items }
-    ensures rest { (es : List Emission) → MayEmit lanes.now.desks.now (λ d. d.side) (λ d. d.shares.now) lanes.now.shares.now sender.old.posts.items sender.old.granted.items (New order.now ∷ es)
-        → MayEmit lanes.now.desks.now (λ d. d.side) (λ d. d.shares.now) lanes.now.shares.now sender.new.posts.items sender.new.granted.items es }
+    requires placed { C.placed caller.old }
+    requires may { (es : List Emission) × MayEmit (C.openings caller.old) D.side lanes.now.first (λ i. C.budget caller.old i) D.shares lanes.now.shares.now granted.old (New order.now ∷ es) }
+    ensures placed { C.placed caller.new }
+    ensures emitted { HasEmitted (C.openings caller.old) D.side lanes.now.first (λ said. C.went caller.old said caller.new) line (New order.now ∷ []) granted.old log.old granted.new log.new }
+    ensures rest { (es : List Emission) → MayEmit (C.openings caller.old) D.side lanes.now.first (λ i. C.budget caller.old i) D.shares lanes.now.shares.now granted.old (New order.now ∷ es)
+        → MayEmit (C.openings caller.new) D.side lanes.now.first (λ i. C.budget caller.new i) D.shares lanes.now.shares.now granted.new es }
 {
     let at = place_of(order.lane);
-    let post = &mut sender.posts[at];
-    let granted = &mut sender.granted[at];
-    let sent = claim_and_seal(
+    let machine = lanes.first + at;
+    let frame = claim_and_seal(
         rt,
-        gate,
-        &lanes.desks[at],
-        &mut post.seat,
+        seals,
+        caller,
+        machine,
         &lanes.shares[at],
-        granted,
+        &mut granted[at],
+        line,
         order,
     );
-    let lane = order.lane;
-    sender.log.push_reserved(Emitted { place, lane, sent });
+    log.add(frame);
 }
 
 // Puts the frames of repeats once more, one after another.
-fn emit_repeats<'a, R: Wait, X: Wire>(
+fn emit_repeats<R: Wait, M: Machine, D: Desk, C: Calls<Either<M, D>>>(
     rt: &R,
-    lanes: &Lanes<'_, 'a, X>,
-    sender: &mut Sender<LaneDesk<'a, X>>,
-    place: usize,
+    caller: &mut C,
+    lanes: &Lanes<'_>,
+    line: usize,
     repeats: &[Repeat],
+    log: &mut FrameLog,
 )
-    requires may { (es : List Emission) × MayEmit lanes.now.desks.now (λ d. d.side) (λ d. d.shares.now) lanes.now.shares.now sender.old.posts.items sender.old.granted.items (map Again repeats.now ++ es) }
-    requires room { vec_len sender.old.log + length repeats.now ≤ vec_capacity sender.old.log }
-    ensures room { vec_capacity sender.new.log ≡ vec_capacity sender.old.log }
-    ensures emitted { HasEmitted lanes.now.desks.now (λ d. d.side) place (map Again repeats.now) sender.old.posts.items sender.old.granted.items sender.old.log.items sender.new.posts.items sender.new.granted.items sender.new.log.items }
-    ensures rest { (es : List Emission) → MayEmit lanes.now.desks.now (λ d. d.side) (λ d. d.shares.now) lanes.now.shares.now sender.old.posts.items sender.old.granted.items (map Again repeats.now ++ es)
-        → MayEmit lanes.now.desks.now (λ d. d.side) (λ d. d.shares.now) lanes.now.shares.now sender.new.posts.items sender.new.granted.items es }
+    requires placed { C.placed caller.old }
+    requires may { (granted : List ShareValue) × (es : List Emission) × MayEmit (C.openings caller.old) D.side lanes.now.first (λ i. C.budget caller.old i) D.shares lanes.now.shares.now granted ((map Again repeats.now) ++ es) }
+    ensures placed { C.placed caller.new }
+    ensures emitted { (granted : List ShareValue) → HasEmitted (C.openings caller.old) D.side lanes.now.first (λ said. C.went caller.old said caller.new) line (map Again repeats.now) granted log.old granted log.new }
+    ensures rest { (granted : List ShareValue) (es : List Emission) → MayEmit (C.openings caller.old) D.side lanes.now.first (λ i. C.budget caller.old i) D.shares lanes.now.shares.now granted ((map Again repeats.now) ++ es)
+        → MayEmit (C.openings caller.new) D.side lanes.now.first (λ i. C.budget caller.new i) D.shares lanes.now.shares.now granted es }
 {
     for repeat in repeats {
-        emit_repeat(rt, lanes, sender, place, repeat);
+        emit_repeat(rt, caller, lanes, line, repeat, log);
     }
 }
 
 // Sends the frames of orders, one after another.
-fn emit_orders<'a, R: Wait, G: Gate, X: Wire>(
+fn emit_orders<R: Wait, S: Seals, M: Machine, D: Desk, C: Calls<Either<M, D>>>(
     rt: &R,
-    gate: &G,
-    lanes: &Lanes<'_, 'a, X>,
-    sender: &mut Sender<LaneDesk<'a, X>>,
-    place: usize,
+    seals: &S,
+    caller: &mut C,
+    lanes: &Lanes<'_>,
+    granted: &mut [Share],
+    line: usize,
     orders: &[Order],
+    log: &mut FrameLog,
 )
-    requires may { (es : List Emission) × MayEmit lanes.now.desks.now (λ d. d.side) (λ d. d.shares.now) lanes.now.shares.now sender.old.posts.items sender.old.granted.items (map New orders.now ++ es) }
-    requires room { vec_len sender.old.log + length orders.now ≤ vec_capacity sender.old.log }
-    ensures room { vec_capacity sender.new.log ≡ vec_capacity sender.old.log }
-    ensures emitted { HasEmitted lanes.now.desks.now (λ d. d.side) place (map New orders.now) sender.old.posts.items sender.old.granted.items sender.old.log.items sender.new.posts.items sender.new.granted.items sender.new.log.items }
-    ensures rest { (es : List Emission) → MayEmit lanes.now.desks.now (λ d. d.side) (λ d. d.shares.now) lanes.now.shares.now sender.old.posts.items sender.old.granted.items (map New orders.now ++ es)
-        → MayEmit lanes.now.desks.now (λ d. d.side) (λ d. d.shares.now) lanes.now.shares.now sender.new.posts.items sender.new.granted.items es }
+    requires placed { C.placed caller.old }
+    requires may { (es : List Emission) × MayEmit (C.openings caller.old) D.side lanes.now.first (λ i. C.budget caller.old i) D.shares lanes.now.shares.now granted.old ((map New orders.now) ++ es) }
+    ensures placed { C.placed caller.new }
+    ensures emitted { HasEmitted (C.openings caller.old) D.side lanes.now.first (λ said. C.went caller.old said caller.new) line (map New orders.now) granted.old log.old granted.new log.new }
+    ensures rest { (es : List Emission) → MayEmit (C.openings caller.old) D.side lanes.now.first (λ i. C.budget caller.old i) D.shares lanes.now.shares.now granted.old ((map New orders.now) ++ es)
+        → MayEmit (C.openings caller.new) D.side lanes.now.first (λ i. C.budget caller.new i) D.shares lanes.now.shares.now granted.new es }
 {
     for order in orders {
-        emit_order(rt, gate, lanes, sender, place, order);
+        emit_order(rt, seals, caller, lanes, granted, line, order, log);
     }
 }
 
 /// Puts out all that a plan wants: first its repeats in order, each by one turn of its lane, then its orders in order, each by two
 /// turns, between which its frame is sealed and the gate is told of it. What the worker was granted on a lane is less by the bytes
-/// that its orders there take. What came of each frame is put behind what the log has. Room for it was taken, so no memory is wanted.
-pub fn emit_plan<'a, R: Wait, G: Gate, X: Wire>(
+/// that its orders there take. What came of each frame is put behind what the log has. A log that wants memory isn't whole any more;
+/// all frames go out all the same.
+pub fn emit_plan<R: Wait, S: Seals, M: Machine, D: Desk, C: Calls<Either<M, D>>>(
     rt: &R,
-    gate: &G,
-    lanes: &Lanes<'_, 'a, X>,
-    sender: &mut Sender<LaneDesk<'a, X>>,
+    seals: &S,
+    caller: &mut C,
+    lanes: &Lanes<'_>,
+    granted: &mut [Share],
     plan: &Plan<'_>,
+    log: &mut FrameLog,
 )
-    requires may { (es : List Emission) × MayEmit lanes.now.desks.now (λ d. d.side) (λ d. d.shares.now) lanes.now.shares.now sender.old.posts.items sender.old.granted.items (wanted plan.now.repeats.now plan.now.orders.now ++ es) }
-    requires room { vec_len sender.old.log + length plan.now.repeats.now + length plan.now.orders.now ≤ vec_capacity sender.old.log }
-    ensures room { vec_capacity sender.new.log ≡ vec_capacity sender.old.log }
-    ensures emitted { HasEmitted lanes.now.desks.now (λ d. d.side) plan.now.place (wanted plan.now.repeats.now plan.now.orders.now) sender.old.posts.items sender.old.granted.items sender.old.log.items sender.new.posts.items sender.new.granted.items sender.new.log.items }
-    ensures rest { (es : List Emission) → MayEmit lanes.now.desks.now (λ d. d.side) (λ d. d.shares.now) lanes.now.shares.now sender.old.posts.items sender.old.granted.items (wanted plan.now.repeats.now plan.now.orders.now ++ es)
-        → MayEmit lanes.now.desks.now (λ d. d.side) (λ d. d.shares.now) lanes.now.shares.now sender.new.posts.items sender.new.granted.items es }
+    requires placed { C.placed caller.old }
+    requires may { (es : List Emission) × MayEmit (C.openings caller.old) D.side lanes.now.first (λ i. C.budget caller.old i) D.shares lanes.now.shares.now granted.old ((wanted plan.now.repeats.now plan.now.orders.now) ++ es) }
+    ensures placed { C.placed caller.new }
+    ensures emitted { HasEmitted (C.openings caller.old) D.side lanes.now.first (λ said. C.went caller.old said caller.new) plan.now.line (wanted plan.now.repeats.now plan.now.orders.now) granted.old log.old granted.new log.new }
+    ensures rest { (es : List Emission) → MayEmit (C.openings caller.old) D.side lanes.now.first (λ i. C.budget caller.old i) D.shares lanes.now.shares.now granted.old ((wanted plan.now.repeats.now plan.now.orders.now) ++ es)
+        → MayEmit (C.openings caller.new) D.side lanes.now.first (λ i. C.budget caller.new i) D.shares lanes.now.shares.now granted.new es }
 {
-    let place = plan.place;
-    emit_repeats(rt, lanes, sender, place, plan.repeats);
-    emit_orders(rt, gate, lanes, sender, place, plan.orders);
+    let line = plan.line;
+    emit_repeats(rt, caller, lanes, line, plan.repeats, log);
+    emit_orders(rt, seals, caller, lanes, granted, line, plan.orders, log);
 }

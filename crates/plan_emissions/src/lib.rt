@@ -2,19 +2,30 @@
 //! between them.
 #![tactic(auto)]
 
+mod called;
+mod desk;
 mod emitted;
 mod emitting;
+mod frame_log;
 mod granting;
 mod leases;
 mod place;
-mod sender;
+mod plan;
+mod seals;
+mod sending;
 #[cfg(test)]
 mod tests;
+mod turns;
 
+pub use called::law_desks_are_called_for_their_frames;
+pub use desk::Desk;
+pub use either_machines;
 pub use emitted::Emitted;
 pub use emitting::emit_plan;
+pub use frame_log::FrameLog;
 pub use granting::grant_plan;
 pub use lane_desks;
 pub use leases::law_plans_are_leased;
-pub use sender::{Lanes, Plan, Sender};
-pub use shared_machines;
+pub use plan::{Lanes, Plan};
+pub use seals::{AtGate, Seals};
+pub use shared_errands;

@@ -1,16 +1,31 @@
-// Where a lane stands.
-ghost use Rattle.std.specs.Prelude.{◌≡◌};
+// Where a lane stands, and what a payload names.
+ghost use Rattle.std.specs.Prelude.{◌≡◌, ◌<◌};
 ghost use Rattle.qkd_base.specs.Lane.{lane_place};
+ghost use Rattle.net_model.specs.Item.{item_name};
+ghost use Rattle.net_model.specs.Tick.{item_in};
 
-use qkd_base::{Lane, Way};
+use net_model::Payload;
+use qkd_base::{KeyName, Lane, Way};
+use relay_core::fact_name;
 
 /// The place of a lane among all lanes.
 pub fn place_of(lane: Lane) -> usize
-    ensures { result ≡ lane_place lane }
+    ensures place { result ≡ lane_place lane }
+    ensures few { result < 512 }
 {
     let way = match lane.way {
         Way::Up => 0,
         Way::Down => 1,
     };
     2 * usize::from(lane.link.get()) + way
+}
+
+/// The name of what a payload carries.
+pub fn payload_name(payload: &Payload) -> KeyName
+    ensures { result ≡ item_name (item_in payload.now) }
+{
+    match payload {
+        Payload::Data(fact) => fact_name(fact),
+        Payload::Ack(name) => *name,
+    }
 }

@@ -1,24 +1,22 @@
-ghost use Rattle.std.specs.Prelude.{◌≡◌, ◌+◌, ◌≤◌, ◌<◌, [], ◌∷◌, ◌++◌, IfOk, Some, length, vec_len, vec_capacity};
-ghost use Rattle.std.specs.List.{AllZip, AllByRecursion, flat_map};
+ghost use Rattle.std.specs.Prelude.{◌≡◌, ◌≤◌, ◌<◌, [], ◌∷◌, IfOk, Some, length};
 ghost use Rattle.qkd_base.specs.Name.{Name};
 ghost use Rattle.qkd_base.specs.declared.lane.Way.TheVariants.{Up as UpWay};
 ghost use Rattle.net_model.specs.declared.payload.Payload.TheVariants.{Ack};
+ghost use Rattle.net_model.specs.Tick.{New};
 ghost use Rattle.lane_shares.specs.Names.{knows as has, lane_cap, Fits as IsOne};
-ghost use Rattle.turnstile.specs.Names.{opening, all_calls, knows, Fits};
-ghost use Rattle.shared_machines.specs.Seats.{Sits};
-ghost use Rattle.shared_machines.specs.Shares.{share_of};
-ghost use Rattle.plan_emissions.specs.Wants.{wanted};
+ghost use Rattle.either_machines.specs.declared.either.Either.TheVariants.{Left, Right};
+ghost use Rattle.lane_desks.specs.Grants.{IsShareOf};
 ghost use Rattle.plan_emissions.specs.Emitting.{MayEmit};
 
-use crate::{Emitted, Lanes, Plan, Sender, emit_plan};
-use block_run::{BlockEnd, Work, run_block};
+use crate::{AtGate, Emitted, FrameLog, Lanes, Plan, emit_plan};
 use edge_io::Gate;
-use lane_desks::{LaneDesk, close};
+use either_machines::Either;
+use lane_desks::LaneDesk;
 use lane_shares::{Share, Shares};
 use lane_sides::{LaneSide, Sent};
 use net_model::{Order, Payload};
 use qkd_base::{KeyName, Lane, LinkNo, Memory, NameKind, NodeNo, Way};
-use shared_machines::Post;
+use shared_errands::{Calls, Errands, work_together};
 use source_devices::{MemWire, Wire};
 use std::alloc::Global;
 use std::slice::from_ref;
@@ -26,7 +24,7 @@ use std::sync::Wait;
 use std::sync::atomic::{AtomicU64, Ordering};
 use std::test::*;
 use std::thread::Threads;
-use turnstile::{Machine, Seat, Turnstile};
+use turnstile::Machine;
 
 // A worker that seals waits there until another one seals too.
 #[derive(Drop)]
@@ -49,78 +47,83 @@ impl Gate for Meeting {
     }
 }
 
-// The plan of each line has the same order.
+// A machine of another kind, which nobody asks anything.
 #[derive(Drop)]
-struct Lines<'d, 'g, 'o, 'a> {
-    lanes: Lanes<'d, 'a, MemWire>,
-    gate: &'g Meeting,
-    orders: &'o [Order],
+struct Manager {
+    asked: u64,
 }
 
-impl<'a> Work for Lines<'_, '_, '_, 'a> {
-    type Pass = Sender<LaneDesk<'a, MemWire>>;
+impl Machine for Manager {
+    type Request = u64;
 
-    type Answer = ();
+    type Reply = u64;
 
-    ghost fits = { λ it pass jobs. MayEmit it.lanes.desks.now (λ d. d.side) (λ d. d.shares.now) it.lanes.shares.now pass.posts.items pass.granted.items (flat_map (λ j. wanted [] it.orders.now) jobs)
-        × (vec_len pass.log + length (flat_map (λ j. it.orders.now) jobs) ≤ vec_capacity pass.log) };
+    type Charter = ();
 
-    ghost gives = { λ it job pass answer next. AllZip Sits it.lanes.desks.now next.posts.items × (share_of 0 next.posts.items ≡ share_of 0 pass.posts.items) };
+    ghost charter = { λ m. Prim.tt };
 
-    fn run<R: Wait>(&self, rt: &R, pass: &mut Sender<LaneDesk<'a, MemWire>>, job: u32) {
-        let plan = Plan {
-            place: job as usize,
-            repeats: &[],
-            orders: self.orders,
-        };
-        emit_plan(rt, self.gate, &self.lanes, pass, &plan);
+    ghost takes = { λ c request. Unit {0} };
+
+    ghost turns = { λ m request reply n. reply ≡ m.asked };
+
+    fn turn(&mut self, request: u64) -> u64 {
+        let reply = self.asked;
+        self.asked = request;
+        reply
     }
 }
 
-// What a worker will have at one lane, for one frame.
-fn room<M: Machine>(alloc: Global) -> Result<Sender<M>, Memory>
-    ensures posts { IfOk result (λ s. (s.posts.items ≡ []) × (0 < vec_capacity s.posts)) }
-    ensures granted { IfOk result (λ s. (s.granted.items ≡ []) × (0 < vec_capacity s.granted)) }
-    ensures log { IfOk result (λ s. (s.log.items ≡ []) × (0 < vec_capacity s.log)) }
-{
-    let posts = Vec::with_capacity(alloc, 1)?;
-    let granted = Vec::with_capacity(alloc, 1)?;
-    let log = Vec::with_capacity(alloc, 1)?;
-    Ok(Sender {
-        posts,
-        granted,
-        log,
-    })
+// What a worker may put out at one lane, and what came of it.
+#[derive(Drop)]
+struct Kept {
+    granted: Vec<Share>,
+    log: FrameLog,
 }
 
-// It sits down there, and may send an acknowledgement.
-fn sit<'a>(
-    room: &mut Sender<LaneDesk<'a, MemWire>>,
-    desk: &Turnstile<LaneDesk<'a, MemWire>>,
-    seat: Seat<LaneDesk<'a, MemWire>>,
-    shares: &Shares,
-    grant: Share,
-    order: &Order,
-)
-    requires posts { (room.old.posts.items ≡ []) × (0 < vec_capacity room.old.posts) }
-    requires granted { (room.old.granted.items ≡ []) × (0 < vec_capacity room.old.granted) }
-    requires log { (room.old.log.items ≡ []) × (0 < vec_capacity room.old.log) }
-    requires fits { Fits desk.now seat }
-    requires budget { (knows seat).budget ≡ 2 }
-    requires none { (knows seat).mine ≡ [] }
-    requires shares { shares.now ≡ (opening desk.now).shares.now }
-    requires grant { IsOne shares.now grant × ((has grant).amount ≡ 25) }
-    requires order { (name : Name) × (order.now ≡ record { lane = record { link = 0; way = UpWay }; offset = 0; ack_of = Some 8; payload = Ack name }) }
-    requires lane { (opening desk.now).side.lane ≡ record { link = 0; way = UpWay } }
-    ensures may { MayEmit (desk.now ∷ []) (λ d. d.side) (λ d. d.shares.now) (shares.now ∷ []) room.new.posts.items room.new.granted.items (wanted [] (order.now ∷ [])) }
-    ensures log { vec_len room.new.log < vec_capacity room.new.log }
-    ensures share { share_of 0 room.new.posts.items ≡ 2 }
-{
-    let _ = order;
-    let _ = shares;
-    let _ = desk;
-    room.posts.push_reserved(Post { place: 0, seat });
-    room.granted.push_reserved(grant);
+// The plan of each line has the same order.
+#[derive(Drop)]
+struct Lines<'s, 'o> {
+    shares: &'s Shares,
+    order: &'o Order,
+}
+
+impl<'a> Errands<Either<Manager, LaneDesk<'a, MemWire>>> for Lines<'_, '_> {
+    type Keep = Kept;
+
+    ghost may = { λ it machines keep jobs. (length jobs ≤ 1)
+        × (0 < length jobs → MayEmit machines (λ d. d.side) 1 (λ i. 2) (λ d. d.shares.now) (it.shares.now ∷ []) keep.granted.items (New it.order.now ∷ [])) };
+
+    ghost does = { λ it job keep said next. Unit {0} };
+
+    ghost most = { λ it. 2 };
+
+    fn run<R: Wait, G: Gate, C: Calls<Either<Manager, LaneDesk<'a, MemWire>>>>(
+        &self,
+        rt: &R,
+        gate: &G,
+        job: u32,
+        caller: &mut C,
+        keep: &mut Kept,
+    ) {
+        let lanes = Lanes {
+            first: 1,
+            shares: from_ref(self.shares),
+        };
+        let plan = Plan {
+            line: job as usize,
+            repeats: &[],
+            orders: from_ref(self.order),
+        };
+        emit_plan(
+            rt,
+            &AtGate { gate },
+            caller,
+            &lanes,
+            &mut keep.granted,
+            &plan,
+            &mut keep.log,
+        );
+    }
 }
 
 fn lane() -> Lane
@@ -159,73 +162,102 @@ fn side(alloc: Global) -> Result<LaneSide<MemWire>, Fail>
     Ok(side)
 }
 
-// Where the frame's bytes begin, and its length; and its line's place.
-fn offset(log: &[Emitted]) -> (u64, u16, usize) {
-    match log.first() {
-        None => (0, 0, 0),
-        Some(Emitted { place, sent, .. }) => match sent {
-            Sent::Placed { offset, length, .. } => (*offset, *length, *place),
-            Sent::Unsent { offset, length, .. } => (*offset, *length, *place),
-        },
-    }
-}
-
-// Both workers do their lines at once.
-fn work<'a, R: Threads + Wait + Sync>(
-    rt: &R,
-    alloc: Global,
-    lines: &Lines<'_, '_, '_, 'a>,
-    passes: Vec<Sender<LaneDesk<'a, MemWire>>>,
-) -> Vec<Sender<LaneDesk<'a, MemWire>>>
-    requires two { length passes.items ≡ 2 }
-    requires may { AllByRecursion (λ p. MayEmit lines.now.lanes.desks.now (λ d. d.side) (λ d. d.shares.now) lines.now.lanes.shares.now p.posts.items p.granted.items (wanted [] lines.now.orders.now ++ [])) passes.items }
-    requires room { AllByRecursion (λ p. vec_len p.log + length (lines.now.orders.now ++ []) ≤ vec_capacity p.log) passes.items }
-    ensures { AllZip (λ before after. AllZip Sits lines.now.lanes.desks.now after.posts.items × (share_of 0 after.posts.items ≡ share_of 0 before.posts.items)) passes.entry.items result.items }
+// A worker that may send an acknowledgement.
+fn worker(alloc: Global, grant: Share) -> Result<Kept, Memory>
+    ensures { IfOk result (λ kept. kept.granted.items ≡ grant ∷ []) }
 {
-    match run_block(rt, alloc, lines, passes, 2, lines.gate) {
-        Ok(BlockEnd { passes, answers: _ }) => passes,
-        Err((_, passes)) => passes,
+    let mut granted = Vec::new(alloc);
+    granted.push(grant)?;
+    Ok(Kept {
+        granted,
+        log: FrameLog::new(alloc),
+    })
+}
+
+// Two of them.
+fn both(alloc: Global, one: Share, two: Share) -> Result<Vec<Kept>, Memory>
+    ensures { IfOk result (λ keeps. (p : _) × (q : _) × (keeps.items ≡ p ∷ q ∷ []) × (p.granted.items ≡ one ∷ []) × (q.granted.items ≡ two ∷ [])) }
+{
+    let mut keeps = Vec::new(alloc);
+    keeps.push(worker(alloc, one)?)?;
+    keeps.push(worker(alloc, two)?)?;
+    Ok(keeps)
+}
+
+// Where a frame's bytes begin, and its length.
+fn offset(sent: &Sent) -> (u64, u16) {
+    match sent {
+        Sent::Placed { offset, length, .. } => (*offset, *length),
+        Sent::Unsent { offset, length, .. } => (*offset, *length),
     }
 }
 
-// Two workers send an order each, at the same time, and the lane ends.
+// What came of the frame that begins there: its length, its payload's size, its line and the place of its put in the lane's history.
+fn told(keeps: &[Kept], from: u64) -> Option<(u16, u16, usize, u64)> {
+    for keep in keeps {
+        for Emitted {
+            line,
+            at,
+            size,
+            sent,
+            ..
+        } in &keep.log.frames {
+            let (offset, length) = offset(sent);
+            if offset == from {
+                return Some((length, *size, *line, *at));
+            }
+        }
+    }
+    None
+}
+
+// How many bytes of the lane are spent, and how many frames are on its wire.
+fn ends(machines: Vec<Either<Manager, LaneDesk<'_, MemWire>>>) -> (u64, u64) {
+    let mut end = (0, 0);
+    for machine in machines {
+        match machine {
+            Either::Left(_) => {}
+            Either::Right(desk) => {
+                let side = desk.into_side();
+                end = (side.counts().spent, side.wire().count());
+            }
+        }
+    }
+    end
+}
+
+// The lane's desk behind the other machine.
+fn machines<'a>(
+    alloc: Global,
+    desk: LaneDesk<'a, MemWire>,
+) -> Result<Vec<Either<Manager, LaneDesk<'a, MemWire>>>, Memory>
+    ensures { IfOk result (λ machines. (m : _) × (machines.items ≡ Left m ∷ Right desk.entry ∷ [])) }
+{
+    let mut machines = Vec::new(alloc);
+    machines.push(Either::Left(Manager { asked: 0 }))?;
+    machines.push(Either::Right(desk))?;
+    Ok(machines)
+}
+
+// Both workers send at the same time.
 fn send_both<'a, R: Threads + Wait + Sync>(
     rt: &R,
     alloc: Global,
     gate: &Meeting,
-    desk: Turnstile<LaneDesk<'a, MemWire>>,
-    shares: &'a Shares,
-    passes: Vec<Sender<LaneDesk<'a, MemWire>>>,
+    machines: Vec<Either<Manager, LaneDesk<'a, MemWire>>>,
+    keeps: Vec<Kept>,
+    shares: &Shares,
     order: &Order,
-) -> (LaneSide<MemWire>, (u64, u16, usize), (u64, u16, usize))
-    requires two { length passes.items ≡ 2 }
-    requires may { AllByRecursion (λ p. MayEmit (desk ∷ []) (λ d. d.side) (λ d. d.shares.now) (shares.now ∷ []) p.posts.items p.granted.items (wanted [] (order.now ∷ []))) passes.items }
-    requires room { AllByRecursion (λ p. vec_len p.log < vec_capacity p.log) passes.items }
-    requires share { AllByRecursion (λ p. share_of 0 p.posts.items ≡ 2) passes.items }
-    requires calls { all_calls desk ≡ 4 }
+) -> ((u64, u64), Vec<Kept>)
+    requires machines { (m : _) × (d : _) × (machines.items ≡ Left m ∷ Right d ∷ []) × (d.shares.now ≡ shares.now) × (d.side.lane ≡ record { link = 0; way = UpWay }) }
+    requires keeps { (p : _) × (q : _) × (keeps.items ≡ p ∷ q ∷ []) × ((one : _) × (p.granted.items ≡ one ∷ []) × IsShareOf shares.now 25 one) × ((two : _) × (q.granted.items ≡ two ∷ []) × IsShareOf shares.now 25 two) }
+    requires order { (name : Name) × (order.now ≡ record { lane = record { link = 0; way = UpWay }; offset = 0; ack_of = Some 8; payload = Ack name }) }
 {
-    let lines = Lines {
-        lanes: Lanes {
-            desks: from_ref(&desk),
-            shares: from_ref(shares),
-        },
-        gate,
-        orders: from_ref(order),
-    };
-    let mut passes = work(rt, alloc, &lines, passes);
-    let mut second = passes.take_last();
-    let mut first = passes.take_last();
-    let (one, two) = (offset(&first.log), offset(&second.log));
-    let Post {
-        place: _,
-        seat: mut mine,
-    } = first.posts.take_last();
-    let Post {
-        place: _,
-        seat: theirs,
-    } = second.posts.take_last();
-    desk.join(&mut mine, theirs);
-    (close(desk, mine), one, two)
+    let lines = Lines { shares, order };
+    match work_together(rt, alloc, gate, machines, keeps, &lines, 2, 2) {
+        Ok((machines, keeps)) => (ends(machines), keeps),
+        Err((_, machines, keeps)) => (ends(machines), keeps),
+    }
 }
 
 // The lane is opened for two workers.
@@ -237,30 +269,22 @@ fn play<'a, R: Threads + Wait + Sync>(
     shares: &'a Shares,
     issuer: &mut Share,
     order: &Order,
-) -> Result<(LaneSide<MemWire>, (u64, u16, usize), (u64, u16, usize)), Fail>
+) -> Result<((u64, u64), Vec<Kept>), Memory>
     requires issuer { IsOne shares.now issuer.old × ((has issuer.old).amount ≡ 58) }
     requires cap { lane_cap shares.now ≡ 1024 }
     requires side { (side.lane ≡ record { link = 0; way = UpWay }) × (side.ledger ≡ record { used = 8; end = 8; received = 1024; burnt = 0 }) × (length side.bytes ≡ 1024) }
     requires order { (name : Name) × (order.now ≡ record { lane = record { link = 0; way = UpWay }; offset = 0; ack_of = Some 8; payload = Ack name }) }
 {
-    let mut one = room(alloc)?;
-    let mut two = room(alloc)?;
-    let mut passes = Vec::with_capacity(alloc, 2)?;
     let share = shares.split(issuer, 8);
-    let desk = LaneDesk::new(side, shares, share);
-    let (desk, mut seat) = Turnstile::new(alloc, desk, 4).ok().ok_or("memory")?;
-    let other = desk.split(&mut seat, 2);
-    let grant = shares.split(issuer, 25);
-    sit(&mut one, &desk, seat, shares, grant, order);
-    let grant = shares.split(issuer, 25);
-    sit(&mut two, &desk, other, shares, grant, order);
-    passes.push_reserved(one);
-    passes.push_reserved(two);
-    Ok(send_both(rt, alloc, gate, desk, shares, passes, order))
+    let one = shares.split(issuer, 25);
+    let two = shares.split(issuer, 25);
+    let machines = machines(alloc, LaneDesk::new(side, shares, share))?;
+    let keeps = both(alloc, one, two)?;
+    Ok(send_both(rt, alloc, gate, machines, keeps, shares, order))
 }
 
 // Each waits, sealing, for the other to seal, and between them they have the bytes behind the key. Were frames sealed in a turn of
-// their lane, the other would wait for this turn to end, and the two would miss each other.
+// their lane, the other would wait for this turn to end, and the two would miss each other. Both claims stand before both puts.
 #[test]
 fn two_workers_seal_on_one_lane_at_once(rt: HostRuntime) -> Result<(), Fail> {
     let order = order(name()?);
@@ -270,7 +294,7 @@ fn two_workers_seal_on_one_lane_at_once(rt: HostRuntime) -> Result<(), Fail> {
         sealing: AtomicU64::new(0),
         missed: AtomicU64::new(0),
     };
-    let (side, one, two) = play(
+    let (ends, keeps) = play(
         &rt,
         rt.alloc(),
         &meeting,
@@ -280,9 +304,11 @@ fn two_workers_seal_on_one_lane_at_once(rt: HostRuntime) -> Result<(), Fail> {
         &order,
     )?;
     assert_eq!(rt; meeting.missed.load(Ordering::SeqCst), 0);
-    assert_eq!(rt; (one.0.min(two.0), one.0.max(two.0)), (8, 33));
-    assert_eq!(rt; (one.1, two.1), (41, 41));
-    assert_eq!(rt; (one.2, two.2), (0, 1));
-    assert_eq!(rt; (side.counts().spent, side.wire().count()), (58, 2));
+    assert_eq!(rt; ends, (58, 2));
+    let one = told(&keeps, 8).ok_or("no frame")?;
+    let two = told(&keeps, 33).ok_or("no frame")?;
+    assert_eq!(rt; ((one.0, one.1), (two.0, two.1)), ((41, 17), (41, 17)));
+    assert_eq!(rt; (one.2.min(two.2), one.2.max(two.2)), (0, 1));
+    assert_eq!(rt; (one.3.min(two.3), one.3.max(two.3)), (2, 3));
     Ok(())
 }

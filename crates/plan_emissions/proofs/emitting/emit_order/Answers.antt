@@ -1,76 +1,61 @@
-use Rattle.std.proofs.Common.{rules, arith, ◌<◌, List, [], ◌∷◌, length, set, get_or, refl, sym, subst}
+use Rattle.std.proofs.Common.{rules, ◌+◌, ◌<◌, length, set, get_or, sym, subst}
 use Rattle.std.proofs.lemmas.List.{length-set}
 use Rattle.net_model.specs.Tick.{New}
-use Rattle.turnstile.specs.Names.{opening, knows}
-use Rattle.plan_emissions.specs.declared.emitted.Emitted.{Emitted}
-use Rattle.plan_emissions.specs.Emitting.{HasEmitted}
-use Rattle.plan_emissions.proofs.Calling.{order_emits}
-use Rattle.plan_emissions.proofs.Ready.{in_desks, in_posts, in_shares, in_granted, desk_at, post_at, granted_at, lane_is, shares_are, sits_at, may_call, grant_is_one, grant_reaches, fits_on}
+use Rattle.plan_emissions.specs.Saying.{Goes}
+use Rattle.plan_emissions.proofs.Ready.{its_desk, in_shares, in_granted, granted_at, shares_are, may_call, grant_is_one, grant_reaches, fits_on}
 use Rattle.plan_emissions.proofs.Steps.{grant_less, emitted_one, may_on}
 use Rattle.plan_emissions.proofs.emitting.emit_order.Goals as goal
 
-pub index_mut-post-requires : goal.index_mut-post-requires
-index_mut-post-requires g c = let l = in_posts c.requires.may.1 c.place_of-at.result c.place_of-at.ensures in omega (arith, l, c.args.sender.now.posts.ok.0)
-
-pub index_mut-granted-requires : goal.index_mut-granted-requires
-index_mut-granted-requires g c = let l = in_granted c.requires.may.1 c.place_of-at.result c.place_of-at.ensures in omega (arith, l, c.args.sender.now.granted.ok.0)
-
 pub bounds-lanes-at : goal.bounds-lanes-at
-bounds-lanes-at g c = in_desks c.requires.may.1 c.place_of-at.result c.place_of-at.ensures
+bounds-lanes-at g c = in_shares c.requires.may.1 c.place_of-at.result c.place_of-at.ensures.place
 
 pub offset_bounds-lanes-at : goal.offset_bounds-lanes-at
-offset_bounds-lanes-at g c = let l : c.place_of-at.result < length c.args.lanes.now.desks.now = in_desks c.requires.may.1 c.place_of-at.result c.place_of-at.ensures in search rules
+offset_bounds-lanes-at g c = let l : c.place_of-at.result < length c.args.lanes.now.shares.now = in_shares c.requires.may.1 c.place_of-at.result c.place_of-at.ensures.place in search rules
 
-pub bounds-lanes-at-2 : goal.bounds-lanes-at-2
-bounds-lanes-at-2 g c = in_shares c.requires.may.1 c.place_of-at.result c.place_of-at.ensures
+pub bounds-granted-at : goal.bounds-granted-at
+bounds-granted-at g c = in_granted c.requires.may.1 c.place_of-at.result c.place_of-at.ensures.place
 
-pub offset_bounds-lanes-at-2 : goal.offset_bounds-lanes-at-2
-offset_bounds-lanes-at-2 g c = let l : c.place_of-at.result < length c.args.lanes.now.shares.now = in_shares c.requires.may.1 c.place_of-at.result c.place_of-at.ensures in search rules
+pub claim_and_seal-frame-requires-clause-desk : goal.claim_and_seal-frame-requires-clause-desk
+claim_and_seal-frame-requires-clause-desk g c =
+    let d = its_desk c.requires.may.1 c.place_of-at.result c.place_of-at.ensures.place in
+    (d.0, d.1, shares_are c.requires.may.1 c.place_of-at.result c.place_of-at.ensures.place c.index-lanes-at.result, d.2)
 
-pub claim_and_seal-sent-requires-clause-fits : goal.claim_and_seal-sent-requires-clause-fits
-claim_and_seal-sent-requires-clause-fits g c κs within = (sits_at c.requires.may.1 c.place_of-at.result c.place_of-at.ensures c.index_mut-post.result.now c.index_mut-post.ensures.value c.index-lanes-at.result).fits
+pub claim_and_seal-frame-requires-clause-budget : goal.claim_and_seal-frame-requires-clause-budget
+claim_and_seal-frame-requires-clause-budget g c = may_call c.requires.may.1 c.place_of-at.result c.place_of-at.ensures.place
 
-pub claim_and_seal-sent-requires-clause-budget : goal.claim_and_seal-sent-requires-clause-budget
-claim_and_seal-sent-requires-clause-budget g c κs within = may_call c.requires.may.1 c.place_of-at.result c.place_of-at.ensures c.index_mut-post.result.now c.index_mut-post.ensures.value
+pub claim_and_seal-frame-requires-clause-grant : goal.claim_and_seal-frame-requires-clause-grant
+claim_and_seal-frame-requires-clause-grant g c =
+    grant_is_one c.requires.may.1 c.place_of-at.result c.place_of-at.ensures.place c.index-granted-at.result c.index-lanes-at.result
 
-pub claim_and_seal-sent-requires-clause-shares : goal.claim_and_seal-sent-requires-clause-shares
-claim_and_seal-sent-requires-clause-shares g c κs within = shares_are c.requires.may.1 c.place_of-at.result c.place_of-at.ensures c.index-lanes-at.result c.index-lanes-at-2.result
-
-pub claim_and_seal-sent-requires-clause-grant : goal.claim_and_seal-sent-requires-clause-grant
-claim_and_seal-sent-requires-clause-grant g c κs within = grant_is_one c.requires.may.1 c.place_of-at.result c.place_of-at.ensures c.index_mut-granted.result.now c.index_mut-granted.ensures.value c.index-lanes-at-2.result
-
-pub claim_and_seal-sent-requires-clause-granted : goal.claim_and_seal-sent-requires-clause-granted
-claim_and_seal-sent-requires-clause-granted g c κs within = grant_reaches c.requires.may.1 c.place_of-at.result c.place_of-at.ensures c.index_mut-granted.result.now c.index_mut-granted.ensures.value
-
-pub claim_and_seal-sent-requires-clause-lane : goal.claim_and_seal-sent-requires-clause-lane
-claim_and_seal-sent-requires-clause-lane g c κs within = lane_is c.requires.may.1 c.place_of-at.result c.place_of-at.ensures c.index-lanes-at.result
+pub claim_and_seal-frame-requires-clause-granted : goal.claim_and_seal-frame-requires-clause-granted
+claim_and_seal-frame-requires-clause-granted g c =
+    grant_reaches c.requires.may.1 c.place_of-at.result c.place_of-at.ensures.place c.index-granted-at.result
 
 pub returns-clause-emitted : goal.returns-clause-emitted
 returns-clause-emitted g c =
     let k = c.place_of-at.result in
-    let home = c.place_of-at.ensures in
-    let desk = get_or c.args.lanes.now.desks.now k c.index-lanes-at.result in
-    let order = c.args.order.now in
-    let post = c.index_mut-post.result.now in
-    let entry : Emitted = record { place = c.args.place; lane = order.lane; sent = c.claim_and_seal-sent.result } in
-    subst (λ (log : List Emitted). HasEmitted c.args.lanes.now.desks.now (λ d. d.side) c.args.place (New order ∷ []) c.args.sender.now.posts.items c.args.sender.now.granted.items c.args.sender.now.log.items
-    (set c.args.sender.now.posts.items k (record { place = post.place; seat = c.claim_and_seal-sent.new.seat })) (set c.args.sender.now.granted.items k c.claim_and_seal-sent.new.granted) log) (sym c.push_reserved.ensures.items)
-    (emitted_one c.args.lanes.now.desks.now (λ d. d.side) (New order) k (sym home) entry c.args.sender.now.posts.items post (record { place = post.place; seat = c.claim_and_seal-sent.new.seat }) desk (desk_at c.requires.may.1 k home c.index-lanes-at.result) (post_at c.requires.may.1 k home post c.index_mut-post.ensures.value)
-    (order_emits (opening desk).side order c.claim_and_seal-sent.result (knows post.seat) (knows c.claim_and_seal-sent.new.seat) c.claim_and_seal-sent.ensures.sent)
-    c.args.place c.args.sender.now.granted.items (set c.args.sender.now.granted.items k c.claim_and_seal-sent.new.granted) c.args.sender.now.log.items
-    (grant_less (New order) k (sym home) c.args.sender.now.granted.items c.index_mut-granted.result.now c.claim_and_seal-sent.new.granted (granted_at c.requires.may.1 k home c.index_mut-granted.result.now c.index_mut-granted.ensures.value) c.claim_and_seal-sent.ensures.granted)
-    (refl, refl))
+    let home = c.place_of-at.ensures.place in
+    let old = c.args.caller.now in
+    let new = c.claim_and_seal-frame.new.caller in
+    let e = New c.args.order.now in
+    let part = get_or c.args.granted.now k c.index-granted-at.result in
+    let goes = subst (λ n. Goes (λ said. g.C.Calls.went old said new) (g.C.Calls.openings old) g.D.Desk.side (c.args.lanes.now.first + n) e c.claim_and_seal-frame.result) home c.claim_and_seal-frame.ensures.goes in
+    emitted_one (g.C.Calls.openings old) g.D.Desk.side c.args.lanes.now.first (λ said. g.C.Calls.went old said new) e c.claim_and_seal-frame.result goes c.args.line c.args.granted.now (set c.args.granted.now k c.claim_and_seal-frame.new.granted)
+    c.args.log.now c.add.new.self c.claim_and_seal-frame.ensures.told
+    (grant_less e k (sym home) c.args.granted.now part c.claim_and_seal-frame.new.granted (granted_at c.requires.may.1 k home c.index-granted-at.result) c.claim_and_seal-frame.ensures.granted)
+    (record { whole = c.add.ensures.whole; added = c.add.ensures.added })
 
 pub returns-clause-rest : goal.returns-clause-rest
 returns-clause-rest g c = λ es may.
     let k = c.place_of-at.result in
-    let home = c.place_of-at.ensures in
-    let desk = get_or c.args.lanes.now.desks.now k c.index-lanes-at.result in
-    let order = c.args.order.now in
-    let post = c.index_mut-post.result.now in
-    let entry : Emitted = record { place = c.args.place; lane = order.lane; sent = c.claim_and_seal-sent.result } in
-    may_on c.args.lanes.now.desks.now (λ d. d.side) (New order) k (sym home) entry c.args.sender.now.posts.items post (record { place = post.place; seat = c.claim_and_seal-sent.new.seat }) desk (desk_at may k home c.index-lanes-at.result) (post_at may k home post c.index_mut-post.ensures.value)
-    (order_emits (opening desk).side order c.claim_and_seal-sent.result (knows post.seat) (knows c.claim_and_seal-sent.new.seat) c.claim_and_seal-sent.ensures.sent)
-    (λ d. d.shares.now) c.args.lanes.now.shares.now es c.args.sender.now.granted.items (set c.args.sender.now.granted.items k c.claim_and_seal-sent.new.granted)
-    (grant_less (New order) k (sym home) c.args.sender.now.granted.items c.index_mut-granted.result.now c.claim_and_seal-sent.new.granted (granted_at may k home c.index_mut-granted.result.now c.index_mut-granted.ensures.value) c.claim_and_seal-sent.ensures.granted)
-    (length-set c.args.sender.now.granted.items k c.claim_and_seal-sent.new.granted) (fits_on may k home c.index-lanes-at-2.result c.claim_and_seal-sent.new.granted c.claim_and_seal-sent.ensures.grant) c.claim_and_seal-sent.ensures.fits may
+    let home = c.place_of-at.ensures.place in
+    let old = c.args.caller.now in
+    let new = c.claim_and_seal-frame.new.caller in
+    let e = New c.args.order.now in
+    let part = get_or c.args.granted.now k c.index-granted-at.result in
+    let goes = subst (λ n. Goes (λ said. g.C.Calls.went old said new) (g.C.Calls.openings old) g.D.Desk.side (c.args.lanes.now.first + n) e c.claim_and_seal-frame.result) home c.claim_and_seal-frame.ensures.goes in
+    may_on (g.C.Calls.openings old) g.D.Desk.side c.args.lanes.now.first (λ said. g.C.Calls.went old said new) e c.claim_and_seal-frame.result goes
+    (g.C.Calls.openings new) (λ i. g.C.Calls.budget old i) (λ i. g.C.Calls.budget new i) g.D.Desk.shares c.args.lanes.now.shares.now c.args.granted.now (set c.args.granted.now k c.claim_and_seal-frame.new.granted) es
+    (g.met.C.Calls.spends old new goes.said goes.went)
+    (grant_less e k (sym home) c.args.granted.now part c.claim_and_seal-frame.new.granted (granted_at c.requires.may.1 k home c.index-granted-at.result) c.claim_and_seal-frame.ensures.granted)
+    (length-set c.args.granted.now k c.claim_and_seal-frame.new.granted) (fits_on may k home c.index-lanes-at.result c.claim_and_seal-frame.new.granted c.claim_and_seal-frame.ensures.grant) may

@@ -1,13 +1,13 @@
-use Rattle.std.proofs.Common.{◌≡◌, ◌+◌, ◌++◌, List, map, take, drop, vec_len, vec_capacity}
+use Rattle.std.proofs.Common.{◌≡◌, ◌++◌, List, map, take, drop}
 use Rattle.net_model.specs.Tick.{Emission, New}
 use Rattle.plan_emissions.specs.Emitting.{MayEmit, HasEmitted}
 use Rattle.plan_emissions.proofs.emitting.emit_orders.Given as goal
 
 abbrev pub invariant-loop-order : goal.invariant-loop-order
 invariant-loop-order g l = record {
-  capacity : vec_capacity l.sender.log ≡ vec_capacity l.fn.sender.log;
-  many : vec_len l.sender.log ≡ vec_len l.fn.sender.log + l.order-index;
-  emitted : HasEmitted l.lanes.desks.now (λ d. d.side) l.fn.place (map New (take l.order-index l.orders)) l.fn.sender.posts.items l.fn.sender.granted.items l.fn.sender.log.items l.sender.posts.items l.sender.granted.items l.sender.log.items;
-  rest : (es : List Emission) → MayEmit l.lanes.desks.now (λ d. d.side) (λ d. d.shares.now) l.lanes.shares.now l.fn.sender.posts.items l.fn.sender.granted.items (map New l.orders ++ es)
-      → MayEmit l.lanes.desks.now (λ d. d.side) (λ d. d.shares.now) l.lanes.shares.now l.sender.posts.items l.sender.granted.items (map New (drop l.order-index l.orders) ++ es);
+  placed : g.C.Calls.placed l.caller;
+  same : g.C.Calls.openings l.caller ≡ g.C.Calls.openings l.fn.caller;
+  emitted : HasEmitted (g.C.Calls.openings l.fn.caller) g.D.Desk.side l.lanes.first (λ said. g.C.Calls.went l.fn.caller said l.caller) l.fn.line (map New (take l.order-index l.orders)) l.fn.granted l.fn.log l.granted l.log;
+  rest : (es : List Emission) → MayEmit (g.C.Calls.openings l.fn.caller) g.D.Desk.side l.lanes.first (λ i. g.C.Calls.budget l.fn.caller i) g.D.Desk.shares l.lanes.shares.now l.fn.granted (map New l.orders ++ es)
+      → MayEmit (g.C.Calls.openings l.caller) g.D.Desk.side l.lanes.first (λ i. g.C.Calls.budget l.caller i) g.D.Desk.shares l.lanes.shares.now l.granted (map New (drop l.order-index l.orders) ++ es);
 }

@@ -1,38 +1,56 @@
 use Rattle.std.proofs.Common.{arith, List, [], ◌∷◌, ◌++◌, ◌+◌, map, take, drop, refl, sym, subst, ◌∙◌}
+use Rattle.std.proofs.lemmas.List.{take_all, drop_all}
+use Rattle.net_model.specs.declared.repeat.Repeat.{Repeat}
 use Rattle.net_model.specs.Tick.{Emission, Again}
 use Rattle.plan_emissions.specs.Emitting.{MayEmit, HasEmitted}
 use Rattle.plan_emissions.proofs.Wanting.{take_on, drop_on}
-use Rattle.plan_emissions.proofs.Onward.{emitted_none, emitted_more, emitted_many}
+use Rattle.plan_emissions.proofs.Onward.{emitted_none, emitted_more}
 use Rattle.plan_emissions.proofs.emitting.emit_repeats.Goals as goal
 
 pub loop-repeat-init : goal.loop-repeat-init
 loop-repeat-init g c = record {
-  capacity = refl;
-  many = omega arith;
-  emitted = emitted_none c.args.lanes.now.desks.now (λ d. d.side) c.args.place c.args.sender.now.posts.items c.args.sender.now.granted.items c.args.sender.now.log.items;
-  rest = λ es may. may;
+  placed = c.requires.placed;
+  same = refl;
+  emitted = λ granted. emitted_none (g.C.Calls.openings c.args.caller.now) g.D.Desk.side c.args.lanes.now.first c.args.line (λ said. g.C.Calls.went c.args.caller.now said c.args.caller.now) granted c.args.log.now (g.met.C.Calls.still c.args.caller.now);
+  rest = λ granted es may. may;
 }
 
 pub emit_repeat-requires-clause-may : goal.emit_repeat-requires-clause-may
 emit_repeat-requires-clause-may g c =
-    let es = c.requires.may.0 in (
+    let granted = c.requires.may.0 in
+    let es = c.requires.may.1 in (
+      granted,
       map Again (drop (c.loop-repeat.repeat-index + 1) c.args.repeats.now) ++ es,
-      subst (λ (wants : List Emission). MayEmit c.args.lanes.now.desks.now (λ d. d.side) (λ d. d.shares.now) c.args.lanes.now.shares.now c.loop-repeat.sender.posts.items c.loop-repeat.sender.granted.items wants)
-          (drop_on c.args.repeats.now c.loop-repeat.repeat-index c.repeat-item.result c.loop-repeat-test.true c.repeat-item.is Again es) (c.loop-repeat.invariant.rest es c.requires.may.1),
+      subst (λ (wants : List Emission). MayEmit (g.C.Calls.openings c.loop-repeat.caller) g.D.Desk.side c.args.lanes.now.first (λ i. g.C.Calls.budget c.loop-repeat.caller i) g.D.Desk.shares c.args.lanes.now.shares.now granted wants) (drop_on c.args.repeats.now c.loop-repeat.repeat-index c.repeat-item.result c.loop-repeat-test.true c.repeat-item.is Again es) (c.loop-repeat.invariant.rest granted es c.requires.may.2),
     )
 
 pub loop-repeat-preserved : goal.loop-repeat-preserved
-loop-repeat-preserved g c = record {
-  capacity = c.emit_repeat.ensures.room ∙ c.loop-repeat.invariant.capacity;
-  many =
-      let more = emitted_many c.args.lanes.now.desks.now (λ d. d.side) c.args.place (Again c.repeat-item.result ∷ []) c.loop-repeat.sender.posts.items c.emit_repeat.new.sender.posts.items c.loop-repeat.sender.granted.items c.emit_repeat.new.sender.granted.items
-      c.loop-repeat.sender.log.items c.emit_repeat.new.sender.log.items c.emit_repeat.ensures.emitted in
-      omega (arith, more, c.loop-repeat.invariant.many, c.loop-repeat.sender.log.ok.0, c.emit_repeat.new.sender.log.ok.0);
-  emitted = subst (λ (wants : List Emission). HasEmitted c.args.lanes.now.desks.now (λ d. d.side) c.args.place wants c.args.sender.now.posts.items c.args.sender.now.granted.items c.args.sender.now.log.items
-      c.emit_repeat.new.sender.posts.items c.emit_repeat.new.sender.granted.items c.emit_repeat.new.sender.log.items) (sym (take_on c.args.repeats.now c.loop-repeat.repeat-index c.repeat-item.result c.loop-repeat-test.true c.repeat-item.is Again))
-      (emitted_more c.args.lanes.now.desks.now (λ d. d.side) c.args.place (map Again (take c.loop-repeat.repeat-index c.args.repeats.now)) (Again c.repeat-item.result ∷ []) c.args.sender.now.posts.items c.loop-repeat.sender.posts.items c.emit_repeat.new.sender.posts.items
-      c.args.sender.now.granted.items c.loop-repeat.sender.granted.items c.emit_repeat.new.sender.granted.items c.args.sender.now.log.items c.loop-repeat.sender.log.items c.emit_repeat.new.sender.log.items c.loop-repeat.invariant.emitted c.emit_repeat.ensures.emitted);
-  rest = λ es may. c.emit_repeat.ensures.rest (map Again (drop (c.loop-repeat.repeat-index + 1) c.args.repeats.now) ++ es)
-      (subst (λ (wants : List Emission). MayEmit c.args.lanes.now.desks.now (λ d. d.side) (λ d. d.shares.now) c.args.lanes.now.shares.now c.loop-repeat.sender.posts.items c.loop-repeat.sender.granted.items wants)
-      (drop_on c.args.repeats.now c.loop-repeat.repeat-index c.repeat-item.result c.loop-repeat-test.true c.repeat-item.is Again es) (c.loop-repeat.invariant.rest es may));
-}
+loop-repeat-preserved g c =
+    let first = c.args.caller.now in
+    let mid = c.loop-repeat.caller in
+    let last = c.emit_repeat.new.caller in
+    record {
+      placed = c.emit_repeat.ensures.placed;
+      same = (g.met.C.Calls.spends mid last (c.emit_repeat.ensures.emitted []).said (c.emit_repeat.ensures.emitted []).went).0 ∙ c.loop-repeat.invariant.same;
+      emitted = λ granted.
+          subst (λ (wants : List Emission). HasEmitted (g.C.Calls.openings first) g.D.Desk.side c.args.lanes.now.first (λ said. g.C.Calls.went first said last) c.args.line wants granted c.args.log.now granted c.emit_repeat.new.log)
+          (sym (take_on c.args.repeats.now c.loop-repeat.repeat-index c.repeat-item.result c.loop-repeat-test.true c.repeat-item.is Again))
+          (emitted_more (g.C.Calls.openings first) g.D.Desk.side c.args.lanes.now.first c.args.line (λ said. g.C.Calls.went first said mid) (λ said. g.C.Calls.went mid said last) (λ said. g.C.Calls.went first said last)
+          (λ said more h k. g.met.C.Calls.onward first mid last said more h k) (map Again (take c.loop-repeat.repeat-index c.args.repeats.now)) (Again c.repeat-item.result ∷ []) granted granted granted c.args.log.now c.loop-repeat.log c.emit_repeat.new.log
+          (c.loop-repeat.invariant.emitted granted)
+          (subst (λ ms. HasEmitted ms g.D.Desk.side c.args.lanes.now.first (λ said. g.C.Calls.went mid said last) c.args.line (Again c.repeat-item.result ∷ []) granted c.loop-repeat.log granted c.emit_repeat.new.log) c.loop-repeat.invariant.same (c.emit_repeat.ensures.emitted granted)));
+      rest = λ granted es may. c.emit_repeat.ensures.rest granted (map Again (drop (c.loop-repeat.repeat-index + 1) c.args.repeats.now) ++ es)
+          (subst (λ (wants : List Emission). MayEmit (g.C.Calls.openings c.loop-repeat.caller) g.D.Desk.side c.args.lanes.now.first (λ i. g.C.Calls.budget c.loop-repeat.caller i) g.D.Desk.shares c.args.lanes.now.shares.now granted wants) (drop_on c.args.repeats.now c.loop-repeat.repeat-index c.repeat-item.result c.loop-repeat-test.true c.repeat-item.is Again es) (c.loop-repeat.invariant.rest granted es may));
+    }
+
+pub returns-clause-emitted : goal.returns-clause-emitted
+returns-clause-emitted g c = λ granted.
+    let ends = c.loop-repeat-test.false in
+    subst (λ (repeats : List Repeat). HasEmitted (g.C.Calls.openings c.args.caller.now) g.D.Desk.side c.args.lanes.now.first (λ said. g.C.Calls.went c.args.caller.now said c.loop-repeat.caller) c.args.line (map Again repeats) granted c.args.log.now granted c.loop-repeat.log)
+    (take_all c.loop-repeat.repeat-index c.args.repeats.now (omega (arith, ends))) (c.loop-repeat.invariant.emitted granted)
+
+pub returns-clause-rest : goal.returns-clause-rest
+returns-clause-rest g c = λ granted es may.
+    let ends = c.loop-repeat-test.false in
+    subst (λ (repeats : List Repeat). MayEmit (g.C.Calls.openings c.loop-repeat.caller) g.D.Desk.side c.args.lanes.now.first (λ i. g.C.Calls.budget c.loop-repeat.caller i) g.D.Desk.shares c.args.lanes.now.shares.now granted (map Again repeats ++ es))
+    (drop_all c.loop-repeat.repeat-index c.args.repeats.now (omega (arith, ends))) (c.loop-repeat.invariant.rest granted es may)

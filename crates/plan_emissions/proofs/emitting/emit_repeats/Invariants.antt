@@ -1,13 +1,14 @@
-use Rattle.std.proofs.Common.{◌≡◌, ◌+◌, ◌++◌, List, map, take, drop, vec_len, vec_capacity}
+use Rattle.std.proofs.Common.{◌≡◌, ◌++◌, List, map, take, drop}
 use Rattle.net_model.specs.Tick.{Emission, Again}
+use Rattle.lane_shares.specs.declared.share.Share.{Share}
 use Rattle.plan_emissions.specs.Emitting.{MayEmit, HasEmitted}
 use Rattle.plan_emissions.proofs.emitting.emit_repeats.Given as goal
 
 abbrev pub invariant-loop-repeat : goal.invariant-loop-repeat
 invariant-loop-repeat g l = record {
-  capacity : vec_capacity l.sender.log ≡ vec_capacity l.fn.sender.log;
-  many : vec_len l.sender.log ≡ vec_len l.fn.sender.log + l.repeat-index;
-  emitted : HasEmitted l.lanes.desks.now (λ d. d.side) l.fn.place (map Again (take l.repeat-index l.repeats)) l.fn.sender.posts.items l.fn.sender.granted.items l.fn.sender.log.items l.sender.posts.items l.sender.granted.items l.sender.log.items;
-  rest : (es : List Emission) → MayEmit l.lanes.desks.now (λ d. d.side) (λ d. d.shares.now) l.lanes.shares.now l.fn.sender.posts.items l.fn.sender.granted.items (map Again l.repeats ++ es)
-      → MayEmit l.lanes.desks.now (λ d. d.side) (λ d. d.shares.now) l.lanes.shares.now l.sender.posts.items l.sender.granted.items (map Again (drop l.repeat-index l.repeats) ++ es);
+  placed : g.C.Calls.placed l.caller;
+  same : g.C.Calls.openings l.caller ≡ g.C.Calls.openings l.fn.caller;
+  emitted : (granted : List Share) → HasEmitted (g.C.Calls.openings l.fn.caller) g.D.Desk.side l.lanes.first (λ said. g.C.Calls.went l.fn.caller said l.caller) l.fn.line (map Again (take l.repeat-index l.repeats)) granted l.fn.log granted l.log;
+  rest : (granted : List Share) (es : List Emission) → MayEmit (g.C.Calls.openings l.fn.caller) g.D.Desk.side l.lanes.first (λ i. g.C.Calls.budget l.fn.caller i) g.D.Desk.shares l.lanes.shares.now granted (map Again l.repeats ++ es)
+      → MayEmit (g.C.Calls.openings l.caller) g.D.Desk.side l.lanes.first (λ i. g.C.Calls.budget l.caller i) g.D.Desk.shares l.lanes.shares.now granted (map Again (drop l.repeat-index l.repeats) ++ es);
 }

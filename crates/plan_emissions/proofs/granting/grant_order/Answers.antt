@@ -9,39 +9,39 @@ use Rattle.plan_emissions.proofs.Issuing.{in_leases, in_issuers, in_granted, sha
 use Rattle.plan_emissions.proofs.granting.grant_order.Goals as goal
 
 pub bounds-issuers-at : goal.bounds-issuers-at
-bounds-issuers-at c = in_issuers c.requires.may.1 c.place_of-at.result c.place_of-at.ensures
+bounds-issuers-at c = in_issuers c.requires.may.1 c.place_of-at.result c.place_of-at.ensures.place
 
 pub bounds-leases-at : goal.bounds-leases-at
-bounds-leases-at c = in_leases c.requires.may.1 c.place_of-at.result c.place_of-at.ensures
+bounds-leases-at c = in_leases c.requires.may.1 c.place_of-at.result c.place_of-at.ensures.place
 
 pub bounds-granted-at : goal.bounds-granted-at
-bounds-granted-at c = in_granted c.requires.may.1 c.place_of-at.result c.place_of-at.ensures
+bounds-granted-at c = in_granted c.requires.may.1 c.place_of-at.result c.place_of-at.ensures.place
 
 pub grant-part-requires-clause-fits : goal.grant-part-requires-clause-fits
 grant-part-requires-clause-fits c =
     let k = c.place_of-at.result in
-    let home = c.place_of-at.ensures in
+    let home = c.place_of-at.ensures.place in
     let may = c.requires.may.1 in
     issuer_fits may k home c.index-shares-at.result (shares_at may k home c.index-shares-at.result c.index-shares-at.is) (get_or c.args.issuers.now k c.index-issuers-at.result) (issuer_at may k home c.index-issuers-at.result)
 
 pub grant-part-requires-clause-issues : goal.grant-part-requires-clause-issues
 grant-part-requires-clause-issues c =
     let k = c.place_of-at.result in
-    let home = c.place_of-at.ensures in
+    let home = c.place_of-at.ensures.place in
     let may = c.requires.may.1 in
     issuer_issues may k home (get_or c.args.issuers.now k c.index-issuers-at.result) (issuer_at may k home c.index-issuers-at.result)
 
 pub grant-part-requires-clause-capped : goal.grant-part-requires-clause-capped
 grant-part-requires-clause-capped c =
     let k = c.place_of-at.result in
-    let home = c.place_of-at.ensures in
+    let home = c.place_of-at.ensures.place in
     let may = c.requires.may.1 in
     cap_holds may k home c.index-shares-at.result (shares_at may k home c.index-shares-at.result c.index-shares-at.is)
 
 pub grant-part-requires-clause-reach : goal.grant-part-requires-clause-reach
 grant-part-requires-clause-reach c =
     let k = c.place_of-at.result in
-    let home = c.place_of-at.ensures in
+    let home = c.place_of-at.ensures.place in
     let may = c.requires.may.1 in
     let octets = c.from-need.ensures in
     let spelled = c.spelled_len.ensures.length in
@@ -51,7 +51,7 @@ grant-part-requires-clause-reach c =
 pub join-requires-clause-fits : goal.join-requires-clause-fits
 join-requires-clause-fits c =
     let k = c.place_of-at.result in
-    let home = c.place_of-at.ensures in
+    let home = c.place_of-at.ensures.place in
     let may = c.requires.may.1 in
     let one = shares_at may k home c.index-shares-at.result c.index-shares-at.is in
     let two = shares_at may k home c.index-shares-at-2.result c.index-shares-at-2.is in (
@@ -62,7 +62,7 @@ join-requires-clause-fits c =
 pub returns-clause-granted : goal.returns-clause-granted
 returns-clause-granted c =
     let k = c.place_of-at.result in
-    let home = c.place_of-at.ensures in
+    let home = c.place_of-at.ensures.place in
     let may = c.requires.may.1 in
     let payload = c.args.order.now.payload in
     let octets = c.from-need.ensures in
@@ -78,7 +78,7 @@ returns-clause-granted c =
 pub returns-clause-rest : goal.returns-clause-rest
 returns-clause-rest c = λ os may.
     let k = c.place_of-at.result in
-    let home = c.place_of-at.ensures in
+    let home = c.place_of-at.ensures.place in
     let payload = c.args.order.now.payload in
     let octets = c.from-need.ensures in
     let spelled = c.spelled_len.ensures.length in

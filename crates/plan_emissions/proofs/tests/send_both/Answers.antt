@@ -1,84 +1,71 @@
-use Rattle.std.proofs.Common.{◌≡◌, ◌+◌, List, [], ◌∷◌, ◌++◌, length, length-append, ap, subst, ◌∙◌, arith}
-use Rattle.std.specs.List.{AllZip, AllByRecursion}
-use Rattle.turnstile.specs.declared.machine.Machine.{Ghosts}
-use Rattle.turnstile.specs.declared.turnstile.Turnstile.{Turnstile}
-use Rattle.turnstile.specs.Names.{knows, Fits}
-use Rattle.shared_machines.specs.declared.pass.Post.{Post}
-use Rattle.shared_machines.specs.Seats.{Sits}
-use Rattle.shared_machines.specs.Shares.{share_of}
-use Rattle.shared_machines.proofs.Zips.{zip_same}
+use Rattle.std.proofs.Common.{◌≡◌, ℕ, zero, suc, ◌+◌, ◌≤◌, ◌<◌, List, [], ◌∷◌, length, slice_get, Some, refl, sym, ap, subst, ◌∙◌, arith}
+use Rattle.std.proofs.lemmas.Option.{slice_get_within}
+use Rattle.block_run.specs.Jobs.{jobs_of}
+use Rattle.qkd_base.specs.Name.{Name}
+use Rattle.qkd_base.specs.declared.lane.Way.TheVariants.{Up}
+use Rattle.net_model.specs.declared.order.Order.{Order}
+use Rattle.net_model.specs.declared.payload.Payload.TheVariants.{Ack}
+use Rattle.net_model.specs.Tick.{New}
+use Rattle.either_machines.specs.declared.either.Either.TheVariants.{Left, Right}
+use Rattle.lane_shares.specs.declared.share.Share.{Share}
+use Rattle.lane_shares.specs.declared.shares.Shares.{Shares}
+use Rattle.lane_sides.specs.Lane.{LaneForm}
+use Rattle.lane_desks.specs.Grants.{IsShareOf}
+use Rattle.plan_emissions.specs.Wants.{bytes_at}
+use Rattle.plan_emissions.specs.Emitting.{grant_at, MayEmit}
+use Rattle.plan_emissions.proofs.Wanting.{few_turns}
 use Rattle.plan_emissions.proofs.tests.send_both.Goals as goal
 
--- the two of a pair, taken from its end
-module _ {P : Type 0} (R : P → P → Type 0) (S : P → Type 0) where
-  two_ends : (before after front rest : List P) (x y : P) → length before ≡ 2 → AllByRecursion S before → AllZip R before after → after ≡ front ++ y ∷ [] → front ≡ rest ++ x ∷ [] → ((a : P) × S a × R a x) × ((b : P) × S b × R b y)
-  two_ends [] after front rest x y two s h e f = absurd (omega (arith, two))
-  two_ends (a ∷ []) after front rest x y two s h e f = absurd (omega (arith, two))
-  two_ends (a ∷ b ∷ d ∷ before) after front rest x y two s h e f = absurd (omega (arith, two))
-  two_ends (a ∷ b ∷ []) [] front rest x y two s h e f = absurd h
-  two_ends (a ∷ b ∷ []) (p ∷ []) front rest x y two s h e f = absurd h.1
-  two_ends (a ∷ b ∷ []) (p ∷ q ∷ r ∷ after) front rest x y two s h e f = absurd h.1.1
-  two_ends (a ∷ b ∷ []) (p ∷ q ∷ []) front [] x y two s h e f =
-      let is : p ∷ q ∷ [] ≡ x ∷ y ∷ [] = e ∙ ap (λ (u : List P). u ++ y ∷ []) f in
-      let one : p ≡ x = cc in
-      let other : q ≡ y = cc in
-      ((a, s.0, subst (λ (z : P). R a z) one h.0), (b, s.1.0, subst (λ (z : P). R b z) other h.1.0))
-  two_ends (a ∷ b ∷ []) (p ∷ q ∷ []) front (r ∷ rest) x y two s h e f =
-      let long = ap length e in
-      let sum = length-append front (y ∷ []) in
-      let front_long = ap length f in
-      let rest_sum = length-append (r ∷ rest) (x ∷ []) in
-      absurd (omega (arith, long, sum, front_long, rest_sum))
+jobs_two : (w : ℕ) → w < 2 → jobs_of w 2 2 ≡ w ∷ []
+jobs_two zero h = refl
+jobs_two (suc zero) h = refl
+jobs_two (suc (suc w)) h = absurd (omega (arith, h))
 
--- a row of one seat
-module _ {M Q A C : Type 0} {g : Ghosts M Q A C} (desk : Turnstile M Q A C) where
-  in_row : (desks : List (Turnstile M Q A C)) (posts : List (Post M Q A C g)) → desks ≡ desk ∷ [] → AllZip Sits desks posts → length posts ≡ 1
-  in_row desks posts is h = zip_same Sits desks posts h ∙ ap length is
+jobs_are : (w n : ℕ) → n ≡ 2 → w < n → jobs_of w n 2 ≡ w ∷ []
+jobs_are w n two h = ap (λ (m : ℕ). jobs_of w m 2) two ∙ jobs_two w (omega (arith, two, h))
 
-  row_of : (posts rest : List (Post M Q A C g)) (p : Post M Q A C g) → AllZip Sits (desk ∷ []) posts → share_of 0 posts ≡ 2 → posts ≡ rest ++ p ∷ [] → Fits desk p.seat × ((knows p.seat).budget + length (knows p.seat).mine ≡ 2)
-  row_of [] rest p h share e = absurd h
-  row_of (q ∷ r ∷ posts) rest p h share e = absurd h.1
-  row_of (q ∷ []) (r ∷ rest) p h share e = let long = ap length e in let sum = length-append (r ∷ rest) (p ∷ []) in absurd (omega (arith, long, sum))
-  row_of (q ∷ []) [] p h share e =
-      let same : q ≡ p = cc in
-      subst (λ (s : Post M Q A C g). Fits desk s.seat × ((knows s.seat).budget + length (knows s.seat).mine ≡ 2)) same (h.0.fits, share)
+-- what is so of both
+at_two : {K : Type 0} (P : K → Type 0) (p q : K) → P p → P q → (w : ℕ) (k : K) → slice_get (p ∷ q ∷ []) w ≡ Some k → P k
+at_two P p q one two zero k e = let same : p ≡ k = cc in subst P same one
+at_two P p q one two (suc zero) k e = let same : q ≡ k = cc in subst P same two
+at_two P p q one two (suc (suc w)) k e = cc
 
-  seat_of : (desks : List (Turnstile M Q A C)) (posts rest : List (Post M Q A C g)) (p : Post M Q A C g) → desks ≡ desk ∷ [] → AllZip Sits desks posts → share_of 0 posts ≡ 2 → posts ≡ rest ++ p ∷ [] →
-      Fits desk p.seat × ((knows p.seat).budget + length (knows p.seat).mine ≡ 2)
-  seat_of desks posts rest p is h = row_of posts rest p (subst (λ (ds : List (Turnstile M Q A C)). AllZip Sits ds posts) is h)
+abbrev order_of : Name → Order
+order_of name = record { lane = record { link = 0; way = Up }; offset = 0; ack_of = Some 8; payload = Ack name }
 
-pub take_last-mine-requires : goal.take_last-mine-requires
-take_last-mine-requires g c =
-    let ends = two_ends (λ before after. AllZip Sits c.from_ref.result.now after.posts.items × (share_of 0 after.posts.items ≡ share_of 0 before.posts.items)) (λ p. share_of 0 p.posts.items ≡ 2) c.args.passes.items c.work-passes.result.items
-    c.take_last-second.new.self.items c.take_last-first.new.self.items c.take_last-first.result c.take_last-second.result c.requires.two c.requires.share c.work-passes.ensures c.take_last-second.ensures.items c.take_last-first.ensures.items in
-    let long = in_row c.args.desk c.from_ref.result.now c.take_last-first.result.posts.items c.from_ref.ensures.value ends.0.2.0 in
-    omega (arith, long, c.take_last-first.result.posts.ok.0)
+module _ {M D X : Type 0} (m : M) (d : D) (side : D → LaneForm X) (shares_of : D → Shares) (shares : Shares) (name : Name) where
+  shared_at : shares_of d ≡ shares → (i n : ℕ) → 1 + i ≡ n → (x : D) → slice_get (Left m ∷ Right d ∷ []) n ≡ Some (Right x) → slice_get (shares ∷ []) i ≡ Some (shares_of x)
+  shared_at is i zero e x h = absurd (omega (arith, e))
+  shared_at is zero (suc zero) e x h = let same : d ≡ x = cc in ap Some (sym is ∙ ap shares_of same)
+  shared_at is (suc i) (suc zero) e x h = absurd (omega (arith, e))
+  shared_at is i (suc (suc n)) e x h = cc
 
-pub take_last-theirs-requires : goal.take_last-theirs-requires
-take_last-theirs-requires g c =
-    let ends = two_ends (λ before after. AllZip Sits c.from_ref.result.now after.posts.items × (share_of 0 after.posts.items ≡ share_of 0 before.posts.items)) (λ p. share_of 0 p.posts.items ≡ 2) c.args.passes.items c.work-passes.result.items
-    c.take_last-second.new.self.items c.take_last-first.new.self.items c.take_last-first.result c.take_last-second.result c.requires.two c.requires.share c.work-passes.ensures c.take_last-second.ensures.items c.take_last-first.ensures.items in
-    let long = in_row c.args.desk c.from_ref.result.now c.take_last-second.result.posts.items c.from_ref.ensures.value ends.1.2.0 in
-    omega (arith, long, c.take_last-second.result.posts.ok.0)
+  bytes_one : (grant : Share) → IsShareOf shares 25 grant → (i : ℕ) → i < 1 → bytes_at i (New (order_of name) ∷ []) ≤ (grant_at i (grant ∷ [])).amount
+  bytes_one grant is zero lt = let has = is.has in omega (arith, has)
+  bytes_one grant is (suc i) lt = absurd (omega (arith, lt))
 
-pub join-requires : goal.join-requires
-join-requires g c =
-    let ends = two_ends (λ before after. AllZip Sits c.from_ref.result.now after.posts.items × (share_of 0 after.posts.items ≡ share_of 0 before.posts.items)) (λ p. share_of 0 p.posts.items ≡ 2) c.args.passes.items c.work-passes.result.items
-    c.take_last-second.new.self.items c.take_last-first.new.self.items c.take_last-first.result c.take_last-second.result c.requires.two c.requires.share c.work-passes.ensures c.take_last-second.ensures.items c.take_last-first.ensures.items in
-    let mine = seat_of c.args.desk c.from_ref.result.now c.take_last-first.result.posts.items c.take_last-mine.new.self.items c.take_last-mine.result c.from_ref.ensures.value ends.0.2.0 (ends.0.2.1 ∙ ends.0.1) c.take_last-mine.ensures.items in
-    let theirs = seat_of c.args.desk c.from_ref.result.now c.take_last-second.result.posts.items c.take_last-theirs.new.self.items c.take_last-theirs.result c.from_ref.ensures.value ends.1.2.0 (ends.1.2.1 ∙ ends.1.1) c.take_last-theirs.ensures.items in
-    record { fits = (mine.0, theirs.0) }
+  may_one : shares_of d ≡ shares → (side d).lane ≡ record { link = 0; way = Up } → (grant : Share) → IsShareOf shares 25 grant → MayEmit (Left m ∷ Right d ∷ []) side 1 (λ i. 2) shares_of (shares ∷ []) (grant ∷ []) (New (order_of name) ∷ [])
+  may_one same lane grant is = record {
+    few = omega arith;
+    shared = λ i x h. shared_at same i (1 + i) refl x h;
+    fits = (is.fits, tt);
+    each = (((d, refl, lane), tt), tt);
+    turns = λ i lt. few_turns i (order_of name);
+    bytes = bytes_one grant is;
+  }
 
-pub close-requires-clause-whole : goal.close-requires-clause-whole
-close-requires-clause-whole g c =
-    let ends = two_ends (λ before after. AllZip Sits c.from_ref.result.now after.posts.items × (share_of 0 after.posts.items ≡ share_of 0 before.posts.items)) (λ p. share_of 0 p.posts.items ≡ 2) c.args.passes.items c.work-passes.result.items
-    c.take_last-second.new.self.items c.take_last-first.new.self.items c.take_last-first.result c.take_last-second.result c.requires.two c.requires.share c.work-passes.ensures c.take_last-second.ensures.items c.take_last-first.ensures.items in
-    let mine = seat_of c.args.desk c.from_ref.result.now c.take_last-first.result.posts.items c.take_last-mine.new.self.items c.take_last-mine.result c.from_ref.ensures.value ends.0.2.0 (ends.0.2.1 ∙ ends.0.1) c.take_last-mine.ensures.items in
-    let theirs = seat_of c.args.desk c.from_ref.result.now c.take_last-second.result.posts.items c.take_last-theirs.new.self.items c.take_last-theirs.result c.from_ref.ensures.value ends.1.2.0 (ends.1.2.1 ∙ ends.1.1) c.take_last-theirs.ensures.items in
-    let long = ap length c.join.ensures.own in
-    let sum = length-append (knows c.take_last-mine.result.seat).mine (knows c.take_last-theirs.result.seat).mine in
-    let budget = c.join.ensures.budget in
-    let all = c.requires.calls in
-    let one = mine.1 in
-    let two = theirs.1 in
-    omega (arith, long, sum, budget, all, one, two)
+pub work_together-requires-clause-may : goal.work_together-requires-clause-may
+work_together-requires-clause-may g c κs within = λ w keep e.
+    let ms = c.requires.machines in
+    let ks = c.requires.keeps in
+    let two : length c.args.keeps.items ≡ 2 = ap length ks.2 in
+    let jobs = jobs_are w (length c.args.keeps.items) two (slice_get_within c.args.keeps.items w keep e) in
+    let one = at_two (λ k. (grant : Share) × (k.granted.items ≡ grant ∷ []) × IsShareOf c.args.shares.now 25 grant) ks.0 ks.1 ks.3 ks.4 w keep (ap (λ xs. slice_get xs w) (sym ks.2) ∙ e) in
+    let may = may_one ms.0 ms.1 (λ d. d.side) (λ d. d.shares.now) c.args.shares.now c.requires.order.0 ms.3 ms.4 one.0 one.2 in
+    let many = ap length jobs in (
+      omega (arith, many),
+      λ some.
+          subst (λ xs. MayEmit xs (λ d. d.side) 1 (λ i. 2) (λ d. d.shares.now) (c.args.shares.now ∷ []) keep.granted.items (New c.args.order.now ∷ [])) (sym ms.2)
+          (subst (λ (granted : List Share). MayEmit (Left ms.0 ∷ Right ms.1 ∷ []) (λ d. d.side) 1 (λ i. 2) (λ d. d.shares.now) (c.args.shares.now ∷ []) granted (New c.args.order.now ∷ [])) (sym one.1)
+          (subst (λ (o : Order). MayEmit (Left ms.0 ∷ Right ms.1 ∷ []) (λ d. d.side) 1 (λ i. 2) (λ d. d.shares.now) (c.args.shares.now ∷ []) (one.0 ∷ []) (New o ∷ [])) (sym c.requires.order.1) may)),
+    )
