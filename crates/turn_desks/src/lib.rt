@@ -10,6 +10,7 @@ mod taking;
 mod turn;
 
 pub use desk::Desk;
-pub use leases::lane_at;
+pub use leases::{lane_at, write_leases};
+pub use taking::take_turn;
 pub use turn::Turn;
 pub use turnstile;
