@@ -1,0 +1,17 @@
+pub mod Beginning
+pub mod Ending
+pub mod Granted
+pub mod Grants
+pub mod Lanes
+pub mod Nodes
+pub mod Openings
+pub mod Places
+pub mod Props
+pub mod Replaying
+pub mod Replies
+pub mod Seen
+pub mod Sent
+pub mod SoFar
+pub mod Told
+pub mod Turns
+pub mod Wants
