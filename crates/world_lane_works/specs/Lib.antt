@@ -1,0 +1,11 @@
+pub mod LaneCalls
+pub mod Working
+pub mod Counts
+pub mod Leaving
+pub mod Sorting
+pub mod Blocks
+pub mod Owning
+pub mod Desks
+pub mod OneLine
+pub mod Passed
+pub mod Telling

@@ -1,0 +1,4 @@
+-- What stands below this crate, for those above it that name it no other way.
+pub use Rattle.law_lane_works.specs.LaneWorks.{IsLaneBlock, wire_faults_in, works_of, world_after}
+pub use Rattle.law_lane_works.specs.Passed.{Remains, turns_over, wanted_by}
+pub use Rattle.law_lane_works.specs.Puts.{placings_on, reported_on}
