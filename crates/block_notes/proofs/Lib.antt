@@ -1,0 +1,10 @@
+pub mod InLanes
+pub mod Lanes
+pub mod Records
+pub mod Recorded
+pub mod Nodes
+pub mod Rising
+pub mod Sizes
+pub mod Tallied
+pub mod Together
+pub mod Whole

@@ -1,0 +1,4 @@
+pub mod Frames
+pub mod Recording
+pub mod Noting
+pub mod Working
