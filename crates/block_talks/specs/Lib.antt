@@ -1,0 +1,4 @@
+pub mod Doing
+pub mod Talking
+pub mod Together
+pub mod Passed

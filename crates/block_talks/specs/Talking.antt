@@ -1,0 +1,65 @@
+-- What a worker said in all its jobs, machine by machine.
+use Rattle.std.specs.Prelude.{◌≡◌, ℕ, ◌+◌, ◌==◌, ◌<◌, List, ◌++◌, map, filter, slice_get, Option, Some}
+use Rattle.std.specs.List.{AllByRecursion, flat_map}
+use Rattle.net_model.specs.Tick.{Emission}
+use Rattle.net_model.specs.Action.{Replies}
+use Rattle.run_model.specs.Works.{wanted_put}
+use Rattle.run_blocks.specs.declared.job.Job.{Job}
+use Rattle.lane_sides.specs.Lane.{LaneForm}
+use Rattle.either_machines.specs.declared.either.Either.TheVariants.{Left}
+use Rattle.shared_machines.specs.declared.call.Call.{Call}
+use Rattle.shared_machines.specs.Asked.{requests_on}
+use Rattle.shared_errands.specs.Said.{Said, said_on}
+use Rattle.turn_desks.specs.declared.turn.Turn.{Turn}
+use Rattle.plan_emissions.specs.declared.emitted.Emitted.{Emitted}
+use Rattle.plan_emissions.specs.Calls.{IsOf}
+use Rattle.plan_emissions.specs.Saying.{IsCalledFor}
+use Rattle.plan_emissions.specs.Emitting.{AreLogged}
+use Rattle.plan_desks.specs.declared.ask.PlanAsk.{PlanAsk}
+use Rattle.plan_desks.specs.declared.ask.PlanAnswer.{PlanAnswer}
+use Rattle.block_talks.specs.declared.keep.Replied.{Replied}
+use Rattle.block_talks.specs.declared.keep.Keep.{Keep}
+use Rattle.block_talks.specs.Doing.{Ask, Answer}
+
+-- a call of a manager, with its place in the manager's history, as it is there among the calls of machines of both kinds
+abbrev pub manager_call : ℕ × (PlanAsk × PlanAnswer) → ℕ × (Ask × Answer)
+manager_call c = (c.0, (Left c.1.0, Left c.1.1))
+
+-- the line and the job that it is for, as the call has them and as a shift's entry has them
+
+abbrev pub line_asked : ℕ × (PlanAsk × PlanAnswer) → ℕ × Job
+line_asked c = (c.1.0.place, c.1.0.job.now)
+
+abbrev pub line_of : Turn → ℕ × Job
+line_of t = (t.place, t.job.now)
+
+-- what is kept of its reply
+abbrev pub reply_kept : (node : ℕ) → ℕ × (PlanAsk × PlanAnswer) → Replied
+reply_kept node c = record { node = node; at = c.0; turned = record { place = c.1.0.place; reply = c.1.1.reply } }
+
+-- what replies want put, each with the place of its line
+
+abbrev pub wanted_in : Replied → List (ℕ × Emission)
+wanted_in r = map (λ e. (r.turned.place, e)) (wanted_put (Replies r.turned.reply))
+
+abbrev pub wanted_of : Emission × Emitted → ℕ × Emission
+wanted_of x = (x.1.line, x.0)
+
+-- A worker called the manager of a node just for the turns that its shift asks of it, and has a reply of each.
+pub record HasTurned (v : ℕ) (shift : List (Option (Call Turn))) (said : List (Said Ask Answer)) (mine : List Replied) : Type 0 where
+  pub calls : List (ℕ × (PlanAsk × PlanAnswer))
+  pub are : said_on v said ≡ map manager_call calls
+  pub asked : map line_asked calls ≡ map line_of (requests_on v shift)
+  pub replied : map (reply_kept v) calls ≡ filter (λ (r : Replied). r.node == v) mine
+
+-- What a worker said, and what it keeps of it: its replies, and what came of the frames that these want put, in their order.
+pub record HasTalked {X : Type 0} (lanes : List (LaneForm X)) (first : ℕ) (keep : Keep) (said : List (Said Ask Answer)) (next : Keep) : Type 0 where
+  pub mine : List Replied
+  pub outs : List (Emission × Emitted)
+  pub kept : next.replies.items ≡ keep.replies.items ++ mine
+  pub logged : AreLogged (map (λ x. x.1) outs) keep.log next.log
+  pub of : AllByRecursion (λ (x : Emission × Emitted). IsOf x.1.line x.0 x.1) outs
+  pub wanted : map wanted_of outs ≡ flat_map wanted_in mine
+  pub nodes : AllByRecursion (λ (r : Replied). r.node < first) mine
+  pub turned : (v : ℕ) → v < first → HasTurned v keep.shift.items said mine
+  pub sent : (i : ℕ) (side : LaneForm X) → slice_get lanes i ≡ Some side → IsCalledFor side (first + i) i outs said
