@@ -1,3 +1,4 @@
 pub mod Headlines
 pub mod Passed
 pub mod Rooms
+pub mod Lines

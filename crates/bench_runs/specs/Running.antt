@@ -1,5 +1,5 @@
 -- What comes of a scenario that is run over a bench.
-use Rattle.std.specs.Prelude.{◌≡◌, ℕ, Bool, List, Option, Result, Ok, Err}
+use Rattle.std.specs.Prelude.{◌≡◌, ℕ, Bool, List, [], Option, Result, Ok, Err}
 use Rattle.net_model.specs.OctetSequence.{OctetSequence}
 use Rattle.net_model.specs.World.{first}
 use Rattle.disk_model.specs.declared.arm.Armings.{Armings}
@@ -11,6 +11,7 @@ use Rattle.run_model.specs.Course.{Words, tasks_of}
 use Rattle.run_model.specs.Headline as headline
 use Rattle.run_lines.specs.declared.stop.Stop.{Stop}
 use Rattle.run_lines.specs.declared.stop.Stop.TheVariants as stops
+use Rattle.run_lines.specs.Reporting.{IsPart, TookLines}
 use Rattle.run_tasks.specs.Tasks.{RanTasks}
 use Rattle.site_requests.specs.Speaking.{IsTextsOf}
 use Rattle.world_bench.specs.Passed.{Rests}
@@ -31,6 +32,11 @@ ended (Ok done) = headline.Done
 ended (Err stops.WriteFault) = headline.WriteFault
 ended (Err stops.Memory) = headline.Memory
 ended (Err (stops.Forged line)) = headline.ForgedMatch line
+
+-- The pieces that the sink took are just the lines of what it took, in order; where not all is done, a first part of one more line may come behind them.
+abbrev pub IsInLines : {S : Type 0} → (S → Option (List ℕ)) → (S → Option (List (List ℕ))) → (List ℕ → Type 0) → (old new : S) → headline.Stop → Type 0
+IsInLines taken pieces IsLine old new headline.Done = TookLines taken pieces IsLine old new []
+IsInLines taken pieces IsLine old new _ = (part : List ℕ) × IsPart IsLine part × TookLines taken pieces IsLine old new part
 
 -- memory was wanting before the first line, and nothing was touched
 pub record WasLeft {K Q E X W T : Type 0} (old new : Bench K Q E X) (before after : W) (result : Result T Stop) : Type 0 where

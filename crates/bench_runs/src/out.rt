@@ -4,7 +4,7 @@ ghost use Rattle.std.specs.List.{All};
 ghost use Rattle.net_model.specs.World.{Network, World};
 ghost use Rattle.run_acts.specs.Runnable.{IsRunnable};
 ghost use Rattle.run_blocks.specs.Doing.{MayTogether, DidTogether};
-ghost use Rattle.run_lines.specs.Reporting.{IsBlamed};
+ghost use Rattle.run_lines.specs.Reporting.{InLines, IsBlamed, IsItemLine};
 ghost use Rattle.world_bench.specs.New.{IsNew};
 ghost use Rattle.world_bench.specs.Passed.{most_armed};
 ghost use Rattle.world_bench.specs.Passed.{Rests};
@@ -55,6 +55,7 @@ pub fn run_out<
         bench.old bench.new workers scenario (W.taken sink.old) (W.taken sink.new) left.state left.ended) }
     ensures ready { IfOk result (λ left. OnOk left.ended ((net : Network) × (w : World) × Stands K.is_honest K.moment K.image E.left Q.told X.frames X.counted left.state net w)) }
     ensures blame { IfOk result (λ left. IsBlamed (W.faults sink.old) (W.faults sink.new) left.ended) }
+    ensures lined { IfOk result (λ left. InLines W.taken W.pieces (IsItemLine scenario.site.nodes) sink.old sink.new left.ended) }
     ensures err { OnErr result ((bench.new ≡ bench.old) × (sink.new ≡ sink.old)) }
 {
     let Scenario {

@@ -3,7 +3,7 @@ ghost use Rattle.std.specs.Prelude.{◌≡◌, ◌⊎◌, ◌≤◌};
 ghost use Rattle.std.specs.List.{All};
 ghost use Rattle.run_acts.specs.Runnable.{IsRunnable};
 ghost use Rattle.run_model.specs.Course.{Run};
-ghost use Rattle.run_lines.specs.Reporting.{IsBlamed};
+ghost use Rattle.run_lines.specs.Reporting.{InLines, IsBlamed, IsItemLine};
 ghost use Rattle.world_bench.specs.Laid.{IsWhole};
 ghost use Rattle.world_bench.specs.New.{IsNew};
 ghost use Rattle.bench_runs.specs.Running.{HasHeadlines, WasLeft, ended};
@@ -47,6 +47,7 @@ pub fn run_scenario<
         ⊎ HasHeadlines K.is_honest K.content K.moment K.image E.left Q.told X.frames X.counted K.faults K.armings E.faults Q.faults X.faults bench.old bench.new (Run workers) scenario (W.taken sink.old) (W.taken sink.new) (ended result) }
     ensures whole { IsWhole bench.new }
     ensures blame { IsBlamed (W.faults sink.old) (W.faults sink.new) result }
+    ensures lined { InLines W.taken W.pieces (IsItemLine scenario.site.nodes) sink.old sink.new result }
 {
     match run_out(rt, alloc, gate, scenario, workers, sink, bench) {
         Err(_) => Err(Stop::Memory),

@@ -4,3 +4,4 @@ pub mod Hearing
 pub mod Tasks
 pub mod Entries
 pub mod Reported
+pub mod Pieces

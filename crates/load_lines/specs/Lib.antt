@@ -4,3 +4,4 @@ pub mod Counting
 pub mod Leading
 pub mod Lines
 pub mod Loaded
+pub mod Pieces

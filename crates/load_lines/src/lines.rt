@@ -12,7 +12,7 @@ ghost use Rattle.run_model.specs.Lines.{script_of};
 ghost use Rattle.run_acts.specs.Fitting.{is_fit};
 ghost use Rattle.run_acts.specs.Acting.{IsReady, Does};
 ghost use Rattle.run_acts.specs.Runnable.{IsCommandFor};
-ghost use Rattle.run_lines.specs.Reporting.{IsBlamed};
+ghost use Rattle.run_lines.specs.Reporting.{InLines, IsBlamed, IsItemLine};
 ghost use Rattle.run_lines.specs.Running.{Runs as Reports, IsReadySomewhere};
 ghost use Rattle.law_loads.specs.Handed.{keys_in};
 ghost use Rattle.law_loads.specs.Kinds.{is_of_load};
@@ -109,6 +109,7 @@ fn ledger_line<S: Acts, W: Sink>(
     ensures armed { S.armed net.new ≡ S.armed net.old }
     ensures runs { (http : HttpTexts) → Runs S.stands S.rests S.tallied (S.site net.old).nodes net.old net.new (W.taken sink.old) (W.taken sink.new) number (script_of http (site_of (S.site net.old)) (commands.Ledger lane.now)) result }
     ensures blame { IsBlamed (W.faults sink.old) (W.faults sink.new) result }
+    ensures lined { InLines W.taken W.pieces (IsItemLine (S.site net.old).nodes) sink.old sink.new result }
 {
     match ledger(alloc, net, number, lane, sink) {
         Ok(()) => Ok(Handed::none()),
@@ -117,6 +118,7 @@ fn ledger_line<S: Acts, W: Sink>(
 }
 
 /// Does a line of a load. Of what it reports the ledgers alone are written; the answer is how many keys it handed out.
+#[tactic(auto, using(crate::proofs::Pieces::unwritten))]
 pub fn load_line<S: Acts, W: Sink>(
     alloc: Global,
     net: &mut S,
@@ -133,6 +135,7 @@ pub fn load_line<S: Acts, W: Sink>(
     ensures ready { OnOk result (IsReadySomewhere S.stands net.new) }
     ensures runs { (http : HttpTexts) → Runs S.stands S.rests S.tallied (S.site net.old).nodes net.old net.new (W.taken sink.old) (W.taken sink.new) number (script_of http (site_of (S.site net.old)) command) result }
     ensures blame { IsBlamed (W.faults sink.old) (W.faults sink.new) result }
+    ensures lined { InLines W.taken W.pieces (IsItemLine (S.site net.old).nodes) sink.old sink.new result }
 {
     match command {
         Command::Enc {

@@ -11,13 +11,14 @@ ghost use Rattle.run_model.specs.Lines.{script_of};
 ghost use Rattle.run_model.specs.Report.{Task, starts_from, tasks, Does};
 ghost use Rattle.run_acts.specs.Acting.{IsReady};
 ghost use Rattle.run_acts.specs.Runnable.{IsEntryFor};
-ghost use Rattle.run_lines.specs.Reporting.{Wrote, IsBlamed};
+ghost use Rattle.run_lines.specs.Reporting.{InLines, IsBlamed, IsItemLine, Wrote};
 ghost use Rattle.run_lines.specs.Running.{IsReadySomewhere};
 ghost use Rattle.law_loads.specs.Kinds.{is_load_entry};
 ghost use Rattle.load_lines.specs.Counting.{no_keys};
 ghost use Rattle.load_lines.specs.Entries.{IsLineFor};
 ghost use Rattle.load_lines.specs.Leading.{Went};
 ghost use Rattle.load_lines.specs.Lines.{Runs};
+ghost use Rattle.load_lines.specs.Pieces.{IsHandedLine, IsLoadLine};
 ghost use Rattle.load_lines.specs.Loaded.{Stopped, Goes, RanLoad};
 
 use crate::handed::Handed;
@@ -56,6 +57,7 @@ fn begin_all<S: Acts>(alloc: Global, net: &mut S, node_lines: &[u32]) -> Result<
 }
 
 // Does an entry that is a line.
+#[tactic(auto, using(crate::proofs::Pieces::unwritten))]
 fn do_entry<S: Acts, W: Sink>(
     alloc: Global,
     net: &mut S,
@@ -71,6 +73,7 @@ fn do_entry<S: Acts, W: Sink>(
     ensures ready { OnOk result (IsReadySomewhere S.stands net.new) }
     ensures runs { (http : HttpTexts) (line : LineValue) → entry ≡ entries.Line line → Runs S.stands S.rests S.tallied (S.site net.old).nodes net.old net.new (W.taken sink.old) (W.taken sink.new) line.number (script_of http (site_of (S.site net.old)) line.command) result }
     ensures blame { IsBlamed (W.faults sink.old) (W.faults sink.new) result }
+    ensures lined { InLines W.taken W.pieces (IsItemLine (S.site net.old).nodes) sink.old sink.new result }
 {
     match entry {
         Entry::Line(line) => {
@@ -96,6 +99,7 @@ fn do_all<S: Acts, W: Sink>(
     ensures armed { S.armed net.new ≡ S.armed net.old }
     ensures ran { (http : HttpTexts) (n : Network) (w : World) → IsReady S.stands net.old n w → Goes S.stands S.rests S.tallied (S.site net.old).nodes net.old net.new (W.taken sink.old) (W.taken sink.new) http n w (map Does list) [] result }
     ensures blame { IsBlamed (W.faults sink.old) (W.faults sink.new) result }
+    ensures lined { InLines W.taken W.pieces (IsItemLine (S.site net.old).nodes) sink.old sink.new result }
 {
     let mut handed = Handed::none();
     for entry in list.into_vec() {
@@ -112,9 +116,11 @@ fn do_all<S: Acts, W: Sink>(
 }
 
 // The line behind all others.
+#[tactic(auto, using(crate::proofs::Pieces::unhanded))]
 fn write_handed<W: Sink>(alloc: Global, handed: Handed, sink: &mut W) -> Result<(), Stop>
     ensures wrote { Wrote result (W.taken sink.old) (W.taken sink.new) (handed_text handed.masters handed.slaves) }
     ensures blame { IsBlamed (W.faults sink.old) (W.faults sink.new) result }
+    ensures lined { InLines W.taken W.pieces IsHandedLine sink.old sink.new result }
 {
     let Ok(text) = handed_text(alloc, handed.masters, handed.slaves) else {
         return Err(Stop::Memory);
@@ -145,6 +151,7 @@ pub fn run_load<S: Acts, W: Sink>(
     ensures armed { S.armed net.new ≡ S.armed net.old }
     ensures ran { (http : HttpTexts) (n : Network) (w : World) → IsReady S.stands net.old n w → RanLoad S.stands S.rests S.tallied (S.site net.old).nodes net.old net.new (W.taken sink.old) (W.taken sink.new) http n w (tasks node_lines.now list) result }
     ensures blame { IsBlamed (W.faults sink.old) (W.faults sink.new) result }
+    ensures lined { InLines W.taken W.pieces (IsLoadLine (S.site net.old).nodes) sink.old sink.new result }
 {
     match begin_all(alloc, net, node_lines) {
         Ok(()) => {}

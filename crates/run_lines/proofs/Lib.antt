@@ -1,5 +1,6 @@
 pub mod Taking
 pub mod Writing
+pub mod Lines
 pub mod Leading
 pub mod Going
 pub mod Looping

@@ -14,11 +14,11 @@ use Rattle.run_lines.specs.declared.stop.Stop.TheVariants.{WriteFault, Memory, F
 use Rattle.run_lines.specs.Reporting.{Wrote}
 use Rattle.run_lines.proofs.Taking.{took_none, took_on, took_of, first_of, first_within, first_after, text_on, text_one, text_none, numbered_on}
 
-adds_none : {A : Type 0} (a : Option (List A)) → Adds a a []
+pub adds_none : {A : Type 0} (a : Option (List A)) → Adds a a []
 adds_none {A = A} None = tt
 adds_none {A = A} (Some xs) = ap (λ (ys : List A). Some ys) (sym (append-nil xs))
 
-adds_more : {A : Type 0} (a b c : Option (List A)) (x y : List A) → Adds a b x → Adds b c y → Adds a c (x ++ y)
+pub adds_more : {A : Type 0} (a b c : Option (List A)) (x y : List A) → Adds a b x → Adds b c y → Adds a c (x ++ y)
 adds_more {A = A} None b c x y p q = tt
 adds_more {A = A} (Some xs) b c x y p q =
     let r = subst (λ (o : Option (List A)). Adds o c y) p q in r ∙ ap (λ (ys : List A). Some ys) (append_assoc xs x y)

@@ -1,6 +1,10 @@
 -- What a sink took of a text, and why a run stopped.
-use Rattle.std.specs.Prelude.{ℕ, ◌≤◌, List, Option, Result, Ok, Err, IsErrOf}
+use Rattle.std.specs.Prelude.{◌≡◌, ℕ, ◌≤◌, List, [], ◌++◌, Option, Result, Ok, Err, IsErrOf, MatchResult}
+use Rattle.std.specs.List.{All, flat_map}
 use Rattle.qkd_base.specs.Faults.{Rose}
+use Rattle.edge_io.specs.Writes.{Adds}
+use Rattle.report_items.specs.declared.item.NumberedItem.{NumberedItem}
+use Rattle.report_items.specs.Texts.{line_text}
 use Rattle.run_model.specs.Headline.{Took, TookFirst}
 use Rattle.run_lines.specs.declared.stop.Stop.{Stop}
 use Rattle.run_lines.specs.declared.stop.Stop.TheVariants.{WriteFault, Memory, Forged}
@@ -16,3 +20,26 @@ Wrote (Err (Forged line)) old new text = ⊥
 pub record IsBlamed {T : Type 0} (before now : ℕ) (result : Result T Stop) : Type 0 where
   pub later : before ≤ now
   pub rose : IsErrOf result WriteFault → Rose before now
+
+-- ---- one piece for each line
+
+-- the line of some item, over the names of the nodes
+abbrev pub IsItemLine : List (List ℕ) → List ℕ → Type 0
+IsItemLine nodes line = (told : NumberedItem) × (line ≡ line_text nodes told)
+
+-- a first part of such a line
+abbrev pub IsPart : (List ℕ → Type 0) → List ℕ → Type 0
+IsPart IsLine part = (line : List ℕ) × IsLine line × ((rest : List ℕ) × (line ≡ part ++ rest))
+
+-- A sink took some lines, each as a piece of its own, and no other piece. Of octets it took those of these lines, in order, and behind them this part.
+pub record TookLines {S : Type 0} (taken : S → Option (List ℕ)) (pieces : S → Option (List (List ℕ))) (IsLine : List ℕ → Type 0) (old new : S) (part : List ℕ) : Type 0 where
+  pub lines : List (List ℕ)
+  pub each : All IsLine lines
+  pub pieces_are : Adds (pieces old) (pieces new) lines
+  pub text : Took (taken old) (taken new) (flat_map (λ line. line) lines ++ part)
+
+-- The pieces that the sink took are just the lines of what it took, in order; where the report stopped, a first part of one more line may come behind them.
+abbrev pub InLines : {S T E : Type 0} → (S → Option (List ℕ)) → (S → Option (List (List ℕ))) → (List ℕ → Type 0) → (old new : S) → Result T E → Type 0
+InLines taken pieces IsLine old new result =
+    MatchResult result (λ done. TookLines taken pieces IsLine old new [])
+    (λ stop. (part : List ℕ) × IsPart IsLine part × TookLines taken pieces IsLine old new part)

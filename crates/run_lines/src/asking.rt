@@ -10,7 +10,7 @@ ghost use Rattle.run_model.specs.Outcomes.{ledger_items};
 ghost use Rattle.run_model.specs.Lines.{ticked};
 ghost use Rattle.run_turns.specs.Reported.{reported};
 ghost use Rattle.run_acts.specs.Fitting.{is_fit};
-ghost use Rattle.run_lines.specs.Reporting.{IsBlamed};
+ghost use Rattle.run_lines.specs.Reporting.{InLines, IsBlamed, IsItemLine};
 ghost use Rattle.run_lines.specs.Running.{Runs, IsReadySomewhere};
 
 use crate::Stop;
@@ -24,6 +24,7 @@ use run_turns::{Asked, ledger_item};
 use std::alloc::Global;
 
 /// A manager is asked an event, and its reply is reported.
+#[tactic(auto, using(crate::proofs::Lines::stopped_unwritten))]
 pub fn ask<S: Acts, W: Sink>(
     alloc: Global,
     net: &mut S,
@@ -37,6 +38,7 @@ pub fn ask<S: Acts, W: Sink>(
     ensures armed { S.armed net.new ≡ S.armed net.old }
     ensures runs { Runs S.stands S.rests S.tallied (S.site net.old).nodes net.old net.new (W.taken sink.old) (W.taken sink.new) number (asks (Ask asked.node asked.event Fine) (reported asked.reporting)) result }
     ensures blame { IsBlamed (W.faults sink.old) (W.faults sink.new) result }
+    ensures lined { InLines W.taken W.pieces (IsItemLine (S.site net.old).nodes) sink.old sink.new result }
 {
     let Asked {
         node,
@@ -65,6 +67,7 @@ pub fn ledger<S: Acts, W: Sink>(
     ensures armed { S.armed net.new ≡ S.armed net.old }
     ensures runs { Runs S.stands S.rests S.tallied (S.site net.old).nodes net.old net.new (W.taken sink.old) (W.taken sink.new) number (Asks (Ask (sender (site_of (S.site net.old)) lane.now) (events.Ledger lane.now) Fine) (λ out. Looks (λ w. reports (ledger_items lane.now w out)))) result }
     ensures blame { IsBlamed (W.faults sink.old) (W.faults sink.new) result }
+    ensures lined { InLines W.taken W.pieces (IsItemLine (S.site net.old).nodes) sink.old sink.new result }
 {
     let node = sender(net.declared(), *lane);
     let reply = net.ask(node, &Event::Ledger { lane: *lane });
@@ -75,6 +78,7 @@ pub fn ledger<S: Acts, W: Sink>(
 
 /// A node plans, puts its frames on their wires and notes what became of them. A quiet tick leaves out that there was nothing
 /// to do.
+#[tactic(auto, using(crate::proofs::Lines::stopped_unwritten))]
 pub fn tick<S: Acts, W: Sink>(
     alloc: Global,
     net: &mut S,
@@ -89,6 +93,7 @@ pub fn tick<S: Acts, W: Sink>(
     ensures armed { S.armed net.new ≡ S.armed net.old }
     ensures runs { Runs S.stands S.rests S.tallied (S.site net.old).nodes net.old net.new (W.taken sink.old) (W.taken sink.new) number (ticked (site_of (S.site net.old)) quiet node) result }
     ensures blame { IsBlamed (W.faults sink.old) (W.faults sink.new) result }
+    ensures lined { InLines W.taken W.pieces (IsItemLine (S.site net.old).nodes) sink.old sink.new result }
 {
     match net.tick(node, quiet) {
         Ok(items) => write_items(alloc, net.declared(), number, items.as_slice(), sink),

@@ -7,7 +7,7 @@ ghost use Rattle.run_model.specs.Script.{Script};
 ghost use Rattle.run_model.specs.Lines.{node_at, is_taken, block_at_end, blocks, has_low, has_high};
 ghost use Rattle.run_turns.specs.Reported.{taken};
 ghost use Rattle.run_acts.specs.Fitting.{is_fit};
-ghost use Rattle.run_lines.specs.Reporting.{IsBlamed};
+ghost use Rattle.run_lines.specs.Reporting.{InLines, IsBlamed, IsItemLine};
 ghost use Rattle.run_lines.specs.Running.{Runs, Goes, IsReadySomewhere};
 
 use crate::Stop;
@@ -62,6 +62,7 @@ fn has_high(ends: Ends) -> bool
 }
 
 // The next block is taken at an end that goes on. The answer is whether it goes on after that.
+#[tactic(auto, using(crate::proofs::Lines::stopped_unwritten))]
 fn take_at<S: Acts, W: Sink>(
     alloc: Global,
     net: &mut S,
@@ -77,6 +78,7 @@ fn take_at<S: Acts, W: Sink>(
     ensures armed { S.armed net.new ≡ S.armed net.old }
     ensures goes { (next : Bool → Script) → Goes S.stands S.rests S.tallied (S.site net.old).nodes net.old net.new (W.taken sink.old) (W.taken sink.new) number (block_at_end (site_of (S.site net.old)) link end goes_on next) result next }
     ensures blame { IsBlamed (W.faults sink.old) (W.faults sink.new) result }
+    ensures lined { InLines W.taken W.pieces (IsItemLine (S.site net.old).nodes) sink.old sink.new result }
 {
     if !goes_on {
         return Ok(false);
@@ -111,6 +113,7 @@ pub fn bits<S: Acts, W: Sink>(
     ensures armed { S.armed net.new ≡ S.armed net.old }
     ensures runs { Runs S.stands S.rests S.tallied (S.site net.old).nodes net.old net.new (W.taken sink.old) (W.taken sink.new) number (blocks (site_of (S.site net.old)) link (has_low ends) (has_high ends) count) result }
     ensures blame { IsBlamed (W.faults sink.old) (W.faults sink.new) result }
+    ensures lined { InLines W.taken W.pieces (IsItemLine (S.site net.old).nodes) sink.old sink.new result }
 {
     let mut low = has_low(ends);
     let mut high = has_high(ends);

@@ -9,7 +9,7 @@ ghost use Rattle.run_model.specs.Lines.{script_of};
 ghost use Rattle.net_model.specs.Action as actions;
 ghost use Rattle.run_acts.specs.Acting.{fault_of};
 ghost use Rattle.run_acts.specs.Runnable.{IsTurnFor, IsCommandFor};
-ghost use Rattle.run_lines.specs.Reporting.{IsBlamed};
+ghost use Rattle.run_lines.specs.Reporting.{InLines, IsBlamed, IsItemLine};
 ghost use Rattle.run_lines.specs.Running.{Runs, IsReadySomewhere};
 ghost use Rattle.run_lines.specs.Commands.{acts_once, any_texts, armings_of, is_request};
 
@@ -57,6 +57,7 @@ fn act_once<S: Acts, W: Sink>(
     ensures armed { S.armed net.new ≤ S.armed net.old + armings_of command }
     ensures runs { (http : HttpTexts) → Runs S.stands S.rests S.tallied (S.site net.old).nodes net.old net.new (W.taken sink.old) (W.taken sink.new) number (script_of http (site_of (S.site net.old)) command) result }
     ensures blame { IsBlamed (W.faults sink.old) (W.faults sink.new) result }
+    ensures lined { InLines W.taken W.pieces (IsItemLine (S.site net.old).nodes) sink.old sink.new result }
 {
     match command {
         Command::Crash { node } => crash(alloc, net, number, node, sink),
@@ -91,6 +92,7 @@ fn plain_command<S: Acts, W: Sink>(
     ensures armed { S.armed net.new ≤ S.armed net.old + armings_of command }
     ensures runs { (http : HttpTexts) → Runs S.stands S.rests S.tallied (S.site net.old).nodes net.old net.new (W.taken sink.old) (W.taken sink.new) number (script_of http (site_of (S.site net.old)) command) result }
     ensures blame { IsBlamed (W.faults sink.old) (W.faults sink.new) result }
+    ensures lined { InLines W.taken W.pieces (IsItemLine (S.site net.old).nodes) sink.old sink.new result }
 {
     match command {
         Command::Bits { link, ends, count } => bits(alloc, net, number, link, ends, count, sink),
@@ -133,6 +135,7 @@ pub fn command<S: Acts, H: Requests, W: Sink>(
     ensures ready { OnOk result (IsReadySomewhere S.stands net.new) }
     ensures runs { (http : HttpTexts) → H.speaks requests.now http → Runs S.stands S.rests S.tallied (S.site net.old).nodes net.old net.new (W.taken sink.old) (W.taken sink.new) number (script_of http (site_of (S.site net.old)) command) result }
     ensures blame { IsBlamed (W.faults sink.old) (W.faults sink.new) result }
+    ensures lined { InLines W.taken W.pieces (IsItemLine (S.site net.old).nodes) sink.old sink.new result }
 {
     match command {
         Command::Http { node, octets } => http(alloc, net, requests, number, node, octets, sink),

@@ -6,7 +6,7 @@ ghost use Rattle.report_items.specs.declared.item.Item.TheVariants as items;
 ghost use Rattle.run_model.specs.Script.{asks};
 ghost use Rattle.run_model.specs.Outcomes.{frame_items};
 ghost use Rattle.run_acts.specs.Fitting.{is_fit};
-ghost use Rattle.run_lines.specs.Reporting.{IsBlamed};
+ghost use Rattle.run_lines.specs.Reporting.{InLines, IsBlamed, IsItemLine};
 ghost use Rattle.run_lines.specs.Running.{Runs, IsReadySomewhere};
 
 use crate::Stop;
@@ -18,6 +18,7 @@ use run_turns::{flipped_item, passed_item};
 use std::alloc::Global;
 
 /// A frame of a lane's wire comes to the lane's receiver.
+#[tactic(auto, using(crate::proofs::Lines::stopped_unwritten))]
 pub fn pass<S: Acts, W: Sink>(
     alloc: Global,
     net: &mut S,
@@ -32,6 +33,7 @@ pub fn pass<S: Acts, W: Sink>(
     ensures armed { S.armed net.new ≡ S.armed net.old }
     ensures runs { Runs S.stands S.rests S.tallied (S.site net.old).nodes net.old net.new (W.taken sink.old) (W.taken sink.new) number (asks (Deliver lane.now frame Fine) (frame_items (items.Passed lane.now frame))) result }
     ensures blame { IsBlamed (W.faults sink.old) (W.faults sink.new) result }
+    ensures lined { InLines W.taken W.pieces (IsItemLine (S.site net.old).nodes) sink.old sink.new result }
 {
     match net.pass(*lane, u64::from(frame)) {
         Ok(delivery) => {
@@ -43,6 +45,7 @@ pub fn pass<S: Acts, W: Sink>(
 }
 
 /// A frame of a lane's wire comes with one bit changed.
+#[tactic(auto, using(crate::proofs::Lines::stopped_unwritten))]
 pub fn flip<S: Acts, W: Sink>(
     alloc: Global,
     net: &mut S,
@@ -58,6 +61,7 @@ pub fn flip<S: Acts, W: Sink>(
     ensures armed { S.armed net.new ≡ S.armed net.old }
     ensures runs { Runs S.stands S.rests S.tallied (S.site net.old).nodes net.old net.new (W.taken sink.old) (W.taken sink.new) number (asks (Flip lane.now frame bit Fine) (frame_items (items.Flipped lane.now frame bit))) result }
     ensures blame { IsBlamed (W.faults sink.old) (W.faults sink.new) result }
+    ensures lined { InLines W.taken W.pieces (IsItemLine (S.site net.old).nodes) sink.old sink.new result }
 {
     match net.flip(*lane, u64::from(frame), bit) {
         Ok(Tampered::Came(delivery)) => {

@@ -2,7 +2,7 @@
 ghost use Rattle.std.specs.Prelude.{◌≡◌, ◌<◌, length, OnOk};
 ghost use Rattle.run_model.specs.Turn.{HttpTexts, http_turn};
 ghost use Rattle.run_model.specs.Lines.{script_of_turn};
-ghost use Rattle.run_lines.specs.Reporting.{IsBlamed};
+ghost use Rattle.run_lines.specs.Reporting.{InLines, IsBlamed, IsItemLine};
 ghost use Rattle.run_lines.specs.Running.{Runs, IsReadySomewhere};
 
 use crate::Stop;
@@ -15,6 +15,7 @@ use run_turns::http_item;
 use std::alloc::Global;
 
 /// A request comes to a node over HTTP, and its answer is reported.
+#[tactic(auto, using(crate::proofs::Lines::stopped_unwritten))]
 pub fn http<S: Acts, H: Requests, W: Sink>(
     alloc: Global,
     net: &mut S,
@@ -32,6 +33,7 @@ pub fn http<S: Acts, H: Requests, W: Sink>(
     ensures ready { OnOk result (IsReadySomewhere S.stands net.new) }
     ensures runs { (http : HttpTexts) → H.speaks requests.now http → Runs S.stands S.rests S.tallied (S.site net.old).nodes net.old net.new (W.taken sink.old) (W.taken sink.new) number (script_of_turn (http_turn node http.response (http.request node octets))) result }
     ensures blame { IsBlamed (W.faults sink.old) (W.faults sink.new) result }
+    ensures lined { InLines W.taken W.pieces (IsItemLine (S.site net.old).nodes) sink.old sink.new result }
 {
     match requests.read(alloc, node, octets) {
         Ok(Asked::AtOnce(answer)) => {

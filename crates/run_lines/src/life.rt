@@ -7,7 +7,7 @@ ghost use Rattle.run_model.specs.Outcomes.{crash_items, start_items, arm_items, 
 ghost use Rattle.run_model.specs.Lines.{begins};
 ghost use Rattle.run_acts.specs.Fitting.{is_fit};
 ghost use Rattle.run_acts.specs.Acting.{fault_of};
-ghost use Rattle.run_lines.specs.Reporting.{IsBlamed};
+ghost use Rattle.run_lines.specs.Reporting.{InLines, IsBlamed, IsItemLine};
 ghost use Rattle.run_lines.specs.Running.{Runs, IsReadySomewhere};
 
 use crate::Stop;
@@ -34,12 +34,14 @@ pub fn crash<S: Acts, W: Sink>(
     ensures armed { S.armed net.new ≡ S.armed net.old }
     ensures runs { Runs S.stands S.rests S.tallied (S.site net.old).nodes net.old net.new (W.taken sink.old) (W.taken sink.new) number (asks (Crashes node) crash_items) result }
     ensures blame { IsBlamed (W.faults sink.old) (W.faults sink.new) result }
+    ensures lined { InLines W.taken W.pieces (IsItemLine (S.site net.old).nodes) sink.old sink.new result }
 {
     let was_up = net.crash(node);
     write_item(alloc, net.declared(), number, &crash_item(was_up), sink)
 }
 
 /// A node's manager is started on its disk.
+#[tactic(auto, using(crate::proofs::Lines::stopped_unwritten))]
 pub fn start<S: Acts, W: Sink>(
     alloc: Global,
     net: &mut S,
@@ -53,6 +55,7 @@ pub fn start<S: Acts, W: Sink>(
     ensures armed { S.armed net.new ≡ S.armed net.old }
     ensures runs { Runs S.stands S.rests S.tallied (S.site net.old).nodes net.old net.new (W.taken sink.old) (W.taken sink.new) number (asks (Starts node (Recovers Bool.false)) start_items) result }
     ensures blame { IsBlamed (W.faults sink.old) (W.faults sink.new) result }
+    ensures lined { InLines W.taken W.pieces (IsItemLine (S.site net.old).nodes) sink.old sink.new result }
 {
     match net.start(node) {
         Ok(start) => write_item(alloc, net.declared(), number, &start_item(start), sink),
@@ -61,6 +64,7 @@ pub fn start<S: Acts, W: Sink>(
 }
 
 /// A declared node is started at the beginning. Nothing is reported where it starts, and where it wants memory the run ends.
+#[tactic(auto, using(crate::proofs::Lines::stopped_unwritten))]
 pub fn begin<S: Acts, W: Sink>(
     alloc: Global,
     net: &mut S,
@@ -74,6 +78,7 @@ pub fn begin<S: Acts, W: Sink>(
     ensures armed { S.armed net.new ≡ S.armed net.old }
     ensures runs { Runs S.stands S.rests S.tallied (S.site net.old).nodes net.old net.new (W.taken sink.old) (W.taken sink.new) number (begins node) result }
     ensures blame { IsBlamed (W.faults sink.old) (W.faults sink.new) result }
+    ensures lined { InLines W.taken W.pieces (IsItemLine (S.site net.old).nodes) sink.old sink.new result }
 {
     match net.start(node) {
         Ok(StartResult::Started) => Ok(()),
@@ -107,6 +112,7 @@ pub fn arm<S: Acts, W: Sink>(
     ensures armed { S.armed net.new ≤ S.armed net.old + 1 }
     ensures runs { Runs S.stands S.rests S.tallied (S.site net.old).nodes net.old net.new (W.taken sink.old) (W.taken sink.new) number (asks (Arms node (fault_of arm)) arm_items) result }
     ensures blame { IsBlamed (W.faults sink.old) (W.faults sink.new) result }
+    ensures lined { InLines W.taken W.pieces (IsItemLine (S.site net.old).nodes) sink.old sink.new result }
 {
     net.arm(node, arm);
     write_item(alloc, net.declared(), number, &arm_item(), sink)
@@ -127,6 +133,7 @@ pub fn set_link<S: Acts, W: Sink>(
     ensures armed { S.armed net.new ≡ S.armed net.old }
     ensures runs { Runs S.stands S.rests S.tallied (S.site net.old).nodes net.old net.new (W.taken sink.old) (W.taken sink.new) number (asks (SetLink link up) (link_items link up)) result }
     ensures blame { IsBlamed (W.faults sink.old) (W.faults sink.new) result }
+    ensures lined { InLines W.taken W.pieces (IsItemLine (S.site net.old).nodes) sink.old sink.new result }
 {
     net.set_link(link, up);
     write_item(alloc, net.declared(), number, &link_item(link, up), sink)

@@ -4,7 +4,7 @@ ghost use Rattle.std.specs.Option.{option_to_list};
 ghost use Rattle.edge_io.specs.Writes.{Adds};
 ghost use Rattle.report_items.specs.Texts.{line_text, report_text};
 ghost use Rattle.run_model.specs.Play.{numbered};
-ghost use Rattle.run_lines.specs.Reporting.{Wrote, IsBlamed};
+ghost use Rattle.run_lines.specs.Reporting.{InLines, IsBlamed, IsItemLine, Wrote};
 
 use crate::Stop;
 use declared_site::Site;
@@ -14,6 +14,7 @@ use report_writer::line_text;
 use std::alloc::Global;
 
 /// Writes what an item says, under the number of its line, in one write.
+#[tactic(auto, using(crate::proofs::Lines::stopped_unwritten))]
 pub fn write_item<W: Sink>(
     alloc: Global,
     site: &Site,
@@ -24,6 +25,7 @@ pub fn write_item<W: Sink>(
     ensures wrote { Wrote result (W.taken sink.old) (W.taken sink.new) (report_text site.now.nodes (numbered number (item.now ∷ []))) }
     ensures piece { OnOk result (Adds (W.pieces sink.old) (W.pieces sink.new) (line_text site.now.nodes (record { number = number; item = item.now }) ∷ [])) }
     ensures blame { IsBlamed (W.faults sink.old) (W.faults sink.new) result }
+    ensures lined { InLines W.taken W.pieces (IsItemLine site.now.nodes) sink.old sink.new result }
 {
     let Ok(text) = line_text(alloc, number, item, site) else {
         return Err(Stop::Memory);
@@ -35,6 +37,7 @@ pub fn write_item<W: Sink>(
 }
 
 /// Writes what an item says, if there is one.
+#[tactic(auto, using(crate::proofs::Lines::none_lined))]
 pub fn write_some<W: Sink>(
     alloc: Global,
     site: &Site,
@@ -44,6 +47,7 @@ pub fn write_some<W: Sink>(
 ) -> Result<(), Stop>
     ensures wrote { Wrote result (W.taken sink.old) (W.taken sink.new) (report_text site.now.nodes (numbered number (option_to_list item))) }
     ensures blame { IsBlamed (W.faults sink.old) (W.faults sink.new) result }
+    ensures lined { InLines W.taken W.pieces (IsItemLine site.now.nodes) sink.old sink.new result }
 {
     match item {
         Some(item) => write_item(alloc, site, number, &item, sink),
@@ -62,6 +66,7 @@ pub fn write_items<W: Sink>(
     ensures wrote { Wrote result (W.taken sink.old) (W.taken sink.new) (report_text site.now.nodes (numbered number items.now)) }
     ensures pieces { OnOk result (Adds (W.pieces sink.old) (W.pieces sink.new) (map (line_text site.now.nodes) (numbered number items.now))) }
     ensures blame { IsBlamed (W.faults sink.old) (W.faults sink.new) result }
+    ensures lined { InLines W.taken W.pieces (IsItemLine site.now.nodes) sink.old sink.new result }
 {
     for item in items {
         match write_item(alloc, site, number, item, sink) {

@@ -5,7 +5,7 @@ ghost use Rattle.net_model.specs.Site.{count_up};
 ghost use Rattle.net_model.specs.Events.{is_lane};
 ghost use Rattle.run_model.specs.Script.{Looks, Ends};
 ghost use Rattle.run_model.specs.Lines.{ticked, ticks, passes};
-ghost use Rattle.run_lines.specs.Reporting.{IsBlamed};
+ghost use Rattle.run_lines.specs.Reporting.{InLines, IsBlamed, IsItemLine};
 ghost use Rattle.run_lines.specs.Running.{Runs, IsReadySomewhere};
 
 use crate::Stop;
@@ -30,6 +30,7 @@ fn tick_if_up<S: Acts, W: Sink>(
     ensures armed { S.armed net.new ≡ S.armed net.old }
     ensures runs { Runs S.stands S.rests S.tallied (S.site net.old).nodes net.old net.new (W.taken sink.old) (W.taken sink.new) number (Looks (λ w. if w.up node then ticked (site_of (S.site net.old)) true node else Ends)) result }
     ensures blame { IsBlamed (W.faults sink.old) (W.faults sink.new) result }
+    ensures lined { InLines W.taken W.pieces (IsItemLine (S.site net.old).nodes) sink.old sink.new result }
 {
     if net.is_up(node) {
         tick(alloc, net, number, node, true, sink)
@@ -51,6 +52,7 @@ pub fn tick_all<S: Acts, W: Sink>(
     ensures armed { S.armed net.new ≡ S.armed net.old }
     ensures runs { Runs S.stands S.rests S.tallied (S.site net.old).nodes net.old net.new (W.taken sink.old) (W.taken sink.new) number (ticks (site_of (S.site net.old)) (count_up (site_of (S.site net.old)).nodes)) result }
     ensures blame { IsBlamed (W.faults sink.old) (W.faults sink.new) result }
+    ensures lined { InLines W.taken W.pieces (IsItemLine (S.site net.old).nodes) sink.old sink.new result }
 {
     let nodes = net.declared().nodes.len();
     for place in 0..nodes {
@@ -89,6 +91,7 @@ pub fn pass_from<S: Acts, W: Sink>(
     ensures armed { S.armed net.new ≡ S.armed net.old }
     ensures runs { Runs S.stands S.rests S.tallied (S.site net.old).nodes net.old net.new (W.taken sink.old) (W.taken sink.new) number (passes lane.now from (to - from)) result }
     ensures blame { IsBlamed (W.faults sink.old) (W.faults sink.new) result }
+    ensures lined { InLines W.taken W.pieces (IsItemLine (S.site net.old).nodes) sink.old sink.new result }
 {
     for place in from..to {
         let frame = match reported_number(place) {

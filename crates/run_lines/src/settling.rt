@@ -5,7 +5,7 @@ ghost use Rattle.net_model.specs.World.{Network, World};
 ghost use Rattle.run_model.specs.Script.{Script, Ends};
 ghost use Rattle.run_model.specs.Lines.{all_lanes, all_passes, settle};
 ghost use Rattle.run_acts.specs.Acting.{IsReady};
-ghost use Rattle.run_lines.specs.Reporting.{IsBlamed};
+ghost use Rattle.run_lines.specs.Reporting.{InLines, IsBlamed, IsItemLine};
 ghost use Rattle.run_lines.specs.Going.{Reached};
 ghost use Rattle.run_lines.specs.Running.{Finishes, Stops, Runs, IsReadySomewhere};
 ghost use Rattle.run_lines.specs.Counting.{on_wire, AreOn, round};
@@ -68,6 +68,7 @@ fn pass_new<S: Acts, W: Sink>(
         (λ frames. Finishes S.stands S.tallied (S.site net.old).nodes net.old net.new (W.taken sink.old) (W.taken sink.new) number n w (all_passes earlier w lanes.now) × AreOn lanes.now w frames)
         (λ stop. Stops S.rests S.tallied (S.site net.old).nodes net.old net.new (W.taken sink.old) (W.taken sink.new) number n w (all_passes earlier w lanes.now) stop) }
     ensures blame { IsBlamed (W.faults sink.old) (W.faults sink.new) result }
+    ensures lined { InLines W.taken W.pieces (IsItemLine (S.site net.old).nodes) sink.old sink.new result }
 {
     let mut each = Vec::new(alloc);
     let mut all = 0u64;
@@ -109,6 +110,7 @@ fn round<S: Acts, W: Sink>(
         (λ now. (after : World) × Reached S.stands S.tallied (S.site net.old).nodes net.old net.new (W.taken sink.old) (W.taken sink.new) number n w (round (site_of (S.site net.old)) next) after (if nat_lt before.now.all now.all then next else Ends) × AreOn lanes.now after now)
         (λ stop. Stops S.rests S.tallied (S.site net.old).nodes net.old net.new (W.taken sink.old) (W.taken sink.new) number n w (round (site_of (S.site net.old)) next) stop) }
     ensures blame { IsBlamed (W.faults sink.old) (W.faults sink.new) result }
+    ensures lined { InLines W.taken W.pieces (IsItemLine (S.site net.old).nodes) sink.old sink.new result }
 {
     match tick_all(alloc, net, number, sink) {
         Ok(()) => pass_new(alloc, net, number, lanes, before.each.as_slice(), sink),
@@ -130,6 +132,7 @@ pub fn settle<S: Acts, W: Sink>(
     ensures armed { S.armed net.new ≡ S.armed net.old }
     ensures runs { Runs S.stands S.rests S.tallied (S.site net.old).nodes net.old net.new (W.taken sink.old) (W.taken sink.new) number (settle (site_of (S.site net.old)) rounds) result }
     ensures blame { IsBlamed (W.faults sink.old) (W.faults sink.new) result }
+    ensures lined { InLines W.taken W.pieces (IsItemLine (S.site net.old).nodes) sink.old sink.new result }
 {
     let lanes = match all_lanes(alloc, net.declared()) {
         Ok(lanes) => lanes,

@@ -8,7 +8,7 @@ ghost use Rattle.run_model.specs.Report.{Does};
 ghost use Rattle.run_acts.specs.Acting.{IsReady};
 ghost use Rattle.run_acts.specs.Runnable.{IsBlockLineFor};
 ghost use Rattle.run_blocks.specs.Doing.{MayTogether, DidTogether};
-ghost use Rattle.run_lines.specs.Reporting.{IsBlamed};
+ghost use Rattle.run_lines.specs.Reporting.{InLines, IsBlamed, IsItemLine};
 ghost use Rattle.run_lines.specs.Running.{IsReadySomewhere};
 ghost use Rattle.run_tasks.specs.Tasks.{RanTasks};
 
@@ -24,6 +24,7 @@ use std::alloc::Global;
 
 /// Lines of a block are done side by side by so many workers, as `together` has them do it, and then reported: first what was answered
 /// without a manager, then the managers' replies in order of node, last the frames.
+#[tactic(auto, using(run_lines::proofs::Lines::stopped_unwritten))]
 pub fn do_block<
     S: Acts,
     T: Fn(&mut S, u32, &[Job]) -> Result<DoneBlock, Memory>,
@@ -50,6 +51,7 @@ pub fn do_block<
     ensures ready { OnOk result (IsReadySomewhere S.stands net.new) }
     ensures ran { (http : HttpTexts) (n : Network) (w : World) → H.speaks requests.now http → IsReady S.stands net.old n w → RanTasks S.stands S.rests S.tallied (S.site net.old).nodes net.old net.new (W.taken sink.old) (W.taken sink.new) http n workers w (Does (entries.Block lines) ∷ []) result }
     ensures blame { IsBlamed (W.faults sink.old) (W.faults sink.new) result }
+    ensures lined { InLines W.taken W.pieces (IsItemLine (S.site net.old).nodes) sink.old sink.new result }
 {
     let prepared = match prepare(alloc, net, requests, lines) {
         Ok(prepared) => prepared,

@@ -8,7 +8,7 @@ ghost use Rattle.run_model.specs.Report.{starts_from, tasks, Does};
 ghost use Rattle.run_acts.specs.Acting.{IsReady};
 ghost use Rattle.run_acts.specs.Runnable.{IsEntryFor, arms_a_disk};
 ghost use Rattle.run_blocks.specs.Doing.{MayTogether, DidTogether};
-ghost use Rattle.run_lines.specs.Reporting.{IsBlamed};
+ghost use Rattle.run_lines.specs.Reporting.{InLines, IsBlamed, IsItemLine};
 ghost use Rattle.run_lines.specs.Running.{IsReadySomewhere};
 ghost use Rattle.run_tasks.specs.Tasks.{RanTasks};
 
@@ -35,6 +35,7 @@ fn begin_all<S: Acts, W: Sink>(
     ensures armed { S.armed net.new ≡ S.armed net.old }
     ensures ran { (http : HttpTexts) (n : Network) (workers : ℕ) (w : World) → IsReady S.stands net.old n w → RanTasks S.stands S.rests S.tallied (S.site net.old).nodes net.old net.new (W.taken sink.old) (W.taken sink.new) http n workers w (starts_from 0 node_lines.now) result }
     ensures blame { IsBlamed (W.faults sink.old) (W.faults sink.new) result }
+    ensures lined { InLines W.taken W.pieces (IsItemLine (S.site net.old).nodes) sink.old sink.new result }
 {
     for place in 0..node_lines.len() {
         let node = NodeNo::new(place as u8).unwrap();
@@ -70,6 +71,7 @@ fn do_entry<S: Acts, T: Fn(&mut S, u32, &[Job]) -> Result<DoneBlock, Memory>, H:
     ensures ready { OnOk result (IsReadySomewhere S.stands net.new) }
     ensures ran { (http : HttpTexts) (n : Network) (w : World) → H.speaks requests.now http → IsReady S.stands net.old n w → RanTasks S.stands S.rests S.tallied (S.site net.old).nodes net.old net.new (W.taken sink.old) (W.taken sink.new) http n workers w (Does entry ∷ []) result }
     ensures blame { IsBlamed (W.faults sink.old) (W.faults sink.new) result }
+    ensures lined { InLines W.taken W.pieces (IsItemLine (S.site net.old).nodes) sink.old sink.new result }
 {
     match entry {
         Entry::Line(line) => {
@@ -106,6 +108,7 @@ fn do_all<S: Acts, T: Fn(&mut S, u32, &[Job]) -> Result<DoneBlock, Memory>, H: R
     ensures ready { OnOk result (IsReadySomewhere S.stands net.new) }
     ensures ran { (http : HttpTexts) (n : Network) (w : World) → H.speaks requests.now http → IsReady S.stands net.old n w → RanTasks S.stands S.rests S.tallied (S.site net.old).nodes net.old net.new (W.taken sink.old) (W.taken sink.new) http n workers w (map Does list) result }
     ensures blame { IsBlamed (W.faults sink.old) (W.faults sink.new) result }
+    ensures lined { InLines W.taken W.pieces (IsItemLine (S.site net.old).nodes) sink.old sink.new result }
 {
     for entry in list.into_vec() {
         match do_entry(alloc, net, requests, together, workers, entry, sink) {
@@ -147,6 +150,7 @@ pub fn run_entries<
     ensures ready { OnOk result (IsReadySomewhere S.stands net.new) }
     ensures ran { (http : HttpTexts) (n : Network) (w : World) → H.speaks requests.now http → IsReady S.stands net.old n w → RanTasks S.stands S.rests S.tallied (S.site net.old).nodes net.old net.new (W.taken sink.old) (W.taken sink.new) http n workers w (tasks node_lines.now list) result }
     ensures blame { IsBlamed (W.faults sink.old) (W.faults sink.new) result }
+    ensures lined { InLines W.taken W.pieces (IsItemLine (S.site net.old).nodes) sink.old sink.new result }
 {
     match begin_all(alloc, net, node_lines, sink) {
         Ok(()) => do_all(alloc, net, requests, together, workers, list, sink),

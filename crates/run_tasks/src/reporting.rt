@@ -3,7 +3,7 @@ ghost use Rattle.std.specs.Prelude.{◌≡◌, ◌++◌, IfOk, map};
 ghost use Rattle.std.specs.Option.{option_to_list};
 ghost use Rattle.report_items.specs.Texts.{report_text};
 ghost use Rattle.run_model.specs.Turn.{HttpTexts};
-ghost use Rattle.run_lines.specs.Reporting.{Wrote, IsBlamed};
+ghost use Rattle.run_lines.specs.Reporting.{InLines, IsBlamed, IsItemLine, Wrote};
 ghost use Rattle.run_tasks.specs.declared.prepared.Telling.TheVariants as tellings;
 ghost use Rattle.run_tasks.specs.Prepared.{tells, told_item};
 ghost use Rattle.run_tasks.specs.Reported.{number_in, turn_told, turns_told, frames_told};
@@ -79,6 +79,7 @@ fn told_of<H: Requests>(
 fn write_told<W: Sink>(alloc: Global, site: &Site, told: &[Told], sink: &mut W) -> Result<(), Stop>
     ensures wrote { Wrote result (W.taken sink.old) (W.taken sink.new) (report_text site.now.nodes (map told_item told.now)) }
     ensures blame { IsBlamed (W.faults sink.old) (W.faults sink.new) result }
+    ensures lined { InLines W.taken W.pieces (IsItemLine site.now.nodes) sink.old sink.new result }
 {
     for each in told {
         match write_item(alloc, site, each.number, &each.item, sink) {
@@ -90,6 +91,7 @@ fn write_told<W: Sink>(alloc: Global, site: &Site, told: &[Told], sink: &mut W) 
 }
 
 // Writes what the place of a reply tells of it.
+#[tactic(auto, using(run_lines::proofs::Lines::stopped_unwritten, run_lines::proofs::Lines::none_lined))]
 fn write_turn<H: Requests, W: Sink>(
     alloc: Global,
     site: &Site,
@@ -101,6 +103,7 @@ fn write_turn<H: Requests, W: Sink>(
 ) -> Result<(), Stop>
     ensures wrote { (http : HttpTexts) → H.speaks requests.now http → Wrote result (W.taken sink.old) (W.taken sink.new) (report_text site.now.nodes (turn_told http jobs.now places.now turned)) }
     ensures blame { IsBlamed (W.faults sink.old) (W.faults sink.new) result }
+    ensures lined { InLines W.taken W.pieces (IsItemLine site.now.nodes) sink.old sink.new result }
 {
     let Turned { place, reply } = turned;
     match jobs.get(place) {
@@ -127,6 +130,7 @@ fn write_turns<H: Requests, W: Sink>(
 ) -> Result<(), Stop>
     ensures wrote { (http : HttpTexts) → H.speaks requests.now http → Wrote result (W.taken sink.old) (W.taken sink.new) (report_text site.now.nodes (turns_told http jobs.now places.now turns.items)) }
     ensures blame { IsBlamed (W.faults sink.old) (W.faults sink.new) result }
+    ensures lined { InLines W.taken W.pieces (IsItemLine site.now.nodes) sink.old sink.new result }
 {
     for turned in turns {
         match write_turn(alloc, site, requests, jobs, places, turned, sink) {
@@ -157,6 +161,7 @@ fn write_frames<W: Sink>(
 ) -> Result<(), Stop>
     ensures wrote { Wrote result (W.taken sink.old) (W.taken sink.new) (report_text site.now.nodes (frames_told places.now frames.now)) }
     ensures blame { IsBlamed (W.faults sink.old) (W.faults sink.new) result }
+    ensures lined { InLines W.taken W.pieces (IsItemLine site.now.nodes) sink.old sink.new result }
 {
     for frame in frames {
         let number = number_at(places, frame.place);
@@ -181,6 +186,7 @@ pub fn report<H: Requests, W: Sink>(
 ) -> Result<(), Stop>
     ensures wrote { (http : HttpTexts) → H.speaks requests.now http → Wrote result (W.taken sink.old) (W.taken sink.new) (report_text site.now.nodes (map told_item told.now ++ turns_told http jobs.now places.now done.turns.items ++ frames_told places.now done.frames.items)) }
     ensures blame { IsBlamed (W.faults sink.old) (W.faults sink.new) result }
+    ensures lined { InLines W.taken W.pieces (IsItemLine site.now.nodes) sink.old sink.new result }
 {
     let DoneBlock { turns, frames } = done;
     match write_told(alloc, site, told, sink) {

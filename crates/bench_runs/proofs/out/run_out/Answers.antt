@@ -6,6 +6,7 @@ use Rattle.declared_site.specs.SiteOf.{site_of}
 use Rattle.declared_site.specs.declared.site.Site.{Site}
 use Rattle.run_acts.specs.Acting.{IsReady}
 use Rattle.run_acts.specs.Runnable.{IsEntryFor}
+use Rattle.run_lines.specs.Reporting.{InLines, IsItemLine}
 use Rattle.run_tasks.specs.Tasks.{RanTasks}
 use Rattle.run_model.specs.Report.{tasks}
 use Rattle.run_model.specs.Course.{tasks_of}
@@ -110,3 +111,10 @@ returns-clause-ready g c =
     ready_after g.K.Disk.is_honest g.K.Disk.content g.K.Disk.moment g.K.Disk.image g.E.Entropy.left g.Q.Device.told g.X.Wire.frames g.X.Wire.counted
     g.K.Disk.faults g.K.Disk.armings g.E.Entropy.faults g.Q.Device.faults g.X.Wire.faults (λ (r : Running-here). r.state)
     c.run_entries-ended.new.net c.into_state.result (sym c.into_state.ensures.state) c.run_entries-ended.result c.run_entries-ended.ensures.ready
+
+pub returns-clause-lined : goal.returns-clause-lined
+returns-clause-lined g c =
+    let State-here = State g.row.K.Denot g.row.Q.Denot g.row.E.Denot g.row.X.Denot in
+    let sited : c.new-running.result.state.site ≡ c.args.scenario.site = ap (λ (s : State-here). s.site) c.new-running.ensures ∙ c.in-Ok-lay_out.ensures.laid.sited in
+    subst (λ (d : Site). InLines g.W.Sink.taken g.W.Sink.pieces (IsItemLine d.nodes) c.args.sink.now c.run_entries-ended.new.sink c.run_entries-ended.result) sited
+    c.run_entries-ended.ensures.lined

@@ -1,5 +1,6 @@
 -- The answers of a run over a bench.
 use Rattle.std.proofs.Common.{inr}
+use Rattle.run_lines.proofs.Lines.{stopped_unwritten}
 use Rattle.world_bench.specs.Passed.{State}
 use Rattle.bench_runs.proofs.Headlines.{headlines}
 use Rattle.bench_runs.proofs.Rooms.{whole_again}
@@ -21,3 +22,6 @@ returns-in-Ok-clause-whole g c =
     let r = c.in-Ok.ensures.ran in
     whole_again g.K.Disk.is_honest g.K.Disk.content g.K.Disk.moment g.K.Disk.image c.args.bench.now c.run_out.new.bench c.put_back.new.bench c.args.scenario.site
     r.begin c.in-Ok.left.state c.requires.runnable.site c.requires.fresh.whole r.laid r.sized r.sited c.put_back.ensures
+
+pub returns-in-Err-clause-lined : goal.returns-in-Err-clause-lined
+returns-in-Err-clause-lined g c = rw c.in-Err.ensures.err.1 (stopped_unwritten g.W.Sink.taken g.W.Sink.pieces c.args.scenario.site.nodes c.args.sink.now)

@@ -1,4 +1,4 @@
-use Rattle.std.proofs.Common.{◌≡◌, ◌∙◌, ◌+◌, true, List, length, map, refl, sym, ap, subst, arith, rules}
+use Rattle.std.proofs.Common.{◌≡◌, ◌∙◌, ◌+◌, true, List, length, map, refl, sym, ap, subst, arith, rules, [], Err}
 use Rattle.std.specs.List.{AllByRecursion, list_all}
 use Rattle.std.specs.Vec.Iter.{into_iter_items}
 use Rattle.declared_site.specs.SiteOf.{site_of}
@@ -11,6 +11,8 @@ use Rattle.load_lines.specs.declared.handed.Handed.{Handed}
 use Rattle.load_lines.specs.Entries.{IsLineFor}
 use Rattle.load_lines.proofs.Entries.{entry_is, first_load, more_load}
 use Rattle.load_lines.proofs.Tasks.{went_none, went_on, went_one, went_as, went_stop, went_short, one_stopped}
+use Rattle.run_lines.specs.Reporting.{IsItemLine}
+use Rattle.run_lines.proofs.Lines.{none_lined, lined_on, in_lines_on, stopped_lined}
 use Rattle.load_lines.proofs.load.do_all.Goals as goal
 
 pub loop-entry-init : goal.loop-entry-init
@@ -24,6 +26,7 @@ loop-entry-init g c =
       load = rw is c.requires.load;
       fit = rw is c.requires.fit;
       ready = c.requires.ready;
+      lined = none_lined g.W.Sink.taken g.W.Sink.pieces (IsItemLine (g.S.Acts.site c.args.net.now).nodes) c.args.sink.now;
       later = omega arith;
       went = λ http n w ready. (w, rw c.none-handed.ensures (went_none _ _ _ ways _ http n _ _ w _ ready));
     }
@@ -43,6 +46,7 @@ loop-entry-preserved g c =
       load = more_load c.in-Some.entry (into_iter_items c.next.new.self) (subst (λ (es : List Entry). list_all is_load_entry es ≡ true) gone.0 c.loop-entry.invariant.load);
       fit = (subst (AllByRecursion (IsLineFor (g.S.Acts.site c.args.net.now))) gone.0 c.loop-entry.invariant.fit).1;
       ready = c.in-Ok.ensures.ready;
+      lined = lined_on g.W.Sink.taken g.W.Sink.pieces (IsItemLine (g.S.Acts.site c.args.net.now).nodes) _ _ _ [] c.loop-entry.invariant.lined (let line = c.in-Ok.ensures.lined in rw (c.loop-entry.invariant.site) at line);
       later = omega (arith, c.loop-entry.invariant.later, c.in-Ok.ensures.blame.later);
       went = λ http n w ready.
           let at = c.loop-entry.invariant.went http n w ready in
@@ -101,3 +105,11 @@ returns-clause-ran g c = λ http n w ready.
     let at = c.loop-entry.invariant.went http n w ready in
     let none = is_none _ (sym c.loop-entry.invariant.long ∙ c.in-None.ensures.steps.0) in
     (at.0, rw (← is) (went_as _ _ _ ways _ http n _ _ _ _ w at.0 _ _ _ c.loop-entry.handed (ap (λ (es : List Entry). map Does es) none) at.1))
+
+pub returns-in-Err-clause-lined : goal.returns-in-Err-clause-lined
+returns-in-Err-clause-lined g c =
+    let line = c.in-Err.ensures.lined in
+    in_lines_on g.W.Sink.taken g.W.Sink.pieces (IsItemLine (g.S.Acts.site c.args.net.now).nodes) {T = Unit {0}} _ _ _ (Err c.in-Err.stop) c.loop-entry.invariant.lined (rw (c.loop-entry.invariant.site) at line)
+
+pub returns-in-Err-plus-clause-lined : goal.returns-in-Err-plus-clause-lined
+returns-in-Err-plus-clause-lined g c = stopped_lined g.W.Sink.taken g.W.Sink.pieces (g.S.Acts.site c.args.net.now).nodes _ _ (lined_on g.W.Sink.taken g.W.Sink.pieces (IsItemLine (g.S.Acts.site c.args.net.now).nodes) _ _ _ [] c.loop-entry.invariant.lined (let line = c.in-Ok.ensures.lined in rw (c.loop-entry.invariant.site) at line))

@@ -1,4 +1,4 @@
-use Rattle.std.proofs.Common.{◌≡◌, ◌≤◌, true, length, map}
+use Rattle.std.proofs.Common.{◌≡◌, ◌≤◌, true, length, map, []}
 use Rattle.std.specs.List.{AllByRecursion, list_all}
 use Rattle.std.specs.Vec.Iter.{into_iter_items, into_iter_len}
 use Rattle.net_model.specs.World.{Network, World}
@@ -9,6 +9,7 @@ use Rattle.run_lines.specs.Running.{IsReadySomewhere}
 use Rattle.law_loads.specs.Kinds.{is_load_entry}
 use Rattle.load_lines.specs.Entries.{IsLineFor}
 use Rattle.load_lines.specs.Leading.{Went}
+use Rattle.run_lines.specs.Reporting.{IsItemLine, TookLines}
 use Rattle.load_lines.proofs.load.do_all.Given as goal
 
 abbrev pub invariant-loop-entry : goal.invariant-loop-entry
@@ -22,6 +23,7 @@ invariant-loop-entry g l =
       load : list_all is_load_entry left ≡ true;
       fit : AllByRecursion (IsLineFor sited) left;
       ready : IsReadySomewhere g.S.Acts.stands l.net;
+      lined : TookLines g.W.Sink.taken g.W.Sink.pieces (IsItemLine sited.nodes) l.fn.sink l.sink [];
       later : g.W.Sink.faults l.fn.sink ≤ g.W.Sink.faults l.sink;
       went : (http : HttpTexts) (n : Network) (w : World) → IsReady g.S.Acts.stands l.fn.net n w → (after : World)
           × Went g.S.Acts.stands g.S.Acts.tallied sited.nodes l.fn.net l.net (g.W.Sink.taken l.fn.sink) (g.W.Sink.taken l.sink) http n w

@@ -1,4 +1,4 @@
-use Rattle.std.proofs.Common.{[], map}
+use Rattle.std.proofs.Common.{[], map, Err}
 use Rattle.std.specs.Prelude.{None}
 use Rattle.run_model.specs.Report.{Does}
 use Rattle.run_lines.specs.Commands.{any_texts}
@@ -7,6 +7,10 @@ use Rattle.load_lines.specs.Counting.{no_keys}
 use Rattle.load_lines.proofs.Entries.{all_lines, no_block}
 use Rattle.load_lines.proofs.Keys.{none_more}
 use Rattle.load_lines.proofs.Tasks.{went_on, went_stop, load_stopped, load_done}
+use Rattle.run_lines.specs.Reporting.{IsItemLine}
+use Rattle.run_lines.proofs.Lines.{in_lines_on}
+use Rattle.load_lines.specs.Pieces.{IsHandedLine, IsLoadLine}
+use Rattle.load_lines.proofs.Pieces.{took_also, in_lines_also, unwritten, item_too, handed_too}
 use Rattle.load_lines.proofs.load.run_load.Goals as goal
 
 pub do_all-requires-clause-fit : goal.do_all-requires-clause-fit
@@ -41,3 +45,20 @@ returns-in-Err-do_all-clause-ran g c = λ http n w ready.
     let ran_here = rw c.in-Ok.ensures.site at ran in
     load_stopped _ _ _ ways _ http n _ _ _ _ w _ _
     (went_stop _ _ _ ways _ http n _ _ _ _ _ _ w p.0 _ _ _ no_keys p.1 (ran_here http n p.0 p.1.ready))
+
+pub returns-in-Err-clause-lined : goal.returns-in-Err-clause-lined
+returns-in-Err-clause-lined g c =
+    in_lines_also g.W.Sink.taken g.W.Sink.pieces (IsItemLine (g.S.Acts.site c.args.net.now).nodes) (IsLoadLine (g.S.Acts.site c.args.net.now).nodes) (item_too (g.S.Acts.site c.args.net.now).nodes) {T = Unit {0}} _ _ (Err c.in-Err.stop)
+    (unwritten g.W.Sink.taken g.W.Sink.pieces (g.S.Acts.site c.args.net.now).nodes {T = Unit {0}} c.args.sink.now (Err c.in-Err.stop))
+
+pub returns-in-Ok-do_all-clause-lined : goal.returns-in-Ok-do_all-clause-lined
+returns-in-Ok-do_all-clause-lined g c =
+    let line = c.in-Ok-do_all.ensures.lined in
+    in_lines_on g.W.Sink.taken g.W.Sink.pieces (IsLoadLine (g.S.Acts.site c.args.net.now).nodes) _ _ _ c.write_handed.result
+    (took_also g.W.Sink.taken g.W.Sink.pieces (IsItemLine (g.S.Acts.site c.args.net.now).nodes) (IsLoadLine (g.S.Acts.site c.args.net.now).nodes) (item_too (g.S.Acts.site c.args.net.now).nodes) _ _ [] (rw c.in-Ok.ensures.site at line))
+    (in_lines_also g.W.Sink.taken g.W.Sink.pieces IsHandedLine (IsLoadLine (g.S.Acts.site c.args.net.now).nodes) (handed_too (g.S.Acts.site c.args.net.now).nodes) _ _ c.write_handed.result c.write_handed.ensures.lined)
+
+pub returns-in-Err-do_all-clause-lined : goal.returns-in-Err-do_all-clause-lined
+returns-in-Err-do_all-clause-lined g c =
+    let line = c.in-Err-do_all.ensures.lined in
+    in_lines_also g.W.Sink.taken g.W.Sink.pieces (IsItemLine (g.S.Acts.site c.args.net.now).nodes) (IsLoadLine (g.S.Acts.site c.args.net.now).nodes) (item_too (g.S.Acts.site c.args.net.now).nodes) {T = Unit {0}} _ _ (Err c.in-Err-do_all.stop) (rw c.in-Ok.ensures.site at line)

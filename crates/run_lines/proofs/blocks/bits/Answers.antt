@@ -1,7 +1,9 @@
-use Rattle.std.proofs.Common.{◌≡◌, ◌∙◌, ◌-◌, refl, subst, arith}
+use Rattle.std.proofs.Common.{◌≡◌, ◌∙◌, ◌-◌, refl, subst, arith, [], Err}
 use Rattle.run_lines.proofs.Going.{Ways}
 use Rattle.run_lines.proofs.Looping.{Went, went_none, went_ready, went_ends}
 use Rattle.run_lines.proofs.Ends.{no_turn, low_taken, low_short, high_taken, high_short}
+use Rattle.run_lines.specs.Reporting.{IsItemLine}
+use Rattle.run_lines.proofs.Lines.{none_lined, lined_on, in_lines_on}
 use Rattle.run_lines.proofs.blocks.bits.Goals as goal
 
 pub loop-turn-init : goal.loop-turn-init
@@ -11,6 +13,7 @@ loop-turn-init g c =
     record {
       site = refl;
       armed = refl;
+      lined = none_lined g.W.Sink.taken g.W.Sink.pieces (IsItemLine (g.S.Acts.site c.args.net.now).nodes) c.args.sink.now;
       later = omega arith;
       went = rw (c.has_low-low.ensures, c.has_high-high.ensures, all) (went_none _ _ _ ways _ c.args.number _ _ _);
     }
@@ -59,6 +62,7 @@ loop-turn-preserved g c =
     record {
       site = c.in-Ok-take_at.ensures.site ∙ c.in-Ok.ensures.site ∙ c.loop-turn.invariant.site;
       armed = c.in-Ok-take_at.ensures.armed ∙ c.in-Ok.ensures.armed ∙ c.loop-turn.invariant.armed;
+      lined = lined_on g.W.Sink.taken g.W.Sink.pieces (IsItemLine (g.S.Acts.site c.args.net.now).nodes) _ _ _ [] (lined_on g.W.Sink.taken g.W.Sink.pieces (IsItemLine (g.S.Acts.site c.args.net.now).nodes) _ _ _ [] (c.loop-turn.invariant.lined) (let line = c.in-Ok.ensures.lined in rw (c.loop-turn.invariant.site) at line)) (let line = c.in-Ok-take_at.ensures.lined in rw (c.in-Ok.ensures.site ∙ c.loop-turn.invariant.site) at line);
       later = omega (arith, c.loop-turn.invariant.later, c.in-Ok.ensures.blame.later, c.in-Ok-take_at.ensures.blame.later);
       went = high_taken _ _ _ ways _ c.args.number _ c.args.link c.loop-turn.low c.loop-turn.high c.args.count c.loop-turn._turn c.loop-turn-test.true _ _ _ _ _ c.loop-turn.invariant.went _ _ _ low_here _ _ _ high_here;
     }
@@ -68,3 +72,13 @@ returns-clause-runs g c =
     let ways : Ways g.S.Acts.stands g.S.Acts.rests g.S.Acts.tallied = record { rest = g.met.S.Acts.comes_to_rest; none = g.met.S.Acts.none_tallied; more = g.met.S.Acts.more_tallied } in
     let none = no_turn _ c.args.link c.loop-turn.low c.loop-turn.high c.args.count c.loop-turn._turn c.loop-turn-test.false in
     went_ends _ _ _ ways _ c.args.number (tt {0}) _ _ _ _ _ (subst (Went _ _ _ _ _ _ _ c.args.number _) none c.loop-turn.invariant.went)
+
+pub returns-in-Err-clause-lined : goal.returns-in-Err-clause-lined
+returns-in-Err-clause-lined g c =
+    let line = c.in-Err.ensures.lined in
+    in_lines_on g.W.Sink.taken g.W.Sink.pieces (IsItemLine (g.S.Acts.site c.args.net.now).nodes) {T = Unit {0}} _ _ _ (Err c.in-Err.stop) (c.loop-turn.invariant.lined) (rw (c.loop-turn.invariant.site) at line)
+
+pub returns-in-Err-take_at-clause-lined : goal.returns-in-Err-take_at-clause-lined
+returns-in-Err-take_at-clause-lined g c =
+    let line = c.in-Err-take_at.ensures.lined in
+    in_lines_on g.W.Sink.taken g.W.Sink.pieces (IsItemLine (g.S.Acts.site c.args.net.now).nodes) {T = Unit {0}} _ _ _ (Err c.in-Err-take_at.stop) (lined_on g.W.Sink.taken g.W.Sink.pieces (IsItemLine (g.S.Acts.site c.args.net.now).nodes) _ _ _ [] (c.loop-turn.invariant.lined) (let line = c.in-Ok.ensures.lined in rw (c.loop-turn.invariant.site) at line)) (rw (c.in-Ok.ensures.site ∙ c.loop-turn.invariant.site) at line)

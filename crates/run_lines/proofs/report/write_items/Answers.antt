@@ -1,11 +1,14 @@
-use Rattle.std.proofs.Common.{arith}
+use Rattle.std.proofs.Common.{[], arith, Err}
 use Rattle.run_lines.proofs.Writing.{none_took, none_pieces, more_took, more_pieces, stopped_at}
+use Rattle.run_lines.specs.Reporting.{IsItemLine}
+use Rattle.run_lines.proofs.Lines.{none_lined, lined_on, in_lines_on}
 use Rattle.run_lines.proofs.report.write_items.Goals as goal
 
 pub loop-item-init : goal.loop-item-init
 loop-item-init g c = record {
   took = none_took c.args.site.now.nodes c.args.number (g.W.Sink.taken c.args.sink.now);
   pieces = none_pieces c.args.site.now.nodes c.args.number (g.W.Sink.pieces c.args.sink.now);
+  lined = none_lined g.W.Sink.taken g.W.Sink.pieces (IsItemLine c.args.site.now.nodes) c.args.sink.now;
   later = omega arith;
 }
 
@@ -13,6 +16,10 @@ pub returns-in-Err-clause-wrote : goal.returns-in-Err-clause-wrote
 returns-in-Err-clause-wrote g c =
     stopped_at c.args.site.now.nodes c.args.number c.loop-item.item-index c.args.items.now c.item-item.result _ _ _ _ c.in-Err.stop c.loop-item-test.true c.item-item.is
     c.loop-item.invariant.took c.in-Err.ensures.wrote
+
+pub returns-in-Err-clause-lined : goal.returns-in-Err-clause-lined
+returns-in-Err-clause-lined g c =
+    in_lines_on g.W.Sink.taken g.W.Sink.pieces (IsItemLine c.args.site.now.nodes) {T = Unit {0}} _ _ _ (Err c.in-Err.stop) c.loop-item.invariant.lined c.in-Err.ensures.lined
 
 pub loop-item-preserved : goal.loop-item-preserved
 loop-item-preserved g c =
@@ -22,5 +29,6 @@ loop-item-preserved g c =
     record {
       took = more_took nodes c.args.number i items c.item-item.result _ _ _ _ c.loop-item-test.true c.item-item.is c.loop-item.invariant.took c.in-Ok.ensures.wrote;
       pieces = more_pieces nodes c.args.number i items c.item-item.result _ _ _ _ c.loop-item-test.true c.item-item.is c.loop-item.invariant.pieces c.in-Ok.ensures.piece;
+      lined = lined_on g.W.Sink.taken g.W.Sink.pieces (IsItemLine nodes) _ _ _ [] c.loop-item.invariant.lined c.in-Ok.ensures.lined;
       later = omega (arith, c.loop-item.invariant.later, c.in-Ok.ensures.blame.later);
     }

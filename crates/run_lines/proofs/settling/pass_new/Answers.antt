@@ -1,8 +1,10 @@
-use Rattle.std.proofs.Common.{◌∙◌, refl, arith}
+use Rattle.std.proofs.Common.{◌∙◌, refl, arith, [], Err}
 use Rattle.declared_site.specs.SiteOf.{site_of}
 use Rattle.run_lines.proofs.Going.{Ways}
 use Rattle.run_lines.proofs.AllLanes.{lane_there}
 use Rattle.run_lines.proofs.Passing.{was_on, counts_more, passed_none, count_is, lane_short, count_short, passed_more, passed_all, all_counted}
+use Rattle.run_lines.specs.Reporting.{IsItemLine}
+use Rattle.run_lines.proofs.Lines.{none_lined, lined_on, in_lines_on, stopped_lined}
 use Rattle.run_lines.proofs.settling.pass_new.Goals as goal
 
 pub loop-place-init : goal.loop-place-init
@@ -11,6 +13,7 @@ loop-place-init g c =
     record {
       site = refl;
       armed = refl;
+      lined = none_lined g.W.Sink.taken g.W.Sink.pieces (IsItemLine (g.S.Acts.site c.args.net.now).nodes) c.args.sink.now;
       later = omega arith;
       passed = λ n earlier w ready was. passed_none _ _ _ ways _ c.args.number c.args.lanes.now n earlier w _ _ c.new-each.result c.new-each.ensures.items ready;
     }
@@ -67,6 +70,7 @@ loop-place-preserved g c =
     record {
       site = c.in-Ok.ensures.site ∙ c.loop-place.invariant.site;
       armed = c.in-Ok.ensures.armed ∙ c.loop-place.invariant.armed;
+      lined = lined_on g.W.Sink.taken g.W.Sink.pieces (IsItemLine (g.S.Acts.site c.args.net.now).nodes) _ _ _ [] (c.loop-place.invariant.lined) (let line = c.in-Ok.ensures.lined in rw (c.loop-place.invariant.site) at line);
       later = omega (arith, c.loop-place.invariant.later, c.in-Ok.ensures.blame.later);
       passed = λ n earlier w ready was.
           let p = c.loop-place.invariant.passed n earlier w ready was in
@@ -84,3 +88,14 @@ returns-clause-runs g c = λ n earlier w ready was.
     let ways : Ways g.S.Acts.stands g.S.Acts.rests g.S.Acts.tallied = record { rest = g.met.S.Acts.comes_to_rest; none = g.met.S.Acts.none_tallied; more = g.met.S.Acts.more_tallied } in
     let p = c.loop-place.invariant.passed n earlier w ready was in
     (passed_all _ _ _ ways _ c.args.number c.args.lanes.now n earlier w _ _ _ _ c.loop-place.place _ c.loop-place-test.false p, all_counted c.args.lanes.now w c.loop-place.place _ c.loop-place-test.false p.counted)
+
+pub returns-in-Err-clause-lined : goal.returns-in-Err-clause-lined
+returns-in-Err-clause-lined g c =
+    let line = c.in-Err.ensures.lined in
+    in_lines_on g.W.Sink.taken g.W.Sink.pieces (IsItemLine (g.S.Acts.site c.args.net.now).nodes) {T = Unit {0}} _ _ _ (Err c.in-Err.stop) (c.loop-place.invariant.lined) (rw (c.loop-place.invariant.site) at line)
+
+pub returns-in-Err-more_frames-clause-lined : goal.returns-in-Err-more_frames-clause-lined
+returns-in-Err-more_frames-clause-lined g c = stopped_lined g.W.Sink.taken g.W.Sink.pieces (g.S.Acts.site c.args.net.now).nodes _ _ (lined_on g.W.Sink.taken g.W.Sink.pieces (IsItemLine (g.S.Acts.site c.args.net.now).nodes) _ _ _ [] (c.loop-place.invariant.lined) (let line = c.in-Ok.ensures.lined in rw (c.loop-place.invariant.site) at line))
+
+pub returns-in-Err-push-clause-lined : goal.returns-in-Err-push-clause-lined
+returns-in-Err-push-clause-lined g c = stopped_lined g.W.Sink.taken g.W.Sink.pieces (g.S.Acts.site c.args.net.now).nodes _ _ (lined_on g.W.Sink.taken g.W.Sink.pieces (IsItemLine (g.S.Acts.site c.args.net.now).nodes) _ _ _ [] (c.loop-place.invariant.lined) (let line = c.in-Ok.ensures.lined in rw (c.loop-place.invariant.site) at line))

@@ -1,9 +1,11 @@
-use Rattle.std.proofs.Common.{◌≡◌, ◌∙◌, ◌+◌, ◌-◌, refl, subst, arith}
+use Rattle.std.proofs.Common.{◌≡◌, ◌∙◌, ◌+◌, ◌-◌, refl, subst, arith, [], Err}
 use Rattle.declared_site.specs.SiteOf.{site_of}
 use Rattle.run_model.specs.Lines.{settle}
 use Rattle.run_lines.specs.Going.{Reached}
 use Rattle.run_lines.proofs.Going.{Ways, reached_none, reached_on, reached_stop, stops_here, finishes}
 use Rattle.run_lines.proofs.Settles.{one_round, no_round, none_put, some_put}
+use Rattle.run_lines.specs.Reporting.{IsItemLine}
+use Rattle.run_lines.proofs.Lines.{none_lined, lined_on, in_lines_on, stopped_unwritten}
 use Rattle.run_lines.proofs.settling.settle.Goals as goal
 
 pub returns-in-Err-clause-runs : goal.returns-in-Err-clause-runs
@@ -23,6 +25,7 @@ loop-turn-init g c =
     record {
       site = refl;
       armed = refl;
+      lined = none_lined g.W.Sink.taken g.W.Sink.pieces (IsItemLine (g.S.Acts.site c.args.net.now).nodes) c.args.sink.now;
       later = omega arith;
       went = λ net w ready.
           let counted = c.in-Ok-count_frames.ensures net w ready.stands in
@@ -60,6 +63,7 @@ loop-turn-preserved g c =
     record {
       site = c.in-Ok-round.ensures.site ∙ c.loop-turn.invariant.site;
       armed = c.in-Ok-round.ensures.armed ∙ c.loop-turn.invariant.armed;
+      lined = lined_on g.W.Sink.taken g.W.Sink.pieces (IsItemLine (g.S.Acts.site c.args.net.now).nodes) _ _ _ [] (c.loop-turn.invariant.lined) (let line = c.in-Ok-round.ensures.lined in rw (c.loop-turn.invariant.site) at line);
       later = omega (arith, c.loop-turn.invariant.later, c.in-Ok-round.ensures.blame.later);
       went = λ net w ready.
           let site = site_of (g.S.Acts.site c.args.net.now) in
@@ -79,3 +83,17 @@ returns-clause-runs g c = λ net w ready.
     let at = c.loop-turn.invariant.went net w ready in
     let none = no_round (site_of (g.S.Acts.site c.args.net.now)) c.args.rounds c.loop-turn._turn c.loop-turn-test.false in
     finishes _ _ _ ways _ c.args.number net _ _ _ _ w at.0 _ (subst (Reached _ _ _ _ _ _ _ c.args.number net w _ at.0) none at.1)
+
+pub returns-in-Err-clause-lined : goal.returns-in-Err-clause-lined
+returns-in-Err-clause-lined g c = stopped_unwritten g.W.Sink.taken g.W.Sink.pieces (g.S.Acts.site c.args.net.now).nodes c.args.sink.now
+
+pub returns-in-Err-count_frames-clause-lined : goal.returns-in-Err-count_frames-clause-lined
+returns-in-Err-count_frames-clause-lined g c = stopped_unwritten g.W.Sink.taken g.W.Sink.pieces (g.S.Acts.site c.args.net.now).nodes c.args.sink.now
+
+pub returns-in-Err-round-clause-lined : goal.returns-in-Err-round-clause-lined
+returns-in-Err-round-clause-lined g c =
+    let line = c.in-Err-round.ensures.lined in
+    in_lines_on g.W.Sink.taken g.W.Sink.pieces (IsItemLine (g.S.Acts.site c.args.net.now).nodes) {T = Unit {0}} _ _ _ (Err c.in-Err-round.stop) (c.loop-turn.invariant.lined) (rw (c.loop-turn.invariant.site) at line)
+
+pub returns-then-now-frames-clause-lined : goal.returns-then-now-frames-clause-lined
+returns-then-now-frames-clause-lined g c = lined_on g.W.Sink.taken g.W.Sink.pieces (IsItemLine (g.S.Acts.site c.args.net.now).nodes) _ _ _ [] (c.loop-turn.invariant.lined) (let line = c.in-Ok-round.ensures.lined in rw (c.loop-turn.invariant.site) at line)

@@ -68,3 +68,10 @@ returns-clause-ran g c = λ http n w speaks ready.
     let may = may_together g.S.Acts.site g.S.Acts.stands c.args.net.now c.args.workers c.in-Ok.prepared.jobs.items c.requires.workers c.in-Ok.ensures.allowed c.requires.ready in
     let left = (c.requires.does _ c.args.workers _ _ _ (rw c.deref.ensures.value may) c.in-Err-together.ensures).left n w ready in
     block_left _ _ _ ways _ http n _ _ (g.S.Acts.site c.args.net.now) _ _ _ w c.args.lines c.in-Ok.prepared c.requires.fit (rw (← sited) at prepared) (rw c.deref.ensures.value at left)
+
+pub returns-in-Ok-together-clause-lined : goal.returns-in-Ok-together-clause-lined
+returns-in-Ok-together-clause-lined g c =
+    let may = may_together g.S.Acts.site g.S.Acts.stands c.args.net.now c.args.workers c.in-Ok.prepared.jobs.items c.requires.workers c.in-Ok.ensures.allowed c.requires.ready in
+    let did = c.requires.does _ c.args.workers _ _ _ (rw c.deref.ensures.value may) c.in-Ok-together.ensures in
+    let line = c.report.ensures.lined in
+    rw (c.declared.ensures ∙ did.sited) at line

@@ -1,8 +1,10 @@
-use Rattle.std.proofs.Common.{◌≡◌, ◌∙◌, refl, subst, arith}
+use Rattle.std.proofs.Common.{◌≡◌, ◌∙◌, refl, subst, arith, [], Err}
 use Rattle.std.proofs.lemmas.Grind.{common_steps}
 use Rattle.run_lines.specs.Commands.{any_texts}
 use Rattle.run_lines.proofs.Going.{Ways}
 use Rattle.run_tasks.proofs.Tasking.{DidSo, begins_is, one_begins, none_begins, did_none, did_on, did_one, did_stop, one_stopped, all_ran}
+use Rattle.run_lines.specs.Reporting.{IsItemLine}
+use Rattle.run_lines.proofs.Lines.{none_lined, lined_on, in_lines_on}
 use Rattle.run_tasks.proofs.entries.begin_all.Goals as goal
 
 pub loop-place-init : goal.loop-place-init
@@ -11,6 +13,7 @@ loop-place-init g c =
     record {
       site = refl;
       armed = refl;
+      lined = none_lined g.W.Sink.taken g.W.Sink.pieces (IsItemLine (g.S.Acts.site c.args.net.now).nodes) c.args.sink.now;
       later = omega arith;
       did = λ http n workers w ready. (w, did_none _ _ _ ways _ http n _ _ _ w _ ready);
     }
@@ -39,6 +42,7 @@ loop-place-preserved g c =
     record {
       site = c.in-Ok.ensures.site ∙ c.loop-place.invariant.site;
       armed = c.in-Ok.ensures.armed ∙ c.loop-place.invariant.armed;
+      lined = lined_on g.W.Sink.taken g.W.Sink.pieces (IsItemLine (g.S.Acts.site c.args.net.now).nodes) _ _ _ [] c.loop-place.invariant.lined (let line = c.in-Ok.ensures.lined in rw (c.loop-place.invariant.site) at line);
       later = omega (arith, c.loop-place.invariant.later, c.in-Ok.ensures.blame.later);
       did = λ http n workers w ready.
           let at = c.loop-place.invariant.did http n workers w ready in
@@ -54,3 +58,8 @@ returns-clause-ran g c = λ http n workers w ready.
     let ways : Ways g.S.Acts.stands g.S.Acts.rests g.S.Acts.tallied = record { rest = g.met.S.Acts.comes_to_rest; none = g.met.S.Acts.none_tallied; more = g.met.S.Acts.more_tallied } in
     let at = c.loop-place.invariant.did http n workers w ready in
     all_ran _ _ _ ways _ http n _ (Unit {0}) (tt {0}) _ _ _ _ w at.0 _ (subst (DidSo _ _ _ _ _ _ _ http n workers w _ at.0) (none_begins c.args.node_lines.now c.loop-place.place c.loop-place-test.false) at.1)
+
+pub returns-in-Err-clause-lined : goal.returns-in-Err-clause-lined
+returns-in-Err-clause-lined g c =
+    let line = c.in-Err.ensures.lined in
+    in_lines_on g.W.Sink.taken g.W.Sink.pieces (IsItemLine (g.S.Acts.site c.args.net.now).nodes) {T = Unit {0}} _ _ _ (Err c.in-Err.stop) c.loop-place.invariant.lined (rw (c.loop-place.invariant.site) at line)

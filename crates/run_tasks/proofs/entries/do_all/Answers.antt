@@ -1,4 +1,4 @@
-use Rattle.std.proofs.Common.{◌∙◌, List, length, map, refl, sym, ap, subst, arith, rules}
+use Rattle.std.proofs.Common.{◌∙◌, List, length, map, refl, sym, ap, subst, arith, rules, [], Err}
 use Rattle.std.specs.Prelude.{count_by}
 use Rattle.std.specs.List.{All}
 use Rattle.std.proofs.lemmas.List.Elements.{All-tail}
@@ -8,6 +8,8 @@ use Rattle.run_model.specs.Report.{Does}
 use Rattle.run_acts.specs.Runnable.{IsEntryFor, arms_a_disk}
 use Rattle.run_lines.proofs.Going.{Ways}
 use Rattle.run_tasks.proofs.Tasking.{DidSo, one_more, did_none, did_on, did_all, did_stop, ran_short, all_ran, is_none}
+use Rattle.run_lines.specs.Reporting.{IsItemLine}
+use Rattle.run_lines.proofs.Lines.{none_lined, lined_on, in_lines_on}
 use Rattle.run_tasks.proofs.entries.do_all.Goals as goal
 
 pub loop-entry-init : goal.loop-entry-init
@@ -19,6 +21,7 @@ loop-entry-init g c =
       long = search rules;
       few = rw is c.requires.few;
       fit = rw is c.requires.fit;
+      lined = none_lined g.W.Sink.taken g.W.Sink.pieces (IsItemLine (g.S.Acts.site c.args.net.now).nodes) c.args.sink.now;
       later = omega arith;
       ready = c.requires.ready;
       did = λ http n w speaks ready. (w, did_none _ _ _ ways _ http n _ _ _ w _ ready);
@@ -33,6 +36,7 @@ loop-entry-preserved g c =
       few = (let gone = ap (λ (es : List Entry). count_by arms_a_disk es) c.in-Some.ensures.steps.0 ∙ one_more c.in-Some.entry (into_iter_items c.next.new.self) in omega (arith, gone, c.loop-entry.invariant.few, c.in-Ok.ensures.armed));
       fit = All-tail (IsEntryFor (g.S.Acts.site c.args.net.now)) _ _ (subst (All (IsEntryFor (g.S.Acts.site c.args.net.now))) c.in-Some.ensures.steps.0 c.loop-entry.invariant.fit);
       ready = c.in-Ok.ensures.ready;
+      lined = lined_on g.W.Sink.taken g.W.Sink.pieces (IsItemLine (g.S.Acts.site c.args.net.now).nodes) _ _ _ [] c.loop-entry.invariant.lined (let line = c.in-Ok.ensures.lined in rw (c.loop-entry.invariant.site) at line);
       later = omega (arith, c.loop-entry.invariant.later, c.in-Ok.ensures.blame.later);
       did = λ http n w speaks ready.
           let at = c.loop-entry.invariant.did http n w speaks ready in
@@ -62,3 +66,8 @@ returns-clause-ran g c = λ http n w speaks ready.
     let at = c.loop-entry.invariant.did http n w speaks ready in
     let none = is_none _ (sym c.loop-entry.invariant.long ∙ c.in-None.ensures.steps.0) in
     rw (← is) (all_ran _ _ _ ways _ http n _ (Unit {0}) (tt {0}) _ _ _ _ w at.0 _ (subst (DidSo _ _ _ _ _ _ _ http n _ w _ at.0) (ap (λ (es : List Entry). map Does es) none) at.1))
+
+pub returns-in-Err-clause-lined : goal.returns-in-Err-clause-lined
+returns-in-Err-clause-lined g c =
+    let line = c.in-Err.ensures.lined in
+    in_lines_on g.W.Sink.taken g.W.Sink.pieces (IsItemLine (g.S.Acts.site c.args.net.now).nodes) {T = Unit {0}} _ _ _ (Err c.in-Err.stop) c.loop-entry.invariant.lined (rw (c.loop-entry.invariant.site) at line)

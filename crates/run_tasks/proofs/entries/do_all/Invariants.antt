@@ -1,4 +1,4 @@
-use Rattle.std.proofs.Common.{◌≡◌, ◌≤◌, ◌+◌, ◌^◌, length, map}
+use Rattle.std.proofs.Common.{◌≡◌, ◌≤◌, ◌+◌, ◌^◌, length, map, []}
 use Rattle.std.specs.Prelude.{count_by}
 use Rattle.net_model.specs.World.{Network, World}
 use Rattle.run_model.specs.Report.{Does}
@@ -9,6 +9,7 @@ use Rattle.std.specs.Vec.Iter.{into_iter_items, into_iter_len}
 use Rattle.run_model.specs.Turn.{HttpTexts}
 use Rattle.run_acts.specs.Runnable.{IsEntryFor, arms_a_disk}
 use Rattle.run_lines.specs.Running.{IsReadySomewhere}
+use Rattle.run_lines.specs.Reporting.{IsItemLine, TookLines}
 use Rattle.run_tasks.proofs.entries.do_all.Given as goal
 
 abbrev pub invariant-loop-entry : goal.invariant-loop-entry
@@ -21,6 +22,7 @@ invariant-loop-entry g l =
       few : g.S.Acts.armed l.net + count_by arms_a_disk left ≤ 2 ^ 32;
       fit : All (IsEntryFor sited) left;
       ready : IsReadySomewhere g.S.Acts.stands l.net;
+      lined : TookLines g.W.Sink.taken g.W.Sink.pieces (IsItemLine sited.nodes) l.fn.sink l.sink [];
       later : g.W.Sink.faults l.fn.sink ≤ g.W.Sink.faults l.sink;
       did : (http : HttpTexts) (n : Network) (w : World) → g.H.Requests.speaks l.requests http → IsReady g.S.Acts.stands l.fn.net n w → (after : World)
           × DidSo g.S.Acts.stands g.S.Acts.tallied sited.nodes l.fn.net l.net (g.W.Sink.taken l.fn.sink) (g.W.Sink.taken l.sink) http n l.workers w
