@@ -13,9 +13,11 @@ use Rattle.bench_serves.specs.Serving.{ended as served_end, WasLeft as WasNotSer
 use Rattle.bench_serves.specs.declared.stop.ServeStop.{ServeStop}
 use Rattle.bench_serves.specs.declared.stop.ServeStop.TheVariants as serves
 use Rattle.bench_veils.specs.Passed.{Bench}
-use Rattle.qkd_network.specs.Codes.{status_of, served_as}
+use Rattle.qkd_network.specs.Codes.{status_of, served_as, answered_as}
 use Rattle.word_forms.specs.Forms.{Runs, asked_by}
 use Rattle.source_answers.specs.Inputs.{ReadsWhole}
+use Rattle.source_answers.specs.declared.ended.Ended.{Ended}
+use Rattle.source_answers.specs.declared.ended.Ended.TheVariants as ends
 use Rattle.qkd_network.specs.Outcome.{HasScenario, HasRun, HasLoaded, HasCome, IsUnread, RunOutcome, ScenarioOutcome, outside}
 use Rattle.qkd_network.specs.declared.status.Status.{Status}
 use Rattle.qkd_network.specs.declared.status.Status.TheVariants.{Done, Usage, BadLine, ReadFault, WriteFault, ForgedMatch, Memory, ListenFault}
@@ -153,3 +155,8 @@ listening (Err (serves.Stopped stops.WriteFault)) h = absurd (cc h)
 listening (Err (serves.Stopped stops.Memory)) h = absurd (cc h)
 listening (Err (serves.Stopped (stops.Forged line))) h = absurd (cc h)
 listening (Err serves.Listen) h = refl
+
+-- where an answer is no read fault, the status is none
+pub answered_calm : (A : Type 0) (ended : Ended) (status : Status) → status ≡ answered_as ended → (ended ≡ ends.ReadFault) ⊎ A → (status ≡ ReadFault) ⊎ A
+answered_calm A ended status is (inl fault) = inl (is ∙ ap answered_as fault)
+answered_calm A ended status is (inr calm) = inr calm

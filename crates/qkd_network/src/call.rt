@@ -40,13 +40,14 @@ use word_forms::{Form, read_form};
 ///
 /// Whatever it is called with, the answer says what was done. On `Usage` that word is the first that fits no form, and nothing was
 /// touched. On `BadLine` that line is the first that is refused; nothing is judged before the source was read to its end or past the
-/// limit of a scenario, and sink, bench and ports are as they were. On `Done`, `WriteFault`, `ForgedMatch`, `Memory` and `ListenFault` the
-/// headline holds of the run, whole or up to where it ended: of the report that the sink took, of the frames on the wires, of what
-/// stands on the disks, of keys and of lane bytes, of faults and of armings; for `veil` of all but the report, and every other key fits
-/// the wires; of an answer about keys or of the veil's line the sink took the whole line, or a first part, and at a forged match nothing.
-/// For `serve` the run goes on with what connections asked, each of which got the responses to its requests; each port was asked for
-/// once, and the listeners came back. `ListenFault` says that a port or a listener failed: the sink took the report of all lines, and no
-/// more. `Memory` may also come before the first line, with sink, bench and ports untouched. The bench has all its parts back at the end.
+/// limit of a scenario, and sink, bench and ports are as they were. A read that failed is not tried again: the source's count of faults
+/// rose on `ReadFault`, and is as it was otherwise. On `Done`, `WriteFault`, `ForgedMatch`, `Memory` and `ListenFault` the headline
+/// holds of the run, whole or up to where it ended: of the report that the sink took, of the frames on the wires, of what stands on the
+/// disks, of keys and of lane bytes, of faults and of armings; for `veil` of all but the report, and every other key fits the wires; of
+/// an answer about keys or of the veil's line the sink took the whole line, or a first part, and at a forged match nothing. For `serve`
+/// the run goes on with what connections asked, each of which got the responses to its requests; each port was asked for once, and the
+/// listeners came back. `ListenFault` says that a port or a listener failed: the sink took the report of all lines, and no more.
+/// `Memory` may also come before the first line, with sink, bench and ports untouched. The bench has all its parts back at the end.
 pub fn network<
     R: Threads + Wait + Sync,
     S: Source,
@@ -86,6 +87,7 @@ where
     ensures ports { AsksServe words.now ⊎ (ports.new ≡ ports.old) }
     ensures whole { IsWhole bench.new }
     ensures read_fault { result ≡ ReadFault → Rose (S.faults source.old) (S.faults source.new) }
+    ensures source_calm { (result ≡ ReadFault) ⊎ (S.faults source.new ≡ S.faults source.old) }
     ensures write_fault { result ≡ WriteFault → Rose (W.faults sink.old) (W.faults sink.new) }
     ensures listen_fault { result ≡ ListenFault → IsListenFault P.Door.faults (P.faults ports.old) (P.faults ports.new)
         (record { asked = P.asked ports.old; back = P.back ports.old }) (record { asked = P.asked ports.new; back = P.back ports.new }) }

@@ -1,5 +1,5 @@
 // A scenario is read from a source.
-ghost use Rattle.std.specs.Prelude.{◌≡◌, IfOk, IsErrOf, MatchResult};
+ghost use Rattle.std.specs.Prelude.{◌≡◌, ◌⊎◌, IfOk, IsErrOf, MatchResult};
 ghost use Rattle.qkd_base.specs.Faults.{Rose};
 ghost use Rattle.run_acts.specs.Runnable.{IsRunnable};
 ghost use Rattle.qkd_network.specs.Outcome.{HasScenario, IsUnread};
@@ -18,6 +18,7 @@ use std::alloc::Global;
 pub fn scenario_in<S: Source>(alloc: Global, source: &mut S) -> Result<Scenario, Status>
     ensures read { MatchResult result (HasScenario (S.left source.old) (S.left source.new)) (λ status. IsUnread status (S.left source.old) (S.left source.new)) }
     ensures runnable { IfOk result (λ scenario. IsRunnable scenario) }
+    ensures calm { MatchResult result (λ scenario. S.faults source.new ≡ S.faults source.old) (λ status. (status ≡ ReadFault) ⊎ (S.faults source.new ≡ S.faults source.old)) }
     ensures fault { IsErrOf result ReadFault → Rose (S.faults source.old) (S.faults source.new) }
 {
     let bytes = match read_all(alloc, source) {

@@ -1,5 +1,5 @@
 // The managers of a scenario, served.
-ghost use Rattle.std.specs.Prelude.{◌≡◌, ◌≤◌, IsSome};
+ghost use Rattle.std.specs.Prelude.{◌≡◌, ◌⊎◌, ◌≤◌, IsSome};
 ghost use Rattle.std.specs.List.{All};
 ghost use Rattle.qkd_base.specs.Faults.{Rose};
 ghost use Rattle.port_doors.specs.Doors.{AreFresh, IsListenFault, PortsTold, telling};
@@ -61,6 +61,7 @@ where
         result source.old source.new sink.old sink.new (outside bench.old ports.old) (outside bench.new ports.new) }
     ensures whole { IsWhole bench.new }
     ensures read_fault { result ≡ ReadFault → Rose (S.faults source.old) (S.faults source.new) }
+    ensures source_calm { (result ≡ ReadFault) ⊎ (S.faults source.new ≡ S.faults source.old) }
     ensures write_fault { result ≡ WriteFault → Rose (W.faults sink.old) (W.faults sink.new) }
     ensures listen_fault { result ≡ ListenFault → IsListenFault P.Door.faults (P.faults ports.old) (P.faults ports.new)
         (record { asked = P.asked ports.old; back = P.back ports.old }) (record { asked = P.asked ports.new; back = P.back ports.new }) }

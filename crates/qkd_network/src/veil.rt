@@ -1,5 +1,5 @@
 // The veil of a scenario's wires.
-ghost use Rattle.std.specs.Prelude.{◌≡◌};
+ghost use Rattle.std.specs.Prelude.{◌≡◌, ◌⊎◌};
 ghost use Rattle.std.specs.List.{All};
 ghost use Rattle.qkd_base.specs.Faults.{Rose};
 ghost use Rattle.bench_veils.specs.Passed.{IsWhole};
@@ -45,6 +45,7 @@ pub(crate) fn veil<
     ensures calm { result ≡ ListenFault → ⊥ }
     ensures whole { IsWhole bench.new }
     ensures read_fault { result ≡ ReadFault → Rose (S.faults source.old) (S.faults source.new) }
+    ensures source_calm { (result ≡ ReadFault) ⊎ (S.faults source.new ≡ S.faults source.old) }
     ensures write_fault { result ≡ WriteFault → Rose (W.faults sink.old) (W.faults sink.new) }
 {
     match scenario_in(alloc, source) {

@@ -1,5 +1,5 @@
 // What an audit says of a report.
-ghost use Rattle.std.specs.Prelude.{◌≡◌};
+ghost use Rattle.std.specs.Prelude.{◌≡◌, ◌⊎◌};
 ghost use Rattle.qkd_base.specs.Faults.{Rose};
 ghost use Rattle.source_answers.specs.Answers.{Audited};
 ghost use Rattle.source_answers.specs.declared.ended.Ended.TheVariants.{ReadFault, WriteFault};
@@ -15,6 +15,7 @@ use std::alloc::Global;
 pub fn answer_audit<S: Source, W: Sink>(alloc: Global, source: &mut S, sink: &mut W) -> Ended
     ensures audited { Audited (S.left source.old) (S.left source.new) (W.taken sink.old) (W.taken sink.new) sink.old sink.new result }
     ensures read_fault { result ≡ ReadFault → Rose (S.faults source.old) (S.faults source.new) }
+    ensures calm { (result ≡ ReadFault) ⊎ (S.faults source.new ≡ S.faults source.old) }
     ensures write_fault { result ≡ WriteFault → Rose (W.faults sink.old) (W.faults sink.new) }
 {
     let bytes = match read_all(alloc, source) {

@@ -1,5 +1,5 @@
 // How many keys give two texts a difference of hashes.
-ghost use Rattle.std.specs.Prelude.{◌≡◌, take};
+ghost use Rattle.std.specs.Prelude.{◌≡◌, ◌⊎◌, take};
 ghost use Rattle.qkd_base.specs.Faults.{Rose};
 ghost use Rattle.source_answers.specs.Answers.{Bounded};
 ghost use Rattle.source_answers.specs.declared.ended.Ended.TheVariants.{ReadFault, WriteFault};
@@ -23,6 +23,7 @@ pub fn answer_bound<S: Source, W: Sink>(
     requires differ { ¬ (take a.now.size a.now.octets ≡ take b.now.size b.now.octets) }
     ensures bounded { Bounded (take a.now.size a.now.octets) (take b.now.size b.now.octets) difference (S.left source.old) (S.left source.new) (W.taken sink.old) (W.taken sink.new) sink.old sink.new result }
     ensures read_fault { result ≡ ReadFault → Rose (S.faults source.old) (S.faults source.new) }
+    ensures calm { (result ≡ ReadFault) ⊎ (S.faults source.new ≡ S.faults source.old) }
     ensures write_fault { result ≡ WriteFault → Rose (W.faults sink.old) (W.faults sink.new) }
 {
     let bytes = match read_all(alloc, source) {

@@ -1,5 +1,5 @@
 // The source, read whole.
-ghost use Rattle.std.specs.Prelude.{◌≤◌, IfOk, IsErrOf};
+ghost use Rattle.std.specs.Prelude.{◌≡◌, ◌⊎◌, ◌≤◌, IfOk, IsErrOf};
 ghost use Rattle.qkd_base.specs.Faults.{Rose};
 ghost use Rattle.source_answers.specs.declared.reading.ReadRefusal.TheVariants.{Fault};
 ghost use Rattle.source_answers.specs.Inputs.{ReadsWhole};
@@ -21,6 +21,7 @@ pub fn read_all<S: Source>(alloc: Global, source: &mut S) -> Result<Octets, Read
     ensures whole { IfOk result (λ bytes. ReadsWhole (S.left source.old) (S.left source.new) bytes) }
     ensures fault { IsErrOf result Fault → Rose (S.faults source.old) (S.faults source.new) }
     ensures later { S.faults source.old ≤ S.faults source.new }
+    ensures calm { IsErrOf result Fault ⊎ (S.faults source.new ≡ S.faults source.old) }
 {
     let mut bytes = Octets::new(alloc);
     let mut buffer = [0u8; 4096];

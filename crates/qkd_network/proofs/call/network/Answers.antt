@@ -11,7 +11,7 @@ use Rattle.word_forms.specs.Forms.{wanted_of}
 use Rattle.word_forms.specs.declared.form.Form.{Form}
 use Rattle.qkd_network.specs.Outcome.{RunOutcome, outside}
 use Rattle.qkd_network.specs.declared.status.Status.{Status}
-use Rattle.qkd_network.proofs.Outcomes.{unread, ran, loaded, left_beside, beside_ports}
+use Rattle.qkd_network.proofs.Outcomes.{unread, ran, loaded, left_beside, beside_ports, answered_calm}
 use Rattle.qkd_network.proofs.call.network.Goals as goal
 
 pub returns-in-Err-scenario_in-clause-outcome : goal.returns-in-Err-scenario_in-clause-outcome
@@ -79,3 +79,9 @@ returns-in-Ok-Load-clause-outcome g c =
     g.K.Disk.faults g.K.Disk.armings g.E.Entropy.faults g.Q.Device.faults g.X.Wire.faults c.args.bench.now c.run_load.new.bench (Load r) (load_scenario r) (g.W.Sink.taken c.args.sink.now) (g.W.Sink.taken c.run_load.new.sink) (ended c.run_load.result))
     c.in-Ok-Load.rounds-is
     (left_beside c.args.bench.now c.run_load.new.bench c.args.ports.now c.args.sink.now c.run_load.new.sink c.run_load.result _ c.run_load.ensures.headline))))
+
+pub returns-in-Ok-Bound-clause-source_calm : goal.returns-in-Ok-Bound-clause-source_calm
+returns-in-Ok-Bound-clause-source_calm g c = answered_calm _ c.answer_bound.result _ c.of_answer.ensures c.answer_bound.ensures.calm
+
+pub returns-in-Ok-Audit-clause-source_calm : goal.returns-in-Ok-Audit-clause-source_calm
+returns-in-Ok-Audit-clause-source_calm g c = answered_calm _ c.answer_audit.result _ c.of_answer-in-Ok-Audit.ensures c.answer_audit.ensures.calm
