@@ -1,14 +1,10 @@
 -- Lists of new parts, one more at a time, and what they make of a bench.
-use Rattle.std.proofs.Common.{◌≡◌, ℕ, ◌+◌, ◌%◌, ◌/◌, ◌*◌, ◌^◌, ◌<◌, List, [], ◌∷◌, ◌++◌, length, refl, sym, ap, subst, ◌∙◌, arith}
-use Rattle.std.specs.Prelude.{slice_get, Option, Some, IsTrue, true}
-use Rattle.std.specs.List.{All}
-use Rattle.std.proofs.lemmas.List.Elements.{All-push}
+use Rattle.std.proofs.Common.{◌≡◌, ℕ, ◌+◌, ◌<◌, List, [], length, sym, subst, ◌∙◌, arith}
 use Rattle.disk_model.specs.MemForm.{MemForm, images_of}
 use Rattle.disk_model.specs.Images.{Only}
 use Rattle.net_model.specs.Premises.{IsOctetSequence}
-use Rattle.source_devices.specs.Forms.{WireForm}
 use Rattle.source_devices.specs.KeyStream.{StreamForm, stream_octet, told_from, device_told}
-use Rattle.qkdnet.specs.Fresh.{IsBlank, AreBlank, AreSilent}
+use Rattle.qkdnet.specs.Fresh.{IsBlank}
 
 pub below_256 : (letter number place : ℕ) → stream_octet letter number place < 256
 unfolding stream_octet

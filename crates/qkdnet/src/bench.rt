@@ -1,8 +1,9 @@
 // The outside of a run of the program.
-ghost use Rattle.std.specs.Prelude.{◌≡◌, IfOk, length};
+ghost use Rattle.std.specs.Prelude.{◌≡◌, IfOk};
 ghost use Rattle.std.specs.List.{All};
 ghost use Rattle.world_bench.specs.New.{IsNew};
-ghost use Rattle.qkdnet.specs.Fresh.{AreBlank, AreSilent};
+ghost use Rattle.qkdnet.specs.Fresh.{AreBlank, AreNumbered, AreSilent};
+ghost use Rattle.source_devices.specs.KeyStream.{device_told, entropy_told};
 
 use disk_model::{Disk, MemDisk};
 use qkd_base::{LinkNo, Memory, NodeNo};
@@ -13,10 +14,13 @@ use std::alloc::Global;
 /// Empty disks and wires in memory, and devices and entropies that give the same octets in each run.
 pub type ProgramBench = Bench<MemDisk, GeneratedDevice, GeneratedEntropy, MemWire>;
 
-/// A new bench, whose disks were never armed.
+/// A new bench, whose disks were never armed. The device of a link is the generated one of the link's number, and the entropy of a node that
+/// of the node's.
 pub fn new_bench(alloc: Global) -> Result<ProgramBench, Memory>
     ensures fresh { IfOk result (λ bench. IsNew ⟦<MemDisk as Disk>⟧.is_honest ⟦<MemDisk as Disk>⟧.moment ⟦<MemDisk as Disk>⟧.image ⟦<GeneratedEntropy as Entropy>⟧.left ⟦<GeneratedDevice as Device>⟧.told ⟦<MemWire as Wire>⟧.frames bench) }
     ensures unarmed { IfOk result (λ bench. All (λ k. (⟦<MemDisk as Disk>⟧.armings k).count ≡ 0) bench.disks.items) }
+    ensures devices { IfOk result (λ bench. AreNumbered ⟦<GeneratedDevice as Device>⟧.told device_told 32 bench.devices.items) }
+    ensures entropies { IfOk result (λ bench. AreNumbered ⟦<GeneratedEntropy as Entropy>⟧.left entropy_told 16 bench.entropies.items) }
 {
     Ok(Bench {
         disks: disks(alloc)?,
@@ -39,7 +43,7 @@ fn disks(alloc: Global) -> Result<Vec<MemDisk>, Memory>
 
 // The entropy of each node.
 fn entropies(alloc: Global) -> Result<Vec<GeneratedEntropy>, Memory>
-    ensures { IfOk result (λ entropies. length entropies.items ≡ 16) }
+    ensures { IfOk result (λ entropies. AreNumbered ⟦<GeneratedEntropy as Entropy>⟧.left entropy_told 16 entropies.items) }
 {
     let mut entropies = Vec::new(alloc);
     for number in 0..16u8 {
@@ -51,7 +55,7 @@ fn entropies(alloc: Global) -> Result<Vec<GeneratedEntropy>, Memory>
 
 // The device of each link.
 fn devices(alloc: Global) -> Result<Vec<GeneratedDevice>, Memory>
-    ensures { IfOk result (λ devices. length devices.items ≡ 32) }
+    ensures { IfOk result (λ devices. AreNumbered ⟦<GeneratedDevice as Device>⟧.told device_told 32 devices.items) }
 {
     let mut devices = Vec::new(alloc);
     for number in 0..32u8 {
