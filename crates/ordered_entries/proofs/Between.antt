@@ -1,15 +1,15 @@
 -- What stands between two entries of a group.
-use Rattle.std.proofs.Common.{◌≡◌, ℕ, zero, suc, ◌+◌, ◌-◌, ◌<◌, ◌≤◌, ◌^◌, Bool, true, false, cond, ◌||◌, List, [], ◌∷◌, ◌++◌, length, refl, sym, ◌∙◌, ap, subst, arith, ◌⊎◌, inl, inr, length-append}
+use Rattle.std.proofs.Common.{◌≡◌, ℕ, zero, suc, ◌-◌, ◌<◌, ◌≤◌, ◌≢◌, ◌^◌, Bool, true, false, cond, ◌||◌, List, [], ◌∷◌, length, refl, sym, ◌∙◌, ap, subst, arith, ◌⊎◌, inl, inr, length-append}
 use Rattle.std.specs.Prelude.{slice_index, slice_set, if◌then◌else◌}
 use Rattle.std.specs.declared.cmp.Ordering.{Ordering}
 use Rattle.std.specs.declared.cmp.Ordering.TheVariants.{Less, Equal, Greater}
 use Rattle.std.specs.Ordering.{nat_cmp, is_gt, ordering_then}
-use Rattle.std.specs.Cmp.{nat_cmp_is}
-use Rattle.std.specs.Cmp.Lexicographic.{slice_cmp}
+use Rattle.std.specs.Cmp.{nat_cmp_is, upto}
+use Rattle.std.specs.Cmp.Lexicographic.{slice_cmp, nat_list_cmp_total}
 use Rattle.std.specs.BTreeSet.{BTreeSet, contains, Updates}
 use Rattle.std.specs.Str.{bytes_eq}
 use Rattle.std.proofs.lemmas.Map.Text.{is_eq-slice_cmp}
-use Rattle.ordered_entries.specs.Entries.{has_entry, entry_at, IsNextIn, IsLastIn, IsBetween, IsFirstIn, IsNoneIn}
+use Rattle.ordered_entries.specs.Entries.{has_entry, entry_at, IsNextIn, IsLastIn, IsBetween, IsFirstFrom, IsFirstIn, IsNoneIn}
 
 -- two numbers
 
@@ -26,11 +26,19 @@ three (suc x) (suc y) = elim (three x y) [
 less : (x y : ℕ) → x < y → nat_cmp x y ≡ Less
 less x y h = sym (nat_cmp_is x y Less h)
 
-equal : (x : ℕ) → nat_cmp x x ≡ Equal
+pub equal : (x : ℕ) → nat_cmp x x ≡ Equal
 equal x = sym (nat_cmp_is x x Equal refl)
 
 greater : (x y : ℕ) → y < x → nat_cmp x y ≡ Greater
 greater x y h = sym (nat_cmp_is x y Greater h)
+
+-- numbers that differ settle the order
+pub unequal : (x y : ℕ) (rest : Ordering) → x ≢ y → ordering_then (nat_cmp x y) rest ≡ nat_cmp x y
+unequal x y rest differ = elim (three x y) [
+  | inl p ↦ rw (less x y p) refl
+  | inr (inl p) ↦ absurd (differ p)
+  | inr (inr p) ↦ rw (greater x y p) refl
+]
 
 le_of : (x y : ℕ) → is_gt (nat_cmp x y) ≡ false → x ≤ y
 le_of x y h = elim (three x y) [
@@ -176,6 +184,13 @@ is_last es entry to group a size et e none p lt high =
     let inside4 = subst (λ (o : List ℕ). IsBetween o (entry_at group (2 ^ 64 - 1)) (entry_at group p)) (sym e) inside3 in
     let inside5 = subst (λ (o : List ℕ). IsBetween entry o (entry_at group p)) (sym to_at) inside4 in
     none (entry_at group p) inside5
+
+-- where the first entry from one on is behind another, none stands between
+pub none_up_to : (es : BTreeSet (List ℕ)) (from to entry : List ℕ) → IsFirstFrom es from entry → is_gt (slice_cmp nat_cmp entry to) ≡ true → IsNoneIn es from to
+none_up_to es from to entry first past q inside = not_true (contains (slice_cmp nat_cmp) es q) (λ there.
+    let le : is_gt (slice_cmp nat_cmp entry to) ≡ false = upto nat_list_cmp_total entry q to (first.first q inside.0 there) inside.1 in
+    let t : true ≡ false = sym past ∙ le in
+    let u : ⊥ = cc in u)
 
 -- changes
 

@@ -34,6 +34,15 @@ IsLast es entry = (group : List ℕ) (from : ℕ) → entry ≡ entry_at group f
 abbrev pub IsBetween : List ℕ → List ℕ → List ℕ → Type 0
 IsBetween from to k = (is_gt (slice_cmp nat_cmp from k) ≡ false) × (is_gt (slice_cmp nat_cmp k to) ≡ false)
 
+-- the first entry from one on
+pub record IsFirstFrom (entries : BTreeSet (List ℕ)) (from entry : List ℕ) : Type 0 where
+  pub behind : is_gt (slice_cmp nat_cmp from entry) ≡ false
+  pub there : contains (slice_cmp nat_cmp) entries entry ≡ true
+  pub first : (q : List ℕ) → is_gt (slice_cmp nat_cmp from q) ≡ false → contains (slice_cmp nat_cmp) entries q ≡ true → is_gt (slice_cmp nat_cmp entry q) ≡ false
+
+abbrev pub IsNoneFrom : BTreeSet (List ℕ) → List ℕ → Type 0
+IsNoneFrom entries from = (q : List ℕ) → is_gt (slice_cmp nat_cmp from q) ≡ false → contains (slice_cmp nat_cmp) entries q ≡ false
+
 -- the last number of the first entry from one up to another
 pub record IsFirstIn (entries : BTreeSet (List ℕ)) (from to : List ℕ) (place : ℕ) : Type 0 where
   pub entry : List ℕ

@@ -3,8 +3,9 @@ ghost use Rattle.std.specs.Prelude.{◌≡◌, ◌||◌, ℕ, List, [], false, I
 ghost use Rattle.std.specs.Str.{bytes_eq};
 ghost use Rattle.std.specs.Ordering.{nat_cmp, is_gt};
 ghost use Rattle.std.specs.Cmp.Lexicographic.{slice_cmp};
-ghost use Rattle.ordered_entries.specs.Entries.{has_entry, IsNext, IsLast, IsFirstIn, IsNoneIn};
+ghost use Rattle.ordered_entries.specs.Entries.{has_entry, IsNext, IsLast, IsFirstFrom, IsNoneFrom, IsFirstIn, IsNoneIn};
 
+use crate::key::Key;
 use qkd_base::Memory;
 use std::alloc::Global;
 use std::collections::BTreeSet;
@@ -16,7 +17,7 @@ pub type Entry = [u64; 8];
 /// Entries in order: by group, and in a group by place.
 #[derive(Drop)]
 pub struct Entries {
-    entries: BTreeSet<Entry>,
+    entries: BTreeSet<Key>,
 }
 
 impl Model for Entries {
@@ -27,14 +28,28 @@ impl Model for Entries {
     ghost view = { λ e. e.entries.keys };
 }
 
-// The last number of the first entry from one up to another.
-fn first_in(entries: &BTreeSet<Entry>, from: Entry, to: Entry) -> Option<u64>
+// The first entry from one on.
+fn first_from(entries: &BTreeSet<Key>, from: Key) -> Option<&Key>
+    ensures some { IfSome result (λ entry. IsFirstFrom entries.now from entry.now) }
+    ensures none { IfNone result (IsNoneFrom entries.now from) }
+{
+    entries.range(from..).next()
+}
+
+// The last number of the first entry from one up to another. One search finds it, or what stands behind the other.
+fn first_in(entries: &BTreeSet<Key>, from: Key, to: Key) -> Option<u64>
     requires { is_gt (slice_cmp nat_cmp from to) ≡ false }
     ensures some { IfSome result (IsFirstIn entries.now from to) }
     ensures none { IfNone result (IsNoneIn entries.now from to) }
 {
-    match entries.range(from..=to).next() {
-        Some(entry) => Some(entry[7]),
+    match first_from(entries, from) {
+        Some(entry) => {
+            if entry.cmp(&to).is_gt() {
+                None
+            } else {
+                Some(entry.numbers[7])
+            }
+        }
         None => None,
     }
 }
@@ -54,7 +69,7 @@ impl Entries {
         ensures ok { OnOk result ((e : List ℕ) → has_entry self.new e ≡ (bytes_eq entry e || has_entry self.old e)) }
         ensures err { OnErr result (self.new ≡ self.old) }
     {
-        self.entries.insert(entry)?;
+        self.entries.insert(Key { numbers: entry })?;
         Ok(())
     }
 
@@ -62,14 +77,14 @@ impl Entries {
     pub fn remove(&mut self, entry: Entry)
         ensures { (e : List ℕ) → has_entry self.new e ≡ (if bytes_eq entry e then false else has_entry self.old e) }
     {
-        self.entries.remove(&entry);
+        self.entries.remove(&Key { numbers: entry });
     }
 
     /// Whether an entry is there.
     pub fn has(&self, entry: Entry) -> bool
         ensures { result ≡ has_entry self.now entry }
     {
-        self.entries.contains(&entry)
+        self.entries.contains(&Key { numbers: entry })
     }
 
     /// The first place of an entry's group, from its own place on.
@@ -81,7 +96,7 @@ impl Entries {
         let _place = entry[7];
         let mut to = entry;
         to[7] = u64::MAX;
-        match first_in(&self.entries, entry, to) {
+        match first_in(&self.entries, Key { numbers: entry }, Key { numbers: to }) {
             Some(place) => Some(place),
             None => None,
         }

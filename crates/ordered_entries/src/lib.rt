@@ -2,6 +2,7 @@
 #![tactic(auto)]
 
 mod entries;
+mod key;
 #[cfg(test)]
 mod tests;
 
