@@ -6,7 +6,7 @@ use Rattle.qkd_base.specs.declared.lane.Lane.{Lane}
 use Rattle.net_model.specs.declared.fact.Fact.{Fact}
 use Rattle.net_model.specs.Table.{name_of}
 use Rattle.net_model.specs.World.{Transmission, Volatile}
-use Rattle.relay_core.specs.Firsts.{IsFirstFrom}
+use Rattle.relay_core.specs.Firsts.{IsFirstFrom, IsNoneFrom}
 use Rattle.relay_core.specs.Index.{is_owed_to}
 use Rattle.relay_core.specs.Knowledge.{Knowledge}
 use Rattle.kme_plan.specs.UnderWay.{AreUnderWay, is_under_way}
@@ -62,6 +62,17 @@ same_place p q a b = omega arith
 
 not_owed : (b : Bool) → b ≡ false → b ≡ true → ⊥
 not_owed b e h = let t : true ≡ false = sym h ∙ e in let u : ⊥ = cc in u
+
+-- where none is owed from a place on, all are passed
+pub past_all : (me : ℕ) (acked : List Name) (facts : List Fact) (vol : Volatile) (l : Lane) (to from count : ℕ) → AreUnderWay me acked facts vol l to from → IsNoneFrom (is_owed_to me acked to) facts from →
+    count ≡ length facts → AreUnderWay me acked facts vol l to count
+past_all me acked facts vol l to from count way none all = record {
+  within = omega (arith, all);
+  each = λ p f lt there owed. elim (either p from) [
+    | inl low ↦ way.each p f low there owed
+    | inr high ↦ absurd (not_owed (is_owed_to me acked to f) (none.none p f high there) owed)
+  ];
+}
 
 module _ (me : ℕ) (acked : List Name) (facts : List Fact) (vol : Volatile) (l : Lane) (to from place : ℕ) (way : AreUnderWay me acked facts vol l to from) (first : IsFirstFrom (is_owed_to me acked to) facts from place) where
   within : place < length facts

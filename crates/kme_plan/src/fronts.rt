@@ -43,13 +43,12 @@ fn lane_place(lane: &Lane) -> usize
     2 * usize::from(lane.link.get()) + way
 }
 
-// Goes on from a place on over what is on its way on a lane.
+// Goes on from a place on over what is on its way on a lane: past all facts, where nothing is left to be sent.
 fn gone_on(known: &Known, window: &Window, lane: &Lane, to: NodeNo, from: usize) -> usize
     requires { AreUnderWay known.now.me known.now.acked known.now.facts window.now.volatile lane.now to from }
     ensures { AreUnderWay known.now.me known.now.acked known.now.facts window.now.volatile lane.now to result }
 {
-    // How many there are bounds each place.
-    let _count = known.len();
+    let count = known.len();
     let mut front = from;
     while let Some(place) = known.next_owed(to, front) {
         match name_at(known, place) {
@@ -62,7 +61,7 @@ fn gone_on(known: &Known, window: &Window, lane: &Lane, to: NodeNo, from: usize)
             }
         }
     }
-    front
+    count
 }
 
 impl Fronts {

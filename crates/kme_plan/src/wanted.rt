@@ -59,8 +59,7 @@ pub fn add_acks(
 ) -> Result<(), Memory>
     ensures { OnOk result ((facts : List FactValue) → draft.new ≡ with_all facts lane.now received draft.old (acks_wanted window.now.volatile lane.now)) }
 {
-    // Which ones are pending is what it says.
-    let _first = window.next_pending(reversed(lane), 0);
+    window.stands();
     let mut from = 0;
     while !draft.is_full {
         match next_ack(window, lane, from) {

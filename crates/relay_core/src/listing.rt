@@ -121,6 +121,9 @@ pub fn next_in(
     ensures first { IfSome result (λ place. IsFirstFrom (belongs me acked.now group.now) facts.now from place) }
     ensures none { IfNone result (IsNoneFrom (belongs me acked.now group.now) facts.now from) }
 {
+    if facts.len() <= from {
+        return None;
+    }
     match index.next(group.entry(from)) {
         None => walk(facts, me, acked, group, later(from, count)),
         Some(place) => {

@@ -3,6 +3,7 @@ ghost use Rattle.std.specs.Prelude.{◌≡◌, ◌+◌, ◌≤◌, ◌<◌, ◌^
 ghost use Rattle.std.specs.List.{list_any};
 ghost use Rattle.qkd_base.specs.Name.{Name};
 ghost use Rattle.qkd_base.specs.Lane.{lane_eq};
+ghost use Rattle.qkd_base.specs.declared.lane.Lane.{Lane as LaneValue};
 ghost use Rattle.net_model.specs.Item.{item_of, is_data_of};
 ghost use Rattle.net_model.specs.World.{no_volatile};
 ghost use Rattle.net_model.specs.Window.{acknowledge, cleared, age, repeats_on, repeat_of, transmission_eq, transmission_of, stands_at, complete_one, is_acked_item};
@@ -194,9 +195,15 @@ impl Window {
         ensures some { IfSome result (λ p. pending_from self.now lane from ≡ record { lane = lane; offset = p.offset; name = p.name } ∷ pending_from self.now lane (p.place + 1)) }
         ensures none { IfNone result (pending_from self.now lane from ≡ []) }
         ensures place { IfSome result (λ p. p.place < 2 ^ 63) }
-        ensures all { filter (λ a. lane_eq a.lane lane) self.now.volatile.pending_acks ≡ pending_from self.now lane 0 }
     {
         self.pending.next(lane, from)
+    }
+
+    /// It does nothing: what it says holds of the acknowledgements pending at any time, which stand in their order.
+    pub fn stands(&self)
+        ensures { (lane : LaneValue) → filter (λ a. lane_eq a.lane lane) self.now.volatile.pending_acks ≡ pending_from self.now lane 0 }
+    {
+        let _tick = self.tick;
     }
 
     /// Makes room for so many more acknowledgements. An `Err` changes nothing else either.

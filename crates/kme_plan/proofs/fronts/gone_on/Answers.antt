@@ -1,5 +1,5 @@
 use Rattle.std.proofs.Common.{sym}
-use Rattle.kme_plan.proofs.UnderWay.{over_next, is_one, is_other}
+use Rattle.kme_plan.proofs.UnderWay.{over_next, past_all, is_one, is_other}
 use Rattle.kme_plan.proofs.fronts.gone_on.Goals as goal
 use Rattle.kme_plan.proofs.fronts.gone_on.Goals.{else-not-holds-via-then-not-holds+else-not-awaits, else-not-holds-via-else-not-holds}
 
@@ -11,3 +11,7 @@ loop-place-preserved c =
       | else-not-holds-via-then-not-holds+else-not-awaits w ↦ is_other _ _ (sym w.if-not-awaits.ensures)
       | else-not-holds-via-else-not-holds w ↦ is_one _ _ (sym w.if-not-holds.ensures)
     ])
+
+pub returns : goal.returns
+returns c =
+    past_all c.args.known.now.me c.args.known.now.acked c.args.known.now.facts c.args.window.now.volatile c.args.lane.now c.args.to c.loop-place.front c.len-count.result c.loop-place.invariant c.in_default.ensures.none c.len-count.ensures.length
