@@ -1,4 +1,4 @@
-"""Builds the plain programs whose dependencies are Debian's packages of Rust sources."""
+"""Builds the plain programs, without a network."""
 import pathlib
 import shutil
 import subprocess
@@ -6,12 +6,11 @@ import sys
 
 HERE = pathlib.Path(__file__).resolve().parent
 SOURCES = pathlib.Path("/usr/share/cargo/registry")
-NEEDED = ("base64", "form_urlencoded", "httparse", "serde", "serde_derive", "serde_json", "uuid")
 
 
-def built(folder, program):
-    """The path of a program of this folder, which cargo builds without a network."""
-    missing = [f"librust-{name.replace('_', '-')}-dev" for name in NEEDED if not any(SOURCES.glob(f"{name}-[0-9]*"))]
+def built(folder, program, needed=()):
+    """The path of a program of this folder, which cargo builds; its dependencies are Debian's packages of Rust sources."""
+    missing = [f"librust-{name.replace('_', '-')}-dev" for name in needed if not any(SOURCES.glob(f"{name}-[0-9]*"))]
     if not shutil.which("cargo"):
         missing.append("cargo")
     if missing:

@@ -3,7 +3,7 @@
 
     python3 bench/http.py PROGRAM
 
-PROGRAM is the built http_speed. The plain program stands in bench/serving and is built by cargo out of Debian's packages of Rust
+PROGRAM is the built http_speed. The plain program stands in bench/http and is built by cargo out of Debian's packages of Rust
 sources. First both answer each request, and others that are refused, and have to write the same octets. Then the two take turns:
 printed are the least processor times of five, without that of starting. The time for an octet is to stay the same as bodies grow.
 """
@@ -13,6 +13,8 @@ import sys
 import tempfile
 
 from cargo import built
+
+NEEDED = ("base64", "form_urlencoded", "httparse", "serde", "serde_derive", "serde_json", "uuid")
 
 COUNT = 20_000
 OCTETS = 20_000_000
@@ -138,7 +140,7 @@ def least(programs, request):
 def main():
     if len(sys.argv) != 2:
         sys.exit(__doc__)
-    programs = sys.argv[1], str(built("serving", "http"))
+    programs = sys.argv[1], str(built("http", "http", NEEDED))
     compare(programs)
     for what, request in REQUESTS.items():
         ours, theirs = least(programs, request)

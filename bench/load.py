@@ -13,6 +13,8 @@ import subprocess
 import sys
 import tempfile
 
+from cargo import built
+
 HERE = pathlib.Path(__file__).resolve().parent
 PROGRAM = pathlib.Path(sys.argv[1] if len(sys.argv) > 1 else HERE.parent / "crates/qkdnet/out/qkdnet").resolve()
 NODES = range(8)
@@ -52,8 +54,7 @@ def turn(program, text, report):
 
 
 def main():
-    subprocess.run(["cargo", "build", "--release", "--offline", "--quiet"], cwd=HERE / "plain", check=True)
-    plain = HERE / "plain/target/release/qkdnet-plain"
+    plain = built("plain", "qkdnet-plain")
     print("rounds  program: s, KB  plain: s, KB  ratio of time, of memory")
     with tempfile.TemporaryDirectory() as room:
         for rounds in (50, 100, 200, 500):

@@ -4,9 +4,9 @@
     python3 bench/serving.py [PROGRAM]
 
 PROGRAM is the built program, and crates/qkdnet/out/qkdnet where none is named. The plain server and the client stand in bench/serving
-and are built by cargo out of Debian's packages of Rust sources. Both servers get the same words and the same scenario: pairs of nodes,
+and are built by cargo, out of nothing but the standard library. Both servers get the same words and the same scenario: pairs of nodes,
 each with a master of keys for its neighbour's slave. First both are asked the same requests, and have to give the same responses, but
-for the bytes of keys. Then, for 1, 2 and 4 workers, the client keeps a connection with each worker and asks for statuses, for all keys
+for the bytes of keys. Then, for 1 to 4 workers, the client keeps a connection with each worker and asks for statuses, for all keys
 of the masters, and for all keys of the slaves: with one request at a time on its way, and with 16. Printed are the greatest rates of
 five turns, requests a second, and the ratio. With two nodes more than two workers share managers; with four none do. No test depends on
 them.
@@ -151,7 +151,7 @@ def main():
         sys.exit("the servers differ")
     print(f"processors {len(os.sched_getaffinity(0))}")
     print("nodes workers on-the-way call      program    plain  plain / program")
-    for nodes, workers in ((4, 1), (4, 2), (4, 4), (2, 4)):
+    for nodes, workers in ((4, 1), (4, 2), (4, 3), (4, 4), (2, 4)):
         text = scenario(nodes, KEYS)
         for depth in (1, 16):
             ours, theirs = best((PROGRAM, plain), load, nodes, workers, depth, text)

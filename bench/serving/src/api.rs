@@ -1,8 +1,8 @@
 //! Which event a request asks for.
-use crate::event::Event;
+use crate::manager::Event;
+use crate::parameters::{keys_of_body, name_of_query, names_of_body, number_of_query, size_of_query};
 use crate::request::{Method, Request};
 use crate::site::{Sae, Site};
-use crate::{body, query};
 
 /// What is wrong with a request.
 #[derive(Debug)]
@@ -47,18 +47,21 @@ pub fn event_of(site: &Site, node: usize, request: &Request) -> Result<Event, Fa
     let (master, slave) = pair(site, node, resource, caller, other).ok_or(unauthorized("not allowed"))?;
     match (resource, request.method) {
         (Resource::Status, _) => Ok(Event::Status { master, slave }),
-        (Resource::EncKeys, Method::Post) => enc_by_body(site, &request.body, master, slave),
+        (Resource::EncKeys, Method::Post) => {
+            let (number, bits) = keys_of_body(&request.body).ok_or(bad("bad body"))?;
+            Ok(Event::Enc { master, slave, number, bits })
+        }
         (Resource::EncKeys, _) => Ok(Event::Enc {
             master,
             slave,
-            number: query::number(query).ok_or(bad("bad number"))?,
-            bits: query::size(query).ok_or(bad("bad size"))?,
+            number: number_of_query(query).ok_or(bad("bad number"))?,
+            bits: size_of_query(query).ok_or(bad("bad size"))?,
         }),
         (Resource::DecKeys, Method::Post) => {
-            let object = body::object(&request.body).ok_or(bad("bad body"))?;
-            Ok(Event::Dec { slave, master, names: body::key_ids(&object).ok_or(bad("bad key_IDs"))? })
+            let names = names_of_body(&request.body).map_err(|()| bad("bad body"))?.ok_or(bad("bad key_IDs"))?;
+            Ok(Event::Dec { slave, master, names })
         }
-        (Resource::DecKeys, _) => Ok(Event::Dec { slave, master, names: vec![query::key_id(query).ok_or(bad("bad key_ID"))?] }),
+        (Resource::DecKeys, _) => Ok(Event::Dec { slave, master, names: vec![name_of_query(query).ok_or(bad("bad key_ID"))?] }),
     }
 }
 
@@ -71,19 +74,4 @@ fn pair(site: &Site, node: usize, resource: Resource, caller: &[u8], other: &str
         Resource::DecKeys => (other, caller),
     };
     (site.home(caller) == node && site.may(master, slave)).then_some((master, slave))
-}
-
-fn enc_by_body(site: &Site, body: &[u8], master: Sae, slave: Sae) -> Result<Event, Fault> {
-    let object = if body.is_empty() { body::Object::new() } else { body::object(body).ok_or(bad("bad body"))? };
-    let number = body::number(&object).ok_or(bad("bad number"))?;
-    let bits = body::size(&object).ok_or(bad("bad size"))?;
-    let mut slaves = body::slaves(site, &object, slave).ok_or(bad("additional_slave_SAE_IDs refused"))?;
-    if !body::asks_no_extension(&object) {
-        return Err(bad("extension_mandatory refused"));
-    }
-    if slaves.len() == 1 {
-        return Ok(Event::Enc { master, slave, number, bits });
-    }
-    slaves.sort_unstable();
-    Ok(Event::EncGroup { master, slaves, number, bits })
 }

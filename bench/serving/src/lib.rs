@@ -1,13 +1,13 @@
-//! The delivery interface of ETSI GS QKD 014 over HTTP in plain Rust: what bench/http.py and bench/serving.py measure the
-//! proved program beside.
+//! The delivery interface of ETSI GS QKD 014 over HTTP in plain Rust, by the standard library alone: what bench/serving.py measures
+//! the proved program beside.
 pub mod api;
-pub mod body;
 pub mod connection;
-pub mod event;
+pub mod json;
 pub mod manager;
-pub mod query;
-pub mod reply;
+pub mod name;
+pub mod parameters;
 pub mod request;
 pub mod response;
 pub mod scenario;
+#[path = "../../http/src/site.rs"]
 pub mod site;

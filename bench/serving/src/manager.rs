@@ -1,9 +1,26 @@
 //! A node's manager: its keys in maps, and nothing on a disk.
-use crate::event::Event;
-use crate::reply::Reply;
+use crate::name::Name;
 use crate::site::Sae;
 use std::collections::{HashMap, VecDeque};
-use uuid::Uuid;
+
+/// What a manager is asked.
+#[derive(Debug)]
+pub enum Event {
+    Status { master: Sae, slave: Sae },
+    Enc { master: Sae, slave: Sae, number: u16, bits: u16 },
+    Dec { slave: Sae, master: Sae, names: Vec<Name> },
+}
+
+/// What a manager replies.
+#[derive(Debug)]
+pub enum Reply {
+    Ready(u32),
+    Handed(Vec<(Name, Vec<u8>)>),
+    Few(u32),
+    Unknown(usize),
+    Repeated(usize),
+    AlreadyHanded(usize),
+}
 
 /// A key that a slave of this node may have.
 struct Kept {
@@ -16,16 +33,16 @@ struct Kept {
 #[derive(Default)]
 pub struct Manager {
     /// The keys that masters of this node may have, of a pair and a size in bits, in order of name.
-    ready: HashMap<(Sae, Sae, u16), VecDeque<(Uuid, Vec<u8>)>>,
-    kept: HashMap<Uuid, Kept>,
+    ready: HashMap<(Sae, Sae, u16), VecDeque<(Name, Vec<u8>)>>,
+    kept: HashMap<Name, Kept>,
 }
 
 impl Manager {
-    pub fn make(&mut self, master: Sae, slave: Sae, bits: u16, name: Uuid, bytes: Vec<u8>) {
+    pub fn make(&mut self, master: Sae, slave: Sae, bits: u16, name: Name, bytes: Vec<u8>) {
         self.ready.entry((master, slave, bits)).or_default().push_back((name, bytes));
     }
 
-    pub fn keep(&mut self, master: Sae, slave: Sae, name: Uuid, bytes: Vec<u8>) {
+    pub fn keep(&mut self, master: Sae, slave: Sae, name: Name, bytes: Vec<u8>) {
         self.kept.insert(name, Kept { master, slave, bytes, handed: false });
     }
 
@@ -33,8 +50,6 @@ impl Manager {
         match event {
             Event::Status { master, slave } => Reply::Ready(self.ready.get(&(*master, *slave, 256)).map_or(0, VecDeque::len) as u32),
             Event::Enc { master, slave, number, bits } => self.enc(*master, *slave, usize::from(*number), *bits),
-            // Nothing here makes keys that slaves share.
-            Event::EncGroup { .. } => Reply::Few(0),
             Event::Dec { slave, master, names } => self.dec(*slave, *master, names),
         }
     }
@@ -47,7 +62,7 @@ impl Manager {
     }
 
     /// All named keys or none.
-    fn dec(&mut self, slave: Sae, master: Sae, names: &[Uuid]) -> Reply {
+    fn dec(&mut self, slave: Sae, master: Sae, names: &[Name]) -> Reply {
         for (place, name) in names.iter().enumerate() {
             match self.kept.get(name) {
                 Some(kept) if (kept.master, kept.slave) == (master, slave) => {
@@ -64,7 +79,7 @@ impl Manager {
         Reply::Handed(names.iter().filter_map(|name| self.hand(*name)).collect())
     }
 
-    fn hand(&mut self, name: Uuid) -> Option<(Uuid, Vec<u8>)> {
+    fn hand(&mut self, name: Name) -> Option<(Name, Vec<u8>)> {
         let kept = self.kept.get_mut(&name)?;
         kept.handed = true;
         Some((name, std::mem::take(&mut kept.bytes)))

@@ -1,5 +1,4 @@
 //! Requests read from a connection (RFC 9112).
-use httparse::{EMPTY_HEADER, Header, Status};
 use std::io::{self, Read};
 
 const HEAD_LIMIT: usize = 8192;
@@ -82,58 +81,54 @@ impl<S: Read> Requests<S> {
 
 /// The request of a head that is whole, without its body, and how many octets head and body have.
 fn head_of(octets: &[u8]) -> Result<Option<(Request, usize, usize)>, Unread> {
-    let text = &octets[..octets.len().min(HEAD_LIMIT + 1)];
-    let mut headers = [EMPTY_HEADER; 32];
-    let mut head = httparse::Request::new(&mut headers);
-    match head.parse(text) {
-        Ok(Status::Complete(length)) if length <= HEAD_LIMIT => {
-            let body = body_length(&head).map_err(Unread::Refused)?;
-            Ok(Some((request_of(&head), length, body)))
-        }
-        Ok(_) if text.len() > HEAD_LIMIT => Err(Unread::Refused("head too long")),
-        Ok(_) => Ok(None),
-        Err(_) => Err(Unread::Refused("bad request head")),
-    }
+    let text = &octets[..octets.len().min(HEAD_LIMIT)];
+    let Some(length) = text.windows(4).position(|end| end == b"\r\n\r\n") else {
+        return if octets.len() > HEAD_LIMIT { Err(Unread::Refused("head too long")) } else { Ok(None) };
+    };
+    let head = std::str::from_utf8(&text[..length]).map_err(|_| Unread::Refused("bad request head"))?;
+    let (request, body) = request_of(head).map_err(Unread::Refused)?;
+    Ok(Some((request, length + 4, body)))
 }
 
-fn request_of(head: &httparse::Request) -> Request {
-    let mut callers = named(head.headers, "X-SAE-ID");
-    let caller = callers.next().map(|header| header.value.to_vec());
-    Request {
-        method: method_of(head),
-        target: head.path.unwrap_or_default().to_owned(),
-        caller: if callers.next().is_none() { caller } else { None },
-        body: Vec::new(),
-        close: head.version == Some(0) || named(head.headers, "Connection").any(|header| header.value.eq_ignore_ascii_case(b"close")),
-    }
-}
-
-fn method_of(head: &httparse::Request) -> Method {
-    match head.method {
-        Some("GET") => Method::Get,
-        Some("POST") => Method::Post,
-        _ => Method::Other,
-    }
-}
-
-fn body_length(head: &httparse::Request) -> Result<usize, &'static str> {
-    if named(head.headers, "Transfer-Encoding").next().is_some() {
-        return Err("transfer encoding refused");
-    }
-    let mut lengths = named(head.headers, "Content-Length");
-    match (lengths.next(), lengths.next()) {
-        (None, _) if method_of(head) == Method::Post => Err("length missing"),
-        (None, _) => Ok(0),
-        (Some(length), None) => match decimal(length.value).ok_or("bad length")? {
-            length if length <= BODY_LIMIT => Ok(length as usize),
-            _ => Err("body too long"),
+/// The request of a head without its end, and the length of its body.
+fn request_of(head: &str) -> Result<(Request, usize), &'static str> {
+    let mut lines = head.split("\r\n");
+    let words: Vec<_> = lines.next().unwrap_or_default().split(' ').collect();
+    let &[method, target, version] = &words[..] else {
+        return Err("bad request head");
+    };
+    let mut request = Request {
+        method: match method {
+            "GET" => Method::Get,
+            "POST" => Method::Post,
+            _ => Method::Other,
         },
-        (Some(_), Some(_)) => Err("bad length"),
+        target: target.to_owned(),
+        caller: None,
+        body: Vec::new(),
+        close: version == "HTTP/1.0",
+    };
+    let mut callers = 0;
+    let mut body = None;
+    for line in lines {
+        let (name, value) = line.split_once(':').ok_or("bad request head")?;
+        let value = value.trim_matches([' ', '\t']);
+        if name.eq_ignore_ascii_case("X-SAE-ID") {
+            callers += 1;
+            request.caller = (callers == 1).then(|| value.as_bytes().to_vec());
+        } else if name.eq_ignore_ascii_case("Connection") {
+            request.close |= value.eq_ignore_ascii_case("close");
+        } else if name.eq_ignore_ascii_case("Transfer-Encoding") {
+            return Err("transfer encoding refused");
+        } else if name.eq_ignore_ascii_case("Content-Length") {
+            let length = decimal(value.as_bytes()).filter(|_| body.is_none()).ok_or("bad length")?;
+            body = Some(if length <= BODY_LIMIT { length as usize } else { return Err("body too long") });
+        }
     }
-}
-
-fn named<'a>(headers: &'a [Header<'a>], name: &'a str) -> impl Iterator<Item = &'a Header<'a>> {
-    headers.iter().filter(move |header| header.name.eq_ignore_ascii_case(name))
+    match body {
+        None if request.method == Method::Post => Err("length missing"),
+        body => Ok((request, body.unwrap_or(0))),
+    }
 }
 
 /// The number that 1 to 10 digits are.

@@ -1,65 +1,21 @@
 //! Responses (RFC 9112, section 4), whose bodies are JSON with members in order of name.
 use crate::api::Fault;
-use crate::event::Event;
-use crate::reply::Reply;
+use crate::manager::{Event, Reply};
+use crate::name::Name;
 use crate::site::{Sae, Site};
-use serde::Serialize;
-use std::io::Write;
-use uuid::Uuid;
+use std::fmt::Write;
 
 #[derive(Debug)]
 pub struct Response {
     status: u16,
-    body: Vec<u8>,
+    body: String,
     /// Whether the connection closes behind it.
     pub close: bool,
 }
 
-#[derive(Serialize)]
-struct Message<'a> {
-    message: &'a str,
-}
-
-#[derive(Serialize)]
-struct Container {
-    keys: Vec<Key>,
-}
-
-#[derive(Serialize)]
-struct Key {
-    key: String,
-    #[serde(rename = "key_ID")]
-    key_id: Uuid,
-}
-
-#[derive(Serialize)]
-struct Status<'a> {
-    key_size: u32,
-    #[serde(rename = "master_SAE_ID")]
-    master: &'a str,
-    #[serde(rename = "max_SAE_ID_count")]
-    max_slaves: u32,
-    max_key_count: u32,
-    max_key_per_request: u32,
-    max_key_size: u32,
-    min_key_size: u32,
-    #[serde(rename = "slave_SAE_ID")]
-    slave: &'a str,
-    #[serde(rename = "source_KME_ID")]
-    source: &'a str,
-    stored_key_count: u32,
-    #[serde(rename = "target_KME_ID")]
-    target: &'a str,
-}
-
 impl Response {
-    fn json<T: Serialize>(status: u16, value: &T, close: bool) -> Self {
-        let body = serde_json::to_vec(value).expect("these values are JSON");
-        Response { status, body, close }
-    }
-
     fn message(status: u16, message: &str, close: bool) -> Self {
-        Response::json(status, &Message { message }, close)
+        Response { status, body: format!("{{\"message\":\"{message}\"}}"), close }
     }
 
     /// The response to octets that are no request.
@@ -74,8 +30,8 @@ impl Response {
     /// The response that answers a manager's reply to an event.
     pub fn of_reply(site: &Site, event: &Event, reply: Reply, close: bool) -> Self {
         match (reply, event) {
-            (Reply::Ready(count), &Event::Status { master, slave }) => Response::json(200, &status(site, master, slave, count), close),
-            (Reply::Handed(keys), _) => Response::json(200, &container(keys), close),
+            (Reply::Ready(count), &Event::Status { master, slave }) => Response { status: 200, body: status(site, master, slave, count), close },
+            (Reply::Handed(keys), _) => Response { status: 200, body: container(&keys), close },
             (Reply::Ready(count) | Reply::Few(count), _) => Response::message(503, &format!("{count} keys ready"), close),
             (Reply::Unknown(place), _) => Response::message(400, &format!("key {place} is unknown"), close),
             (Reply::Repeated(place), _) => Response::message(400, &format!("key {place} is repeated"), close),
@@ -89,39 +45,51 @@ impl Response {
             200 => "OK",
             400 => "Bad Request",
             401 => "Unauthorized",
-            500 => "Internal Server Error",
             _ => "Service Unavailable",
         };
         let connection = if self.close { "close" } else { "keep-alive" };
-        let mut octets = Vec::with_capacity(128 + self.body.len());
+        let mut text = String::with_capacity(128 + self.body.len());
         write!(
-            octets,
-            "HTTP/1.1 {} {reason}\r\nContent-Type: application/json\r\nContent-Length: {}\r\nConnection: {connection}\r\n\r\n",
+            text,
+            "HTTP/1.1 {} {reason}\r\nContent-Type: application/json\r\nContent-Length: {}\r\nConnection: {connection}\r\n\r\n{}",
             self.status,
-            self.body.len()
+            self.body.len(),
+            self.body
         )
-        .expect("a vector takes all");
-        octets.extend_from_slice(&self.body);
-        octets
+        .expect("a text takes all");
+        text.into_bytes()
     }
 }
 
-fn container(keys: Vec<(Uuid, Vec<u8>)>) -> Container {
-    Container { keys: keys.into_iter().map(|(key_id, bytes)| Key { key: base64::encode(bytes), key_id }).collect() }
+fn container(keys: &[(Name, Vec<u8>)]) -> String {
+    let mut body = String::from("{\"keys\":[");
+    for (place, (name, bytes)) in keys.iter().enumerate() {
+        body.push_str(if place == 0 { "{\"key\":\"" } else { ",{\"key\":\"" });
+        push_base64(&mut body, bytes);
+        write!(body, "\",\"key_ID\":\"{name}\"}}").expect("a text takes all");
+    }
+    body.push_str("]}");
+    body
 }
 
-fn status(site: &Site, master: Sae, slave: Sae, count: u32) -> Status<'_> {
-    Status {
-        key_size: 256,
-        master: site.id(master),
-        max_slaves: 4,
-        max_key_count: 4096,
-        max_key_per_request: 128,
-        max_key_size: 4096,
-        min_key_size: 64,
-        slave: site.id(slave),
-        source: &site.nodes[site.home(master)],
-        stored_key_count: count,
-        target: &site.nodes[site.home(slave)],
+/// Base 64 (RFC 4648, section 4).
+fn push_base64(text: &mut String, octets: &[u8]) {
+    const LETTERS: &[u8; 64] = b"ABCDEFGHIJKLMNOPQRSTUVWXYZabcdefghijklmnopqrstuvwxyz0123456789+/";
+    for three in octets.chunks(3) {
+        let bits = three.iter().enumerate().fold(0, |bits, (place, &octet)| bits | u32::from(octet) << (16 - 8 * place));
+        for place in 0..4 {
+            let letter = LETTERS[(bits >> (18 - 6 * place) & 63) as usize];
+            text.push(if place <= three.len() { letter as char } else { '=' });
+        }
     }
+}
+
+fn status(site: &Site, master: Sae, slave: Sae, count: u32) -> String {
+    format!(
+        "{{\"key_size\":256,\"master_SAE_ID\":\"{}\",\"max_SAE_ID_count\":4,\"max_key_count\":4096,\"max_key_per_request\":128,\"max_key_size\":4096,\"min_key_size\":64,\"slave_SAE_ID\":\"{}\",\"source_KME_ID\":\"{}\",\"stored_key_count\":{count},\"target_KME_ID\":\"{}\"}}",
+        site.id(master),
+        site.id(slave),
+        site.nodes[site.home(master)],
+        site.nodes[site.home(slave)],
+    )
 }

@@ -1,11 +1,11 @@
 //! The lines of a scenario that say who there is and which keys are made: `node`, `sae`, `allow` and `fill`. All others are
 //! passed over, since here a key is known to both nodes at once.
 use crate::manager::Manager;
+use crate::name::Name;
 use crate::site::Site;
 use std::fs::File;
 use std::io::{self, Read};
 use std::sync::Mutex;
-use uuid::Uuid;
 
 pub struct Network {
     pub site: Site,
@@ -50,15 +50,10 @@ impl Network {
             let mut bytes = vec![0; usize::from(bits / 8)];
             self.random.read_exact(&mut bytes)?;
             self.made[source] += 1;
-            let name = key_name(source, self.made[source]);
+            let name = Name::of_key(source, self.made[source]);
             self.managers[source].get_mut().expect("no thread yet").make(master, slave, bits, name, bytes.clone());
             self.managers[target].get_mut().expect("no thread yet").keep(master, slave, name, bytes);
         }
         Ok(())
     }
-}
-
-/// The name of a node's key: the node in octets 6 and 7 behind the version, then the variant, the kind and the count.
-pub fn key_name(node: usize, count: u64) -> Uuid {
-    Uuid::from_u128((0x8000 | node as u128) << 64 | 0x80 << 56 | u128::from(count))
 }

@@ -4,7 +4,7 @@
 //! connections that are left are opened and closed, so that the server ends. Printed are, for statuses, keys of masters and
 //! keys of slaves, the number of requests and the seconds. Node n has the master mN, who has keys for the slave sP of the
 //! node P = n xor 1, and the slave sN, who has keys of mP.
-use qkdnet_serving::scenario::key_name;
+use qkdnet_serving::name::Name;
 use std::io::{self, Read, Write};
 use std::net::{Ipv4Addr, TcpStream};
 use std::ops::Range;
@@ -40,7 +40,7 @@ fn request(call: Call, node: u64, count: u64) -> String {
     let (target, caller) = match call {
         Call::Status => (format!("s{other}/status"), format!("m{node}")),
         Call::Enc => (format!("s{other}/enc_keys"), format!("m{node}")),
-        Call::Dec => (format!("m{other}/dec_keys?key_ID={}", key_name(other as usize, count + 1)), format!("s{node}")),
+        Call::Dec => (format!("m{other}/dec_keys?key_ID={}", Name::of_key(other as usize, count + 1)), format!("s{node}")),
     };
     format!("GET /api/v1/keys/{target} HTTP/1.1\r\nHost: localhost\r\nX-SAE-ID: {caller}\r\n\r\n")
 }
@@ -72,17 +72,15 @@ impl Responses<'_> {
 
 /// How many octets the response has that stands here, if it is whole.
 fn whole(octets: &[u8]) -> io::Result<Option<usize>> {
-    let mut headers = [httparse::EMPTY_HEADER; 8];
-    let mut head = httparse::Response::new(&mut headers);
-    let Ok(httparse::Status::Complete(length)) = head.parse(octets) else {
+    let Some(length) = octets.windows(4).position(|end| end == b"\r\n\r\n") else {
         return Ok(None);
     };
-    let text = |octets| std::str::from_utf8(octets).ok();
-    let field = head.headers.iter().find(|header| header.name.eq_ignore_ascii_case("content-length"));
-    let body: Option<usize> = field.and_then(|header| text(header.value)?.parse().ok());
-    match (head.code, body) {
-        (Some(200), Some(body)) => Ok((length + body <= octets.len()).then_some(length + body)),
-        _ => Err(io::Error::other(format!("not answered: {:?}", text(octets)))),
+    let head = std::str::from_utf8(&octets[..length]).unwrap_or_default();
+    let mut fields = head.split("\r\n").filter_map(|line| line.split_once(": "));
+    let body: Option<usize> = fields.find(|field| field.0.eq_ignore_ascii_case("content-length")).and_then(|field| field.1.parse().ok());
+    match body {
+        Some(body) if head.starts_with("HTTP/1.1 200 ") => Ok((length + 4 + body <= octets.len()).then_some(length + 4 + body)),
+        _ => Err(io::Error::other(format!("not answered: {head}"))),
     }
 }
 

@@ -1,13 +1,13 @@
 //! Answers the requests on its standard input as often as its word says, and prints how many there are and how many octets
 //! all responses have; with the word 0 it writes the responses themselves. Alice may have keys for bob, who is at home at
 //! the same node, and the manager has every key that it is asked for. bench/http.py times it beside http_speed.
-use qkdnet_serving::api::event_of;
-use qkdnet_serving::event::Event;
-use qkdnet_serving::reply::Reply;
-use qkdnet_serving::request::{Requests, Unread};
-use qkdnet_serving::response::Response;
-use qkdnet_serving::scenario::key_name;
-use qkdnet_serving::site::Site;
+use qkdnet_http::api::event_of;
+use qkdnet_http::event::Event;
+use qkdnet_http::reply::Reply;
+use qkdnet_http::request::{Requests, Unread};
+use qkdnet_http::response::Response;
+use qkdnet_http::name::key_name;
+use qkdnet_http::site::Site;
 use std::hint::black_box;
 use std::io::{self, Read, Write};
 
