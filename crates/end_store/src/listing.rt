@@ -152,7 +152,7 @@ fn list_one(index: &mut Entries, known: &Known, handed: &Marks, place: usize) ->
     ensures not_done { result ≡ false → AreWaiting known.now.me known.now.facts handed.now.pairs index.new place }
 {
     // That names differ is what it says.
-    let _places = known.len();
+    let _holds = known.len();
     match known.at(place) {
         None => false,
         Some(fact) => {

@@ -33,7 +33,7 @@ fn first_ready(
 {
     let me = store.known().me();
     // That no name of this node has a greater count is what it says.
-    let _last = store.known().last_count();
+    let _holds = store.known().last_count();
     let mut names = Vec::new(alloc);
     let mut after = 0;
     'names: while names.len() < number {

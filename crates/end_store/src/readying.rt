@@ -29,7 +29,7 @@ pub fn count_ready(
     ensures { result ≡ min number (length (ready_names known.now.me known.now.facts handed.now.pairs pool.now)) }
 {
     // That no name of this node has a greater count is what it says.
-    let _last = known.last_count();
+    let _holds = known.last_count();
     let mut ready = 0;
     let mut after = 0;
     while ready < number {
@@ -104,7 +104,7 @@ pub fn ready_last(
 {
     // How many names this node may have given, and that names differ, is what they say.
     let last = known.last_count();
-    let _places = known.len();
+    let _holds = known.len();
     match readied {
         None => {}
         Some(pool) => match readies.find(pool) {
@@ -126,8 +126,8 @@ pub fn ready_handing(readies: &mut Stocks, known: &Known, handed: &Marks, name: 
         return;
     }
     // That names are names, and that they differ, is what they say.
-    let _last = known.last_count();
-    let _places = known.len();
+    let _holds = known.last_count();
+    let _holds = known.len();
     match ready_pool_of(known, name, sae) {
         None => {}
         Some(pool) => match readies.find(&pool) {

@@ -28,7 +28,7 @@ pub fn count_stock(
     ensures { result ≡ min number (count_by (is_free_key handed.now.pairs pool.now) known.now.facts) }
 {
     // How many places there are is what it says.
-    let _places = known.len();
+    let _holds = known.len();
     let mut count = 0;
     let mut from = 0;
     while count < number {
@@ -135,7 +135,7 @@ pub fn stock_last(
         Some(pool) => match stocks.find(&pool) {
             Some(number) => {
                 // How many facts there are at most is what it says.
-                let _places = known.len();
+                let _holds = known.len();
                 stocks.put(&pool, number + 1);
             }
             None => {
@@ -156,7 +156,7 @@ pub fn stock_handing(stocks: &mut Stocks, known: &Known, handed: &Marks, name: K
         return;
     }
     // That names differ is what it says.
-    let _places = known.len();
+    let _holds = known.len();
     match pool_named(known, name, sae) {
         None => {}
         Some(pool) => match stocks.find(&pool) {

@@ -96,7 +96,7 @@ fn is_key_waiting(known: &Known, handed: &Marks, pool: &Pool, count: u64) -> boo
     ensures { result ≡ is_waiting known.now.me known.now.facts handed.now.pairs (Keys pool.now) count }
 {
     // That known names are names is what it says.
-    let _last = known.last_count();
+    let _holds = known.last_count();
     match KeyName::new(known.me(), NameKind::Key, count) {
         None => false,
         Some(name) => match known.fact(name) {
@@ -112,7 +112,7 @@ fn is_group_waiting(known: &Known, handed: &Marks, pool: &Pool, count: u64) -> b
     ensures { result ≡ is_waiting known.now.me known.now.facts handed.now.pairs (Parts pool.now) count }
 {
     // That no name of this node has a greater count is what it says.
-    let _last = known.last_count();
+    let _holds = known.last_count();
     match KeyName::new(known.me(), NameKind::Key, count) {
         None => false,
         Some(name) => has_part(known, name, pool) && !handed.has(name, pool.master),

@@ -68,7 +68,8 @@ fn put_handing(
     ensures grammar { IsName name × IsSae sae }
 {
     if left > 0 {
-        let _to = sae.get();
+        // That it is an application's number is what it says.
+        let _holds = sae.get();
         return (put_short_name(into, at, name), left - 1);
     }
     let names = run_len(records, sae);

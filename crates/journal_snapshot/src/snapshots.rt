@@ -138,7 +138,8 @@ impl<K: Disk> Snapshots<K> {
     pub fn stands(&self)
         ensures { IsTrue (K.is_honest self.now.disk) → IsKept self.now.live self.now.batches (K.content self.now.disk) (K.image self.now.disk (K.moment self.now.disk)) }
     {
-        let _live = self.live;
+        // A read shows what holds of it at any time.
+        let _holds = self.live;
     }
 
     /// Whether a checkpoint has ever moved the live area.

@@ -162,7 +162,7 @@ pub fn let_go(streams: &mut Streams, facts: usize, acked: usize, handed: usize)
         × (streams.new.ends.handed_spare ≡ streams.old.ends.handed_spare) × (streams.new.closed_spare ≡ streams.old.closed_spare) }
 {
     // That names differ is what it says.
-    let _count = streams.ends().known().len();
+    let _holds = streams.ends().known().len();
     let_go_all_learned(streams, facts);
     let_go_all_told(streams, acked);
     let_go_all_given(streams, handed);

@@ -65,7 +65,7 @@ fn gives_named(known: &Known, name: KeyName, sae: SaeNo) -> bool
     ensures { result ≡ list_any (λ f. name_eq (name_of f) name && may_give known.now.me name sae f) known.now.facts }
 {
     // That names differ is what it says.
-    let _count = known.len();
+    let _holds = known.len();
     match known.fact(name) {
         None => false,
         Some(fact) => may_give_by(known, fact, name, sae),
@@ -113,7 +113,7 @@ fn may_close(known: &Known, stream: KeyName) -> bool
     ensures { result ≡ list_any (may_close known.now.me stream) known.now.facts }
 {
     // That names differ is what it says.
-    let _count = known.len();
+    let _holds = known.len();
     match known.fact(stream) {
         None => false,
         Some(fact) => may_close_by(known, fact, stream),

@@ -49,7 +49,7 @@ fn are_parts_to(known: &Known, pool: &GroupPool, key: KeyName) -> bool
     ensures { result ≡ are_parts_to pool.now.master pool.now.bits (parts_of known.now.facts key) pool.now.slaves.now }
 {
     // That places are places is what it says.
-    let _count = known.len();
+    let _holds = known.len();
     let mut from = 0;
     for slave in pool.slaves {
         match known.next_part(key, from) {

@@ -20,7 +20,7 @@ fn candidate_at(store: &EndStore, pool: &GroupPool, ready: bool, count: u64) -> 
 {
     let known = store.known();
     // That counts are those of names is what it says.
-    let _last = known.last_count();
+    let _holds = known.last_count();
     match KeyName::new(known.me(), NameKind::Key, count) {
         None => None,
         Some(name) => {
@@ -39,7 +39,7 @@ fn count_in(store: &EndStore, pool: &GroupPool, parts: &Pool, ready: bool, numbe
     ensures { result ≡ length (take number (candidates (ends_view store.now) pool.now.master pool.now.slaves.now pool.now.bits ready)) }
 {
     // That counts end is what it says.
-    let _last = store.known().last_count();
+    let _holds = store.known().last_count();
     let mut found = 0;
     let mut after = 0;
     while found < number {
@@ -69,7 +69,7 @@ fn first_in(
     ensures { IfOk result (λ names. names.items ≡ take number (candidates (ends_view store.now) pool.now.master pool.now.slaves.now pool.now.bits true)) }
 {
     // That counts end is what it says.
-    let _last = store.known().last_count();
+    let _holds = store.known().last_count();
     let mut names = Vec::new(alloc);
     let mut after = 0;
     'names: while names.len() < number {

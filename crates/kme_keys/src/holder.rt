@@ -77,7 +77,7 @@ fn key_place(known: &Known, of: SaeNo, to: SaeNo, name: KeyName) -> Option<usize
     ensures none { IfNone result (IsNoneFrom (is_key_for of to name) known.now.facts 0) }
 {
     // That no two facts have one name is what it says.
-    let _count = known.len();
+    let _holds = known.len();
     match known.next(&Group::Named(name), 0) {
         None => None,
         Some(place) => {

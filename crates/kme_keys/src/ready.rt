@@ -78,7 +78,7 @@ pub fn status(
         return Err(Reply::NotAllowed);
     }
     // That there are fewer names is what it says.
-    let _last = known.last_count();
+    let _holds = known.last_count();
     let pool = PoolNo {
         master,
         slave,

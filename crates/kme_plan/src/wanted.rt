@@ -90,7 +90,7 @@ fn next_fact(known: &Known, window: &Window, lane: &Lane, to: NodeNo, from: usiz
     ensures place { IfSome result (λ o. o.place < length known.now.facts) }
 {
     // How many there are bounds each place.
-    let _count = known.len();
+    let _holds = known.len();
     let mut next = from;
     while let Some(place) = known.next_owed(to, next) {
         match name_at(known, place) {
@@ -120,7 +120,7 @@ pub fn add_facts(
     ensures { OnOk result (draft.new ≡ with_all known.now.facts lane.now received draft.old (facts_from known.now window.now.volatile lane.now to 0)) }
 {
     // How many there are bounds each place.
-    let _count = known.len();
+    let _holds = known.len();
     let mut from = front;
     while !draft.is_full {
         match next_fact(known, window, lane, to, from) {

@@ -57,7 +57,8 @@ fn go_on<K: Disk>(
     ensures used { IfErr result (λ e. (K.allowance e.1).used ≤ 12) }
 {
     journal.stands();
-    let _length = journal.length();
+    // How long a journal is at most is what it says.
+    let _holds = journal.length();
     match read_back(
         alloc,
         site,

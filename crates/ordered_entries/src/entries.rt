@@ -92,8 +92,8 @@ impl Entries {
         ensures next { IfSome result (IsNext self.now entry) }
         ensures last { IfNone result (IsLast self.now entry) }
     {
-        // Reading it shows a proof that it is at most the greatest number.
-        let _place = entry[7];
+        // That it is at most the greatest number is what a read says.
+        let _holds = entry[7];
         let mut to = entry;
         to[7] = u64::MAX;
         match first_in(&self.entries, Key { numbers: entry }, Key { numbers: to }) {

@@ -96,7 +96,8 @@ impl KeyName {
     pub fn new(node: NodeNo, kind: NameKind, count: u64) -> Option<Self>
         ensures { result ≡ (if nat_le 1 count && nat_lt count (2 ^ 48) then Some (record { node = node; kind = kind; count = count }) else None) }
     {
-        let _node = node.get();
+        // That it is a node's number is what it says.
+        let _holds = node.get();
         if 1 <= count && count < 1 << 48 {
             Some(KeyName { node, kind, count })
         } else {

@@ -46,7 +46,8 @@ fn in_range(nodes: &[NodeNo])
     ensures { are_nodes nodes.now ≡ true }
 {
     for node in nodes {
-        let _number = node.get();
+        // That it is a node's number is what it says.
+        let _holds = node.get();
     }
 }
 

@@ -22,7 +22,8 @@ pub fn fact_name(fact: &Fact) -> KeyName
         Fact::Joined { note, .. } => *note,
         Fact::Part { name, .. } => *name,
     };
-    let _count = name.count();
+    // That it is a name's count is what it says.
+    let _holds = name.count();
     name
 }
 

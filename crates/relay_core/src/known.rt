@@ -250,7 +250,7 @@ impl Known {
         ensures { result ≡ has self.now.acked name }
     {
         // That what is acknowledged is known is what it says.
-        let _acked = &self.acked;
+        let _holds = &self.acked;
         match self.next(&Group::Named(name), 0) {
             None => false,
             Some(place) => self.is_acknowledged_at(place),
@@ -277,7 +277,7 @@ impl Known {
         ensures owed { (to : ℕ) → has (owed_names self.now.me self.now.acked self.now.facts to) name ≡ is_some_of result to }
     {
         // That names differ is what it says.
-        let _count = self.len();
+        let _holds = self.len();
         match self.next(&Group::Named(name), 0) {
             None => None,
             Some(place) => self.creditor_at(place),
@@ -330,7 +330,8 @@ impl Known {
         ensures kept { (self.new.me ≡ self.old.me) × (self.new.acked ≡ self.old.acked) × (self.new.acked_spare ≡ self.old.acked_spare) }
         ensures spare { self.old.facts_spare ≡ self.new.facts_spare + 1 }
     {
-        let _name = fact_name(&fact);
+        // That it is a name is what it says.
+        let _holds = fact_name(&fact);
         self.last = later_count(self.last, &fact, self.me);
         let to = fact_route(&fact).next_after(self.me);
         self.facts.push_reserved(fact);
@@ -370,7 +371,7 @@ impl Known {
         ensures spare { self.old.acked_spare ≤ self.new.acked_spare + 1 }
     {
         // That names differ is what it says.
-        let _count = self.len();
+        let _holds = self.len();
         match self.next(&Group::Named(name), 0) {
             None => {}
             Some(place) => self.acknowledge_at(name, place),

@@ -127,7 +127,7 @@ pub fn next_arrival(
     ensures none { IfNone result (IsNoneFrom (passes (is_from wanted.now)) pending.now from) }
 {
     // How many there are bounds each place.
-    let _count = pending.len();
+    let _holds = pending.len();
     if !index.is_whole {
         return walk(pending, wanted, from);
     }

@@ -126,7 +126,7 @@ pub fn next_awaited(
     ensures none { IfNone result (IsNoneFrom (passes (is_same wanted.now)) awaiting.now from) }
 {
     // How many there are bounds each place.
-    let _count = awaiting.len();
+    let _holds = awaiting.len();
     if !index.is_whole {
         return walk(awaiting, wanted, from);
     }

@@ -58,7 +58,7 @@ pub fn next_slot(
     ensures none { IfNone result (IsNoneFrom (passes (is_asked query.now)) slots.now from) }
 {
     // How many there are bounds each place.
-    let _count = slots.len();
+    let _holds = slots.len();
     if !index.is_whole {
         return walk(slots, query, from);
     }

@@ -203,7 +203,8 @@ impl Window {
     pub fn stands(&self)
         ensures { (lane : LaneValue) → filter (λ a. lane_eq a.lane lane) self.now.volatile.pending_acks ≡ pending_from self.now lane 0 }
     {
-        let _tick = self.tick;
+        // A read shows what holds of it at any time.
+        let _holds = self.tick;
     }
 
     /// Makes room for so many more acknowledgements. An `Err` changes nothing else either.

@@ -67,7 +67,8 @@ impl KeyStream {
     fn within(&self)
         ensures { self.now.place < 2 ^ 70 }
     {
-        let _ = &self.place;
+        // A read shows what holds of it at any time.
+        let _holds = &self.place;
     }
 
     // The next octet.

@@ -90,7 +90,7 @@ fn tally_chunk(tallies: &mut Tallies, ends: &EndStore, fact: &Fact, stream: KeyN
     match tallies.find(stream) {
         Some(tally) => {
             // How many facts there are at most is what it says.
-            let _places = ends.known().len();
+            let _holds = ends.known().len();
             let given = ends.was_handed(fact_name(fact), tally.source);
             tallies.put(
                 stream,
@@ -145,7 +145,7 @@ pub fn tally_handing(tallies: &mut Tallies, ends: &EndStore, name: KeyName, sae:
         return;
     }
     // That names differ is what it says.
-    let _places = ends.known().len();
+    let _holds = ends.known().len();
     match chunk_stream(ends.known(), name) {
         None => {}
         Some(stream) => match tallies.find(stream) {

@@ -4,19 +4,19 @@ use Rattle.end_store.proofs.readying.ready_handing.Goals as goal
 
 pub returns-in-None : goal.returns-in-None
 returns-in-None c =
-    unready_none c.args.known.now.me c.args.known.now.facts c.args.handed.now.pairs c.args.name c.args.sae c.len-places.ensures.distinct (sym c.has.ensures ∙ c.if-has.false) c.args.readies.now c.requires c.in-None.ensures
+    unready_none c.args.known.now.me c.args.known.now.facts c.args.handed.now.pairs c.args.name c.args.sae c.len-holds.ensures.distinct (sym c.has.ensures ∙ c.if-has.false) c.args.readies.now c.requires c.in-None.ensures
 
 pub overflow_sub-number : goal.overflow_sub-number
 overflow_sub-number c =
-    unready_some c.args.known.now.me c.args.known.now.facts c.args.handed.now.pairs c.args.name c.args.sae c.len-places.ensures.distinct (sym c.has.ensures ∙ c.if-has.false) c.args.readies.now c.requires c.in-Some.pool
+    unready_some c.args.known.now.me c.args.known.now.facts c.args.handed.now.pairs c.args.name c.args.sae c.len-holds.ensures.distinct (sym c.has.ensures ∙ c.if-has.false) c.args.readies.now c.requires c.in-Some.pool
     c.in-Some.ensures c.in-Some-find.number c.in-Some-find.ensures
 
 pub returns-in-None-find : goal.returns-in-None-find
 returns-in-None-find c =
-    unready_absent c.args.known.now.me c.args.known.now.facts c.args.handed.now.pairs c.args.name c.args.sae c.len-places.ensures.distinct (sym c.has.ensures ∙ c.if-has.false) c.args.readies.now c.requires c.in-Some.pool
+    unready_absent c.args.known.now.me c.args.known.now.facts c.args.handed.now.pairs c.args.name c.args.sae c.len-holds.ensures.distinct (sym c.has.ensures ∙ c.if-has.false) c.args.readies.now c.requires c.in-Some.pool
     c.in-Some.ensures c.in-None-find.ensures
 
 pub returns-in-Some-find : goal.returns-in-Some-find
 returns-in-Some-find c =
-    unready_less c.args.known.now.me c.args.known.now.facts c.args.handed.now.pairs c.args.name c.args.sae c.len-places.ensures.distinct (sym c.has.ensures ∙ c.if-has.false) c.args.readies.now c.requires c.in-Some.pool
+    unready_less c.args.known.now.me c.args.known.now.facts c.args.handed.now.pairs c.args.name c.args.sae c.len-holds.ensures.distinct (sym c.has.ensures ∙ c.if-has.false) c.args.readies.now c.requires c.in-Some.pool
     c.in-Some.ensures c.in-Some-find.number c.put.new.self c.in-Some-find.ensures c.put.ensures

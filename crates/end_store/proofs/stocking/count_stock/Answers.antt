@@ -13,7 +13,7 @@ pub overflow_add-from : goal.overflow_add-from
 overflow_add-from c =
     let at = stock_place c.args.known.now.me c.args.known.now.facts c.args.handed.now.pairs c.args.pool.now c.args.number c.loop-count.from c.loop-count.count c.in-Some.place c.loop-count.invariant c.in-Some.ensures.next in
     let lt = get_within c.args.known.now.facts c.in-Some.place at.fact at.there in
-    let size : c.len-places.result ≡ length c.args.known.now.facts = c.len-places.ensures.length in
+    let size : c.len-holds.result ≡ length c.args.known.now.facts = c.len-holds.ensures.length in
     omega arith
 
 pub loop-count-preserved : goal.loop-count-preserved

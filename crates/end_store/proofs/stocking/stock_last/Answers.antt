@@ -9,4 +9,4 @@ returns-in-Some-find c = learned_more c.args.known.now.facts c.args.handed.now.p
 
 pub returns-in-None-find : goal.returns-in-None-find
 returns-in-None-find c =
-    learned_all c.args.known.now.facts c.args.handed.now.pairs c.requires.some c.args.stocks.now c.requires.stocks c.in-Some.pool c.in-Some.ensures c.count_stock-number.result c.len-places-in-None-find.result c.put-in-None-find.new.self c.len-places-in-None-find.ensures.length c.count_stock-number.ensures c.put-in-None-find.ensures
+    learned_all c.args.known.now.facts c.args.handed.now.pairs c.requires.some c.args.stocks.now c.requires.stocks c.in-Some.pool c.in-Some.ensures c.count_stock-number.result c.len-places.result c.put-in-None-find.new.self c.len-places.ensures.length c.count_stock-number.ensures c.put-in-None-find.ensures

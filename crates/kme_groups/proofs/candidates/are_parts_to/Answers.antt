@@ -25,7 +25,7 @@ returns-then-not-is_part_to_at c =
     ∙ ap (are_parts_to p.master p.bits (passing (is_part_of c.args.key) facts c.loop-slave.from)) (sym at) ∙ c.loop-slave.invariant
 
 pub overflow_add-from : goal.overflow_add-from
-overflow_add-from c = let lt = get_within c.args.known.now.facts c.in-Some.place c.in-Some.ensures.first.item c.in-Some.ensures.first.there in let e = c.len-count.ensures.length in omega arith
+overflow_add-from c = let lt = get_within c.args.known.now.facts c.in-Some.place c.in-Some.ensures.first.item c.in-Some.ensures.first.there in let e = c.len-holds.ensures.length in omega arith
 
 pub loop-slave-preserved : goal.loop-slave-preserved
 loop-slave-preserved c =

@@ -10,8 +10,8 @@ use Rattle.kme_groups.proofs.ready.candidate_at.Goals as goal
 pub returns-in-None : goal.returns-in-None
 returns-in-None c =
     let e = c.args.store.now in
-    let last : c.last_count-last.result ≡ last_count e.known.me e.known.facts = c.last_count-last.ensures.count ∙ ap (λ (k : Knowledge). last_count k.me k.facts) c.known-known.ensures in
-    let bound = c.last_count-last.ensures.bound in
+    let last : c.last_count-holds.result ≡ last_count e.known.me e.known.facts = c.last_count-holds.ensures.count ∙ ap (λ (k : Knowledge). last_count k.me k.facts) c.known-known.ensures in
+    let bound = c.last_count-holds.ensures.bound in
     let within = c.requires.within in
     absurd (no_name c.me.result c.args.count c.requires.positive (omega arith) c.in-None.ensures)
 

@@ -13,4 +13,4 @@ returns-then-is_key_at-clause-first c =
 
 pub returns-else-is_key_at-clause-none : goal.returns-else-is_key_at-clause-none
 returns-else-is_key_at-clause-none c =
-    no_key c.args.of c.args.to c.args.name c.args.known.now.facts c.in-Some.place c.len-count.ensures.distinct c.in-Some.ensures.first (sym c.is_key_at.ensures ∙ c.if-is_key_at.false)
+    no_key c.args.of c.args.to c.args.name c.args.known.now.facts c.in-Some.place c.len-holds.ensures.distinct c.in-Some.ensures.first (sym c.is_key_at.ensures ∙ c.if-is_key_at.false)

@@ -15,8 +15,8 @@ pub returns : goal.returns
 returns c v seen =
     let e = c.args.store.now in
     let me = me_seen v e seen c.known-known.result.now c.me.result c.known-known.ensures c.me.ensures in
-    let last : c.last_count-last.result ≡ last_count e.known.me e.known.facts = c.last_count-last.ensures.count ∙ ap (λ (k : Knowledge). last_count k.me k.facts) c.known-known.ensures in
-    let bound = c.last_count-last.ensures.bound in
+    let last : c.last_count-holds.result ≡ last_count e.known.me e.known.facts = c.last_count-holds.ensures.count ∙ ap (λ (k : Knowledge). last_count k.me k.facts) c.known-known.ensures in
+    let bound = c.last_count-holds.ensures.bound in
     let whole = counted_whole (ends_view e) c.args.master c.args.slave 256 (2 ^ 48) c.ready_count.result c.ready_count.ensures (omega arith) in
     status_counts (site_of c.args.site.now) v c.args.master c.args.slave c.is_entitled.result (c.is_entitled.ensures v me) (cc) c.ready_count.result
     (whole ∙ ap length (pool_seen v e seen c.args.master c.args.slave 256)) c.ready_count-2.result (c.ready_count-2.ensures v)

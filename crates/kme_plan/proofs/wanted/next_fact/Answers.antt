@@ -18,7 +18,7 @@ pub overflow_add-next : goal.overflow_add-next
 overflow_add-next c =
     let o = owed_at c.args.known.now c.args.to c.loop-place.next c.in-Some.place c.in-Some-name_at.name c.in-Some.ensures.first c.in-Some-name_at.ensures in
     let w = o.within in
-    let l = c.len-count.ensures.length in
+    let l = c.len-holds.ensures.length in
     omega arith
 
 pub loop-place-smaller : goal.loop-place-smaller

@@ -10,36 +10,36 @@ pub overflow_add-tally : goal.overflow_add-tally
 overflow_add-tally c =
     let is = sym c.eq.ensures ∙ c.if-eq.true in
     let fits =
-    handing_fits c.args.ends.now.known.facts c.args.ends.now.handed c.args.name c.args.sae (subst (λ (k : Knowledge). AreDistinct k.facts) c.known.ensures c.len-places.ensures.distinct)
+    handing_fits c.args.ends.now.known.facts c.args.ends.now.handed c.args.name c.args.sae (subst (λ (k : Knowledge). AreDistinct k.facts) c.known.ensures c.len-holds.ensures.distinct)
     (sym c.was_handed.ensures ∙ c.if-was_handed.false) c.args.tallies.now c.requires c.in-Some.stream c.in-Some-find.tally
     (ap (λ (k : Knowledge). chunk_stream (fact_at k.facts c.args.name)) (sym c.known-2.ensures) ∙ sym c.chunk_stream.ensures ∙ c.in-Some.is) (sym c.find.ensures ∙ c.in-Some-find.is)
     (eq_from c.in-Some-find.tally.source c.args.sae is) in
-    let size : c.len-places.result ≡ length c.args.ends.now.known.facts = c.len-places.ensures.length ∙ ap (λ (k : Knowledge). length k.facts) c.known.ensures in
-    let b = c.len-places.type_inv in
+    let size : c.len-holds.result ≡ length c.args.ends.now.known.facts = c.len-holds.ensures.length ∙ ap (λ (k : Knowledge). length k.facts) c.known.ensures in
+    let b = c.len-holds.type_inv in
     omega arith
 
 pub returns-in-None : goal.returns-in-None
 returns-in-None c =
-    handing_none c.args.ends.now.known.facts c.args.ends.now.handed c.args.name c.args.sae (subst (λ (k : Knowledge). AreDistinct k.facts) c.known.ensures c.len-places.ensures.distinct)
+    handing_none c.args.ends.now.known.facts c.args.ends.now.handed c.args.name c.args.sae (subst (λ (k : Knowledge). AreDistinct k.facts) c.known.ensures c.len-holds.ensures.distinct)
     (sym c.was_handed.ensures ∙ c.if-was_handed.false) c.args.tallies.now c.requires
     (ap (λ (k : Knowledge). chunk_stream (fact_at k.facts c.args.name)) (sym c.known-2.ensures) ∙ sym c.chunk_stream.ensures ∙ c.in-None.is)
 
 pub returns-in-None-find : goal.returns-in-None-find
 returns-in-None-find c =
-    handing_absent c.args.ends.now.known.facts c.args.ends.now.handed c.args.name c.args.sae (subst (λ (k : Knowledge). AreDistinct k.facts) c.known.ensures c.len-places.ensures.distinct)
+    handing_absent c.args.ends.now.known.facts c.args.ends.now.handed c.args.name c.args.sae (subst (λ (k : Knowledge). AreDistinct k.facts) c.known.ensures c.len-holds.ensures.distinct)
     (sym c.was_handed.ensures ∙ c.if-was_handed.false) c.args.tallies.now c.requires c.in-Some.stream
     (ap (λ (k : Knowledge). chunk_stream (fact_at k.facts c.args.name)) (sym c.known-2.ensures) ∙ sym c.chunk_stream.ensures ∙ c.in-Some.is) (sym c.find.ensures ∙ c.in-None-find.is)
 
 pub returns-then-eq : goal.returns-then-eq
 returns-then-eq c =
-    handing_put c.args.ends.now.known.facts c.args.ends.now.handed c.args.name c.args.sae (subst (λ (k : Knowledge). AreDistinct k.facts) c.known.ensures c.len-places.ensures.distinct)
+    handing_put c.args.ends.now.known.facts c.args.ends.now.handed c.args.name c.args.sae (subst (λ (k : Knowledge). AreDistinct k.facts) c.known.ensures c.len-holds.ensures.distinct)
     (sym c.was_handed.ensures ∙ c.if-was_handed.false) c.args.tallies.now c.requires c.put.new.self c.in-Some.stream c.in-Some-find.tally (record { source = c.in-Some-find.tally.source; chunks = c.in-Some-find.tally.chunks; given = c.in-Some-find.tally.given + 1 })
     (ap (λ (k : Knowledge). chunk_stream (fact_at k.facts c.args.name)) (sym c.known-2.ensures) ∙ sym c.chunk_stream.ensures ∙ c.in-Some.is) (sym c.find.ensures ∙ c.in-Some-find.is)
     (eq_from c.in-Some-find.tally.source c.args.sae (sym c.eq.ensures ∙ c.if-eq.true)) c.put.ensures refl refl refl
 
 pub returns-else-eq : goal.returns-else-eq
 returns-else-eq c =
-    handing_other c.args.ends.now.known.facts c.args.ends.now.handed c.args.name c.args.sae (subst (λ (k : Knowledge). AreDistinct k.facts) c.known.ensures c.len-places.ensures.distinct)
+    handing_other c.args.ends.now.known.facts c.args.ends.now.handed c.args.name c.args.sae (subst (λ (k : Knowledge). AreDistinct k.facts) c.known.ensures c.len-holds.ensures.distinct)
     (sym c.was_handed.ensures ∙ c.if-was_handed.false) c.args.tallies.now c.requires c.in-Some.stream c.in-Some-find.tally
     (ap (λ (k : Knowledge). chunk_stream (fact_at k.facts c.args.name)) (sym c.known-2.ensures) ∙ sym c.chunk_stream.ensures ∙ c.in-Some.is) (sym c.find.ensures ∙ c.in-Some-find.is)
     (not_equal c.in-Some-find.tally.source c.args.sae (sym c.eq.ensures ∙ c.if-eq.false))

@@ -9,5 +9,5 @@ use Rattle.relay_core.proofs.known.Known.acknowledge.Goals as goal
 
 pub returns-in-None-clause-acked : goal.returns-in-None-clause-acked
 returns-in-None-clause-acked c =
-    unowed_acked c.args.self.now.me c.args.self.now.acked c.args.self.now.facts c.args.name c.len-count.ensures.distinct
+    unowed_acked c.args.self.now.me c.args.self.now.acked c.args.self.now.facts c.args.name c.len-holds.ensures.distinct
     (ap (λ (o : Option Fact). creditor_of c.args.self.now.me c.args.self.now.acked o) (none_find (λ f. name_eq (name_of f) c.args.name) c.args.self.now.facts c.in-None.ensures.none))

@@ -14,12 +14,12 @@ returns-in-None-clause-creditor c =
 pub returns-in-None-clause-owes : goal.returns-in-None-clause-owes
 returns-in-None-clause-owes c =
     let none = sym (ap (λ (o : Option Fact). creditor_of c.args.self.now.me c.args.self.now.acked o) (none_find (λ f. name_eq (name_of f) c.args.name) c.args.self.now.facts c.in-None.ensures.none)) in
-    owes_is c.args.self.now.me c.args.self.now.acked c.args.self.now.facts c.args.name None c.len-count.ensures.distinct none
+    owes_is c.args.self.now.me c.args.self.now.acked c.args.self.now.facts c.args.name None c.len-holds.ensures.distinct none
 
 pub returns-in-None-clause-owed : goal.returns-in-None-clause-owed
 returns-in-None-clause-owed c =
     let none = sym (ap (λ (o : Option Fact). creditor_of c.args.self.now.me c.args.self.now.acked o) (none_find (λ f. name_eq (name_of f) c.args.name) c.args.self.now.facts c.in-None.ensures.none)) in
-    owed_names_is c.args.self.now.me c.args.self.now.acked c.args.self.now.facts c.args.name None c.len-count.ensures.distinct none
+    owed_names_is c.args.self.now.me c.args.self.now.acked c.args.self.now.facts c.args.name None c.len-holds.ensures.distinct none
 
 pub returns-in-Some-clause-creditor : goal.returns-in-Some-clause-creditor
 returns-in-Some-clause-creditor c =
@@ -30,10 +30,10 @@ pub returns-in-Some-clause-owes : goal.returns-in-Some-clause-owes
 returns-in-Some-clause-owes c =
     let some = c.creditor_at.ensures
     ∙ sym (ap (λ (o : Option Fact). creditor_of c.args.self.now.me c.args.self.now.acked o) (first_find (λ f. name_eq (name_of f) c.args.name) c.args.self.now.facts c.in-Some.place c.in-Some.ensures.first)) in
-    owes_is c.args.self.now.me c.args.self.now.acked c.args.self.now.facts c.args.name c.creditor_at.result c.len-count.ensures.distinct some
+    owes_is c.args.self.now.me c.args.self.now.acked c.args.self.now.facts c.args.name c.creditor_at.result c.len-holds.ensures.distinct some
 
 pub returns-in-Some-clause-owed : goal.returns-in-Some-clause-owed
 returns-in-Some-clause-owed c =
     let some = c.creditor_at.ensures
     ∙ sym (ap (λ (o : Option Fact). creditor_of c.args.self.now.me c.args.self.now.acked o) (first_find (λ f. name_eq (name_of f) c.args.name) c.args.self.now.facts c.in-Some.place c.in-Some.ensures.first)) in
-    owed_names_is c.args.self.now.me c.args.self.now.acked c.args.self.now.facts c.args.name c.creditor_at.result c.len-count.ensures.distinct some
+    owed_names_is c.args.self.now.me c.args.self.now.acked c.args.self.now.facts c.args.name c.creditor_at.result c.len-holds.ensures.distinct some

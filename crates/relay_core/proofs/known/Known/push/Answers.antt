@@ -30,5 +30,5 @@ invariant_of-self c =
     let index = subst (λ (fs : List Fact). IsIndex c.self.inside.me c.self.inside.acked.items fs c.list_new-self-inside.new.index c.list_new-self-inside.result) c.deref.ensures.value
     (subst (λ (ns : List Name). IsIndex c.self.inside.me ns c.deref.result.now c.list_new-self-inside.new.index c.list_new-self-inside.result) c.deref-2.ensures.value c.list_new-self-inside.ensures) in
     known_pushed c.self.inside.me c.self.inside.facts.items c.push_reserved.new.self.items c.self.inside.acked.items c.self.inside.index c.list_new-self-inside.new.index c.self.inside.listed
-    c.list_new-self-inside.result c.self.inside.last c.later_count-self-inside.result c.args.fact c.self.invariant (subst IsName c.fact_name-name.ensures.name c.fact_name-name.ensures.named)
+    c.list_new-self-inside.result c.self.inside.last c.later_count-self-inside.result c.args.fact c.self.invariant (subst IsName c.fact_name-holds.ensures.name c.fact_name-holds.ensures.named)
     (ap (λ (fs : List Fact). has_fact fs (name_of c.args.fact)) e ∙ c.requires.new) c.push_reserved.ensures.items index c.later_count-self-inside.ensures.bound c.later_count-self-inside.ensures.count
