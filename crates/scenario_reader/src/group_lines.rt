@@ -64,15 +64,13 @@ pub fn fill_group_line(alloc: Global, site: &Site, rest: &[u8]) -> Result<Comman
     let master = sae(site, master_word).ok_or(LineRefusal::Refused)?;
     let bits = size(bits_word).ok_or(LineRefusal::Refused)?;
     let count = number_in(1, 128, count_word).ok_or(LineRefusal::Refused)?;
-    match slaves(alloc, site, rest) {
-        Ok(slaves) => Ok(Command::FillGroup {
-            master,
-            bits,
-            count: count as u16,
-            slaves,
-        }),
-        Err(refusal) => Err(refusal),
-    }
+    let slaves = slaves(alloc, site, rest)?;
+    Ok(Command::FillGroup {
+        master,
+        bits,
+        count: count as u16,
+        slaves,
+    })
 }
 
 // What the words behind the line's first one ask for.
@@ -88,14 +86,12 @@ pub fn enc_group_line(alloc: Global, site: &Site, rest: &[u8]) -> Result<Command
     let master = sae(site, master_word).ok_or(LineRefusal::Refused)?;
     let count = number_in(1, 128, count_word).ok_or(LineRefusal::Refused)?;
     let bits = size(bits_word).ok_or(LineRefusal::Refused)?;
-    match slaves(alloc, site, rest) {
-        Ok(slaves) => Ok(Command::EncGroup {
-            node,
-            master,
-            count: count as u16,
-            bits,
-            slaves,
-        }),
-        Err(refusal) => Err(refusal),
-    }
+    let slaves = slaves(alloc, site, rest)?;
+    Ok(Command::EncGroup {
+        node,
+        master,
+        count: count as u16,
+        bits,
+        slaves,
+    })
 }

@@ -99,15 +99,13 @@ pub fn dec_line(alloc: Global, site: &Site, rest: &[u8]) -> Result<Command, Line
     let node = node(site, node_word).ok_or(LineRefusal::Refused)?;
     let slave = sae(site, slave_word).ok_or(LineRefusal::Refused)?;
     let master = sae(site, master_word).ok_or(LineRefusal::Refused)?;
-    match names(alloc, rest) {
-        Ok(names) => Ok(Command::Dec {
-            node,
-            slave,
-            master,
-            names,
-        }),
-        Err(refusal) => Err(refusal),
-    }
+    let names = names(alloc, rest)?;
+    Ok(Command::Dec {
+        node,
+        slave,
+        master,
+        names,
+    })
 }
 
 #[tactic(auto, unfolding(crate::specs::Commanding::status_at))]
@@ -131,8 +129,6 @@ pub fn http_line(alloc: Global, site: &Site, rest: &[u8]) -> Result<Command, Lin
 {
     let (node_word, hex) = two(rest).ok_or(LineRefusal::Refused)?;
     let node = node(site, node_word).ok_or(LineRefusal::Refused)?;
-    match octets(alloc, 73728, hex) {
-        Ok(octets) => Ok(Command::Http { node, octets }),
-        Err(refusal) => Err(refusal),
-    }
+    let octets = octets(alloc, 73728, hex)?;
+    Ok(Command::Http { node, octets })
 }

@@ -55,10 +55,8 @@ pub fn forge_line(alloc: Global, site: &Site, rest: &[u8]) -> Result<Command, Li
 {
     let (link_word, way_word, hex) = three(rest).ok_or(LineRefusal::Refused)?;
     let lane = lane(site, link_word, way_word).ok_or(LineRefusal::Refused)?;
-    match octets(alloc, 600, hex) {
-        Ok(octets) => Ok(Command::Forge { lane, octets }),
-        Err(refusal) => Err(refusal),
-    }
+    let octets = octets(alloc, 600, hex)?;
+    Ok(Command::Forge { lane, octets })
 }
 
 #[tactic(auto, unfolding(crate::specs::Commanding::link_up_at))]

@@ -233,10 +233,7 @@ impl Reading {
             return Err(LineRefusal::Refused);
         }
         if word == b"node".as_slice() {
-            match node_line(alloc, &mut self.site, rest) {
-                Ok(()) => {}
-                Err(refusal) => return Err(refusal),
-            }
+            node_line(alloc, &mut self.site, rest)?;
             match self.node_lines.push(number) {
                 Ok(()) => Ok(()),
                 Err(_) => Err(LineRefusal::Memory),
@@ -337,10 +334,8 @@ impl Reading {
         ensures { Takes (words_at self.old number word.now (words_of rest.now)) self.old self.new result }
     {
         if is_declaration(word) {
-            match self.declare(alloc, number, word, rest) {
-                Ok(()) => Ok(false),
-                Err(refusal) => Err(refusal),
-            }
+            self.declare(alloc, number, word, rest)?;
+            Ok(false)
         } else if word == b"together".as_slice() {
             self.open_block(alloc, rest)
         } else if word == b"apart".as_slice() {
@@ -348,10 +343,8 @@ impl Reading {
         } else if word == b"end".as_slice() {
             self.end(rest)
         } else {
-            match command(alloc, &self.site, word, rest) {
-                Ok(command) => self.ask(number, command),
-                Err(refusal) => Err(refusal),
-            }
+            let command = command(alloc, &self.site, word, rest)?;
+            self.ask(number, command)
         }
     }
 

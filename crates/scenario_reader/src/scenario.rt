@@ -54,10 +54,7 @@ fn take_line(
     if left < all || LINE_LIMIT < line.len() {
         return Err(LineRefusal::Refused);
     }
-    match reading.take(alloc, number, line) {
-        Ok(is_last) => Ok(is_last),
-        Err(refusal) => Err(refusal),
-    }
+    reading.take(alloc, number, line)
 }
 
 // The refusal of a line, as that of the scenario.
