@@ -1,0 +1,37 @@
+-- A block from its start to its end.
+use Rattle.std.specs.Prelude.{◌≡◌, ℕ, ◌≤◌, Bool, List, length, map, Option}
+use Rattle.disk_model.specs.declared.arm.Armings.{Armings}
+use Rattle.net_model.specs.OctetSequence.{OctetSequence}
+use Rattle.kme_store.specs.declared.post.Post.{Post}
+use Rattle.run_blocks.specs.declared.job.Job.{Job}
+use Rattle.lane_shares.specs.declared.shares.Shares.{Shares}
+use Rattle.lane_sides.specs.Lane.{LaneForm}
+use Rattle.either_machines.specs.declared.either.Either.{Either}
+use Rattle.turn_shifts.specs.Calls.{AreShifts}
+use Rattle.block_talks.specs.declared.keep.Keep.{Keep}
+use Rattle.block_talks.specs.Together.{HaveWorked}
+use Rattle.world_turns.specs.Passed.{State}
+use Rattle.block_notes.specs.declared.worked.Worked.{Worked}
+use Rattle.block_works.specs.Desks.{ManagerTurns, LaneTurns}
+use Rattle.block_works.specs.Seats.{AreSat, HaveRisen}
+use Rattle.block_works.specs.Gathering.{AreBare, AreGathered}
+
+-- So many workers begin with the shifts of the jobs, and keep nothing. Managers and lanes sit down at their desks; the workers do their jobs there; managers
+-- and lanes rise; and what the workers keep is gathered.
+pub record WentThrough {K Q E X D L : Type 0} (is_honest : K → Bool) (moment : K → ℕ) (image : K → ℕ → List ℕ → Type 0) (left : E → Option OctetSequence)
+    (told : Q → Option OctetSequence) (frames : X → Option (List (List ℕ))) (counted : X → ℕ) (disk_count : K → ℕ) (armed : K → Armings) (entropy_count : E → ℕ) (wire_count : X → ℕ)
+    (opening_of : D → State K Q E X) (node_of up_of : D → ℕ) (post_of : D → Post K E) (shares_in : D → List Shares) (side_of : L → LaneForm X) (shares_of : L → Shares)
+    (old new : State K Q E X) (workers : ℕ) (jobs : List Job) (worked : Worked) : Type 0 where
+  pub some : 1 ≤ workers
+  pub keeps : List Keep
+  pub callers : length keeps ≡ workers
+  pub shifts : AreShifts is_honest moment image left told frames counted old workers jobs (map (λ (keep : Keep). keep.shift.items) keeps)
+  pub bare : AreBare keeps
+  pub machines : List (Either D L)
+  pub sat : AreSat opening_of node_of up_of post_of side_of old machines
+  pub machines' : List (Either D L)
+  pub nexts : List Keep
+  pub worked' : HaveWorked (ManagerTurns is_honest moment image left told frames counted disk_count armed entropy_count opening_of node_of up_of post_of shares_in) (LaneTurns frames counted wire_count side_of shares_of)
+      old.lanes.items (length old.posts.items) keeps machines nexts machines'
+  pub risen : HaveRisen opening_of node_of up_of post_of side_of old machines' new
+  pub gathered : AreGathered nexts worked

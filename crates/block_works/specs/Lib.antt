@@ -1,0 +1,4 @@
+pub mod Desks
+pub mod Seats
+pub mod Gathering
+pub mod Going
