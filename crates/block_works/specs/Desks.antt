@@ -22,7 +22,7 @@ abbrev pub ManagerTurns : {K Q E X D : Type 0} → (is_honest : K → Bool) → 
     (opening_of : D → State K Q E X) → (node_of up_of : D → ℕ) → (post_of : D → Post K E) → (shares_in : D → List Shares) → D → PlanAsk → PlanAnswer → D → Type 0
 ManagerTurns {K} {Q} {E} {X} is_honest moment image left told frames counted disk_count armed entropy_count opening_of node_of up_of post_of shares_in =
     turn_of (λ d. (opening_of d, node_of d, shares_in d))
-    (λ (c : State K Q E X × (ℕ × List Shares)) (t : PlanAsk). MayCall is_honest moment image left told frames counted c.0 c.1.0 c.1.1 t.place t.job.now t.octets t.granted.items)
+    (λ (c : State K Q E X × ℕ × List Shares) (t : PlanAsk). MayCall is_honest moment image left told frames counted c.0 c.1 c.2 t.place t.job.now t.octets t.granted.items)
     (λ d (t : PlanAsk) (answer : PlanAnswer) n. TookPlanTurn is_honest moment image disk_count armed left entropy_count (site_of (opening_of d).site) (node_of d) (up_of d) (post_of d) (shares_in d)
     t.place t.job.now t.octets t.granted.items answer.reply answer.granted.items (up_of n) (post_of n))
 
