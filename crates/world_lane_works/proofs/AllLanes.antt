@@ -17,6 +17,7 @@ use Rattle.law_lane_works.specs.Logs.{Deed, wanted_on}
 use Rattle.law_lane_works.specs.LaneWorks.{world_after, IsLaneBlock}
 use Rattle.law_lane_works.specs.Places.{numbered}
 use Rattle.law_lane_works.specs.Calls.{IsOfWorkers, AreWorkersWorks}
+use Rattle.law_lane_works.proofs.WorkersCalls.{are_lane_works}
 use Rattle.plan_emissions.specs.declared.emitted.Emitted.{Emitted}
 use Rattle.world_lane_works.specs.Sorting.{HasJust}
 use Rattle.world_lane_works.specs.LaneCalls.{deed_of, kept_in}
@@ -92,6 +93,7 @@ module _ {X : Type 0} (frames : X → Option (List (List ℕ))) (counted faults 
   pub lanes_left : LanesLeft frames counted faults net workers w jobs histories lanes
   lanes_left = record {
     logs = logs;
+    are = are_lane_works net workers w jobs histories (λ k. (all k).0) (λ k. (all k).1) some works;
     block = is_block;
     each = λ l e. record {
       stands = (left_of l e).stands;

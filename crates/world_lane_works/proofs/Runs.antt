@@ -1,4 +1,4 @@
--- Sorted frames stand lane by lane.
+-- What is sorted stands place by place, and sorted frames lane by lane.
 use Rattle.std.proofs.Common.{◌≡◌, ℕ, zero, suc, ◌+◌, ◌*◌, ◌<◌, ◌≤◌, Bool, true, false, List, [], ◌∷◌, ◌++◌, refl, sym, ◌∙◌, ap, append_assoc, arith}
 use Rattle.std.specs.Prelude.{◌==◌, nat_lt, cond, filter}
 use Rattle.std.specs.List.{flat_map, AllByRecursion}
@@ -21,20 +21,20 @@ use Rattle.world_lane_works.specs.Telling.{on_lane}
 use Rattle.world_lane_works.proofs.Sorted.{places_rise}
 
 module _ {A : Type 0} (place : A → ℕ) where
-  abbrev Below : ℕ → List A → List A
+  abbrev pub Below : ℕ → List A → List A
   Below n xs = filter (λ x. nat_lt (place x) n) xs
 
-  abbrev Here : ℕ → List A → List A
+  abbrev pub Here : ℕ → List A → List A
   Here n xs = filter (λ x. place x == n) xs
 
   abbrev From : ℕ → List A → Type 0
   From n xs = AllByRecursion (λ x. n ≤ place x) xs
 
-  abbrev Rise : List A → Type 0
+  abbrev pub Rise : List A → Type 0
   Rise [] = Unit {0}
   Rise (x ∷ xs) = From (place x) xs × Rise xs
 
-  rise : (xs : List A) → IsNonDecreasingBy place xs → Rise xs
+  pub rise : (xs : List A) → IsNonDecreasingBy place xs → Rise xs
   rise [] up = tt
   rise (x ∷ xs) up = (
     recursion_from_All (λ y. place x ≤ place y) xs (λ k d lt. up zero (suc k) d (omega arith) (omega (arith, lt))),
@@ -73,7 +73,7 @@ module _ {A : Type 0} (place : A → ℕ) where
       above a le = grind (arith, nat_tests)
 
   -- those of one place more
-  one_more : (n : ℕ) (xs : List A) → Rise xs → Below (n + 1) xs ≡ Below n xs ++ Here n xs
+  pub one_more : (n : ℕ) (xs : List A) → Rise xs → Below (n + 1) xs ≡ Below n xs ++ Here n xs
   one_more n [] r = refl
   one_more n (x ∷ xs) r =
       let rest = one_more n xs r.1 in
@@ -95,7 +95,7 @@ module _ {A : Type 0} (place : A → ℕ) where
         | false ↦ rest
       ]
 
-  all_below : (n : ℕ) (xs : List A) → AllByRecursion (λ x. place x < n) xs → Below n xs ≡ xs
+  pub all_below : (n : ℕ) (xs : List A) → AllByRecursion (λ x. place x < n) xs → Below n xs ≡ xs
   all_below n [] h = refl
   all_below n (x ∷ xs) h = ap (λ (t : Bool). cond t (x ∷ Below n xs) (Below n xs)) (lt-ltb (place x) n h.0) ∙ ap (λ (ys : List A). x ∷ ys) (all_below n xs h.1)
 

@@ -51,12 +51,12 @@ module _ {X : Type 0} (frames : X → Option (List (List ℕ))) (counted faults 
   abbrev here : Lane → Emitted → Bool
   here l e = lane_place e.lane == lane_place l
 
-  just : (l : Lane) (e : is_lane net.site l ≡ true) → HasJust (together (map kept (lanes l e).outs)) (on_lane l sorted)
+  pub just : (l : Lane) (e : is_lane net.site l ≡ true) → HasJust (together (map kept (lanes l e).outs)) (on_lane l sorted)
   just l e =
       subst (λ (xs : List Emitted). HasJust xs (on_lane l sorted)) (sym (ap (λ (os : List (List (Emission × Emitted))). together (map kept os)) (h.lanes' l e) ∙ all_kept_emitted l outs h.told))
       (just_part (here l) (together (map kept outs)) sorted (just_moved (together (map kept outs)) sorted h.same))
 
-  ordered : (l : Lane) → IsNonDecreasingBy (λ (e : Emitted). e.at) (on_lane l sorted)
+  pub ordered : (l : Lane) → IsNonDecreasingBy (λ (e : Emitted). e.at) (on_lane l sorted)
   ordered l = part_ordered (here l) (λ (e : Emitted). e.at) sorted (in_part (λ (e : Emitted). lane_place e.lane) (λ (e : Emitted). e.at) sorted h.order (lane_place l))
 
   all_declared : AllByRecursion (λ (l : Lane). is_lane net.site l ≡ true) (all_lanes net.site)

@@ -25,7 +25,7 @@ use Rattle.law_lane_works.specs.Passed.{wanted_by, Remains}
 use Rattle.law_lane_works.specs.Passed.{turns_over}
 use Rattle.law_lane_works.specs.Logs.{Deed, wanted_on}
 use Rattle.law_lane_works.specs.Puts.{reported_on, placings_on}
-use Rattle.law_lane_works.specs.LaneWorks.{placings_after, world_after, wire_faults_in, IsLaneBlock}
+use Rattle.law_lane_works.specs.LaneWorks.{placings_after, world_after, wire_faults_in, AreLaneWorks, IsLaneBlock}
 use Rattle.law_lane_works.specs.Workers.{of_worker}
 use Rattle.plan_emissions.specs.declared.emitted.Emitted.{Emitted}
 use Rattle.world_lane_works.specs.Sorting.{HasJust}
@@ -65,10 +65,11 @@ module _ {X : Type 0} (frames : X → Option (List (List ℕ))) (counted faults 
   abbrev pub LanesWorked : (workers : ℕ) → World → List (List Work) → Type 0
   LanesWorked workers w histories = (l : Lane) → is_lane net.site l ≡ true → LaneWorked workers (turns_over net w histories) (wanted_by (done_from net w (flat histories))) l
 
-  -- There are logs with which all of it is what so many workers may do. Behind them nothing is on its way to a wire, and what each manager is to note is of a
-  -- frame's size.
+  -- There are logs with which all of it is what so many workers may do: on each lane just what the plans want of it was done. Behind them nothing is on its
+  -- way to a wire, and what each manager is to note is of a frame's size.
   pub record LanesLeft (workers : ℕ) (w : World) (jobs : List Job) (histories : List (List Work)) (lanes : LanesWorked workers w histories) : Type 0 where
     pub logs : Lane → List Deed
+    pub are : AreLaneWorks net workers w jobs histories logs
     pub block : IsLaneBlock net workers w jobs histories logs
     pub each : (l : Lane) (e : is_lane net.site l ≡ true) → LaneLeft workers (turns_over net w histories) (wanted_by (done_from net w (flat histories))) logs l (lanes l e)
     pub running : IsRunning net (world_after net (turns_over net w histories) logs)
