@@ -110,7 +110,7 @@ module _ {K Q E X : Type 0} (disk_count : K → ℕ) (armed : K → Armings) (en
         (subst (λ (y : LaneForm X). Counted (wire_faults l whole) (faults (lanes l e).old.wire) (faults y.wire)) now
         (subst (λ (n : ℕ). Counted n (faults (lanes l e).old.wire) (faults (lanes l e).new.wire)) (sym (behind.block.wires l)) (behind.each l e).faulty))
 
-    lanes_tallied : All first new net.site whole
+    pub lanes_tallied : All first new net.site whole
     lanes_tallied = record {
       nodes = ap length h.posts ∙ turned.nodes;
       posts = λ v p q was is.
