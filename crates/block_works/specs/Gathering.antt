@@ -1,5 +1,5 @@
 -- What the workers of a block keep is gathered.
-use Rattle.std.specs.Prelude.{◌≡◌, ℕ, true, List, [], map}
+use Rattle.std.specs.Prelude.{◌≡◌, true, List, [], map}
 use Rattle.std.specs.List.{AllByRecursion, flat_map}
 use Rattle.std.specs.List.Sorted.{IsPermutation}
 use Rattle.qkd_base.specs.Lane.{lane_place}

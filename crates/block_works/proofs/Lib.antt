@@ -1,0 +1,10 @@
+pub mod Lists
+pub mod Called
+pub mod Replies
+pub mod Asked
+pub mod Keeping
+pub mod Owning
+pub mod Managers
+pub mod Lanes
+pub mod Frames
+pub mod Whole
