@@ -1,0 +1,4 @@
+pub mod Asking
+pub mod Emitting
+pub mod Keeping
+pub mod Doing
