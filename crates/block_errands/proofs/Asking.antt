@@ -13,7 +13,7 @@ use Rattle.lane_sides.specs.Lane.{LaneForm}
 use Rattle.either_machines.specs.declared.either.Either.{Either}
 use Rattle.either_machines.specs.Calling.{IsLeft}
 use Rattle.shared_machines.specs.declared.call.Call.{Call}
-use Rattle.world_turns.specs.Passed.{State}
+use Rattle.block_talks.specs.Passed.{State}
 use Rattle.block_talks.specs.Passed.{MayCome, MayCall, Turn}
 use Rattle.block_errands.specs.Working.{AreSeated, MayAsk}
 use Rattle.block_errands.specs.Granting.{AreHome}

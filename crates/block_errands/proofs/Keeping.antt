@@ -9,7 +9,7 @@ use Rattle.lane_shares.specs.Names.{Fits}
 use Rattle.lane_sides.specs.Lane.{LaneForm}
 use Rattle.either_machines.specs.declared.either.Either.{Either}
 use Rattle.shared_machines.specs.declared.call.Call.{Call}
-use Rattle.world_turns.specs.Passed.{State}
+use Rattle.block_talks.specs.Passed.{State}
 use Rattle.block_talks.specs.Passed.{Turn}
 use Rattle.block_errands.specs.Working.{MayAsk, MayWork}
 

@@ -15,7 +15,7 @@ use Rattle.either_machines.specs.declared.either.Either.TheVariants.{Left, Right
 use Rattle.shared_machines.specs.declared.call.Call.{Call}
 use Rattle.block_talks.specs.Passed.{Turn}
 use Rattle.block_talks.specs.Passed.{MayCome}
-use Rattle.world_turns.specs.Passed.{State}
+use Rattle.block_talks.specs.Passed.{State}
 
 -- a call of one of so many managers, which may come at any time in a block
 pub record MayAsk {K Q E X : Type 0} (is_honest : K → Bool) (moment : K → ℕ) (image : K → ℕ → List ℕ → Type 0) (left : E → Option OctetSequence)

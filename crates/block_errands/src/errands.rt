@@ -11,6 +11,7 @@ use block_talks::plan_desks::plan_emissions::shared_errands::shared_machines::Ca
 use block_talks::plan_desks::plan_emissions::shared_errands::{Calls, Errands};
 use block_talks::plan_desks::plan_emissions::{AtGate, Lanes};
 use block_talks::plan_desks::turn_desks::Turn;
+use block_talks::plan_desks::turn_desks::world_turns::world_state::State;
 use block_talks::plan_desks::{PlanAsk, PlanDesk};
 use disk_model::Disk;
 use edge_io::Gate;
@@ -19,7 +20,6 @@ use std::alloc::Global;
 use std::mem;
 use std::snapshot::Snapshot;
 use std::sync::Wait;
-use world_turns::world_state::State;
 
 /// The jobs of a block, at machines that are first the managers' desks in order of node, and then the lanes' desks in order of place.
 /// A worker's next job is the first entry that it keeps: the entry's manager takes the turn, and grants what its plan orders; then

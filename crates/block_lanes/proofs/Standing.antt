@@ -8,7 +8,7 @@ use Rattle.kme_site.specs.Up.{AreUp}
 use Rattle.run_model.specs.Works.{Work}
 use Rattle.run_blocks.specs.declared.job.Job.{Job}
 use Rattle.world_lanes.specs.Stands.{LaneStands}
-use Rattle.world_posts.proofs.Going.{post_on}
+use Rattle.world_state.proofs.Passed.{post_on}
 use Rattle.world_state.specs.Stands.{Stands}
 use Rattle.world_state.specs.declared.state.State.{State}
 use Rattle.world_state.proofs.OneSide.{some_same}

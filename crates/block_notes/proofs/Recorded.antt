@@ -7,7 +7,7 @@ use Rattle.net_model.specs.Site.{Site}
 use Rattle.net_model.specs.BlockOrder.{lane_number}
 use Rattle.law_records.proofs.Base.{eq_from, below_from}
 use Rattle.plan_emissions.specs.declared.emitted.Emitted.{Emitted}
-use Rattle.world_state.specs.Stands.{place_of}
+use Rattle.world_frames.specs.Passed.{place_of}
 use Rattle.world_frames.specs.declared.log.Log.{Log}
 use Rattle.world_frames.specs.Adding.{IsEnded}
 use Rattle.block_notes.specs.Recording.{AddsFrame, AreRecorded}

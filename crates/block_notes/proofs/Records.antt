@@ -13,7 +13,7 @@ use Rattle.run_model.specs.Block.{PutDone, sorted, puts_on}
 use Rattle.run_blocks.specs.Together.{frame_put, put_done}
 use Rattle.law_records.proofs.Base.{eq_same, not_false, eq_from, lane_same, and_both}
 use Rattle.plan_emissions.specs.declared.emitted.Emitted.{Emitted}
-use Rattle.world_state.proofs.Others.{placed, set_length}
+use Rattle.world_frames.proofs.Passed.{placed, set_length}
 use Rattle.world_frames.specs.declared.log.Log.{Log}
 use Rattle.world_frames.specs.declared.log.Refused.{Refused}
 use Rattle.world_frames.specs.Adding.{IsAdded, IsEnded, IsEmpty}

@@ -9,9 +9,9 @@ use Rattle.net_model.specs.BlockOrder.{lane_number, is_by_lane}
 use Rattle.law_records.proofs.Base.{and_left, and_right}
 use Rattle.law_ticks.proofs.Lists.{all_weaker}
 use Rattle.plan_emissions.specs.declared.emitted.Emitted.{Emitted}
-use Rattle.world_state.specs.Stands.{of_way, place_of}
+use Rattle.world_frames.specs.Passed.{of_way, place_of}
 use Rattle.qkd_base.specs.Lane.{way_number}
-use Rattle.world_state.proofs.Drops.{drop_next}
+use Rattle.world_frames.proofs.Passed.{drop_next}
 
 abbrev pub lane_in : Emitted → Lane
 lane_in e = e.lane

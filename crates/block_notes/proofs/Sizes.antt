@@ -16,8 +16,8 @@ use Rattle.law_lane_works.specs.Logs.{Deed}
 use Rattle.law_lane_works.specs.Puts.{LaneFrame, allocation_of, count_after, frames_put, frames_after, placings_from, placings_on}
 use Rattle.law_lane_works.specs.LaneWorks.{IsLeft, world_after, placings_after}
 use Rattle.world_lanes.specs.Stands.{IsRunning}
-use Rattle.world_state.specs.Sending.{are_sized}
-use Rattle.world_state.proofs.Sized.{sized_frame}
+use Rattle.world_frames.specs.Passed.{are_sized}
+use Rattle.world_frames.proofs.Passed.{sized_frame}
 use Rattle.block_notes.proofs.Nodes.{all_declared}
 
 module _ (net : Network) (w : World) (logs : Lane → List Deed) (running : IsRunning net (world_after net w logs)) (left : (l : Lane) → IsLeft net w logs l) where

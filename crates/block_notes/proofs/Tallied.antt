@@ -13,10 +13,10 @@ use Rattle.run_model.specs.Works.{Work, actions_in, flat, block_run}
 use Rattle.run_blocks.specs.declared.job.Job.{Job}
 use Rattle.lane_sides.specs.Lane.{LaneForm}
 use Rattle.law_blocks.proofs.Counting.{one_if, count_more}
-use Rattle.law_works.proofs.Counting.{count-append}
+use Rattle.law_lane_works.proofs.Passed.{count-append}
 use Rattle.law_lane_works.specs.Logs.{Deed}
 use Rattle.law_lane_works.specs.LaneWorks.{IsLaneBlock, works_of, wire_faults_in}
-use Rattle.world_state.specs.Stands.{place_of}
+use Rattle.world_frames.specs.Passed.{place_of}
 use Rattle.world_frames.specs.Passed.{Post, entropy_of, Counted, IsArmedBy, PostTallied, State, Tallied}
 
 -- ---- in notes nothing fails

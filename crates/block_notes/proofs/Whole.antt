@@ -16,11 +16,11 @@ use Rattle.run_blocks.specs.declared.job.Job.{Job}
 use Rattle.run_blocks.specs.declared.done_block.PutFrame.{PutFrame}
 use Rattle.run_blocks.specs.Together.{put_done, DoesTogether, EndsTogether}
 use Rattle.law_emissions.specs.Remaining.{Remains}
-use Rattle.law_works.specs.InOrder.{turns_over}
+use Rattle.law_lane_works.specs.Passed.{turns_over}
 use Rattle.law_lane_works.specs.Puts.{reported_on, placings_on}
 use Rattle.law_lane_works.specs.LaneWorks.{IsLaneBlock, works_of, world_after}
 use Rattle.law_lane_works.proofs.OneBlock.{one_block}
-use Rattle.world_state.proofs.Disks.{has_disks}
+use Rattle.world_frames.proofs.Passed.{has_disks}
 use Rattle.world_frames.specs.Passed.{Rests}
 use Rattle.world_frames.specs.Passed.{Stands}
 use Rattle.world_frames.specs.Passed.{State}

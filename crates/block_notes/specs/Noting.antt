@@ -13,7 +13,7 @@ use Rattle.run_blocks.specs.Together.{frame_put, put_done}
 use Rattle.run_blocks.specs.declared.done_block.PutFrame.{PutFrame}
 use Rattle.law_emissions.specs.Remaining.{Remains}
 use Rattle.plan_emissions.specs.declared.emitted.Emitted.{Emitted}
-use Rattle.world_state.specs.Sending.{are_sized}
+use Rattle.world_frames.specs.Passed.{are_sized}
 use Rattle.world_frames.specs.Passed.{Stands, State, Tallied}
 use Rattle.block_notes.specs.Frames.{frame_done, frame_placing, from_node}
 

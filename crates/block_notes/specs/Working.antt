@@ -11,7 +11,7 @@ use Rattle.run_model.specs.Works.{Work, flat, done_from, block_run}
 use Rattle.run_acts.specs.Acting.{IsReady}
 use Rattle.run_blocks.specs.declared.job.Job.{Job}
 use Rattle.run_blocks.specs.Together.{turned, turn_done}
-use Rattle.law_works.specs.InOrder.{turns_over}
+use Rattle.law_lane_works.specs.Passed.{turns_over}
 use Rattle.law_lane_works.specs.Logs.{Deed}
 use Rattle.law_lane_works.specs.Puts.{reported_on, placings_on}
 use Rattle.law_lane_works.specs.LaneWorks.{AreLaneWorks, works_of, world_after}

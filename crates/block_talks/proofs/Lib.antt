@@ -1,3 +1,4 @@
 pub mod Counting
 pub mod Talking
 pub mod Together
+pub mod Passed

@@ -15,7 +15,7 @@ use Rattle.shared_machines.specs.declared.call.Call.{Call}
 use Rattle.shared_machines.specs.Asked.{requests_on}
 use Rattle.shared_errands.specs.Said.{Said, said_on, all_said}
 use Rattle.shared_errands.specs.Laws.{said_behind}
-use Rattle.turn_desks.specs.declared.turn.Turn.{Turn}
+use Rattle.plan_desks.specs.Passed.{Turn}
 use Rattle.plan_emissions.specs.declared.emitted.Emitted.{Emitted}
 use Rattle.plan_emissions.specs.declared.frame_log.FrameLog.{FrameLog}
 use Rattle.plan_emissions.specs.Calls.{IsOf, CallAllBy, emitted_at}

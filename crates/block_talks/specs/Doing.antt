@@ -12,7 +12,7 @@ use Rattle.either_machines.specs.declared.either.Either.{Either}
 use Rattle.either_machines.specs.declared.either.Either.TheVariants.{Left}
 use Rattle.shared_machines.specs.declared.call.Call.{Call}
 use Rattle.shared_errands.specs.Said.{Said}
-use Rattle.turn_desks.specs.declared.turn.Turn.{Turn}
+use Rattle.plan_desks.specs.Passed.{Turn}
 use Rattle.plan_emissions.specs.declared.emitted.Emitted.{Emitted}
 use Rattle.plan_emissions.specs.declared.frame_log.FrameLog.{FrameLog}
 use Rattle.plan_emissions.specs.Wants.{lane_for}

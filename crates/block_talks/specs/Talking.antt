@@ -10,7 +10,7 @@ use Rattle.either_machines.specs.declared.either.Either.TheVariants.{Left}
 use Rattle.shared_machines.specs.declared.call.Call.{Call}
 use Rattle.shared_machines.specs.Asked.{requests_on}
 use Rattle.shared_errands.specs.Said.{Said, said_on}
-use Rattle.turn_desks.specs.declared.turn.Turn.{Turn}
+use Rattle.plan_desks.specs.Passed.{Turn}
 use Rattle.plan_emissions.specs.declared.emitted.Emitted.{Emitted}
 use Rattle.plan_emissions.specs.Calls.{IsOf}
 use Rattle.plan_emissions.specs.Saying.{IsCalledFor}

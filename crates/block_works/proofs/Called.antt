@@ -8,9 +8,9 @@ use Rattle.net_model.specs.BlockOrder.{IsMerge}
 use Rattle.run_model.specs.Works.{wanted_put}
 use Rattle.law_merges.specs.Rising.{placed_from}
 use Rattle.shared_machines.specs.Asked.{requests_on}
-use Rattle.plan_desks.specs.declared.ask.PlanAsk.{PlanAsk}
-use Rattle.plan_desks.specs.declared.ask.PlanAnswer.{PlanAnswer}
-use Rattle.plan_desks.specs.Wanted.{CanLeave}
+use Rattle.block_talks.specs.Passed.{PlanAsk}
+use Rattle.block_talks.specs.Passed.{PlanAnswer}
+use Rattle.block_talks.specs.Passed.{CanLeave}
 use Rattle.block_talks.specs.declared.keep.Replied.{Replied}
 use Rattle.block_talks.specs.declared.keep.Keep.{Keep}
 use Rattle.block_talks.specs.Talking.{line_asked, line_of, reply_kept}

@@ -12,10 +12,10 @@ use Rattle.run_model.specs.Lines.{all_lanes}
 use Rattle.run_model.specs.Works.{Work}
 use Rattle.run_blocks.specs.declared.job.Job.{Job}
 use Rattle.law_records.proofs.Base.{eq_from, eq_same, lane_eq_from, lane_same, not_false}
-use Rattle.law_lane_works.specs.Passed.{turns_over}
-use Rattle.law_lane_works.specs.Puts.{reported_on, placings_on}
+use Rattle.world_lane_works.specs.Passed.{turns_over}
+use Rattle.world_lane_works.specs.Passed.{reported_on, placings_on}
 use Rattle.plan_emissions.specs.declared.emitted.Emitted.{Emitted}
-use Rattle.plan_desks.proofs.Places.{lane_there}
+use Rattle.block_talks.proofs.Passed.{lane_there}
 use Rattle.world_lane_works.specs.Blocks.{LanesWorked, LanesLeft}
 use Rattle.world_lane_works.specs.Sorting.{IsSortedByBoth}
 use Rattle.world_lane_works.specs.Telling.{AreSorted}

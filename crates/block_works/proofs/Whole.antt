@@ -20,10 +20,10 @@ use Rattle.lane_shares.specs.declared.shares.Shares.{Shares}
 use Rattle.lane_sides.specs.Lane.{LaneForm}
 use Rattle.plan_emissions.specs.declared.emitted.Emitted.{Emitted}
 use Rattle.world_lanes.proofs.Going.{get_within}
-use Rattle.world_turns.specs.Passed.{Stands, State, most_armed}
-use Rattle.plan_desks.specs.declared.ask.PlanAsk.{PlanAsk}
-use Rattle.plan_desks.specs.declared.ask.PlanAnswer.{PlanAnswer}
-use Rattle.plan_desks.specs.Turns.{TookAllTurns}
+use Rattle.block_talks.specs.Passed.{Stands, State, most_armed}
+use Rattle.block_talks.specs.Passed.{PlanAsk}
+use Rattle.block_talks.specs.Passed.{PlanAnswer}
+use Rattle.block_talks.specs.Passed.{TookAllTurns}
 use Rattle.world_lane_works.specs.Blocks.{LanesWorked, LanesLeft}
 use Rattle.world_lane_works.specs.Owning.{AreOwnTurns}
 use Rattle.world_lane_works.specs.Telling.{AreSorted}

@@ -10,7 +10,7 @@ use Rattle.either_machines.specs.declared.either.Either.{Either}
 use Rattle.turn_shifts.specs.Calls.{AreShifts}
 use Rattle.block_talks.specs.declared.keep.Keep.{Keep}
 use Rattle.block_talks.specs.Together.{HaveWorked}
-use Rattle.world_turns.specs.Passed.{State}
+use Rattle.block_talks.specs.Passed.{State}
 use Rattle.block_notes.specs.declared.worked.Worked.{Worked}
 use Rattle.block_works.specs.Desks.{ManagerTurns, LaneTurns}
 use Rattle.block_works.specs.Seats.{AreSat, HaveRisen}

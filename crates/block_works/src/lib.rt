@@ -8,7 +8,7 @@ ghost use Rattle.run_acts.specs.Acting.{IsReady};
 ghost use Rattle.run_blocks.specs.declared.job.Job.{Job as JobValue};
 ghost use Rattle.lane_shares.specs.declared.shares.Shares.{Shares as SharesValue};
 ghost use Rattle.lane_sides.specs.Lane.{LaneForm};
-ghost use Rattle.world_turns.specs.Passed.{Stands, State, most_armed};
+ghost use Rattle.block_talks.specs.Passed.{Stands, State, most_armed};
 ghost use Rattle.block_notes.specs.declared.worked.Worked.{Worked};
 ghost use Rattle.block_notes.specs.Working.{HasWorked};
 ghost use Rattle.block_works.specs.Going.{WentThrough};

@@ -17,7 +17,7 @@ use Rattle.lane_shares.specs.Views.{issuer, with_amount}
 use Rattle.lane_sides.specs.Lane.{LaneForm}
 use Rattle.run_acts.specs.Acting.{IsReady}
 use Rattle.world_lanes.specs.Stands.{LaneStands}
-use Rattle.world_turns.specs.Passed.{State, Stands}
+use Rattle.turn_desks.specs.Passed.{State, Stands}
 use Rattle.plan_emissions.specs.Emitting.{grant_at}
 use Rattle.turn_desks.specs.Leases.{lease_at}
 use Rattle.plan_desks.specs.Issuing.{IsIssuing, HasIssuers}

@@ -26,12 +26,12 @@ use Rattle.run_blocks.specs.Jobs.{is_job, asked_by}
 use Rattle.run_blocks.specs.Together.{turned, turn_done}
 use Rattle.turnstile.specs.Turns.{Leads}
 use Rattle.turn_desks.specs.Taking.{MayCome, MayTurnAt, HappensAt}
-use Rattle.world_turns.specs.Passed.{State, Stands, Tallied, most_armed, place_of}
-use Rattle.world_turns.specs.declared.next.Next.{Next}
-use Rattle.world_turns.specs.Order.{IsDue, AreDue}
-use Rattle.world_turns.specs.Turning.{asked_with, action_at}
-use Rattle.world_turns.specs.Turning.{work_of as planned_work}
-use Rattle.world_turns.proofs.Histories.{Pieces, pieces}
+use Rattle.turn_desks.specs.Passed.{State, Stands, Tallied, most_armed, place_of}
+use Rattle.turn_desks.specs.Passed.{Next}
+use Rattle.turn_desks.specs.Passed.{IsDue, AreDue}
+use Rattle.turn_desks.specs.Passed.{asked_with, action_at}
+use Rattle.turn_desks.specs.Passed.{work_of as planned_work}
+use Rattle.turn_desks.proofs.Passed.{Pieces, pieces}
 use Rattle.plan_desks.specs.Turns.{TookAllTurns}
 use Rattle.plan_desks.proofs.Nodes.{Serves, AllServe, AllReplayed, replay_all}
 use Rattle.plan_desks.proofs.Replaying.{Takes}

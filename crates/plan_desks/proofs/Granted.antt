@@ -25,8 +25,8 @@ use Rattle.turn_desks.specs.Going.{IsOnItsWay}
 use Rattle.turn_desks.specs.Leases.{WroteAt}
 use Rattle.turn_desks.specs.Taking.{MayCome, MayTurnAt, HappensAt}
 use Rattle.turn_desks.proofs.Going.{few_links}
-use Rattle.world_turns.specs.Passed.{State}
-use Rattle.world_turns.specs.Turning.{planner}
+use Rattle.turn_desks.specs.Passed.{State}
+use Rattle.turn_desks.specs.Passed.{planner}
 use Rattle.plan_desks.specs.Issuing.{AreShares, HasIssuers}
 use Rattle.plan_desks.specs.Wanted.{orders_replied}
 use Rattle.plan_desks.proofs.Grants.{shares_of, written_back, leases_long, may_grant, issued_on, granted_on}

@@ -27,8 +27,8 @@ use Rattle.plan_emissions.specs.Granting.{Issues, need_at, IsLeased, MayGrant, H
 use Rattle.plan_emissions.specs.Granting.{lease_at as end_at}
 use Rattle.plan_emissions.specs.Wants.{bytes_at}
 use Rattle.turn_desks.specs.Leases.{lease_at, WroteAt}
-use Rattle.world_turns.specs.Passed.{place_of}
-use Rattle.world_turns.specs.Turning.{planner}
+use Rattle.turn_desks.specs.Passed.{place_of}
+use Rattle.turn_desks.specs.Passed.{planner}
 use Rattle.plan_desks.specs.Issuing.{IsIssuing, AreShares, HasIssuers}
 use Rattle.plan_desks.specs.Posts.{is_on, planned_at}
 use Rattle.plan_desks.specs.Wanted.{orders_replied, CanLeave}

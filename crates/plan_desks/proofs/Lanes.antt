@@ -8,7 +8,7 @@ use Rattle.declared_site.specs.SiteOf.{site_of}
 use Rattle.kme_store.specs.declared.post.Post.{Post}
 use Rattle.turn_desks.specs.Going.{IsOnItsWay}
 use Rattle.turn_desks.proofs.Going.{few_links}
-use Rattle.world_turns.specs.Passed.{State}
+use Rattle.turn_desks.specs.Passed.{State}
 
 module _ {K Q E X : Type 0} (is_honest : K → Bool) (moment : K → ℕ) (image : K → ℕ → List ℕ → Type 0) (left : E → Option OctetSequence) (told : Q → Option OctetSequence)
     (frames : X → Option (List (List ℕ))) (counted : X → ℕ) (opening : State K Q E X) (v : ℕ) (post : Post K E) (up : ℕ) (way : ∥ IsOnItsWay is_honest moment image left told frames counted opening v post up ∥₁) where

@@ -15,3 +15,4 @@ pub mod SoFar
 pub mod Told
 pub mod Turns
 pub mod Wants
+pub mod Passed

@@ -13,8 +13,8 @@ use Rattle.run_model.specs.Works.{Work, flat}
 use Rattle.run_blocks.specs.declared.job.Job.{Job}
 use Rattle.run_blocks.specs.declared.done_block.Turned.{Turned}
 use Rattle.turnstile.specs.Turns.{Leads}
-use Rattle.world_turns.specs.Passed.{State, Stands, most_armed}
-use Rattle.world_turns.specs.declared.next.Next.{Next}
+use Rattle.turn_desks.specs.Passed.{State, Stands, most_armed}
+use Rattle.turn_desks.specs.Passed.{Next}
 use Rattle.plan_desks.proofs.Replaying.{Takes, next_of, turned_of, IsOf, Replayed, replay}
 use Rattle.plan_desks.proofs.SoFar.{Far}
 

@@ -20,7 +20,7 @@ use Rattle.plan_emissions.proofs.Wanting.{taken}
 use Rattle.run_acts.specs.Acting.{IsReady}
 use Rattle.turn_desks.specs.Leases.{lease_at}
 use Rattle.world_lanes.specs.Stands.{LaneStands}
-use Rattle.world_turns.specs.Passed.{State, Stands}
+use Rattle.turn_desks.specs.Passed.{State, Stands}
 use Rattle.plan_desks.specs.Opening.{issued_by, issued_from, issued_in, AreOpened, AllOpened}
 use Rattle.plan_desks.specs.Posts.{is_on}
 use Rattle.plan_desks.proofs.Places.{same_place, lane_at}

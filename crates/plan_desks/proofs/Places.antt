@@ -9,7 +9,7 @@ use Rattle.qkd_base.specs.declared.lane.Way.TheVariants.{Up, Down}
 use Rattle.net_model.specs.Site.{Site}
 use Rattle.net_model.specs.Events.{is_lane}
 use Rattle.law_records.proofs.Base.{eq_from, eq_same, not_both, when_true, when_false}
-use Rattle.world_turns.specs.Passed.{of_way, place_of}
+use Rattle.turn_desks.specs.Passed.{of_way, place_of}
 
 pub same_place : (l : Lane) → place_of l ≡ lane_place l
 same_place l = by l.way

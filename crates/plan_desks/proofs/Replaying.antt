@@ -15,11 +15,11 @@ use Rattle.run_model.specs.Works.{Work, actions_in}
 use Rattle.run_blocks.specs.declared.job.Job.{Job}
 use Rattle.run_blocks.specs.declared.done_block.Turned.{Turned}
 use Rattle.turnstile.specs.Turns.{Leads}
-use Rattle.world_turns.specs.Passed.{State, Stands, most_armed}
-use Rattle.world_turns.proofs.Passed.{most_same, times_same, state_with, with_post}
-use Rattle.world_turns.specs.declared.next.Next.{Next}
-use Rattle.world_turns.specs.Taking.{MayTurn, TookTurn}
-use Rattle.world_turns.proofs.Takes.{may_take}
+use Rattle.turn_desks.specs.Passed.{State, Stands, most_armed}
+use Rattle.turn_desks.proofs.Passed.{most_same, times_same, state_with, with_post}
+use Rattle.turn_desks.specs.Passed.{Next}
+use Rattle.turn_desks.specs.Passed.{MayTurn, TookTurn}
+use Rattle.turn_desks.proofs.Passed.{may_take}
 use Rattle.turn_desks.specs.Taking.{MayCome, MayTurnAt, HappensAt, IsTurnAt}
 use Rattle.turn_desks.proofs.State.{may_turn_at, took_turn}
 use Rattle.plan_desks.proofs.SoFar.{Far, far_more}

@@ -40,12 +40,12 @@ use Rattle.law_records.proofs.Walks.{perform_walk, handle_walk, deliver_walk}
 use Rattle.law_decisions.specs.May.{is_plan}
 use Rattle.law_decisions.proofs.Decisions.{plan_is}
 use Rattle.law_ticks.specs.Sending.{IsEmission}
-use Rattle.law_works.proofs.Passed.{plan_adds}
+use Rattle.turn_desks.proofs.Passed.{plan_adds}
 use Rattle.world_lanes.specs.Stands.{IsRunning}
 use Rattle.world_lanes.proofs.Puts.{short_frame}
-use Rattle.world_turns.specs.Turning.{asked_with, planner}
-use Rattle.world_turns.proofs.Histories.{length-count_up}
-use Rattle.world_turns.proofs.Turning.{wants_none}
+use Rattle.turn_desks.specs.Passed.{asked_with, planner}
+use Rattle.turn_desks.proofs.Passed.{length-count_up}
+use Rattle.turn_desks.proofs.Passed.{wants_none}
 use Rattle.plan_desks.specs.Wanted.{orders_replied, CanLeave}
 
 -- ---- by the reply

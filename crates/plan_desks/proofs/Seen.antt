@@ -17,9 +17,9 @@ use Rattle.kme_store.specs.declared.post.Post.{Post}
 use Rattle.kme_store.specs.declared.post.Post.TheVariants.{On, Off}
 use Rattle.world_lanes.specs.Stands.{IsRunning}
 use Rattle.world_lanes.proofs.Taking.{own_lane}
-use Rattle.world_posts.specs.Stands.{StandingStands, PostStands}
-use Rattle.world_posts.proofs.Ports.{port_there}
-use Rattle.world_state.proofs.Leases.{incident_of}
+use Rattle.turn_desks.specs.Passed.{StandingStands, PostStands}
+use Rattle.turn_desks.proofs.Passed.{port_there}
+use Rattle.turn_desks.proofs.Passed.{incident_of}
 use Rattle.turn_desks.specs.Leases.{lease_at}
 use Rattle.plan_desks.specs.Posts.{is_on, planned_of, received_on, planned_at, received_at}
 

@@ -16,16 +16,16 @@ use Rattle.run_blocks.specs.declared.done_block.Turned.{Turned}
 use Rattle.run_blocks.specs.Together.{turned, turn_done}
 use Rattle.law_records.proofs.Base.{and_left}
 use Rattle.law_blocks.proofs.Runs.{one_more, nothing_runs, run_none, run_one, runs-append, run-append}
-use Rattle.world_state.proofs.Disks.{has_disks}
-use Rattle.world_state.proofs.Tallies.{none_tallied, tallied_more}
-use Rattle.world_turns.specs.Passed.{Stands, State, Tallied}
-use Rattle.world_turns.specs.declared.next.Next.{Next}
-use Rattle.world_turns.specs.Order.{AreDue}
-use Rattle.world_turns.specs.Taking.{TookTurn}
-use Rattle.world_turns.specs.Turning.{asked_with, action_at, work_of}
-use Rattle.world_turns.proofs.Histories.{done-append}
-use Rattle.world_turns.proofs.SoFar.{due_still}
-use Rattle.world_turns.proofs.Turning.{noted_still}
+use Rattle.turn_desks.proofs.Passed.{has_disks}
+use Rattle.turn_desks.proofs.Passed.{none_tallied, tallied_more}
+use Rattle.turn_desks.specs.Passed.{Stands, State, Tallied}
+use Rattle.turn_desks.specs.Passed.{Next}
+use Rattle.turn_desks.specs.Passed.{AreDue}
+use Rattle.turn_desks.specs.Passed.{TookTurn}
+use Rattle.turn_desks.specs.Passed.{asked_with, action_at, work_of}
+use Rattle.turn_desks.proofs.Passed.{done-append}
+use Rattle.turn_desks.proofs.Passed.{due_still}
+use Rattle.turn_desks.proofs.Passed.{noted_still}
 
 plain_asked : (job : Job) (environment : Environment) → plain (asked_with job environment) ≡ asked_with job Ok
 plain_asked jobs.Nothing environment = refl

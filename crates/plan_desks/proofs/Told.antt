@@ -32,10 +32,10 @@ use Rattle.turn_desks.specs.Leases.{lease_at}
 use Rattle.turn_desks.specs.Taking.{MayCome, MayTurnAt, HappensAt, IsTurnAt}
 use Rattle.turn_desks.proofs.Going.{may_turn}
 use Rattle.turn_desks.proofs.Takes.{asked_node, planned_node}
-use Rattle.world_turns.specs.Passed.{State}
-use Rattle.world_turns.specs.Turning.{asked_with, planner}
-use Rattle.world_turns.proofs.Passed.{enabled_of, running_on}
-use Rattle.world_turns.proofs.Turning.{wants_none, up_after}
+use Rattle.turn_desks.specs.Passed.{State}
+use Rattle.turn_desks.specs.Passed.{asked_with, planner}
+use Rattle.turn_desks.proofs.Passed.{enabled_of, running_on}
+use Rattle.turn_desks.proofs.Passed.{wants_none, up_after}
 use Rattle.plan_desks.specs.Posts.{is_on, planned_at, received_at}
 use Rattle.plan_desks.specs.Wanted.{orders_replied, CanLeave}
 use Rattle.plan_desks.proofs.Props.{all_prop, can_prop}

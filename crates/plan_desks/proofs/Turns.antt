@@ -33,13 +33,13 @@ use Rattle.law_windows.proofs.Orders.{needs-append}
 use Rattle.law_others.specs.Touched.{touches_lane, changes_part, Unclaimed}
 use Rattle.law_others.proofs.LaneParts.{step_part}
 use Rattle.law_ticks.specs.Sending.{orders_in, IsEmission}
-use Rattle.law_works.proofs.Passed.{plan_adds}
+use Rattle.turn_desks.proofs.Passed.{plan_adds}
 use Rattle.lane_sides.specs.Lane.{LaneForm}
 use Rattle.world_lanes.specs.Stands.{IsRunning, LaneStands, spelled_wire}
-use Rattle.world_state.specs.Changed.{changes_lane}
-use Rattle.world_state.proofs.LanesGoOn.{lane_goes_on}
-use Rattle.world_turns.specs.Turning.{asked_with, planner}
-use Rattle.world_turns.proofs.Turning.{wants_none}
+use Rattle.turn_desks.specs.Passed.{changes_lane}
+use Rattle.turn_desks.proofs.Passed.{lane_goes_on}
+use Rattle.turn_desks.specs.Passed.{asked_with, planner}
+use Rattle.turn_desks.proofs.Passed.{wants_none}
 use Rattle.plan_emissions.specs.Wants.{bytes_at}
 use Rattle.plan_desks.proofs.Wants.{IsSpelled, needs_more, bytes_needed}
 

@@ -4,3 +4,4 @@ pub mod Posts
 pub mod Taking
 pub mod Turns
 pub mod Wanted
+pub mod Passed

@@ -11,7 +11,7 @@ use Rattle.lane_shares.specs.Views.{issuer, with_amount}
 use Rattle.lane_sides.specs.Lane.{LaneForm}
 use Rattle.lane_desks.specs.Grants.{IsShareOf}
 use Rattle.turn_desks.specs.Leases.{lease_at}
-use Rattle.world_turns.specs.Passed.{State}
+use Rattle.turn_desks.specs.Passed.{State}
 use Rattle.plan_desks.specs.Posts.{is_on}
 
 -- As many bytes may be issued as were received. Where the lane's sender is up as many are as are leased; the issuer has those that aren't used.

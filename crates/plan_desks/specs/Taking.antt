@@ -17,7 +17,7 @@ use Rattle.lane_shares.specs.Views.{with_amount}
 use Rattle.plan_emissions.specs.Emitting.{grant_at}
 use Rattle.plan_emissions.specs.Wants.{turns_at, bytes_at}
 use Rattle.turn_desks.specs.Taking.{MayCome, MayTurnAt, HappensAt}
-use Rattle.world_turns.specs.Passed.{State}
+use Rattle.turn_desks.specs.Passed.{State}
 use Rattle.plan_desks.specs.Wanted.{CanLeave}
 
 -- a turn that may come at any time in a block, with a share of each lane

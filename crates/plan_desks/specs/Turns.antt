@@ -11,7 +11,7 @@ use Rattle.run_model.specs.Works.{Work, actions_in, flat, plain_work, done_from}
 use Rattle.run_blocks.specs.declared.job.Job.{Job}
 use Rattle.run_blocks.specs.Jobs.{asked_by}
 use Rattle.run_blocks.specs.Together.{turn_done}
-use Rattle.world_turns.specs.Passed.{Stands, State, Tallied}
+use Rattle.turn_desks.specs.Passed.{Stands, State, Tallied}
 
 -- What so many workers ask of the managers was done: each manager's history, which is a merge of what they ask of it; the replies, each with its
 -- line's place, node by node in the order of the histories; and the state with the managers behind them, which stands for the world that they leave.

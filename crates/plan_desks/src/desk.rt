@@ -13,7 +13,7 @@ ghost use Rattle.run_acts.specs.Acting.{IsReady};
 ghost use Rattle.turn_desks.specs.Going.{IsOnItsWay};
 ghost use Rattle.plan_desks.specs.Issuing.{AreShares, HasIssuers};
 ghost use Rattle.plan_desks.specs.Opening.{IsOpened};
-ghost use Rattle.world_turns.specs.Passed.{Stands};
+ghost use Rattle.turn_desks.specs.Passed.{Stands};
 
 use declared_site::Site;
 use disk_model::Disk;
@@ -22,7 +22,7 @@ use lane_shares::{Share, Shares};
 use qkd_base::NodeNo;
 use source_devices::{Device, Entropy, Wire};
 use std::snapshot::Snapshot;
-use world_turns::world_state::State;
+use turn_desks::world_turns::world_state::State;
 
 /// A node's manager in a block: it takes turns, one at a time, in whatever order they come, and holds the issuers of the lanes that
 /// leave its node, so that behind a plan it grants the bytes of the plan's orders. It came from a world for which the run's state

@@ -1,7 +1,7 @@
 // The ends below which bytes of the lanes that leave a node may be claimed, behind a turn.
 ghost use Rattle.std.specs.Prelude.{◌≡◌, ◌≤◌, replicate};
 ghost use Rattle.declared_site.specs.SiteOf.{site_of};
-ghost use Rattle.world_turns.specs.Turning.{planner};
+ghost use Rattle.turn_desks.specs.Passed.{planner};
 ghost use Rattle.turn_desks.specs.Leases.{WroteAt};
 
 use declared_site::Site;

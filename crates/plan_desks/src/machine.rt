@@ -12,8 +12,8 @@ use qkd_base::NodeNo;
 use source_devices::{Device, Entropy, Wire};
 use std::collections::LinkedList;
 use turn_desks::take_turn;
+use turn_desks::world_turns::world_state::State;
 use turnstile::Machine;
-use world_turns::world_state::State;
 
 impl<'a, K: Disk + Drop, Q: Device + Drop, E: Entropy + Drop, X: Wire + Drop> Machine
     for PlanDesk<'a, K, Q, E, X> {

@@ -2,7 +2,7 @@
 ghost use Rattle.std.specs.Prelude.{◌≡◌, ◌≤◌, IfOk};
 ghost use Rattle.net_model.specs.World.{Network, World};
 ghost use Rattle.run_acts.specs.Acting.{IsReady};
-ghost use Rattle.world_turns.specs.Passed.{Stands};
+ghost use Rattle.turn_desks.specs.Passed.{Stands};
 ghost use Rattle.plan_desks.specs.Opening.{issued_by, AreOpened, AllOpened};
 
 use disk_model::Disk;
@@ -13,7 +13,7 @@ use lane_sides::LaneSide;
 use qkd_base::Memory;
 use source_devices::{Device, Entropy, Wire};
 use std::alloc::Global;
-use world_turns::world_state::State;
+use turn_desks::world_turns::world_state::State;
 
 /// The shares of lanes as a block begins, by the lanes' places.
 #[derive(Drop)]

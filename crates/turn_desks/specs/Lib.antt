@@ -1,3 +1,4 @@
 pub mod Going
 pub mod Leases
 pub mod Taking
+pub mod Passed

@@ -18,11 +18,11 @@ use Rattle.law_records.proofs.Base.{when_true, eq_same}
 use Rattle.shared_machines.specs.declared.call.Call.{Call}
 use Rattle.turn_desks.specs.declared.turn.Turn.{Turn}
 use Rattle.turn_desks.specs.Taking.{IsTurnAt}
-use Rattle.world_turns.specs.Passed.{IsOnWire}
-use Rattle.world_turns.specs.Passed.{Stands}
-use Rattle.world_turns.specs.Passed.{State}
-use Rattle.world_turns.proofs.Passed.{post_below, same_receiver}
-use Rattle.world_turns.specs.Order.{HasOctets}
+use Rattle.turn_desks.specs.Passed.{IsOnWire}
+use Rattle.turn_desks.specs.Passed.{Stands}
+use Rattle.turn_desks.specs.Passed.{State}
+use Rattle.turn_desks.proofs.Passed.{post_below, same_receiver}
+use Rattle.turn_desks.specs.Passed.{HasOctets}
 use Rattle.turn_shifts.specs.Calls.{IsComing}
 
 -- its octets are there

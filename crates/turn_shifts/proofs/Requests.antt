@@ -12,7 +12,7 @@ use Rattle.law_records.proofs.Base.{when_true, when_false}
 use Rattle.shared_machines.specs.declared.call.Call.{Call}
 use Rattle.shared_machines.specs.Asked.{requests_on}
 use Rattle.turn_desks.specs.declared.turn.Turn.{Turn}
-use Rattle.world_turns.specs.Turning.{asked_with}
+use Rattle.turn_desks.specs.Passed.{asked_with}
 use Rattle.turn_shifts.specs.Calls.{work_of, IsCallFor, IsEntry}
 
 pub requests-append : {Q : Type 0} (v : ℕ) (xs ys : List (Option (Call Q))) → requests_on v (xs ++ ys) ≡ requests_on v xs ++ requests_on v ys

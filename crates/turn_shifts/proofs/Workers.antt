@@ -15,7 +15,7 @@ use Rattle.law_records.proofs.Base.{eq_same, eq_from, split, slice_get-append_le
 use Rattle.shared_machines.specs.declared.call.Call.{Call}
 use Rattle.shared_machines.specs.Asked.{requests_on}
 use Rattle.turn_desks.specs.declared.turn.Turn.{Turn}
-use Rattle.world_turns.specs.Passed.{State}
+use Rattle.turn_desks.specs.Passed.{State}
 use Rattle.turn_shifts.specs.Calls.{work_of, IsOf, IsEntry, IsComing, AreComing, AreShifts}
 use Rattle.turn_shifts.proofs.Asking.{drop_next, drop_all}
 use Rattle.turn_shifts.proofs.Counting.{count_none, count_in, count_out}

@@ -13,8 +13,8 @@ use Rattle.shared_machines.specs.declared.call.Call.{Call}
 use Rattle.shared_machines.specs.Asked.{requests_on}
 use Rattle.turn_desks.specs.declared.turn.Turn.{Turn}
 use Rattle.turn_desks.specs.Taking.{MayCome}
-use Rattle.world_turns.specs.Passed.{State}
-use Rattle.world_turns.specs.Turning.{asked_with}
+use Rattle.turn_desks.specs.Passed.{State}
+use Rattle.turn_desks.specs.Passed.{asked_with}
 
 -- the turn that is asked for
 abbrev pub work_of : Turn → Work

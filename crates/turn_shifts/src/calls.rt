@@ -8,7 +8,7 @@ ghost use Rattle.run_acts.specs.Acting.{IsReady};
 ghost use Rattle.run_blocks.specs.Jobs.{is_job, asked_by, IsThere};
 ghost use Rattle.shared_machines.specs.Asked.{requests_on};
 ghost use Rattle.turn_shifts.specs.Calls.{work_of, IsEntry, IsComing, AreComing, AreShifts};
-ghost use Rattle.world_turns.specs.Passed.{Stands};
+ghost use Rattle.turn_desks.specs.Passed.{Stands};
 
 use disk_model::Disk;
 use kme_site::receiver;
@@ -19,7 +19,7 @@ use source_devices::{Device, Entropy, Wire};
 use std::alloc::Global;
 use std::collections::VecDeque;
 use turn_desks::Turn;
-use world_turns::world_state::{State, seen};
+use turn_desks::world_turns::world_state::{State, seen};
 
 // The call of a node's manager for a job's turn.
 fn call(node: NodeNo, place: usize, job: &Job, octets: Option<Octets>) -> Call<Turn<'_>>

@@ -1,4 +1,4 @@
-use Rattle.world_state.proofs.Endings.{on_err}
+use Rattle.world_frames.proofs.Passed.{on_err}
 use Rattle.block_notes.proofs.Whole.{behind, may_note, block_done, block_ends, block_left}
 use Rattle.block_notes.proofs.block.note_block.Goals as goal
 

@@ -1,5 +1,5 @@
 use Rattle.std.proofs.Common.{◌≡◌, arith}
-use Rattle.world_state.proofs.Endings.{on_err}
+use Rattle.world_frames.proofs.Passed.{on_err}
 use Rattle.block_notes.proofs.Whole.{site_lanes, site_recorded, may_note_all, frames_noted, frames_left}
 use Rattle.block_notes.proofs.frames.note_frames.Goals as goal
 

@@ -2,7 +2,7 @@ use Rattle.std.proofs.Common.{◌≡◌, ◌<◌, ◌+◌, [], ◌∷◌, ◌++�
 use Rattle.std.specs.Prelude.{get_or}
 use Rattle.net_model.specs.Site.{sender}
 use Rattle.declared_site.specs.SiteOf.{site_of}
-use Rattle.world_state.proofs.OneSide.{read_at}
+use Rattle.turn_desks.proofs.Passed.{read_at}
 use Rattle.plan_desks.specs.Opening.{issued_in, AreOpened, AllOpened}
 use Rattle.plan_desks.proofs.Openings.{opened_next, sender_there, used_few, used_issued, issued_received, issued_is}
 use Rattle.plan_desks.proofs.opening.open_each.Goals as goal
