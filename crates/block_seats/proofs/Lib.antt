@@ -1,0 +1,4 @@
+pub mod Mixing
+pub mod Leaving
+pub mod Dealt
+pub mod Sitting
