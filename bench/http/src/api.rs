@@ -1,43 +1,9 @@
 //! Which event a request asks for.
 use crate::event::Event;
 use crate::request::{Method, Request};
+use crate::resource::{Fault, Resource, bad, pair, resource, unauthorized};
 use crate::site::{Sae, Site};
 use crate::{body, query};
-
-/// What is wrong with a request.
-#[derive(Debug)]
-pub struct Fault {
-    pub status: u16,
-    pub message: &'static str,
-}
-
-fn bad(message: &'static str) -> Fault {
-    Fault { status: 400, message }
-}
-
-fn unauthorized(message: &'static str) -> Fault {
-    Fault { status: 401, message }
-}
-
-#[derive(Clone, Copy, PartialEq, Eq)]
-enum Resource {
-    Status,
-    EncKeys,
-    DecKeys,
-}
-
-/// The resource of a path that serves a method, and the application that the path names.
-fn resource(path: &str, method: Method) -> Option<(Resource, &str)> {
-    let (sae, call) = path.strip_prefix("/api/v1/keys/")?.split_once('/')?;
-    let resource = match call {
-        "status" => Resource::Status,
-        "enc_keys" => Resource::EncKeys,
-        "dec_keys" => Resource::DecKeys,
-        _ => return None,
-    };
-    let served = method == Method::Get || (method == Method::Post && resource != Resource::Status);
-    (served && !sae.is_empty()).then_some((resource, sae))
-}
 
 /// The event that a request to the manager of a node asks for.
 pub fn event_of(site: &Site, node: usize, request: &Request) -> Result<Event, Fault> {
@@ -60,17 +26,6 @@ pub fn event_of(site: &Site, node: usize, request: &Request) -> Result<Event, Fa
         }
         (Resource::DecKeys, _) => Ok(Event::Dec { slave, master, names: vec![query::key_id(query).ok_or(bad("bad key_ID"))?] }),
     }
-}
-
-/// The master and the slave, where the caller is at home at the node and the pair is allowed.
-fn pair(site: &Site, node: usize, resource: Resource, caller: &[u8], other: &str) -> Option<(Sae, Sae)> {
-    let caller = site.find(std::str::from_utf8(caller).ok()?)?;
-    let other = site.find(other)?;
-    let (master, slave) = match resource {
-        Resource::Status | Resource::EncKeys => (caller, other),
-        Resource::DecKeys => (other, caller),
-    };
-    (site.home(caller) == node && site.may(master, slave)).then_some((master, slave))
 }
 
 fn enc_by_body(site: &Site, body: &[u8], master: Sae, slave: Sae) -> Result<Event, Fault> {

@@ -1,26 +1,9 @@
 //! A node's manager: its keys in maps, and nothing on a disk.
+use crate::event::Event;
 use crate::name::Name;
+use crate::reply::Reply;
 use crate::site::Sae;
 use std::collections::{HashMap, VecDeque};
-
-/// What a manager is asked.
-#[derive(Debug)]
-pub enum Event {
-    Status { master: Sae, slave: Sae },
-    Enc { master: Sae, slave: Sae, number: u16, bits: u16 },
-    Dec { slave: Sae, master: Sae, names: Vec<Name> },
-}
-
-/// What a manager replies.
-#[derive(Debug)]
-pub enum Reply {
-    Ready(u32),
-    Handed(Vec<(Name, Vec<u8>)>),
-    Few(u32),
-    Unknown(usize),
-    Repeated(usize),
-    AlreadyHanded(usize),
-}
 
 /// A key that a slave of this node may have.
 struct Kept {
