@@ -23,16 +23,16 @@ use Rattle.relay_core.proofs.Names.{eq_same, eq_from, and_left, and_right, name_
 -- an entry tells its group and its place
 
 name_back : List ℕ → Name
-name_back e = record { node = slice_index e 1; kind = kind_of_octet (slice_index e 2); count = slice_index e 3 }
+name_back e = record { node = slice_index e 1; kind = kind_of_octet (slice_index e 3); count = slice_index e 0 }
 
 group_back : List ℕ → Group
 group_back e =
-    if slice_index e 0 == 0 then Named (name_back e)
-    else if slice_index e 0 == 1 then StoredAbout (name_back e)
-    else if slice_index e 0 == 2 then JoinedAbout (name_back e)
-    else if slice_index e 0 == 3 then PartsOf (name_back e)
-    else if slice_index e 0 == 4 then ChunksAt (name_back e) (slice_index e 4)
-    else if slice_index e 0 == 5 then OwedTo (slice_index e 1)
+    if slice_index e 2 == 0 then Named (name_back e)
+    else if slice_index e 2 == 1 then StoredAbout (name_back e)
+    else if slice_index e 2 == 2 then JoinedAbout (name_back e)
+    else if slice_index e 2 == 3 then PartsOf (name_back e)
+    else if slice_index e 2 == 4 then ChunksAt (name_back e) (slice_index e 4)
+    else if slice_index e 2 == 5 then OwedTo (slice_index e 1)
     else ChunksOf (name_back e)
 
 named_back : (tag : ℕ) (n : Name) (index place : ℕ) → name_back (name_entry tag n index place) ≡ n
@@ -72,13 +72,13 @@ bytes_from a b h = (bytes_eq-Decides a b).0 h
 
 -- the group's numbers, without a place
 pub front_of : Group → List ℕ
-front_of (Named n) = 0 ∷ n.node ∷ kind_number n.kind ∷ n.count ∷ 0 ∷ 0 ∷ 0 ∷ []
-front_of (StoredAbout n) = 1 ∷ n.node ∷ kind_number n.kind ∷ n.count ∷ 0 ∷ 0 ∷ 0 ∷ []
-front_of (JoinedAbout n) = 2 ∷ n.node ∷ kind_number n.kind ∷ n.count ∷ 0 ∷ 0 ∷ 0 ∷ []
-front_of (PartsOf n) = 3 ∷ n.node ∷ kind_number n.kind ∷ n.count ∷ 0 ∷ 0 ∷ 0 ∷ []
-front_of (ChunksAt s i) = 4 ∷ s.node ∷ kind_number s.kind ∷ s.count ∷ i ∷ 0 ∷ 0 ∷ []
-front_of (OwedTo to) = 5 ∷ to ∷ 0 ∷ 0 ∷ 0 ∷ 0 ∷ 0 ∷ []
-front_of (ChunksOf s) = 6 ∷ s.node ∷ kind_number s.kind ∷ s.count ∷ 0 ∷ 0 ∷ 0 ∷ []
+front_of (Named n) = n.count ∷ n.node ∷ 0 ∷ kind_number n.kind ∷ 0 ∷ 0 ∷ 0 ∷ []
+front_of (StoredAbout n) = n.count ∷ n.node ∷ 1 ∷ kind_number n.kind ∷ 0 ∷ 0 ∷ 0 ∷ []
+front_of (JoinedAbout n) = n.count ∷ n.node ∷ 2 ∷ kind_number n.kind ∷ 0 ∷ 0 ∷ 0 ∷ []
+front_of (PartsOf n) = n.count ∷ n.node ∷ 3 ∷ kind_number n.kind ∷ 0 ∷ 0 ∷ 0 ∷ []
+front_of (ChunksAt s i) = s.count ∷ s.node ∷ 4 ∷ kind_number s.kind ∷ i ∷ 0 ∷ 0 ∷ []
+front_of (OwedTo to) = 0 ∷ to ∷ 5 ∷ 0 ∷ 0 ∷ 0 ∷ 0 ∷ []
+front_of (ChunksOf s) = s.count ∷ s.node ∷ 6 ∷ kind_number s.kind ∷ 0 ∷ 0 ∷ 0 ∷ []
 
 pub front_is : (g : Group) (p : ℕ) → entry_of g p ≡ entry_at (front_of g) p
 unfolding front_of

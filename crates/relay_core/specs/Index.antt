@@ -29,10 +29,10 @@ abbrev pub belongs_at : ℕ → List Name → Group → Option Fact → Bool
 belongs_at me acked g None = false
 belongs_at me acked g (Some f) = belongs me acked g f
 
--- entries
+-- entries, with the number first that differs most
 
 abbrev pub name_entry : ℕ → Name → ℕ → ℕ → List ℕ
-name_entry tag n index place = tag ∷ n.node ∷ kind_number n.kind ∷ n.count ∷ index ∷ 0 ∷ 0 ∷ place ∷ []
+name_entry tag n index place = n.count ∷ n.node ∷ tag ∷ kind_number n.kind ∷ index ∷ 0 ∷ 0 ∷ place ∷ []
 
 abbrev pub entry_of : Group → ℕ → List ℕ
 entry_of (Named n) place = name_entry 0 n 0 place
@@ -40,7 +40,7 @@ entry_of (StoredAbout n) place = name_entry 1 n 0 place
 entry_of (JoinedAbout n) place = name_entry 2 n 0 place
 entry_of (PartsOf n) place = name_entry 3 n 0 place
 entry_of (ChunksAt s i) place = name_entry 4 s i place
-entry_of (OwedTo to) place = 5 ∷ to ∷ 0 ∷ 0 ∷ 0 ∷ 0 ∷ 0 ∷ place ∷ []
+entry_of (OwedTo to) place = 0 ∷ to ∷ 5 ∷ 0 ∷ 0 ∷ 0 ∷ 0 ∷ place ∷ []
 entry_of (ChunksOf s) place = name_entry 6 s 0 place
 
 -- Each of the first facts has an entry in each group to which it belongs. Every entry is one of a fact that belongs to its group, be

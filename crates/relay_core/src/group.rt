@@ -40,15 +40,15 @@ fn kind_number(kind: NameKind) -> u64
     }
 }
 
-// The entry of a group that a name and an index tell.
+// The entry of a group that a name and an index tell. The count, which differs most, stands first: there comparisons end.
 fn name_entry(tag: u64, name: KeyName, index: u32, place: usize) -> Entry
     ensures { result ≡ name_entry tag name index place }
 {
     [
-        tag,
-        name.node().get() as u64,
-        kind_number(name.kind()),
         name.count(),
+        name.node().get() as u64,
+        tag,
+        kind_number(name.kind()),
         index as u64,
         0,
         0,
@@ -149,7 +149,7 @@ impl Group {
             Group::JoinedAbout(stream) => name_entry(2, stream, 0, place),
             Group::PartsOf(name) => name_entry(3, name, 0, place),
             Group::ChunksAt(stream, index) => name_entry(4, stream, index, place),
-            Group::OwedTo(to) => [5, to.get() as u64, 0, 0, 0, 0, 0, place as u64],
+            Group::OwedTo(to) => [0, to.get() as u64, 5, 0, 0, 0, 0, place as u64],
             Group::ChunksOf(stream) => name_entry(6, stream, 0, place),
         }
     }
