@@ -22,7 +22,7 @@ bytes_from a b h = (bytes_eq-Decides a b).0 h
 -- an entry tells its pair
 pub same_pair : (n m : Name) (s t : ℕ) → mark_entry n s ≡ mark_entry m t → (n ≡ m) × (s ≡ t)
 same_pair n m s t e = (
-  same_name n m (ap (λ (l : List ℕ). slice_index l 0) e) (ap (λ (l : List ℕ). slice_index l 1) e) (ap (λ (l : List ℕ). slice_index l 2) e),
+  same_name n m (ap (λ (l : List ℕ). slice_index l 1) e) (ap (λ (l : List ℕ). slice_index l 2) e) (ap (λ (l : List ℕ). slice_index l 0) e),
   ap (λ (l : List ℕ). slice_index l 3) e,
 )
 

@@ -9,8 +9,9 @@ pub record Marked : Type 0 where
   pub pairs : List (Name × ℕ)
   pub spare : ℕ
 
+-- the count differs most and stands first
 abbrev pub mark_entry : Name → ℕ → List ℕ
-mark_entry n sae = n.node ∷ kind_number n.kind ∷ n.count ∷ sae ∷ 0 ∷ 0 ∷ 0 ∷ 0 ∷ []
+mark_entry n sae = n.count ∷ n.node ∷ kind_number n.kind ∷ sae ∷ 0 ∷ 0 ∷ 0 ∷ 0 ∷ []
 
 -- each of the first pairs has an entry, and every entry is that of a pair
 pub record AreMarked (pairs : List (Name × ℕ)) (entries : List (List ℕ)) (count : ℕ) : Type 0 where

@@ -42,14 +42,14 @@ fn kind_number(kind: NameKind) -> u64
     }
 }
 
-// The entry of a pair.
+// The entry of a pair. The count, which differs most, stands first: there comparisons end.
 fn mark_entry(name: KeyName, sae: SaeNo) -> Entry
     ensures { result ≡ mark_entry name sae }
 {
     [
+        name.count(),
         name.node().get() as u64,
         kind_number(name.kind()),
-        name.count(),
         sae.get() as u64,
         0,
         0,
