@@ -40,36 +40,42 @@ way_is Down Up = refl
 way_is Down Down = refl
 
 -- the numbers of an offset's group
-pub offset_is : (l k : Lane) (x y : ℕ) → ((l.link == k.link) && ((way_number l.way == way_number k.way) && ((x == y) && true))) ≡ (lane_eq k l && (y == x))
+pub offset_is : (l k : Lane) (x y : ℕ) → ((x == y) && ((l.link == k.link) && ((way_number l.way == way_number k.way) && true))) ≡ (lane_eq k l && (y == x))
 offset_is l k x y =
-    ap (λ (b : Bool). b && ((way_number l.way == way_number k.way) && ((x == y) && true))) (eq_sym l.link k.link)
-    ∙ ap (λ (b : Bool). (k.link == l.link) && (b && ((x == y) && true))) (way_is l.way k.way)
-    ∙ ap (λ (b : Bool). (k.link == l.link) && (way_eq k.way l.way && (b && true))) (eq_sym x y)
-    ∙ by (k.link == l.link) (way_eq k.way l.way) (y == x)
+    ap (λ (b : Bool). b && ((l.link == k.link) && ((way_number l.way == way_number k.way) && true))) (eq_sym x y)
+    ∙ ap (λ (b : Bool). (y == x) && (b && ((way_number l.way == way_number k.way) && true))) (eq_sym l.link k.link)
+    ∙ ap (λ (b : Bool). (y == x) && ((k.link == l.link) && (b && true))) (way_is l.way k.way)
+    ∙ by (y == x) (k.link == l.link) (way_eq k.way l.way)
   where
-    by : (a b c : Bool) → (a && (b && (c && true))) ≡ ((a && b) && c)
+    by : (c a b : Bool) → (c && (a && (b && true))) ≡ ((a && b) && c)
     by true true true = refl
     by true true false = refl
-    by true false c = refl
-    by false b c = refl
+    by true false b = refl
+    by false true true = refl
+    by false true false = refl
+    by false false b = refl
 
 -- the numbers of a name's group
-pub name_is : (l k : Lane) (n m : Name) → ((l.link == k.link) && ((way_number l.way == way_number k.way) && ((n.node == m.node) && ((kind_number n.kind == kind_number m.kind) && ((n.count == m.count) && true))))) ≡ (lane_eq k l && name_eq m n)
+pub name_is : (l k : Lane) (n m : Name) → ((n.count == m.count) && ((l.link == k.link) && ((way_number l.way == way_number k.way) && ((n.node == m.node) && ((kind_number n.kind == kind_number m.kind) && true))))) ≡ (lane_eq k l && name_eq m n)
 name_is l k n m =
-    ap (λ (b : Bool). b && ((way_number l.way == way_number k.way) && ((n.node == m.node) && ((kind_number n.kind == kind_number m.kind) && ((n.count == m.count) && true))))) (eq_sym l.link k.link)
-    ∙ ap (λ (b : Bool). (k.link == l.link) && (b && ((n.node == m.node) && ((kind_number n.kind == kind_number m.kind) && ((n.count == m.count) && true))))) (way_is l.way k.way)
-    ∙ ap (λ (b : Bool). (k.link == l.link) && (way_eq k.way l.way && (b && ((kind_number n.kind == kind_number m.kind) && ((n.count == m.count) && true))))) (eq_sym n.node m.node)
-    ∙ ap (λ (b : Bool). (k.link == l.link) && (way_eq k.way l.way && ((m.node == n.node) && (b && ((n.count == m.count) && true))))) (eq_sym (kind_number n.kind) (kind_number m.kind))
-    ∙ ap (λ (b : Bool). (k.link == l.link) && (way_eq k.way l.way && ((m.node == n.node) && ((kind_number m.kind == kind_number n.kind) && (b && true))))) (eq_sym n.count m.count)
-    ∙ by (k.link == l.link) (way_eq k.way l.way) (m.node == n.node) (kind_number m.kind == kind_number n.kind) (m.count == n.count)
+    ap (λ (b : Bool). b && ((l.link == k.link) && ((way_number l.way == way_number k.way) && ((n.node == m.node) && ((kind_number n.kind == kind_number m.kind) && true))))) (eq_sym n.count m.count)
+    ∙ ap (λ (b : Bool). (m.count == n.count) && (b && ((way_number l.way == way_number k.way) && ((n.node == m.node) && ((kind_number n.kind == kind_number m.kind) && true))))) (eq_sym l.link k.link)
+    ∙ ap (λ (b : Bool). (m.count == n.count) && ((k.link == l.link) && (b && ((n.node == m.node) && ((kind_number n.kind == kind_number m.kind) && true))))) (way_is l.way k.way)
+    ∙ ap (λ (b : Bool). (m.count == n.count) && ((k.link == l.link) && (way_eq k.way l.way && (b && ((kind_number n.kind == kind_number m.kind) && true))))) (eq_sym n.node m.node)
+    ∙ ap (λ (b : Bool). (m.count == n.count) && ((k.link == l.link) && (way_eq k.way l.way && ((m.node == n.node) && (b && true))))) (eq_sym (kind_number n.kind) (kind_number m.kind))
+    ∙ by (m.count == n.count) (k.link == l.link) (way_eq k.way l.way) (m.node == n.node) (kind_number m.kind == kind_number n.kind)
   where
-    by : (a b c d e : Bool) → (a && (b && (c && (d && (e && true))))) ≡ ((a && b) && ((c && d) && e))
+    by : (e a b c d : Bool) → (e && (a && (b && (c && (d && true))))) ≡ ((a && b) && ((c && d) && e))
     by true true true true true = refl
     by true true true true false = refl
-    by true true true false e = refl
-    by true true false d e = refl
-    by true false c d e = refl
-    by false b c d e = refl
+    by true true true false d = refl
+    by true true false c d = refl
+    by true false b c d = refl
+    by false true true true true = refl
+    by false true true true false = refl
+    by false true true false d = refl
+    by false true false c d = refl
+    by false false b c d = refl
 
 and_true : (b : Bool) → (b && true) ≡ b
 and_true true = refl
@@ -83,16 +89,35 @@ and_false : (b : Bool) → (b && false) ≡ false
 and_false true = refl
 and_false false = refl
 
+-- groups of two tags are apart
+apart : (a b : Bool) → (a && (b && false)) ≡ false
+apart true true = refl
+apart true false = refl
+apart false b = refl
+
+-- one of another tag before others, and behind one
+pub behind : (a b rest : Bool) → ((a && (b && false)) || rest) ≡ rest
+behind a b rest = ap (λ (c : Bool). c || rest) (apart a b)
+
+before : (one a b : Bool) → (one || ((a && (b && false)) || false)) ≡ one
+before one a b = ap (λ (c : Bool). one || (c || false)) (apart a b) ∙ or_none one
+
 held_asked : (q : Query) (l : Lane) (x : ℕ) (n : Name) (o number : Option ℕ) (sent : ℕ) (d r : Bool) (size : ℕ) (f : FrameOctets) →
     (let h : Held = record { lane = l; offset = x; name = n; ack_of = o; number = number; sent = sent; due = d; ripe = r; length = size; frame = f } in list_any (bytes_eq (query_group q)) (held_groups (Some h)) ≡ is_asked q h)
-held_asked (At k y) l x n None number sent d r size f = or_none _ ∙ offset_is k l y x
-held_asked (At k y) l x n (Some z) number sent d r size f = or_none _ ∙ offset_is k l y x
-held_asked (Answering k y) l x n None number sent d r size f = sym (and_false (lane_eq l k))
-held_asked (Answering k y) l x n (Some z) number sent d r size f = or_none _ ∙ offset_is k l y z
-held_asked (DataOf k m) l x n None number sent d r size f = or_none _ ∙ name_is k l m n
-held_asked (DataOf k m) l x n (Some z) number sent d r size f = sym (and_false (lane_eq l k))
-held_asked (SentAt tick) l x n None number sent d r size f = or_none _ ∙ and_true (tick == sent) ∙ eq_sym tick sent
-held_asked (SentAt tick) l x n (Some z) number sent d r size f = refl
+held_asked (At k y) l x n None number sent d r size f =
+    behind (y == sent) (k.link == 0) _ ∙ before _ (y == n.count) (k.link == l.link) ∙ offset_is k l y x
+held_asked (At k y) l x n (Some z) number sent d r size f = before _ (y == z) (k.link == l.link) ∙ offset_is k l y x
+held_asked (Answering k y) l x n None number sent d r size f =
+    behind (y == sent) (k.link == 0) _ ∙ behind (y == x) (k.link == l.link) _ ∙ behind (y == n.count) (k.link == l.link) false ∙ sym (and_false (lane_eq l k))
+held_asked (Answering k y) l x n (Some z) number sent d r size f = behind (y == x) (k.link == l.link) _ ∙ or_none _ ∙ offset_is k l y z
+held_asked (DataOf k m) l x n None number sent d r size f =
+    behind (m.count == sent) (k.link == 0) _ ∙ behind (m.count == x) (k.link == l.link) _ ∙ or_none _ ∙ name_is k l m n
+held_asked (DataOf k m) l x n (Some z) number sent d r size f =
+    behind (m.count == x) (k.link == l.link) _ ∙ behind (m.count == z) (k.link == l.link) false ∙ sym (and_false (lane_eq l k))
+held_asked (SentAt tick) l x n None number sent d r size f =
+    ap (λ (b : Bool). ((tick == sent) && true) || b) (behind (tick == x) (0 == l.link) _ ∙ behind (tick == n.count) (0 == l.link) false)
+    ∙ or_none _ ∙ and_true (tick == sent) ∙ eq_sym tick sent
+held_asked (SentAt tick) l x n (Some z) number sent d r size f = behind (tick == x) (0 == l.link) _ ∙ behind (tick == z) (0 == l.link) false
 
 pub held_are : (q : Query) → AreGroups held_groups (passes (is_asked q)) (query_group q)
 held_are q = record { asked = by; nothing = refl }
@@ -119,8 +144,8 @@ keys_length keys (x ∷ xs) = let r = keys_length keys xs in omega arith
 -- acknowledgements
 
 arrival_asked : (q : Arrivals) (a : Arrival) → list_any (bytes_eq (arrivals_group q)) (arrival_groups (Some a)) ≡ is_from q a
-arrival_asked (Of l) a = or_none _ ∙ offset_is l a.lane 0 0 ∙ and_true (lane_eq a.lane l)
-arrival_asked (From l x) a = or_none _ ∙ offset_is l a.lane x a.offset
+arrival_asked (Of l) a = before _ (0 == a.offset) (l.link == a.lane.link) ∙ offset_is l a.lane 0 0 ∙ and_true (lane_eq a.lane l)
+arrival_asked (From l x) a = behind (x == 0) (l.link == a.lane.link) _ ∙ or_none _ ∙ offset_is l a.lane x a.offset
 
 pub arrival_are : (q : Arrivals) → AreGroups arrival_groups (passes (is_from q)) (arrivals_group q)
 arrival_are q = record { asked = by; nothing = refl }
@@ -145,9 +170,9 @@ name_sym l k n m =
 
 -- a name's group, and one more number
 name_more : (l k : Lane) (n m : Name) (x y : ℕ) →
-    ((l.link == k.link) && ((way_number l.way == way_number k.way) && ((n.node == m.node) && ((kind_number n.kind == kind_number m.kind) && ((n.count == m.count) && ((x == y) && true)))))) ≡ ((lane_eq l k && name_eq n m) && (x == y))
+    ((n.count == m.count) && ((l.link == k.link) && ((way_number l.way == way_number k.way) && ((n.node == m.node) && ((kind_number n.kind == kind_number m.kind) && ((x == y) && true)))))) ≡ ((lane_eq l k && name_eq n m) && (x == y))
 name_more l k n m x y =
-    by (l.link == k.link) (way_number l.way == way_number k.way) (n.node == m.node) (kind_number n.kind == kind_number m.kind) (n.count == m.count) (x == y)
+    by (n.count == m.count) (l.link == k.link) (way_number l.way == way_number k.way) (n.node == m.node) (kind_number n.kind == kind_number m.kind) (x == y)
     ∙ ap (λ (b : Bool). b && (x == y)) (name_is l k n m ∙ name_sym l k n m)
   where
     by : (a b c d e f : Bool) → (a && (b && (c && (d && (e && (f && true)))))) ≡ ((a && (b && (c && (d && (e && true))))) && f)
@@ -165,33 +190,33 @@ and_none false c = refl
 
 same_by : (l k : Lane) (n m : Name) (i j : Bool) (o p : Option ℕ) → bytes_eq (awaited_by l n i o) (awaited_by k m j p) ≡ ((lane_eq l k && item_eq (item_by i n) (item_by j m)) && offset_eq o p)
 same_by l k n m false false None None = name_more l k n m 0 0
-same_by l k n m false false None (Some y) = sym (and_false (lane_eq l k && name_eq n m))
-same_by l k n m false false (Some x) None = sym (and_false (lane_eq l k && name_eq n m))
+same_by l k n m false false None (Some y) = apart (n.count == m.count) (l.link == k.link) ∙ sym (and_false (lane_eq l k && name_eq n m))
+same_by l k n m false false (Some x) None = apart (n.count == m.count) (l.link == k.link) ∙ sym (and_false (lane_eq l k && name_eq n m))
 same_by l k n m false false (Some x) (Some y) = name_more l k n m x y
 same_by l k n m true true None None = name_more l k n m 0 0
-same_by l k n m true true None (Some y) = sym (and_false (lane_eq l k && name_eq n m))
-same_by l k n m true true (Some x) None = sym (and_false (lane_eq l k && name_eq n m))
+same_by l k n m true true None (Some y) = apart (n.count == m.count) (l.link == k.link) ∙ sym (and_false (lane_eq l k && name_eq n m))
+same_by l k n m true true (Some x) None = apart (n.count == m.count) (l.link == k.link) ∙ sym (and_false (lane_eq l k && name_eq n m))
 same_by l k n m true true (Some x) (Some y) = name_more l k n m x y
 same_by l k n m false true None p = no_tag p
   where
     no_tag : (p : Option ℕ) → bytes_eq (awaited_by l n false None) (awaited_by k m true p) ≡ ((lane_eq l k && false) && offset_eq None p)
-    no_tag None = sym (and_none (lane_eq l k) true)
-    no_tag (Some y) = sym (and_none (lane_eq l k) false)
+    no_tag None = apart (n.count == m.count) (l.link == k.link) ∙ sym (and_none (lane_eq l k) true)
+    no_tag (Some y) = apart (n.count == m.count) (l.link == k.link) ∙ sym (and_none (lane_eq l k) false)
 same_by l k n m false true (Some x) p = no_tag p
   where
     no_tag : (p : Option ℕ) → bytes_eq (awaited_by l n false (Some x)) (awaited_by k m true p) ≡ ((lane_eq l k && false) && offset_eq (Some x) p)
-    no_tag None = sym (and_none (lane_eq l k) false)
-    no_tag (Some y) = sym (and_none (lane_eq l k) (x == y))
+    no_tag None = apart (n.count == m.count) (l.link == k.link) ∙ sym (and_none (lane_eq l k) false)
+    no_tag (Some y) = apart (n.count == m.count) (l.link == k.link) ∙ sym (and_none (lane_eq l k) (x == y))
 same_by l k n m true false None p = no_tag p
   where
     no_tag : (p : Option ℕ) → bytes_eq (awaited_by l n true None) (awaited_by k m false p) ≡ ((lane_eq l k && false) && offset_eq None p)
-    no_tag None = sym (and_none (lane_eq l k) true)
-    no_tag (Some y) = sym (and_none (lane_eq l k) false)
+    no_tag None = apart (n.count == m.count) (l.link == k.link) ∙ sym (and_none (lane_eq l k) true)
+    no_tag (Some y) = apart (n.count == m.count) (l.link == k.link) ∙ sym (and_none (lane_eq l k) false)
 same_by l k n m true false (Some x) p = no_tag p
   where
     no_tag : (p : Option ℕ) → bytes_eq (awaited_by l n true (Some x)) (awaited_by k m false p) ≡ ((lane_eq l k && false) && offset_eq (Some x) p)
-    no_tag None = sym (and_none (lane_eq l k) false)
-    no_tag (Some y) = sym (and_none (lane_eq l k) (x == y))
+    no_tag None = apart (n.count == m.count) (l.link == k.link) ∙ sym (and_none (lane_eq l k) false)
+    no_tag (Some y) = apart (n.count == m.count) (l.link == k.link) ∙ sym (and_none (lane_eq l k) (x == y))
 
 pub awaited_are : (w : Awaited) → AreGroups awaited_groups (passes (is_same w)) (awaited_group w)
 awaited_are w = record { asked = by; nothing = refl }

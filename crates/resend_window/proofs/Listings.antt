@@ -9,11 +9,12 @@ use Rattle.relay_core.proofs.Names.{eq_same}
 use Rattle.resend_window.specs.Catalogued.{groups_at}
 use Rattle.resend_window.specs.Groups.{offset_group, item_group, sent_group}
 use Rattle.resend_window.proofs.Catalogues.{groups_put}
+use Rattle.resend_window.proofs.Grouped.{behind}
 
 -- a tick's group is no other one of a place
 pub sent_apart : (tick : ℕ) (l : Lane) (x : ℕ) (k : Lane) (n : Name) (o : Option ℕ) → list_any (bytes_eq (sent_group tick)) (offset_group 0 l x ∷ item_group k n o ∷ []) ≡ false
-sent_apart tick l x k n None = refl
-sent_apart tick l x k n (Some y) = refl
+sent_apart tick l x k n None = behind (tick == x) (0 == l.link) _ ∙ behind (tick == n.count) (0 == k.link) false
+sent_apart tick l x k n (Some y) = behind (tick == x) (0 == l.link) _ ∙ behind (tick == y) (0 == k.link) false
 
 set_end : (keys : List (List (List ℕ))) (k x : List (List ℕ)) → slice_set (keys ++ k ∷ []) (length keys) x ≡ keys ++ x ∷ []
 set_end [] k x = refl

@@ -27,18 +27,18 @@ pub record AwaitedItems : Type 0 where
   pub items : List (Option Awaited)
   pub spare : ℕ
 
--- groups that a lane and an offset tell, and that a lane and a name do
+-- Groups that a lane and an offset tell, and that a lane and a name do. The offset or the count differs most and stands first.
 
 abbrev pub offset_group : ℕ → Lane → ℕ → List ℕ
-offset_group tag l x = tag ∷ l.link ∷ way_number l.way ∷ x ∷ 0 ∷ 0 ∷ 0 ∷ []
+offset_group tag l x = x ∷ l.link ∷ tag ∷ way_number l.way ∷ 0 ∷ 0 ∷ 0 ∷ []
 
 abbrev pub name_group : ℕ → Lane → Name → ℕ → List ℕ
-name_group tag l n x = tag ∷ l.link ∷ way_number l.way ∷ n.node ∷ kind_number n.kind ∷ n.count ∷ x ∷ []
+name_group tag l n x = n.count ∷ l.link ∷ tag ∷ way_number l.way ∷ n.node ∷ kind_number n.kind ∷ x ∷ []
 
 -- frames
 
 abbrev pub sent_group : ℕ → List ℕ
-sent_group tick = 3 ∷ tick ∷ 0 ∷ 0 ∷ 0 ∷ 0 ∷ 0 ∷ []
+sent_group tick = tick ∷ 0 ∷ 3 ∷ 0 ∷ 0 ∷ 0 ∷ 0 ∷ []
 
 -- that of the tick at which it went out, if it is of a fact
 abbrev pub sent_groups : Option ℕ → ℕ → List (List ℕ)

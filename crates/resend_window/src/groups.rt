@@ -1,4 +1,4 @@
-// Groups that a lane tells with an offset or a name.
+// Groups that a lane tells with an offset or a name. The offset or the count, which differs most, stands first: there comparisons end.
 ghost use Rattle.std.specs.Prelude.{◌≡◌};
 ghost use Rattle.qkd_base.specs.Lane.{way_number};
 ghost use Rattle.qkd_base.specs.Name.{kind_number};
@@ -33,10 +33,10 @@ pub fn offset_group(tag: u64, lane: &Lane, offset: u64) -> Group
     ensures { result ≡ offset_group tag lane.now offset }
 {
     [
-        tag,
-        lane.link.get() as u64,
-        way_number(lane.way),
         offset,
+        lane.link.get() as u64,
+        tag,
+        way_number(lane.way),
         0,
         0,
         0,
@@ -48,12 +48,12 @@ pub fn name_group(tag: u64, lane: &Lane, name: &KeyName, more: u64) -> Group
     ensures { result ≡ name_group tag lane.now name.now more }
 {
     [
-        tag,
+        name.count(),
         lane.link.get() as u64,
+        tag,
         way_number(lane.way),
         name.node().get() as u64,
         kind_number(name.kind()),
-        name.count(),
         more,
     ]
 }
@@ -62,5 +62,5 @@ pub fn name_group(tag: u64, lane: &Lane, name: &KeyName, more: u64) -> Group
 pub fn sent_group(tick: u64) -> Group
     ensures { result ≡ sent_group tick }
 {
-    [3, tick, 0, 0, 0, 0, 0]
+    [tick, 0, 3, 0, 0, 0, 0]
 }
