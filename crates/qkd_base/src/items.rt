@@ -114,7 +114,7 @@ impl Items<u8> {
     pub fn from_slice(alloc: Global, bytes: &[u8]) -> Result<Self, Memory>
         ensures { IfOk result (λ o. o ≡ bytes.now) }
     {
-        let items = bytes.to_vec(alloc)?;
+        let items = Vec::from_slice(alloc, bytes)?;
         Ok(Items { items })
     }
 
@@ -130,7 +130,7 @@ impl Items<u8> {
 
 impl<T: Replica + Drop> Replica for Items<T> {
     fn copy(&self) -> Result<Self, Memory> {
-        let mut items = Vec::new(*self.items.allocator());
+        let mut items = Vec::with_capacity(*self.items.allocator(), self.items.len())?;
         for item in &self.items {
             let same = item.copy()?;
             items.push(same)?;
