@@ -10,11 +10,14 @@ use qkd_base::{Memory, Octets, Texts};
 use report_items::Item;
 use std::alloc::Global;
 
+// Room for most lines of a report, in octets, so that their text is not moved while it grows.
+const ROOM: usize = 128;
+
 /// What happened, without the number of a line and without its end. Nodes have these names.
 pub fn item_text(alloc: Global, told: &Item, nodes: &Texts) -> Result<Octets, Memory>
     ensures { IfOk result (λ text. text ≡ item_text nodes.now told.now) }
 {
-    let mut line = Octets::new(alloc);
+    let mut line = Octets::from_vec(Vec::with_capacity(alloc, ROOM)?);
     item(alloc, &mut line, nodes, told)?;
     Octets::from_slice(alloc, &line.as_slice()[1..])
 }
@@ -26,7 +29,8 @@ pub fn line_text(alloc: Global, number: u32, told: &Item, site: &Site) -> Result
     ensures { IfOk result (λ text. text ≡ line_text site.now.nodes (record { number = number; item = told.now })) }
 {
     let mut digits = Buffer::new();
-    let mut line = Octets::from_slice(alloc, digits.format(number).as_bytes())?;
+    let mut line = Octets::from_vec(Vec::with_capacity(alloc, ROOM)?);
+    line.extend(digits.format(number).as_bytes())?;
     item(alloc, &mut line, &site.nodes, told)?;
     line.push(b'\n')?;
     Ok(line)
