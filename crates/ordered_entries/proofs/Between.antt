@@ -109,16 +109,16 @@ set_last : (group : List ℕ) (a b : ℕ) → slice_set (entry_at group a) (leng
 set_last [] a b = refl
 set_last (g ∷ group) a b = ap (λ (k : List ℕ). g ∷ k) (set_last group a b)
 
--- a group of eight less one
-pub seven : (entry group : List ℕ) (a : ℕ) → length entry ≡ 8 → entry ≡ entry_at group a → length group ≡ 7
-seven entry group a size e =
+-- a group of five less one
+pub four : (entry group : List ℕ) (a : ℕ) → length entry ≡ 5 → entry ≡ entry_at group a → length group ≡ 4
+four entry group a size e =
     let s = ap (λ (k : List ℕ). length k) e ∙ length-append group (a ∷ []) in
     omega arith
 
-pub to_is : (entry group : List ℕ) (a b : ℕ) → length entry ≡ 8 → entry ≡ entry_at group a → slice_set entry 7 b ≡ entry_at group b
+pub to_is : (entry group : List ℕ) (a b : ℕ) → length entry ≡ 5 → entry ≡ entry_at group a → slice_set entry 4 b ≡ entry_at group b
 to_is entry group a b size e =
-    ap (λ (k : List ℕ). slice_set k 7 b) e
-    ∙ ap (λ (n : ℕ). slice_set (entry_at group a) n b) (sym (seven entry group a size e))
+    ap (λ (k : List ℕ). slice_set k 4 b) e
+    ∙ ap (λ (n : ℕ). slice_set (entry_at group a) n b) (sym (four entry group a size e))
     ∙ set_last group a b
 
 -- every list that isn't empty is an entry
@@ -131,13 +131,13 @@ pub as_entry : (x : ℕ) (k : List ℕ) → IsAnEntry (x ∷ k)
 as_entry x [] = record { group = []; place = x; is = refl }
 as_entry x (y ∷ k) = let r = as_entry y k in record { group = x ∷ r.group; place = r.place; is = ap (λ (l : List ℕ). x ∷ l) r.is }
 
-pub forward : (entry to : List ℕ) → length entry ≡ 8 → to ≡ slice_set entry 7 (2 ^ 64 - 1) → slice_index entry 7 < 2 ^ 64 → is_gt (slice_cmp nat_cmp entry to) ≡ false
+pub forward : (entry to : List ℕ) → length entry ≡ 5 → to ≡ slice_set entry 4 (2 ^ 64 - 1) → slice_index entry 4 < 2 ^ 64 → is_gt (slice_cmp nat_cmp entry to) ≡ false
 forward [] to size e small = absurd (omega arith)
 forward (x ∷ k) to size e small =
     let r = as_entry x k in
-    let seven_is = seven (x ∷ k) r.group r.place size r.is in
+    let four_is = four (x ∷ k) r.group r.place size r.is in
     let bound : r.place < 2 ^ 64 =
-    let q : slice_index (x ∷ k) 7 ≡ r.place = ap (λ (l : List ℕ). slice_index l 7) r.is ∙ ap (slice_index (entry_at r.group r.place)) (sym seven_is) ∙ last_of_group r.group r.place in
+    let q : slice_index (x ∷ k) 4 ≡ r.place = ap (λ (l : List ℕ). slice_index l 4) r.is ∙ ap (slice_index (entry_at r.group r.place)) (sym four_is) ∙ last_of_group r.group r.place in
     omega arith in
     let high : r.place ≤ 2 ^ 64 - 1 = omega arith in
     ap (λ (l : List ℕ). is_gt (slice_cmp nat_cmp l to)) r.is
@@ -150,17 +150,17 @@ not_true : (b : Bool) → (b ≡ true → ⊥) → b ≡ false
 not_true true h = absurd (h refl)
 not_true false h = refl
 
-pub is_next : (es : BTreeSet (List ℕ)) (entry to group : List ℕ) (a place : ℕ) → length entry ≡ 8 → to ≡ slice_set entry 7 (2 ^ 64 - 1) → entry ≡ entry_at group a →
+pub is_next : (es : BTreeSet (List ℕ)) (entry to group : List ℕ) (a place : ℕ) → length entry ≡ 5 → to ≡ slice_set entry 4 (2 ^ 64 - 1) → entry ≡ entry_at group a →
     IsFirstIn es entry to place → IsNextIn es.keys group a place
 is_next es entry to group a place size et e first =
-    let seven_is = seven entry group a size e in
+    let four_is = four entry group a size e in
     let to_at = et ∙ to_is entry group a (2 ^ 64 - 1) size e in
     let inside = subst (λ (o : List ℕ). IsBetween o to first.entry) e first.inside in
     let inside2 = subst (λ (o : List ℕ). IsBetween (entry_at group a) o first.entry) to_at inside in
     let full : length first.entry ≡ suc (length group) = let s = first.size in omega arith in
     let at = in_group group a (2 ^ 64 - 1) first.entry full inside2 in
     let same : at.place ≡ place =
-    sym (ap (λ (l : List ℕ). slice_index l 7) at.is ∙ ap (slice_index (entry_at group at.place)) (sym seven_is) ∙ last_of_group group at.place) ∙ first.last in
+    sym (ap (λ (l : List ℕ). slice_index l 4) at.is ∙ ap (slice_index (entry_at group at.place)) (sym four_is) ∙ last_of_group group at.place) ∙ first.last in
     let key_is : first.entry ≡ entry_at group place = at.is ∙ ap (entry_at group) same in
     record {
       behind = let low = at.low in omega arith;
@@ -176,7 +176,7 @@ is_next es entry to group a place size et e first =
           omega arith);
     }
 
-pub is_last : (es : BTreeSet (List ℕ)) (entry to group : List ℕ) (a : ℕ) → length entry ≡ 8 → to ≡ slice_set entry 7 (2 ^ 64 - 1) → entry ≡ entry_at group a →
+pub is_last : (es : BTreeSet (List ℕ)) (entry to group : List ℕ) (a : ℕ) → length entry ≡ 5 → to ≡ slice_set entry 4 (2 ^ 64 - 1) → entry ≡ entry_at group a →
     IsNoneIn es entry to → IsLastIn es.keys group a
 is_last es entry to group a size et e none p lt high =
     let to_at = et ∙ to_is entry group a (2 ^ 64 - 1) size e in

@@ -46,11 +46,11 @@ IsNoneFrom entries from = (q : List ℕ) → is_gt (slice_cmp nat_cmp from q) �
 -- the last number of the first entry from one up to another
 pub record IsFirstIn (entries : BTreeSet (List ℕ)) (from to : List ℕ) (place : ℕ) : Type 0 where
   pub entry : List ℕ
-  pub size : length entry ≡ 8
+  pub size : length entry ≡ 5
   pub inside : IsBetween from to entry
   pub there : contains (slice_cmp nat_cmp) entries entry ≡ true
   pub first : (q : List ℕ) → IsBetween from to q → contains (slice_cmp nat_cmp) entries q ≡ true → is_gt (slice_cmp nat_cmp entry q) ≡ false
-  pub last : slice_index entry 7 ≡ place
+  pub last : slice_index entry 4 ≡ place
 
 abbrev pub IsNoneIn : BTreeSet (List ℕ) → List ℕ → List ℕ → Type 0
 IsNoneIn entries from to = (q : List ℕ) → IsBetween from to q → contains (slice_cmp nat_cmp) entries q ≡ false

@@ -11,8 +11,9 @@ use std::alloc::Global;
 use std::collections::BTreeSet;
 use std::marker::Model;
 
-/// Eight numbers. The first seven name a group, the last one is a place in it.
-pub type Entry = [u64; 8];
+/// Five numbers. The first four name a group, the last one is a place in it. Comparisons end at the first number that differs, so what
+/// differs most stands first.
+pub type Entry = [u64; 5];
 
 /// Entries in order: by group, and in a group by place.
 #[derive(Drop)]
@@ -47,7 +48,7 @@ fn first_in(entries: &BTreeSet<Key>, from: Key, to: Key) -> Option<u64>
             if entry.cmp(&to).is_gt() {
                 None
             } else {
-                Some(entry.numbers[7])
+                Some(entry.numbers[4])
             }
         }
         None => None,
@@ -93,9 +94,9 @@ impl Entries {
         ensures last { IfNone result (IsLast self.now entry) }
     {
         // That it is at most the greatest number is what a read says.
-        let _holds = entry[7];
+        let _holds = entry[4];
         let mut to = entry;
-        to[7] = u64::MAX;
+        to[4] = u64::MAX;
         match first_in(&self.entries, Key { numbers: entry }, Key { numbers: to }) {
             Some(place) => Some(place),
             None => None,

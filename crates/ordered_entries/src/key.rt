@@ -13,7 +13,7 @@ use std::marker::Model;
 fn order(a: &Entry, b: &Entry) -> Ordering
     ensures { result ≡ slice_cmp nat_cmp a.now b.now }
 {
-    for i in 0..8 {
+    for i in 0..5 {
         if a[i] != b[i] {
             return a[i].cmp(&b[i]);
         }
