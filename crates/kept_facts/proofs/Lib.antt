@@ -1,5 +1,7 @@
 pub mod Finding
 pub mod Masking
+pub mod Named
+pub mod Needing
 pub mod Parted
 pub mod Passed
 pub mod Seen

@@ -208,10 +208,10 @@ module _ (s : StreamEnds) (g : Group) where
 
 -- it stays so
 
-group_stays : (a b : StreamEnds) (g : Group) → LetsGo a b → (f : Fact) → in_group b g f ≡ in_group a g f
+pub group_stays : (a b : StreamEnds) (g : Group) → LetsGo a b → (f : Fact) → in_group b g f ≡ in_group a g f
 group_stays a b g h f = let me = me_stays a b h in let acked = acked_stays a b h in λ i. belongs (me i) (acked i) g f
 
-group_shape : (s : StreamEnds) (g : Group) (f h : Fact) → without_bytes f ≡ without_bytes h → in_group s g f ≡ in_group s g h
+pub group_shape : (s : StreamEnds) (g : Group) (f h : Fact) → without_bytes f ≡ without_bytes h → in_group s g f ≡ in_group s g h
 group_shape s g f h e = blind_same (in_group s g) (belongs_stays s.ends.known.me s.ends.known.acked g) f h e
 
 pub settled_still : (a b : StreamEnds) (g : Group) → LetsGo a b → AreSettled a g → AreSettled b g
@@ -256,7 +256,7 @@ opened_shapes (x ∷ xs) (suc i) = opened_shapes xs i
 pub opened_stays : (a b : StreamEnds) (p : ℕ) → LetsGo a b → opened_by (slice_get (facts_in b) p) ≡ opened_by (slice_get (facts_in a) p)
 opened_stays a b p go = sym (opened_shapes (facts_in b) p) ∙ ap (λ (fs : List Fact). opened_by (slice_get fs p)) (shapes_stay a b go) ∙ opened_shapes (facts_in a) p
 
-key_one : (f : Fact) → key_of (Some (without_bytes f)) ≡ key_of (Some f)
+pub key_one : (f : Fact) → key_of (Some (without_bytes f)) ≡ key_of (Some f)
 key_one (Key name master slave route bytes) = refl
 key_one (Chunk name stream index route bytes) = refl
 key_one (Stored note about route) = refl

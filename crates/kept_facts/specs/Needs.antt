@@ -1,9 +1,11 @@
 -- What is kept, and what is needed of it.
-use Rattle.std.specs.Prelude.{◌≡◌, Bool, false, [], Option, Some, None}
+use Rattle.std.specs.Prelude.{◌≡◌, ℕ, ◌==◌, ◌&&◌, not, is_some, Bool, true, false, List, [], Option, Some, None, if◌then◌else◌}
 use Rattle.net_model.specs.declared.fact.Fact.{Fact}
+use Rattle.net_model.specs.Relay.{is_some_of}
+use Rattle.net_model.specs.Table.{part_of, origin, target, sae_at}
 use Rattle.net_model.specs.World.{no_volatile}
 use Rattle.net_model.specs.View.{View}
-use Rattle.net_model.specs.Needed.{is_needed, masked}
+use Rattle.net_model.specs.Needed.{end_needs, is_needed, masked}
 use Rattle.stream_core.specs.Kept.{StreamEnds}
 
 -- what is kept, as a view without lanes and without what one life keeps
@@ -18,6 +20,15 @@ kept_view s =
       ports = [];
       volatile = no_volatile;
     }
+
+-- an end needs the fact, where it isn't owed
+abbrev pub is_needed_here : View → Fact → Bool
+is_needed_here v f = if origin f == v.me then end_needs v true f (part_of f) else if target f == v.me then end_needs v false f (part_of f) else false
+
+-- an end has the key or chunk for this application
+abbrev pub is_for : ℕ → List Fact → ℕ → Fact → Bool
+is_for me facts sae f =
+    not (is_some (part_of f)) && (if origin f == me then is_some_of (sae_at facts true f) sae else (target f == me) && is_some_of (sae_at facts false f) sae)
 
 abbrev pub needs_at : View → Option Fact → Bool
 needs_at v None = false

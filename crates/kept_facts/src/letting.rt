@@ -1,26 +1,39 @@
 // How bytes that are needed no more are let go: where something was learned, acknowledged or handed out, that of which it tells
 // is looked at again.
-ghost use Rattle.std.specs.Prelude.{◌≡◌, ◌≤◌, ◌<◌, ℕ, length, slice_get, IfSome};
+ghost use Rattle.std.specs.Prelude.{◌≡◌, ◌≤◌, ◌<◌, ℕ, true, length, slice_get, Some, IfSome};
 ghost use Rattle.std.specs.Option.{option_copied};
 ghost use Rattle.net_model.specs.Needed.{masked};
-ghost use Rattle.net_model.specs.Table.{fact_at};
-ghost use Rattle.qkd_base.specs.Name.{Name};
-ghost use Rattle.kept_facts.specs.Needs.{kept_view};
+ghost use Rattle.net_model.specs.Table.{name_of, was_handed};
+ghost use Rattle.qkd_base.specs.Name.{Name, has};
+ghost use Rattle.relay_core.specs.declared.group.Group.TheVariants.{Named, PartsOf};
+ghost use Rattle.kept_facts.specs.Needs.{kept_view, needs_at};
 ghost use Rattle.kept_facts.specs.Settled.{IsSettled, AreSettled, LetsGo, opened_by, key_of, IsLearnedSettled, IsToldSettled, IsGivenSettled, WasMasked};
 
-use crate::needs::needs_at;
+use crate::needs::{has_bytes_at, needs_at, needs_given_at, needs_told_at};
 use net_model::Fact;
 use qkd_base::{KeyName, SaeNo};
 use relay_core::Group;
 use stream_core::Streams;
 
 // Lets the bytes of the fact at a place go, unless they are needed.
+fn let_go_unless(streams: &mut Streams, place: usize, needed: bool)
+    requires { needed ≡ needs_at (kept_view streams.old) (slice_get streams.old.ends.known.facts place) }
+    ensures lets { LetsGo streams.old streams.new }
+    ensures settled { IsSettled streams.new place }
+{
+    if !needed {
+        streams.forget(place);
+    }
+}
+
+// The same where it isn't known whether they are needed.
 fn let_go_at(streams: &mut Streams, place: usize)
     ensures lets { LetsGo streams.old streams.new }
     ensures settled { IsSettled streams.new place }
 {
-    if !needs_at(streams.ends(), place) {
-        streams.forget(place);
+    if has_bytes_at(streams.ends().known(), place) {
+        let needed = needs_at(streams.ends(), place);
+        let_go_unless(streams, place, needed);
     }
 }
 
@@ -63,34 +76,70 @@ fn let_go_learned(streams: &mut Streams, place: usize)
     }
 }
 
-// The group key of which the fact of a name is a part.
-fn key_of(streams: &Streams, name: KeyName) -> Option<KeyName>
-    ensures { result ≡ key_of (fact_at streams.now.ends.known.facts name) }
+// The group key of which the fact at a place is a part.
+fn key_at(streams: &Streams, place: usize) -> Option<KeyName>
+    ensures { result ≡ key_of (slice_get streams.now.ends.known.facts place) }
 {
-    match streams.ends().known().fact(name) {
+    match streams.ends().known().at(place) {
         Some(Fact::Part { key, .. }) => Some(*key),
         _ => None,
     }
 }
 
-// The same where the fact of a name was acknowledged.
-fn let_go_told(streams: &mut Streams, name: KeyName)
+// The same where the fact at a place is acknowledged, and of all parts of the group key of which it is one.
+fn let_go_acked(streams: &mut Streams, place: usize)
+    requires { IfSome (slice_get streams.old.ends.known.facts place) (λ f. has streams.old.ends.known.acked (name_of f) ≡ true) }
     ensures lets { LetsGo streams.old streams.new }
-    ensures settled { IsToldSettled streams.new name }
+    ensures there { IsSettled streams.new place }
+    ensures parts { (key : Name) → key_of (slice_get streams.old.ends.known.facts place) ≡ Some key → AreSettled streams.new (PartsOf key) }
 {
-    let_go_group(streams, &Group::Named(name));
-    match key_of(streams, name) {
-        None => {}
+    match key_at(streams, place) {
+        None => {
+            let needed = needs_told_at(streams.ends(), place);
+            let_go_unless(streams, place, needed);
+        }
         Some(key) => let_go_group(streams, &Group::PartsOf(key)),
     }
 }
 
+// The same where the fact of a name was acknowledged.
+fn let_go_told(streams: &mut Streams, name: KeyName)
+    requires { has streams.old.ends.known.acked name ≡ true }
+    ensures lets { LetsGo streams.old streams.new }
+    ensures settled { IsToldSettled streams.new name }
+{
+    // That names differ is what it says.
+    let _holds = streams.ends().known().len();
+    match streams.ends().known().next(&Group::Named(name), 0) {
+        None => {}
+        Some(place) => let_go_acked(streams, place),
+    }
+}
+
+// The same of the fact of a name that was handed out to an application.
+fn let_go_named(streams: &mut Streams, name: KeyName, sae: SaeNo)
+    requires { was_handed streams.old.ends.handed name sae ≡ true }
+    ensures lets { LetsGo streams.old streams.new }
+    ensures settled { AreSettled streams.new (Named name) }
+{
+    // That names differ is what it says.
+    let _holds = streams.ends().known().len();
+    match streams.ends().known().next(&Group::Named(name), 0) {
+        None => {}
+        Some(place) => {
+            let needed = needs_given_at(streams.ends(), place, sae);
+            let_go_unless(streams, place, needed);
+        }
+    }
+}
+
 // The same where what has a name was handed out.
-fn let_go_given(streams: &mut Streams, name: KeyName)
+fn let_go_given(streams: &mut Streams, name: KeyName, sae: SaeNo)
+    requires { was_handed streams.old.ends.handed name sae ≡ true }
     ensures lets { LetsGo streams.old streams.new }
     ensures settled { IsGivenSettled streams.new name }
 {
-    let_go_group(streams, &Group::Named(name));
+    let_go_named(streams, name, sae);
     let_go_group(streams, &Group::PartsOf(name));
 }
 
@@ -119,7 +168,7 @@ fn let_go_given_at(streams: &mut Streams, place: usize)
 {
     match handing_in(streams.ends().handed(), place).copied() {
         None => {}
-        Some(pair) => let_go_given(streams, pair.0),
+        Some(pair) => let_go_given(streams, pair.0, pair.1),
     }
 }
 

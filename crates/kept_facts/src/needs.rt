@@ -1,11 +1,12 @@
 // Which bytes a node needs: while a fact is owed to a next node, or its application here hasn't got it.
 ghost use Rattle.std.specs.Prelude.{◌≡◌, true, false, slice_get, IfSome};
+ghost use Rattle.qkd_base.specs.Name.{has};
 ghost use Rattle.std.specs.List.{list_any};
-ghost use Rattle.net_model.specs.Table.{fact_at, parts_of, part_of, sae_at, stream_end};
+ghost use Rattle.net_model.specs.Table.{fact_at, name_of, parts_of, part_of, sae_at, stream_end, was_handed, without_bytes};
 ghost use Rattle.net_model.specs.Needed.{has_it, end_needs, is_needed};
 ghost use Rattle.relay_core.specs.Knowledge.{is_owed_by};
 ghost use Rattle.end_store.specs.Pooled.{ends_view};
-ghost use Rattle.kept_facts.specs.Needs.{needs_at};
+ghost use Rattle.kept_facts.specs.Needs.{is_needed_here, is_for, needs_at};
 
 use end_store::EndStore;
 use net_model::Fact;
@@ -19,13 +20,16 @@ fn is_owed(known: &Known, fact: &Fact) -> bool
     fact_route(fact).next_after(known.me()).is_some() && !known.is_acknowledged(fact_name(fact))
 }
 
-// The same of the fact at a place.
+// The same of the fact at a place, whose name needn't be looked for.
 fn is_owed_at(known: &Known, place: usize) -> bool
     ensures { IfSome (slice_get known.now.facts place) (λ f. result ≡ is_owed_by known.now.me known.now.acked f) }
 {
     match known.at(place) {
         None => false,
-        Some(fact) => is_owed(known, fact),
+        Some(fact) => match fact_route(fact).next_after(known.me()) {
+            None => false,
+            Some(to) => known.next_owed(to, place) == Some(place),
+        },
     }
 }
 
@@ -116,14 +120,10 @@ fn target_needs(ends: &EndStore, fact: &Fact) -> bool
     }
 }
 
-/// Whether a node needs a fact.
-#[tactic(auto, unfolding(net_model::specs::Needed::is_needed))]
-pub fn needs(ends: &EndStore, fact: &Fact) -> bool
-    ensures { result ≡ is_needed (ends_view ends.now) fact.now }
+// Whether an end needs a fact, where it isn't owed.
+fn end_needs(ends: &EndStore, fact: &Fact) -> bool
+    ensures { result ≡ is_needed_here (ends_view ends.now) fact.now }
 {
-    if is_owed(ends.known(), fact) {
-        return true;
-    }
     let route = fact_route(fact);
     if route.first() == ends.known().me() {
         origin_needs(ends, fact)
@@ -134,12 +134,75 @@ pub fn needs(ends: &EndStore, fact: &Fact) -> bool
     }
 }
 
+/// Whether a node needs a fact.
+#[tactic(auto, unfolding(net_model::specs::Needed::is_needed))]
+pub fn needs(ends: &EndStore, fact: &Fact) -> bool
+    ensures { result ≡ is_needed (ends_view ends.now) fact.now }
+{
+    is_owed(ends.known(), fact) || end_needs(ends, fact)
+}
+
 /// Whether it needs the fact at a place.
 pub fn needs_at(ends: &EndStore, place: usize) -> bool
     ensures { result ≡ needs_at (ends_view ends.now) (slice_get ends.now.known.facts place) }
 {
+    let known = ends.known();
+    match known.at(place) {
+        None => false,
+        Some(fact) => is_owed_at(known, place) || end_needs(ends, fact),
+    }
+}
+
+/// The same where the fact at a place is acknowledged.
+pub fn needs_told_at(ends: &EndStore, place: usize) -> bool
+    requires { IfSome (slice_get ends.now.known.facts place) (λ f. has ends.now.known.acked (name_of f) ≡ true) }
+    ensures { result ≡ needs_at (ends_view ends.now) (slice_get ends.now.known.facts place) }
+{
     match ends.known().at(place) {
         None => false,
-        Some(fact) => needs(ends, fact),
+        Some(fact) => end_needs(ends, fact),
+    }
+}
+
+// Whether an end has a key or chunk for an application.
+fn is_for(known: &Known, fact: &Fact, sae: SaeNo) -> bool
+    ensures { result ≡ is_for known.now.me known.now.facts sae fact.now }
+{
+    let route = fact_route(fact);
+    match fact {
+        Fact::Part { .. } => false,
+        _ => {
+            if route.first() == known.me() {
+                sae_at(known, true, fact) == Some(sae)
+            } else {
+                route.last() == known.me() && sae_at(known, false, fact) == Some(sae)
+            }
+        }
+    }
+}
+
+/// The same where an application has got what has the name of the fact at a place.
+pub fn needs_given_at(ends: &EndStore, place: usize, sae: SaeNo) -> bool
+    requires { IfSome (slice_get ends.now.known.facts place) (λ f. was_handed ends.now.handed (name_of f) sae ≡ true) }
+    ensures { result ≡ needs_at (ends_view ends.now) (slice_get ends.now.known.facts place) }
+{
+    let known = ends.known();
+    match known.at(place) {
+        None => false,
+        Some(fact) => {
+            is_owed_at(known, place) || !is_for(known, fact, sae) && end_needs(ends, fact)
+        }
+    }
+}
+
+/// Whether the fact at a place is of a kind that has bytes.
+pub fn has_bytes_at(known: &Known, place: usize) -> bool
+    ensures { result ≡ false → IfSome (slice_get known.now.facts place) (λ f. without_bytes f ≡ f) }
+{
+    match known.at(place) {
+        Some(Fact::Key { .. }) => true,
+        Some(Fact::Chunk { .. }) => true,
+        Some(Fact::Part { .. }) => true,
+        _ => false,
     }
 }
