@@ -4,8 +4,8 @@ ghost use Rattle.net_model.specs.Action.{Replies};
 ghost use Rattle.run_model.specs.Works.{wanted_put};
 ghost use Rattle.plan_emissions.specs.Wants.{wanted};
 
-use block_talks::plan_desks::plan_emissions::Plan;
 use net_model::Reply;
+use plan_emissions::Plan;
 use run_blocks::Turned;
 
 /// What a reply wants put: the frames of a plan, and nothing of any other reply.

@@ -14,11 +14,11 @@ use crate::manages::Manages;
 use crate::plan::plan_of;
 use block_talks::Replied;
 use block_talks::plan_desks::PlanAnswer;
-use block_talks::plan_desks::plan_emissions::either_machines::{Either, call_left};
-use block_talks::plan_desks::plan_emissions::lane_desks::lane_shares::Share;
-use block_talks::plan_desks::plan_emissions::shared_errands::Calls;
-use block_talks::plan_desks::plan_emissions::{Desk, FrameLog, Lanes, Seals, emit_plan};
+use either_machines::{Either, call_left};
+use lane_shares::Share;
+use plan_emissions::{Desk, FrameLog, Lanes, Seals, emit_plan};
 use run_blocks::Turned;
+use shared_errands::Calls;
 use std::sync::Wait;
 use turnstile::Machine;
 

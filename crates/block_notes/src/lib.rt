@@ -10,6 +10,5 @@ mod worked;
 
 pub use block::note_block;
 pub use frames::note_frames;
-pub use plan_emissions;
 pub use worked::Worked;
 pub use world_frames;

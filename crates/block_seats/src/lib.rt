@@ -6,6 +6,5 @@ mod rows;
 mod seating;
 
 pub use dealing::{Sheet, sheets};
-pub use plan_desks;
 pub use rows::bare_row;
 pub use seating::{Seat, rise, sit};

@@ -1,9 +1,9 @@
 // What a worker keeps.
-use plan_desks::plan_emissions::FrameLog;
-use plan_desks::plan_emissions::lane_desks::lane_shares::Share;
-use plan_desks::plan_emissions::shared_errands::shared_machines::Shift;
+use lane_shares::Share;
 use plan_desks::turn_desks::Turn;
+use plan_emissions::FrameLog;
 use run_blocks::Turned;
+use shared_machines::Shift;
 
 /// A manager's reply to a line of a block.
 #[derive(Drop)]

@@ -19,8 +19,8 @@ ghost use Rattle.block_talks.specs.Together.{HaveWorked};
 mod keep;
 
 pub use keep::{Keep, Replied};
+use lane_desks::{LaneAnswer, LaneAsk};
 pub use plan_desks;
-use plan_desks::plan_emissions::lane_desks::{LaneAnswer, LaneAsk};
 use plan_desks::{PlanAnswer, PlanAsk};
 use turnstile::Machine;
 

@@ -10,5 +10,3 @@ mod tests;
 pub use calls::{call_left, call_right};
 pub use either::Either;
 pub use laws::{law_left_stays_left, law_right_stays_right};
-pub use shared_errands;
-pub use turnstile;

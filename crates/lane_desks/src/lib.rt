@@ -13,7 +13,4 @@ mod tests;
 pub use ask::{LaneAnswer, LaneAsk};
 pub use charter::LaneCharter;
 pub use desk::LaneDesk;
-pub use lane_shares;
-pub use lane_sides;
 pub use laws::law_desks_lead_their_lanes;
-pub use turnstile;

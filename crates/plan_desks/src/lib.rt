@@ -12,5 +12,4 @@ mod replied;
 pub use ask::{PlanAnswer, PlanAsk};
 pub use desk::PlanDesk;
 pub use opening::{Opened, open_lanes};
-pub use plan_emissions;
 pub use turn_desks;

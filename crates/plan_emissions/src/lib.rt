@@ -19,13 +19,10 @@ mod turns;
 
 pub use called::law_desks_are_called_for_their_frames;
 pub use desk::Desk;
-pub use either_machines;
 pub use emitted::Emitted;
 pub use emitting::emit_plan;
 pub use frame_log::FrameLog;
 pub use granting::grant_plan;
-pub use lane_desks;
 pub use leases::law_plans_are_leased;
 pub use plan::{Lanes, Plan};
 pub use seals::{AtGate, Seals};
-pub use shared_errands;

@@ -8,8 +8,8 @@ ghost use Rattle.shared_errands.specs.Laws.{called_none, called_more, called_spe
 
 use crate::calls::Calls;
 use shared_machines::Post;
-use shared_machines::turnstile::{Machine, Turnstile};
 use std::sync::Wait;
+use turnstile::{Machine, Turnstile};
 
 /// The machines, each behind a turnstile, and a worker's seats, one at each of them.
 #[derive(Drop)]

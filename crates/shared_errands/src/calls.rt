@@ -5,8 +5,8 @@ ghost use Rattle.shared_machines.specs.Asked.{IsTaken};
 ghost use Rattle.shared_errands.specs.Said.{Said, said_on};
 ghost use Rattle.shared_errands.specs.Calling.{IsAnswered};
 
-use shared_machines::turnstile::Machine;
 use std::sync::Wait;
+use turnstile::Machine;
 
 /// A right to call several machines, each so many times.
 pub trait Calls<M: Machine> {

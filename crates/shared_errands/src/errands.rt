@@ -4,8 +4,8 @@ ghost use Rattle.shared_errands.specs.Said.{Said, said_on};
 
 use crate::calls::Calls;
 use edge_io::Gate;
-use shared_machines::turnstile::Machine;
 use std::sync::Wait;
+use turnstile::Machine;
 
 /// Jobs, each with calls of machines, of which a request may depend on the replies before it.
 pub trait Errands<M: Machine>: Sync {

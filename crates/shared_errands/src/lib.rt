@@ -14,5 +14,4 @@ mod together;
 
 pub use calls::Calls;
 pub use errands::Errands;
-pub use shared_machines;
 pub use together::work_together;

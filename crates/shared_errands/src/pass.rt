@@ -1,7 +1,7 @@
 // What a worker has.
 
 use shared_machines::Post;
-use shared_machines::turnstile::Machine;
+use turnstile::Machine;
 
 /// A worker's seats, one at each machine, and what it keeps.
 #[derive(Drop)]

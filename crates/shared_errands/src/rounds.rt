@@ -5,12 +5,12 @@ ghost use Rattle.shared_errands.specs.Working.{IsReady, HasGone};
 use crate::caller::Caller;
 use crate::errands::Errands;
 use crate::pass::Pass;
+use block_run::Work;
 use edge_io::Gate;
-use shared_machines::block_run::Work;
-use shared_machines::turnstile::{Machine, Turnstile};
 use std::alloc::Global;
 use std::mem;
 use std::sync::Wait;
+use turnstile::{Machine, Turnstile};
 
 /// Errands as the jobs of a block, at machines behind turnstiles.
 #[derive(Drop)]

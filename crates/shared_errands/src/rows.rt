@@ -4,8 +4,8 @@ ghost use Rattle.std.specs.List.{AllZip, AllByRecursion, flat_map, sum_by};
 ghost use Rattle.shared_machines.specs.Seats.{calls_at, budget_at, Belongs, IsFresh};
 
 use crate::pass::Pass;
-use shared_machines::turnstile::{Machine, Turnstile};
 use shared_machines::{Post, join_row, split_row};
+use turnstile::{Machine, Turnstile};
 
 /// Gives each worker a row of seats with so many calls each, split off those that are kept here.
 pub fn seat_workers<M: Machine, K: Drop>(

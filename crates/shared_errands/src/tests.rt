@@ -3,11 +3,11 @@ ghost use Rattle.std.specs.Prelude.{◌≡◌, ◌+◌, ◌%◌, ◌^◌, ℕ, [
 use crate::{Calls, Errands, work_together};
 use edge_io::{Gate, OpenGate};
 use qkd_base::Memory;
-use shared_machines::turnstile::Machine;
 use std::alloc::Global;
 use std::sync::Wait;
 use std::sync::atomic::{AtomicU64, Ordering};
 use std::test::*;
+use turnstile::Machine;
 
 // It answers the sum after adding its request.
 #[derive(Drop)]

@@ -16,14 +16,14 @@ use crate::errands::Errands;
 use crate::pass::Pass;
 use crate::rounds::Rounds;
 use crate::rows::{join_workers, seat_workers};
+use block_run::{BlockEnd, run_block};
 use edge_io::Gate;
 use qkd_base::Memory;
-use shared_machines::block_run::{BlockEnd, run_block};
-use shared_machines::turnstile::{Machine, Turnstile};
 use shared_machines::{Post, Rooms, close_all, open_all};
 use std::alloc::Global;
 use std::sync::Wait;
 use std::thread::Threads;
+use turnstile::{Machine, Turnstile};
 
 // Each worker does its errands from its seats, all workers at the same time. Where memory is wanting no call is made.
 fn work_seated<R: Threads + Wait + Sync, G: Gate, M: Machine + Send, T: Errands<M>>(

@@ -11,11 +11,9 @@ mod stations;
 mod tests;
 mod together;
 
-pub use block_run;
 pub use call::Call;
 pub use gates::{close_all, open_all};
 pub use pass::{Post, Shift};
 pub use rooms::Rooms;
 pub use rows::{join_row, split_row};
 pub use together::work_together;
-pub use turnstile;

@@ -13,5 +13,4 @@ pub use desk::Desk;
 pub use leases::{lane_at, write_leases};
 pub use taking::take_turn;
 pub use turn::Turn;
-pub use turnstile;
 pub use world_turns;

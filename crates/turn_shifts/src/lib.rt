@@ -4,5 +4,3 @@
 mod calls;
 
 pub use calls::shifts;
-pub use shared_machines;
-pub use turn_desks;
