@@ -1,10 +1,9 @@
 -- Facts and their entries.
 use Rattle.std.proofs.Common.{◌≡◌, ℕ, zero, suc, ◌+◌, ◌<◌, ◌≤◌, Bool, true, false, ◌&&◌, ◌||◌, List, [], ◌∷◌, refl, sym, ◌∙◌, ap, subst, arith, Option, Some, None, ◌⊎◌, inl, inr}
-use Rattle.std.specs.Prelude.{slice_get, slice_index, ◌==◌, not, if◌then◌else◌}
+use Rattle.std.specs.Prelude.{slice_get, slice_index, ◌/◌, ◌%◌, ◌==◌, not, if◌then◌else◌}
 use Rattle.std.specs.Str.{bytes_eq}
 use Rattle.std.proofs.lemmas.Slice.Eq.{bytes_eq-Decides}
-use Rattle.qkd_base.specs.declared.key_name.NameKind.{NameKind}
-use Rattle.qkd_base.specs.Name.{Name, name_eq, has, kind_number, kind_of_octet}
+use Rattle.qkd_base.specs.Name.{Name, name_eq, has, kind_of_octet}
 use Rattle.qkd_base.specs.Route.{next_after}
 use Rattle.qkd_base.proofs.Names.{kind_back}
 use Rattle.net_model.specs.declared.fact.Fact.{Fact}
@@ -15,41 +14,59 @@ use Rattle.net_model.specs.Relay.{is_some_of}
 use Rattle.ordered_entries.specs.Entries.{has_entry, entry_at}
 use Rattle.relay_core.specs.declared.group.Group.{Group}
 use Rattle.relay_core.specs.declared.group.Group.TheVariants.{Named, StoredAbout, JoinedAbout, PartsOf, ChunksAt, OwedTo, ChunksOf}
-use Rattle.relay_core.specs.Index.{belongs, belongs_at, entry_of, name_entry, IsIndex, is_owed_to, second_of, third_of, owed_group, creditor}
+use Rattle.relay_core.specs.Index.{belongs, belongs_at, entry_of, name_entry, origin_number, tagged, IsIndex, is_owed_to, second_of, third_of, owed_group, creditor}
 use Rattle.relay_core.specs.Listed.{Grows, GrowsBy, IsOwnGroup, IsPartlyListed, IsListed}
 use Rattle.relay_core.proofs.Firsts.{get_within}
-use Rattle.relay_core.proofs.Names.{eq_same, eq_from, and_left, and_right, name_eq_from, name_eq_same}
+use Rattle.relay_core.proofs.Names.{origin_kind, origin_node, tag_back, number_back, eq_same, eq_from, and_left, and_right, name_eq_from, name_eq_same}
 
 -- an entry tells its group and its place
 
-name_back : List ℕ → Name
-name_back e = record { node = slice_index e 1; kind = kind_of_octet (slice_index e 3); count = slice_index e 0 }
+name_back : ℕ → ℕ → Name
+name_back count origin = record { node = origin / 4; kind = kind_of_octet (origin % 4); count = count }
+
+group_from : ℕ → Name → ℕ → ℕ → Group
+group_from tag n number index =
+    if tag == 0 then Named n
+    else if tag == 1 then StoredAbout n
+    else if tag == 2 then JoinedAbout n
+    else if tag == 3 then PartsOf n
+    else if tag == 4 then ChunksAt n index
+    else if tag == 5 then OwedTo number
+    else ChunksOf n
 
 group_back : List ℕ → Group
-group_back e =
-    if slice_index e 2 == 0 then Named (name_back e)
-    else if slice_index e 2 == 1 then StoredAbout (name_back e)
-    else if slice_index e 2 == 2 then JoinedAbout (name_back e)
-    else if slice_index e 2 == 3 then PartsOf (name_back e)
-    else if slice_index e 2 == 4 then ChunksAt (name_back e) (slice_index e 4)
-    else if slice_index e 2 == 5 then OwedTo (slice_index e 1)
-    else ChunksOf (name_back e)
+group_back e = group_from (slice_index e 1 % 8) (name_back (slice_index e 0) (slice_index e 1 / 8)) (slice_index e 1 / 8) (slice_index e 2)
 
-named_back : (tag : ℕ) (n : Name) (index place : ℕ) → name_back (name_entry tag n index place) ≡ n
+named_back : (n : Name) → name_back n.count (origin_number n) ≡ n
 unfolding name_back
-named_back tag n index place = let k = kind_back n.kind in λ i. record { node = n.node; kind = k i; count = n.count }
+named_back n =
+    let node = origin_node n in
+    let kind = ap kind_of_octet (origin_kind n) ∙ kind_back n.kind in
+    λ i. record { node = node i; kind = kind i; count = n.count }
+
+tagged_back : (tag number count index place : ℕ) → tag < 8 →
+    group_back (count ∷ tagged tag number ∷ index ∷ 0 ∷ place ∷ []) ≡ group_from tag (name_back count number) number index
+unfolding group_back
+tagged_back tag number count index place small =
+    ap (λ (t : ℕ). group_from t (name_back count (tagged tag number / 8)) (tagged tag number / 8) index) (tag_back tag number small)
+    ∙ ap (λ (k : ℕ). group_from tag (name_back count k) k index) (number_back tag number small)
+
+entry_back : (tag : ℕ) (n : Name) (index place : ℕ) → tag < 8 → group_back (name_entry tag n index place) ≡ group_from tag n (origin_number n) index
+entry_back tag n index place small =
+    tagged_back tag (origin_number n) n.count index place small
+    ∙ ap (λ (m : Name). group_from tag m (origin_number n) index) (named_back n)
 
 group_is : (g : Group) (p : ℕ) → group_back (entry_of g p) ≡ g
-unfolding group_back
-group_is (Named n) p = ap Named (named_back 0 n 0 p)
-group_is (StoredAbout n) p = ap StoredAbout (named_back 1 n 0 p)
-group_is (JoinedAbout n) p = ap JoinedAbout (named_back 2 n 0 p)
-group_is (PartsOf n) p = ap PartsOf (named_back 3 n 0 p)
-group_is (ChunksAt s i) p = ap (λ (n : Name). ChunksAt n i) (named_back 4 s i p)
-group_is (OwedTo to) p = refl
-group_is (ChunksOf s) p = ap ChunksOf (named_back 6 s 0 p)
+unfolding group_from
+group_is (Named n) p = entry_back 0 n 0 p (omega arith)
+group_is (StoredAbout n) p = entry_back 1 n 0 p (omega arith)
+group_is (JoinedAbout n) p = entry_back 2 n 0 p (omega arith)
+group_is (PartsOf n) p = entry_back 3 n 0 p (omega arith)
+group_is (ChunksAt s i) p = entry_back 4 s i p (omega arith)
+group_is (OwedTo to) p = tagged_back 5 to 0 0 p (omega arith)
+group_is (ChunksOf s) p = entry_back 6 s 0 p (omega arith)
 
-place_is : (g : Group) (p : ℕ) → slice_index (entry_of g p) 7 ≡ p
+place_is : (g : Group) (p : ℕ) → slice_index (entry_of g p) 4 ≡ p
 place_is (Named n) p = refl
 place_is (StoredAbout n) p = refl
 place_is (JoinedAbout n) p = refl
@@ -61,7 +78,7 @@ place_is (ChunksOf s) p = refl
 pub same_entry : (g h : Group) (p q : ℕ) → entry_of g p ≡ entry_of h q → (g ≡ h) × (p ≡ q)
 same_entry g h p q e = (
   sym (group_is g p) ∙ ap group_back e ∙ group_is h q,
-  sym (place_is g p) ∙ ap (λ (l : List ℕ). slice_index l 7) e ∙ place_is h q,
+  sym (place_is g p) ∙ ap (λ (l : List ℕ). slice_index l 4) e ∙ place_is h q,
 )
 
 bytes_same : (a b : List ℕ) → a ≡ b → bytes_eq a b ≡ true
@@ -71,17 +88,20 @@ bytes_from : (a b : List ℕ) → bytes_eq a b ≡ true → a ≡ b
 bytes_from a b h = (bytes_eq-Decides a b).0 h
 
 -- the group's numbers, without a place
+name_front : ℕ → Name → ℕ → List ℕ
+name_front tag n index = n.count ∷ tagged tag (origin_number n) ∷ index ∷ 0 ∷ []
+
 pub front_of : Group → List ℕ
-front_of (Named n) = n.count ∷ n.node ∷ 0 ∷ kind_number n.kind ∷ 0 ∷ 0 ∷ 0 ∷ []
-front_of (StoredAbout n) = n.count ∷ n.node ∷ 1 ∷ kind_number n.kind ∷ 0 ∷ 0 ∷ 0 ∷ []
-front_of (JoinedAbout n) = n.count ∷ n.node ∷ 2 ∷ kind_number n.kind ∷ 0 ∷ 0 ∷ 0 ∷ []
-front_of (PartsOf n) = n.count ∷ n.node ∷ 3 ∷ kind_number n.kind ∷ 0 ∷ 0 ∷ 0 ∷ []
-front_of (ChunksAt s i) = s.count ∷ s.node ∷ 4 ∷ kind_number s.kind ∷ i ∷ 0 ∷ 0 ∷ []
-front_of (OwedTo to) = 0 ∷ to ∷ 5 ∷ 0 ∷ 0 ∷ 0 ∷ 0 ∷ []
-front_of (ChunksOf s) = s.count ∷ s.node ∷ 6 ∷ kind_number s.kind ∷ 0 ∷ 0 ∷ 0 ∷ []
+front_of (Named n) = name_front 0 n 0
+front_of (StoredAbout n) = name_front 1 n 0
+front_of (JoinedAbout n) = name_front 2 n 0
+front_of (PartsOf n) = name_front 3 n 0
+front_of (ChunksAt s i) = name_front 4 s i
+front_of (OwedTo to) = 0 ∷ tagged 5 to ∷ 0 ∷ 0 ∷ []
+front_of (ChunksOf s) = name_front 6 s 0
 
 pub front_is : (g : Group) (p : ℕ) → entry_of g p ≡ entry_at (front_of g) p
-unfolding front_of
+unfolding front_of name_front
 front_is (Named n) p = refl
 front_is (StoredAbout n) p = refl
 front_is (JoinedAbout n) p = refl

@@ -1,6 +1,6 @@
 -- Names that are equal, and facts that are found by name.
 use Rattle.std.proofs.Common.{◌≡◌, ℕ, ◌<◌, Bool, true, false, ◌&&◌, max, List, [], ◌∷◌, ◌++◌, length, refl, sym, ◌∙◌, ap, subst, arith, ◌⊎◌, inl, inr}
-use Rattle.std.specs.Prelude.{◌==◌}
+use Rattle.std.specs.Prelude.{◌==◌, ◌/◌, ◌%◌}
 use Rattle.std.proofs.lemmas.Bool.Decides.{nat_tests}
 use Rattle.qkd_base.specs.declared.key_name.NameKind.{NameKind}
 use Rattle.qkd_base.specs.declared.key_name.NameKind.TheVariants.{Key, Stream, Note}
@@ -8,6 +8,7 @@ use Rattle.qkd_base.specs.Name.{Name, IsName, name_eq, kind_number}
 use Rattle.net_model.specs.declared.fact.Fact.{Fact}
 use Rattle.net_model.specs.Table.{name_of, part_of, has_fact}
 use Rattle.net_model.specs.Decision.{last_count, count_if, group_count}
+use Rattle.relay_core.specs.Index.{origin_number, tagged}
 use Rattle.relay_core.specs.Knowledge.{IsNamedAt, AreDistinct}
 use Rattle.relay_core.proofs.Firsts.{get_push, find_hits}
 
@@ -35,6 +36,27 @@ kind_from Stream Note h = absurd (omega arith)
 kind_from Note Key h = absurd (omega arith)
 kind_from Note Stream h = absurd (omega arith)
 kind_from Note Note h = refl
+
+-- numbers that share one
+
+kind_small : (k : NameKind) → kind_number k < 4
+kind_small Key = omega arith
+kind_small Stream = omega arith
+kind_small Note = omega arith
+
+pub origin_kind : (n : Name) → origin_number n % 4 ≡ kind_number n.kind
+origin_kind n = let small = kind_small n.kind in omega arith
+
+pub origin_node : (n : Name) → origin_number n / 4 ≡ n.node
+origin_node n = let small = kind_small n.kind in omega arith
+
+pub tag_back : (tag number : ℕ) → tag < 8 → tagged tag number % 8 ≡ tag
+tag_back tag number small = omega arith
+
+pub number_back : (tag number : ℕ) → tag < 8 → tagged tag number / 8 ≡ number
+number_back tag number small = omega arith
+
+-- names and their parts
 
 pub same_name : (a b : Name) → a.node ≡ b.node → kind_number a.kind ≡ kind_number b.kind → a.count ≡ b.count → a ≡ b
 same_name a b node kind count = let k = kind_from a.kind b.kind kind in λ i. record { node = node i; kind = k i; count = count i }

@@ -1,5 +1,5 @@
 -- How facts are found: by the groups to which they belong.
-use Rattle.std.specs.Prelude.{◌≡◌, ℕ, ◌<◌, ◌≤◌, ◌&&◌, not, Bool, true, false, List, [], ◌∷◌, length, slice_get, Option, Some, None, if◌then◌else◌}
+use Rattle.std.specs.Prelude.{◌≡◌, ℕ, ◌+◌, ◌*◌, ◌<◌, ◌≤◌, ◌&&◌, not, Bool, true, false, List, [], ◌∷◌, length, slice_get, Option, Some, None, if◌then◌else◌}
 use Rattle.qkd_base.specs.Name.{Name, name_eq, has, kind_number}
 use Rattle.qkd_base.specs.Route.{next_after}
 use Rattle.net_model.specs.declared.fact.Fact.{Fact}
@@ -29,10 +29,19 @@ abbrev pub belongs_at : ℕ → List Name → Group → Option Fact → Bool
 belongs_at me acked g None = false
 belongs_at me acked g (Some f) = belongs me acked g f
 
--- entries, with the number first that differs most
+-- Entries, with the number first that differs most. They are short, since comparing them takes time: small numbers share one with a number
+-- that has no bound.
+
+-- a name's kind, which is less than four, and its node
+abbrev pub origin_number : Name → ℕ
+origin_number n = kind_number n.kind + 4 * n.node
+
+-- a tag, which is less than eight, and a number
+abbrev pub tagged : ℕ → ℕ → ℕ
+tagged tag number = tag + 8 * number
 
 abbrev pub name_entry : ℕ → Name → ℕ → ℕ → List ℕ
-name_entry tag n index place = n.count ∷ n.node ∷ tag ∷ kind_number n.kind ∷ index ∷ 0 ∷ 0 ∷ place ∷ []
+name_entry tag n index place = n.count ∷ tagged tag (origin_number n) ∷ index ∷ 0 ∷ place ∷ []
 
 abbrev pub entry_of : Group → ℕ → List ℕ
 entry_of (Named n) place = name_entry 0 n 0 place
@@ -40,7 +49,7 @@ entry_of (StoredAbout n) place = name_entry 1 n 0 place
 entry_of (JoinedAbout n) place = name_entry 2 n 0 place
 entry_of (PartsOf n) place = name_entry 3 n 0 place
 entry_of (ChunksAt s i) place = name_entry 4 s i place
-entry_of (OwedTo to) place = 0 ∷ to ∷ 5 ∷ 0 ∷ 0 ∷ 0 ∷ 0 ∷ place ∷ []
+entry_of (OwedTo to) place = 0 ∷ tagged 5 to ∷ 0 ∷ 0 ∷ place ∷ []
 entry_of (ChunksOf s) place = name_entry 6 s 0 place
 
 -- Each of the first facts has an entry in each group to which it belongs. Every entry is one of a fact that belongs to its group, be

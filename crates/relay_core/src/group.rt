@@ -3,7 +3,7 @@ ghost use Rattle.std.specs.Prelude.{◌≡◌};
 ghost use Rattle.qkd_base.specs.Name.{has, kind_number, name_eq};
 ghost use Rattle.net_model.specs.Table.{is_stored_about, is_joined_about, is_part_of};
 ghost use Rattle.net_model.specs.Streams.{is_chunk_at, is_chunk_of};
-ghost use Rattle.relay_core.specs.Index.{belongs, entry_of, name_entry, is_owed_to};
+ghost use Rattle.relay_core.specs.Index.{belongs, entry_of, name_entry, origin_number, tagged, is_owed_to};
 
 use crate::fact_parts::{fact_name, fact_route};
 use net_model::Fact;
@@ -30,7 +30,7 @@ pub enum Group {
 }
 
 // The number of a kind of names.
-fn kind_number(kind: NameKind) -> u64
+fn kind_number(kind: NameKind) -> u8
     ensures { result ≡ kind_number kind }
 {
     match kind {
@@ -40,17 +40,28 @@ fn kind_number(kind: NameKind) -> u64
     }
 }
 
+/// A name's kind and node as one number, which is less than 1,024. Names of one count differ where these numbers do.
+pub fn origin_number(name: KeyName) -> u32
+    ensures { result ≡ origin_number name }
+{
+    kind_number(name.kind()) as u32 + 4 * name.node().get() as u32
+}
+
+// A tag and a number as one number.
+fn tagged(tag: u8, number: u32) -> u64
+    ensures { result ≡ tagged tag number }
+{
+    tag as u64 + 8 * number as u64
+}
+
 // The entry of a group that a name and an index tell. The count, which differs most, stands first: there comparisons end.
-fn name_entry(tag: u64, name: KeyName, index: u32, place: usize) -> Entry
+fn name_entry(tag: u8, name: KeyName, index: u32, place: usize) -> Entry
     ensures { result ≡ name_entry tag name index place }
 {
     [
         name.count(),
-        name.node().get() as u64,
-        tag,
-        kind_number(name.kind()),
+        tagged(tag, origin_number(name)),
         index as u64,
-        0,
         0,
         place as u64,
     ]
@@ -149,7 +160,7 @@ impl Group {
             Group::JoinedAbout(stream) => name_entry(2, stream, 0, place),
             Group::PartsOf(name) => name_entry(3, name, 0, place),
             Group::ChunksAt(stream, index) => name_entry(4, stream, index, place),
-            Group::OwedTo(to) => [0, to.get() as u64, 5, 0, 0, 0, 0, place as u64],
+            Group::OwedTo(to) => [0, tagged(5, to.get() as u32), 0, 0, place as u64],
             Group::ChunksOf(stream) => name_entry(6, stream, 0, place),
         }
     }

@@ -7,5 +7,5 @@ mod known;
 mod listing;
 
 pub use fact_parts::{fact_name, fact_route, is_secret, kind_octet};
-pub use group::Group;
+pub use group::{Group, origin_number};
 pub use known::Known;
