@@ -6,4 +6,5 @@ pub mod Numbers
 pub mod Forgotten
 pub mod Stocked
 pub mod Readied
+pub mod Released
 pub mod Learning

@@ -1,6 +1,6 @@
 -- What stands at a count of a line, and its entries.
 use Rattle.std.proofs.Common.{◌≡◌, ℕ, zero, suc, ◌+◌, ◌<◌, ◌≤◌, ◌^◌, max, Bool, true, false, ◌&&◌, ◌||◌, List, [], ◌∷◌, ◌++◌, length, refl, sym, ◌∙◌, ap, arith, take, Option, Some, None, ◌⊎◌, inl, inr}
-use Rattle.std.specs.Prelude.{slice_get, slice_index, is_some, not, nat_le, nat_lt, ◌==◌, if◌then◌else◌}
+use Rattle.std.specs.Prelude.{slice_get, slice_index, ◌/◌, ◌%◌, is_some, not, nat_le, nat_lt, ◌==◌, if◌then◌else◌}
 use Rattle.std.specs.List.{list_any}
 use Rattle.std.specs.Str.{bytes_eq}
 use Rattle.std.proofs.lemmas.Slice.Eq.{bytes_eq-Decides}
@@ -12,12 +12,13 @@ use Rattle.net_model.specs.declared.fact.Fact.TheVariants.{Key, Chunk, Stored, O
 use Rattle.net_model.specs.Table.{was_handed, fact_at, has_fact, name_of, is_part_of, is_stored_about, part_of}
 use Rattle.net_model.specs.Decision.{last_count, count_if, group_count}
 use Rattle.relay_core.proofs.Kept.{IsSomewhere, somewhere, any_somewhere}
+use Rattle.relay_core.specs.Index.{tagged}
 use Rattle.relay_core.specs.Knowledge.{AreDistinct}
 use Rattle.relay_core.specs.Firsts.{IsFirstFrom, IsNoneFrom}
 use Rattle.std.proofs.lemmas.Bool.Decides.{nat_tests}
 use Rattle.ordered_entries.specs.Entries.{has_entry, entry_at, IsNextIn, IsLastIn}
 use Rattle.relay_core.proofs.Firsts.{get_within, not_true, any_at, find_hits}
-use Rattle.relay_core.proofs.Names.{name_eq_from, names_same, eq_same, eq_from, and_left, and_right}
+use Rattle.relay_core.proofs.Names.{tag_back, number_back, name_eq_from, names_same, eq_same, eq_from, and_left, and_right}
 use Rattle.end_store.proofs.Pairs.{any_take}
 use Rattle.end_store.specs.declared.pool.Pool.{Pool}
 use Rattle.end_store.specs.declared.pool.Line.{Line}
@@ -37,7 +38,7 @@ pub record IsPool (p : Pool) (m s size : ℕ) : Type 0 where
   pub slave : s ≡ p.slave
   pub octets : size ≡ p.octets
 
-in_pool : (p : Pool) (m s : ℕ) (bytes : List ℕ) → is_in p m s bytes ≡ true → IsPool p m s (length bytes)
+pub in_pool : (p : Pool) (m s : ℕ) (bytes : List ℕ) → is_in p m s bytes ≡ true → IsPool p m s (length bytes)
 in_pool p m s bytes h =
     let front = and_left ((m == p.master) && (s == p.slave)) (length bytes == p.octets) h in
     record {
@@ -48,10 +49,10 @@ in_pool p m s bytes h =
 
 entries_same : (tag : ℕ) (p : Pool) (m s : ℕ) (bytes : List ℕ) (c d : ℕ) → IsPool p m s (length bytes) → c ≡ d → pool_entry tag (pool_of m s bytes) c ≡ pool_entry tag p d
 entries_same tag p m s bytes c d pool e =
-    ap (λ (x : ℕ). tag ∷ x ∷ s ∷ length bytes ∷ 0 ∷ 0 ∷ 0 ∷ c ∷ []) pool.master
-    ∙ ap (λ (x : ℕ). tag ∷ p.master ∷ x ∷ length bytes ∷ 0 ∷ 0 ∷ 0 ∷ c ∷ []) pool.slave
-    ∙ ap (λ (x : ℕ). tag ∷ p.master ∷ p.slave ∷ x ∷ 0 ∷ 0 ∷ 0 ∷ c ∷ []) pool.octets
-    ∙ ap (λ (x : ℕ). tag ∷ p.master ∷ p.slave ∷ p.octets ∷ 0 ∷ 0 ∷ 0 ∷ x ∷ []) e
+    ap (λ (x : ℕ). tagged tag x ∷ s ∷ length bytes ∷ 0 ∷ c ∷ []) pool.master
+    ∙ ap (λ (x : ℕ). tagged tag p.master ∷ x ∷ length bytes ∷ 0 ∷ c ∷ []) pool.slave
+    ∙ ap (λ (x : ℕ). tagged tag p.master ∷ p.slave ∷ x ∷ 0 ∷ c ∷ []) pool.octets
+    ∙ ap (λ (x : ℕ). tagged tag p.master ∷ p.slave ∷ p.octets ∷ 0 ∷ x ∷ []) e
 
 pub own_is : (me c : ℕ) (n : Name) → name_eq n (own me c) ≡ true → (is_own me n ≡ true) × (n.count ≡ c)
 own_is me c n h =
@@ -271,7 +272,7 @@ line_master (Stock p) = p.master
 line_master (Keys p) = p.master
 line_master (Parts p) = p.master
 
-some_list : (k l : List ℕ) → Some k ≡ Some l → k ≡ l
+pub some_list : (k l : List ℕ) → Some k ≡ Some l → k ≡ l
 some_list k l e = cc
 
 -- an entry tells its line and its count
@@ -280,19 +281,25 @@ pub record IsSameLine (l : Line) (c : ℕ) (m : Line) (d : ℕ) : Type 0 where
   pub line : l ≡ m
   pub count : c ≡ d
 
-pool_back : List ℕ → Pool
-pool_back e = record { master = slice_index e 1; slave = slice_index e 2; octets = slice_index e 3 }
+line_from : ℕ → Pool → Line
+line_from tag p = if tag == 0 then Stock p else if tag == 1 then Keys p else Parts p
 
 line_back : List ℕ → Line
-line_back e = if slice_index e 0 == 0 then Stock (pool_back e) else if slice_index e 0 == 1 then Keys (pool_back e) else Parts (pool_back e)
+line_back e = line_from (slice_index e 0 % 8) (record { master = slice_index e 0 / 8; slave = slice_index e 1; octets = slice_index e 2 })
+
+tagged_is : (tag : ℕ) (p : Pool) (c : ℕ) → tag < 8 → line_back (pool_entry tag p c) ≡ line_from tag p
+unfolding line_back
+tagged_is tag p c small =
+    ap (λ (t : ℕ). line_from t (record { master = tagged tag p.master / 8; slave = p.slave; octets = p.octets })) (tag_back tag p.master small)
+    ∙ ap (λ (m : ℕ). line_from tag (record { master = m; slave = p.slave; octets = p.octets })) (number_back tag p.master small)
 
 line_is : (l : Line) (c : ℕ) → line_back (line_entry l c) ≡ l
-unfolding line_back pool_back
-line_is (Stock p) c = refl
-line_is (Keys p) c = refl
-line_is (Parts p) c = refl
+unfolding line_from
+line_is (Stock p) c = tagged_is 0 p c (omega arith)
+line_is (Keys p) c = tagged_is 1 p c (omega arith)
+line_is (Parts p) c = tagged_is 2 p c (omega arith)
 
-count_is : (l : Line) (c : ℕ) → slice_index (line_entry l c) 7 ≡ c
+count_is : (l : Line) (c : ℕ) → slice_index (line_entry l c) 4 ≡ c
 count_is (Stock p) c = refl
 count_is (Keys p) c = refl
 count_is (Parts p) c = refl
@@ -300,7 +307,7 @@ count_is (Parts p) c = refl
 pub same_line : (l m : Line) (c d : ℕ) → line_entry l c ≡ line_entry m d → IsSameLine l c m d
 same_line l m c d e = record {
   line = sym (line_is l c) ∙ ap line_back e ∙ line_is m d;
-  count = sym (count_is l c) ∙ ap (λ (k : List ℕ). slice_index k 7) e ∙ count_is m d;
+  count = sym (count_is l c) ∙ ap (λ (k : List ℕ). slice_index k 4) e ∙ count_is m d;
 }
 
 -- the parts of a group key
@@ -370,9 +377,9 @@ none_of handed p facts me c o named low none is = by (fact_at facts (own me c)) 
 -- what waits stands somewhere, and has its entry
 
 front_of : Line → List ℕ
-front_of (Stock p) = 0 ∷ p.master ∷ p.slave ∷ p.octets ∷ 0 ∷ 0 ∷ 0 ∷ []
-front_of (Keys p) = 1 ∷ p.master ∷ p.slave ∷ p.octets ∷ 0 ∷ 0 ∷ 0 ∷ []
-front_of (Parts p) = 2 ∷ p.master ∷ p.slave ∷ p.octets ∷ 0 ∷ 0 ∷ 0 ∷ []
+front_of (Stock p) = tagged 0 p.master ∷ p.slave ∷ p.octets ∷ 0 ∷ []
+front_of (Keys p) = tagged 1 p.master ∷ p.slave ∷ p.octets ∷ 0 ∷ []
+front_of (Parts p) = tagged 2 p.master ∷ p.slave ∷ p.octets ∷ 0 ∷ []
 
 front_is : (l : Line) (c : ℕ) → line_entry l c ≡ entry_at (front_of l) c
 unfolding front_of

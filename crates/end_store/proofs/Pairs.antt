@@ -1,6 +1,6 @@
 -- Pairs and their entries.
 use Rattle.std.proofs.Common.{◌-◌, ◌≡◌, ℕ, zero, suc, ◌+◌, Bool, true, false, ◌&&◌, ◌||◌, List, [], ◌∷◌, ◌++◌, length, take, drop, refl, sym, ◌∙◌, ap, subst, arith, Some, ◌⊎◌, inl, inr, add-one, length-append}
-use Rattle.std.specs.Prelude.{slice_get, slice_index, ◌==◌}
+use Rattle.std.specs.Prelude.{slice_get, slice_index, ◌/◌, ◌%◌, ◌==◌}
 use Rattle.std.specs.List.{list_any}
 use Rattle.std.specs.Str.{bytes_eq}
 use Rattle.std.proofs.lemmas.Slice.Eq.{bytes_eq-Decides}
@@ -10,7 +10,7 @@ use Rattle.qkd_base.specs.Name.{Name, name_eq}
 use Rattle.net_model.specs.Table.{was_handed}
 use Rattle.ordered_entries.specs.Entries.{has_entry}
 use Rattle.relay_core.proofs.Firsts.{get_within, not_true, any_at}
-use Rattle.relay_core.proofs.Names.{same_name, names_same, name_eq_from, eq_same, eq_from}
+use Rattle.relay_core.proofs.Names.{origin_kind, origin_node, same_name, names_same, name_eq_from, eq_same, eq_from}
 use Rattle.end_store.specs.Marked.{AreMarked, mark_entry}
 
 bytes_same : (a b : List ℕ) → a ≡ b → bytes_eq a b ≡ true
@@ -22,8 +22,11 @@ bytes_from a b h = (bytes_eq-Decides a b).0 h
 -- an entry tells its pair
 pub same_pair : (n m : Name) (s t : ℕ) → mark_entry n s ≡ mark_entry m t → (n ≡ m) × (s ≡ t)
 same_pair n m s t e = (
-  same_name n m (ap (λ (l : List ℕ). slice_index l 1) e) (ap (λ (l : List ℕ). slice_index l 2) e) (ap (λ (l : List ℕ). slice_index l 0) e),
-  ap (λ (l : List ℕ). slice_index l 3) e,
+  same_name n m
+      (sym (origin_node n) ∙ ap (λ (l : List ℕ). slice_index l 1 / 4) e ∙ origin_node m)
+      (sym (origin_kind n) ∙ ap (λ (l : List ℕ). slice_index l 1 % 4) e ∙ origin_kind m)
+      (ap (λ (l : List ℕ). slice_index l 0) e),
+  ap (λ (l : List ℕ). slice_index l 2) e,
 )
 
 pub is_pair : (n m : Name) (s t : ℕ) → (n ≡ m) × (s ≡ t) → (name_eq n m && (s == t)) ≡ true

@@ -1,8 +1,9 @@
 -- Pairs of a name and an application, and how they are found.
 use Rattle.std.specs.Prelude.{◌≡◌, ℕ, ◌≤◌, true, List, [], ◌∷◌, length, take}
-use Rattle.qkd_base.specs.Name.{Name, kind_number}
+use Rattle.qkd_base.specs.Name.{Name}
 use Rattle.net_model.specs.Table.{was_handed}
 use Rattle.ordered_entries.specs.Entries.{has_entry}
+use Rattle.relay_core.specs.Index.{origin_number}
 
 -- pairs in order, and for how many more there is room
 pub record Marked : Type 0 where
@@ -11,7 +12,7 @@ pub record Marked : Type 0 where
 
 -- the count differs most and stands first
 abbrev pub mark_entry : Name → ℕ → List ℕ
-mark_entry n sae = n.count ∷ n.node ∷ kind_number n.kind ∷ sae ∷ 0 ∷ 0 ∷ 0 ∷ 0 ∷ []
+mark_entry n sae = n.count ∷ origin_number n ∷ sae ∷ 0 ∷ 0 ∷ []
 
 -- each of the first pairs has an entry, and every entry is that of a pair
 pub record AreMarked (pairs : List (Name × ℕ)) (entries : List (List ℕ)) (count : ℕ) : Type 0 where

@@ -8,6 +8,7 @@ use Rattle.net_model.specs.declared.fact.Fact.{Fact}
 use Rattle.net_model.specs.declared.fact.Fact.TheVariants.{Key, Part, Stored}
 use Rattle.net_model.specs.Table.{was_handed, fact_at, is_stored_about}
 use Rattle.ordered_entries.specs.Entries.{has_entry}
+use Rattle.relay_core.specs.Index.{tagged}
 use Rattle.relay_core.specs.Knowledge.{Knowledge}
 use Rattle.end_store.specs.declared.pool.Pool.{Pool}
 use Rattle.end_store.specs.declared.pool.Line.{Line}
@@ -63,7 +64,7 @@ pub record IsLastWaiting (me : ℕ) (facts : List Fact) (handed : List (Name × 
 -- the index
 
 abbrev pub pool_entry : ℕ → Pool → ℕ → List ℕ
-pool_entry tag p c = tag ∷ p.master ∷ p.slave ∷ p.octets ∷ 0 ∷ 0 ∷ 0 ∷ c ∷ []
+pool_entry tag p c = tagged tag p.master ∷ p.slave ∷ p.octets ∷ 0 ∷ c ∷ []
 
 abbrev pub line_entry : Line → ℕ → List ℕ
 line_entry (Stock p) c = pool_entry 0 p c

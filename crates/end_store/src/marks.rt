@@ -1,12 +1,13 @@
 // Which application has got what.
 ghost use Rattle.std.specs.Prelude.{◌≡◌, ◌+◌, ◌<◌, ◌≤◌, ◌==◌, ◌&&◌, ◌∷◌, ◌++◌, [], false, IsTrue, OnOk, OnErr, length, slice_get, Some};
-ghost use Rattle.qkd_base.specs.Name.{name_eq, kind_number};
+ghost use Rattle.qkd_base.specs.Name.{name_eq};
 ghost use Rattle.net_model.specs.Table.{was_handed};
 ghost use Rattle.net_model.specs.Fold.{marked};
 ghost use Rattle.end_store.specs.Marked.{AreMarked, mark_entry};
 
 use ordered_entries::{Entries, Entry};
-use qkd_base::{KeyName, Memory, NameKind, SaeNo};
+use qkd_base::{KeyName, Memory, SaeNo};
+use relay_core::origin_number;
 use std::alloc::Global;
 use std::marker::Model;
 
@@ -31,28 +32,14 @@ impl Model for Marks {
     ghost invariant = { λ m. AreMarked m.pairs.items m.index m.listed };
 }
 
-// The number of a kind of names.
-fn kind_number(kind: NameKind) -> u64
-    ensures { result ≡ kind_number kind }
-{
-    match kind {
-        NameKind::Key => 0,
-        NameKind::Stream => 1,
-        NameKind::Note => 2,
-    }
-}
-
 // The entry of a pair. The count, which differs most, stands first: there comparisons end.
 fn mark_entry(name: KeyName, sae: SaeNo) -> Entry
     ensures { result ≡ mark_entry name sae }
 {
     [
         name.count(),
-        name.node().get() as u64,
-        kind_number(name.kind()),
+        origin_number(name) as u64,
         sae.get() as u64,
-        0,
-        0,
         0,
         0,
     ]

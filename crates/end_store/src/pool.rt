@@ -24,17 +24,14 @@ pub enum Line {
     Parts(Pool),
 }
 
-// The entry of a pool at a count.
-fn pool_entry(tag: u64, pool: Pool, count: u64) -> Entry
+// The entry of a pool at a count. The tag and the master share a number.
+fn pool_entry(tag: u8, pool: Pool, count: u64) -> Entry
     ensures { result ≡ pool_entry tag pool count }
 {
     [
-        tag,
-        pool.master.get() as u64,
+        tag as u64 + 8 * pool.master.get() as u64,
         pool.slave.get() as u64,
         pool.octets,
-        0,
-        0,
         0,
         count,
     ]
