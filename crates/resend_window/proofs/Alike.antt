@@ -34,7 +34,7 @@ and_true false = refl
 
 -- two entries are one where their lanes and their offsets are
 due_is : (l m : Lane) (x y : ℕ) → bytes_eq (due_entry l x) (due_entry m y) ≡ (lane_eq m l && (x == y))
-due_is l m x y = entry_eq (offset_group 0 l 0) (offset_group 0 m 0) x y ∙ ap (λ (b : Bool). b && (x == y)) (offset_is l m 0 0 ∙ and_true (lane_eq m l))
+due_is l m x y = entry_eq (offset_group 0 l 0) (offset_group 0 m 0) x y ∙ ap (λ (b : Bool). b && (x == y)) (offset_is 0 l m 0 0 ∙ and_true (lane_eq m l))
 
 way_same : (w : Way) → way_eq w w ≡ true
 way_same Up = refl

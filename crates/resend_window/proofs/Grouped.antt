@@ -1,10 +1,12 @@
 -- What is asked for has the group that is looked for.
-use Rattle.std.proofs.Common.{◌≡◌, ℕ, zero, suc, Bool, true, false, ◌||◌, ◌&&◌, List, [], ◌∷◌, ◌++◌, length, refl, sym, ◌∙◌, ap, subst, arith, Option, Some, None}
+use Rattle.std.proofs.Common.{◌≡◌, ℕ, zero, suc, ◌+◌, ◌*◌, ◌%◌, Bool, true, false, ◌||◌, ◌&&◌, List, [], ◌∷◌, ◌++◌, length, refl, sym, ◌∙◌, ap, subst, arith, Option, Some, None}
 use Rattle.std.specs.Prelude.{map, slice_get, slice_set, ◌==◌, if◌then◌else◌}
 use Rattle.std.specs.List.{list_any}
 use Rattle.std.specs.Str.{bytes_eq}
 use Rattle.std.proofs.lemmas.Bool.Decides.{nat_tests}
-use Rattle.qkd_base.specs.Lane.{lane_eq, way_eq, way_number}
+use Rattle.qkd_base.specs.Lane.{lane_eq, lane_place, way_eq, way_number}
+use Rattle.qkd_base.specs.declared.key_name.NameKind.{NameKind}
+use Rattle.qkd_base.specs.declared.key_name.NameKind.TheVariants.{Key, Stream, Note}
 use Rattle.qkd_base.specs.Name.{Name, name_eq, kind_eq, kind_number}
 use Rattle.qkd_base.specs.declared.lane.Lane.{Lane}
 use Rattle.qkd_base.specs.declared.lane.Way.{Way}
@@ -22,6 +24,7 @@ use Rattle.resend_window.specs.declared.arrival.Arrival.{Arrival}
 use Rattle.resend_window.specs.declared.arrival.Arrivals.{Arrivals}
 use Rattle.resend_window.specs.declared.arrival.Arrivals.TheVariants.{Of, From}
 use Rattle.resend_window.specs.declared.awaited.Awaited.{Awaited}
+use Rattle.relay_core.specs.Index.{origin_number, tagged}
 use Rattle.resend_window.specs.Held.{item_by}
 use Rattle.resend_window.specs.Lists.{is_from, is_same}
 use Rattle.resend_window.proofs.Edits.{lane_sym}
@@ -33,49 +36,63 @@ use Rattle.resend_window.proofs.Catalogues.{AreGroups, catalogue_gap}
 eq_sym : (a b : ℕ) → (a == b) ≡ (b == a)
 eq_sym a b = grind (arith, nat_tests)
 
-way_is : (a b : Way) → (way_number a == way_number b) ≡ way_eq b a
-way_is Up Up = refl
-way_is Up Down = refl
-way_is Down Up = refl
-way_is Down Down = refl
+-- numbers that are shared
 
--- the numbers of an offset's group
-pub offset_is : (l k : Lane) (x y : ℕ) → ((x == y) && ((l.link == k.link) && ((way_number l.way == way_number k.way) && true))) ≡ (lane_eq k l && (y == x))
-offset_is l k x y =
-    ap (λ (b : Bool). b && ((l.link == k.link) && ((way_number l.way == way_number k.way) && true))) (eq_sym x y)
-    ∙ ap (λ (b : Bool). (y == x) && (b && ((way_number l.way == way_number k.way) && true))) (eq_sym l.link k.link)
-    ∙ ap (λ (b : Bool). (y == x) && ((k.link == l.link) && (b && true))) (way_is l.way k.way)
-    ∙ by (y == x) (k.link == l.link) (way_eq k.way l.way)
-  where
-    by : (c a b : Bool) → (c && (a && (b && true))) ≡ ((a && b) && c)
-    by true true true = refl
-    by true true false = refl
-    by true false b = refl
-    by false true true = refl
-    by false true false = refl
-    by false false b = refl
+tags_apart : (s t u v : ℕ) → (s % 8 == t % 8) ≡ false → (tagged s u == tagged t v) ≡ false
+tags_apart s t u v h = grind (arith, nat_tests)
 
--- the numbers of a name's group
-pub name_is : (l k : Lane) (n m : Name) → ((n.count == m.count) && ((l.link == k.link) && ((way_number l.way == way_number k.way) && ((n.node == m.node) && ((kind_number n.kind == kind_number m.kind) && true))))) ≡ (lane_eq k l && name_eq m n)
-name_is l k n m =
-    ap (λ (b : Bool). b && ((l.link == k.link) && ((way_number l.way == way_number k.way) && ((n.node == m.node) && ((kind_number n.kind == kind_number m.kind) && true))))) (eq_sym n.count m.count)
-    ∙ ap (λ (b : Bool). (m.count == n.count) && (b && ((way_number l.way == way_number k.way) && ((n.node == m.node) && ((kind_number n.kind == kind_number m.kind) && true))))) (eq_sym l.link k.link)
-    ∙ ap (λ (b : Bool). (m.count == n.count) && ((k.link == l.link) && (b && ((n.node == m.node) && ((kind_number n.kind == kind_number m.kind) && true))))) (way_is l.way k.way)
-    ∙ ap (λ (b : Bool). (m.count == n.count) && ((k.link == l.link) && (way_eq k.way l.way && (b && ((kind_number n.kind == kind_number m.kind) && true))))) (eq_sym n.node m.node)
-    ∙ ap (λ (b : Bool). (m.count == n.count) && ((k.link == l.link) && (way_eq k.way l.way && ((m.node == n.node) && (b && true))))) (eq_sym (kind_number n.kind) (kind_number m.kind))
-    ∙ by (m.count == n.count) (k.link == l.link) (way_eq k.way l.way) (m.node == n.node) (kind_number m.kind == kind_number n.kind)
+tagged_are : (tag : ℕ) (l k : Lane) → (tagged tag (lane_place l) == tagged tag (lane_place k)) ≡ lane_eq k l
+tagged_are tag l k = by l.link k.link l.way k.way
   where
-    by : (e a b c d : Bool) → (e && (a && (b && (c && (d && true))))) ≡ ((a && b) && ((c && d) && e))
-    by true true true true true = refl
-    by true true true true false = refl
-    by true true true false d = refl
-    by true true false c d = refl
-    by true false b c d = refl
-    by false true true true true = refl
-    by false true true true false = refl
-    by false true true false d = refl
-    by false true false c d = refl
-    by false false b c d = refl
+    by : (a b : ℕ) (v w : Way) → (tag + 8 * (2 * a + way_number v) == tag + 8 * (2 * b + way_number w)) ≡ ((b == a) && way_eq w v)
+    by a b Up Up = grind (arith, nat_tests)
+    by a b Up Down = grind (arith, nat_tests)
+    by a b Down Up = grind (arith, nat_tests)
+    by a b Down Down = grind (arith, nat_tests)
+
+origins_are : (n m : Name) → (origin_number n == origin_number m) ≡ ((m.node == n.node) && kind_eq m.kind n.kind)
+origins_are n m = by n.node m.node n.kind m.kind
+  where
+    by : (a b : ℕ) (j k : NameKind) → (kind_number j + 4 * a == kind_number k + 4 * b) ≡ ((b == a) && (kind_number k == kind_number j))
+    by a b Key Key = grind (arith, nat_tests)
+    by a b Key Stream = grind (arith, nat_tests)
+    by a b Key Note = grind (arith, nat_tests)
+    by a b Stream Key = grind (arith, nat_tests)
+    by a b Stream Stream = grind (arith, nat_tests)
+    by a b Stream Note = grind (arith, nat_tests)
+    by a b Note Key = grind (arith, nat_tests)
+    by a b Note Stream = grind (arith, nat_tests)
+    by a b Note Note = grind (arith, nat_tests)
+
+-- the groups of a lane and an offset
+pub offset_is : (tag : ℕ) (l k : Lane) (x y : ℕ) → bytes_eq (offset_group tag l x) (offset_group tag k y) ≡ (lane_eq k l && (y == x))
+offset_is tag l k x y =
+    ap (λ (b : Bool). b && ((tagged tag (lane_place l) == tagged tag (lane_place k)) && true)) (eq_sym x y)
+    ∙ ap (λ (b : Bool). (y == x) && (b && true)) (tagged_are tag l k)
+    ∙ by (y == x) (lane_eq k l)
+  where
+    by : (c a : Bool) → (c && (a && true)) ≡ (a && c)
+    by true true = refl
+    by true false = refl
+    by false true = refl
+    by false false = refl
+
+-- the groups of a lane, a name and one more number
+pub name_is : (tag : ℕ) (l k : Lane) (n m : Name) (x y : ℕ) → bytes_eq (name_group tag l n x) (name_group tag k m y) ≡ ((lane_eq k l && name_eq m n) && (x == y))
+name_is tag l k n m x y =
+    ap (λ (b : Bool). b && ((tagged tag (lane_place l) == tagged tag (lane_place k)) && ((origin_number n == origin_number m) && ((x == y) && true)))) (eq_sym n.count m.count)
+    ∙ ap (λ (b : Bool). (m.count == n.count) && (b && ((origin_number n == origin_number m) && ((x == y) && true)))) (tagged_are tag l k)
+    ∙ ap (λ (b : Bool). (m.count == n.count) && (lane_eq k l && (b && ((x == y) && true)))) (origins_are n m)
+    ∙ by (m.count == n.count) (lane_eq k l) ((m.node == n.node) && kind_eq m.kind n.kind) (x == y)
+  where
+    by : (a b c d : Bool) → (a && (b && (c && (d && true)))) ≡ ((b && (c && a)) && d)
+    by true true true true = refl
+    by true true true false = refl
+    by true true false d = refl
+    by true false c d = refl
+    by false true true d = refl
+    by false true false d = refl
+    by false false c d = refl
 
 and_true : (b : Bool) → (b && true) ≡ b
 and_true true = refl
@@ -90,34 +107,34 @@ and_false true = refl
 and_false false = refl
 
 -- groups of two tags are apart
-apart : (a b : Bool) → (a && (b && false)) ≡ false
-apart true true = refl
-apart true false = refl
-apart false b = refl
+apart : (s t u v : ℕ) (a b : Bool) → (s % 8 == t % 8) ≡ false → (a && ((tagged s u == tagged t v) && b)) ≡ false
+apart s t u v a b h = ap (λ (c : Bool). a && (c && b)) (tags_apart s t u v h) ∙ and_false a
 
 -- one of another tag before others, and behind one
-pub behind : (a b rest : Bool) → ((a && (b && false)) || rest) ≡ rest
-behind a b rest = ap (λ (c : Bool). c || rest) (apart a b)
 
-before : (one a b : Bool) → (one || ((a && (b && false)) || false)) ≡ one
-before one a b = ap (λ (c : Bool). one || (c || false)) (apart a b) ∙ or_none one
+pub behind : (s t u v : ℕ) (a b rest : Bool) → (s % 8 == t % 8) ≡ false → ((a && ((tagged s u == tagged t v) && b)) || rest) ≡ rest
+behind s t u v a b rest h = ap (λ (c : Bool). c || rest) (apart s t u v a b h)
+
+before : (s t u v : ℕ) (one a b : Bool) → (s % 8 == t % 8) ≡ false → (one || ((a && ((tagged s u == tagged t v) && b)) || false)) ≡ one
+before s t u v one a b h = ap (λ (c : Bool). one || (c || false)) (apart s t u v a b h) ∙ or_none one
 
 held_asked : (q : Query) (l : Lane) (x : ℕ) (n : Name) (o number : Option ℕ) (sent : ℕ) (d r : Bool) (size : ℕ) (f : FrameOctets) →
     (let h : Held = record { lane = l; offset = x; name = n; ack_of = o; number = number; sent = sent; due = d; ripe = r; length = size; frame = f } in list_any (bytes_eq (query_group q)) (held_groups (Some h)) ≡ is_asked q h)
 held_asked (At k y) l x n None number sent d r size f =
-    behind (y == sent) (k.link == 0) _ ∙ before _ (y == n.count) (k.link == l.link) ∙ offset_is k l y x
-held_asked (At k y) l x n (Some z) number sent d r size f = before _ (y == z) (k.link == l.link) ∙ offset_is k l y x
+    behind 0 3 (lane_place k) 0 _ _ _ refl ∙ before 0 2 (lane_place k) (lane_place l) _ _ _ refl ∙ offset_is 0 k l y x
+held_asked (At k y) l x n (Some z) number sent d r size f = before 0 1 (lane_place k) (lane_place l) _ _ _ refl ∙ offset_is 0 k l y x
 held_asked (Answering k y) l x n None number sent d r size f =
-    behind (y == sent) (k.link == 0) _ ∙ behind (y == x) (k.link == l.link) _ ∙ behind (y == n.count) (k.link == l.link) false ∙ sym (and_false (lane_eq l k))
-held_asked (Answering k y) l x n (Some z) number sent d r size f = behind (y == x) (k.link == l.link) _ ∙ or_none _ ∙ offset_is k l y z
+    behind 1 3 (lane_place k) 0 _ _ _ refl ∙ behind 1 0 (lane_place k) (lane_place l) _ _ _ refl ∙ behind 1 2 (lane_place k) (lane_place l) _ _ false refl
+    ∙ sym (and_false (lane_eq l k))
+held_asked (Answering k y) l x n (Some z) number sent d r size f = behind 1 0 (lane_place k) (lane_place l) _ _ _ refl ∙ or_none _ ∙ offset_is 1 k l y z
 held_asked (DataOf k m) l x n None number sent d r size f =
-    behind (m.count == sent) (k.link == 0) _ ∙ behind (m.count == x) (k.link == l.link) _ ∙ or_none _ ∙ name_is k l m n
+    behind 2 3 (lane_place k) 0 _ _ _ refl ∙ behind 2 0 (lane_place k) (lane_place l) _ _ _ refl ∙ or_none _ ∙ name_is 2 k l m n 0 0 ∙ and_true _
 held_asked (DataOf k m) l x n (Some z) number sent d r size f =
-    behind (m.count == x) (k.link == l.link) _ ∙ behind (m.count == z) (k.link == l.link) false ∙ sym (and_false (lane_eq l k))
+    behind 2 0 (lane_place k) (lane_place l) _ _ _ refl ∙ behind 2 1 (lane_place k) (lane_place l) _ _ false refl ∙ sym (and_false (lane_eq l k))
 held_asked (SentAt tick) l x n None number sent d r size f =
-    ap (λ (b : Bool). ((tick == sent) && true) || b) (behind (tick == x) (0 == l.link) _ ∙ behind (tick == n.count) (0 == l.link) false)
+    ap (λ (b : Bool). ((tick == sent) && true) || b) (behind 3 0 0 (lane_place l) _ _ _ refl ∙ behind 3 2 0 (lane_place l) _ _ false refl)
     ∙ or_none _ ∙ and_true (tick == sent) ∙ eq_sym tick sent
-held_asked (SentAt tick) l x n (Some z) number sent d r size f = behind (tick == x) (0 == l.link) _ ∙ behind (tick == z) (0 == l.link) false
+held_asked (SentAt tick) l x n (Some z) number sent d r size f = behind 3 0 0 (lane_place l) _ _ _ refl ∙ behind 3 1 0 (lane_place l) _ _ false refl
 
 pub held_are : (q : Query) → AreGroups held_groups (passes (is_asked q)) (query_group q)
 held_are q = record { asked = by; nothing = refl }
@@ -144,8 +161,8 @@ keys_length keys (x ∷ xs) = let r = keys_length keys xs in omega arith
 -- acknowledgements
 
 arrival_asked : (q : Arrivals) (a : Arrival) → list_any (bytes_eq (arrivals_group q)) (arrival_groups (Some a)) ≡ is_from q a
-arrival_asked (Of l) a = before _ (0 == a.offset) (l.link == a.lane.link) ∙ offset_is l a.lane 0 0 ∙ and_true (lane_eq a.lane l)
-arrival_asked (From l x) a = behind (x == 0) (l.link == a.lane.link) _ ∙ or_none _ ∙ offset_is l a.lane x a.offset
+arrival_asked (Of l) a = before 0 1 (lane_place l) (lane_place a.lane) _ _ _ refl ∙ offset_is 0 l a.lane 0 0 ∙ and_true (lane_eq a.lane l)
+arrival_asked (From l x) a = behind 1 0 (lane_place l) (lane_place a.lane) _ _ _ refl ∙ or_none _ ∙ offset_is 1 l a.lane x a.offset
 
 pub arrival_are : (q : Arrivals) → AreGroups arrival_groups (passes (is_from q)) (arrivals_group q)
 arrival_are q = record { asked = by; nothing = refl }
@@ -168,55 +185,42 @@ name_sym l k n m =
     ∙ ap (λ (b : Bool). ((n.node == m.node) && b) && (m.count == n.count)) (eq_sym (kind_number m.kind) (kind_number n.kind))
     ∙ ap (λ (b : Bool). ((n.node == m.node) && kind_eq n.kind m.kind) && b) (eq_sym m.count n.count))
 
--- a name's group, and one more number
-name_more : (l k : Lane) (n m : Name) (x y : ℕ) →
-    ((n.count == m.count) && ((l.link == k.link) && ((way_number l.way == way_number k.way) && ((n.node == m.node) && ((kind_number n.kind == kind_number m.kind) && ((x == y) && true)))))) ≡ ((lane_eq l k && name_eq n m) && (x == y))
-name_more l k n m x y =
-    by (n.count == m.count) (l.link == k.link) (way_number l.way == way_number k.way) (n.node == m.node) (kind_number n.kind == kind_number m.kind) (x == y)
-    ∙ ap (λ (b : Bool). b && (x == y)) (name_is l k n m ∙ name_sym l k n m)
-  where
-    by : (a b c d e f : Bool) → (a && (b && (c && (d && (e && (f && true)))))) ≡ ((a && (b && (c && (d && (e && true))))) && f)
-    by true true true true true true = refl
-    by true true true true true false = refl
-    by true true true true false f = refl
-    by true true true false e f = refl
-    by true true false d e f = refl
-    by true false c d e f = refl
-    by false b c d e f = refl
+name_more : (tag : ℕ) (l k : Lane) (n m : Name) (x y : ℕ) → bytes_eq (name_group tag l n x) (name_group tag k m y) ≡ ((lane_eq l k && name_eq n m) && (x == y))
+name_more tag l k n m x y = name_is tag l k n m x y ∙ ap (λ (b : Bool). b && (x == y)) (name_sym l k n m)
 
 and_none : (b c : Bool) → ((b && false) && c) ≡ false
 and_none true c = refl
 and_none false c = refl
 
 same_by : (l k : Lane) (n m : Name) (i j : Bool) (o p : Option ℕ) → bytes_eq (awaited_by l n i o) (awaited_by k m j p) ≡ ((lane_eq l k && item_eq (item_by i n) (item_by j m)) && offset_eq o p)
-same_by l k n m false false None None = name_more l k n m 0 0
-same_by l k n m false false None (Some y) = apart (n.count == m.count) (l.link == k.link) ∙ sym (and_false (lane_eq l k && name_eq n m))
-same_by l k n m false false (Some x) None = apart (n.count == m.count) (l.link == k.link) ∙ sym (and_false (lane_eq l k && name_eq n m))
-same_by l k n m false false (Some x) (Some y) = name_more l k n m x y
-same_by l k n m true true None None = name_more l k n m 0 0
-same_by l k n m true true None (Some y) = apart (n.count == m.count) (l.link == k.link) ∙ sym (and_false (lane_eq l k && name_eq n m))
-same_by l k n m true true (Some x) None = apart (n.count == m.count) (l.link == k.link) ∙ sym (and_false (lane_eq l k && name_eq n m))
-same_by l k n m true true (Some x) (Some y) = name_more l k n m x y
+same_by l k n m false false None None = name_more 0 l k n m 0 0
+same_by l k n m false false None (Some y) = apart 0 1 (lane_place l) (lane_place k) _ _ refl ∙ sym (and_false (lane_eq l k && name_eq n m))
+same_by l k n m false false (Some x) None = apart 1 0 (lane_place l) (lane_place k) _ _ refl ∙ sym (and_false (lane_eq l k && name_eq n m))
+same_by l k n m false false (Some x) (Some y) = name_more 1 l k n m x y
+same_by l k n m true true None None = name_more 2 l k n m 0 0
+same_by l k n m true true None (Some y) = apart 2 3 (lane_place l) (lane_place k) _ _ refl ∙ sym (and_false (lane_eq l k && name_eq n m))
+same_by l k n m true true (Some x) None = apart 3 2 (lane_place l) (lane_place k) _ _ refl ∙ sym (and_false (lane_eq l k && name_eq n m))
+same_by l k n m true true (Some x) (Some y) = name_more 3 l k n m x y
 same_by l k n m false true None p = no_tag p
   where
     no_tag : (p : Option ℕ) → bytes_eq (awaited_by l n false None) (awaited_by k m true p) ≡ ((lane_eq l k && false) && offset_eq None p)
-    no_tag None = apart (n.count == m.count) (l.link == k.link) ∙ sym (and_none (lane_eq l k) true)
-    no_tag (Some y) = apart (n.count == m.count) (l.link == k.link) ∙ sym (and_none (lane_eq l k) false)
+    no_tag None = apart 0 2 (lane_place l) (lane_place k) _ _ refl ∙ sym (and_none (lane_eq l k) true)
+    no_tag (Some y) = apart 0 3 (lane_place l) (lane_place k) _ _ refl ∙ sym (and_none (lane_eq l k) false)
 same_by l k n m false true (Some x) p = no_tag p
   where
     no_tag : (p : Option ℕ) → bytes_eq (awaited_by l n false (Some x)) (awaited_by k m true p) ≡ ((lane_eq l k && false) && offset_eq (Some x) p)
-    no_tag None = apart (n.count == m.count) (l.link == k.link) ∙ sym (and_none (lane_eq l k) false)
-    no_tag (Some y) = apart (n.count == m.count) (l.link == k.link) ∙ sym (and_none (lane_eq l k) (x == y))
+    no_tag None = apart 1 2 (lane_place l) (lane_place k) _ _ refl ∙ sym (and_none (lane_eq l k) false)
+    no_tag (Some y) = apart 1 3 (lane_place l) (lane_place k) _ _ refl ∙ sym (and_none (lane_eq l k) (x == y))
 same_by l k n m true false None p = no_tag p
   where
     no_tag : (p : Option ℕ) → bytes_eq (awaited_by l n true None) (awaited_by k m false p) ≡ ((lane_eq l k && false) && offset_eq None p)
-    no_tag None = apart (n.count == m.count) (l.link == k.link) ∙ sym (and_none (lane_eq l k) true)
-    no_tag (Some y) = apart (n.count == m.count) (l.link == k.link) ∙ sym (and_none (lane_eq l k) false)
+    no_tag None = apart 2 0 (lane_place l) (lane_place k) _ _ refl ∙ sym (and_none (lane_eq l k) true)
+    no_tag (Some y) = apart 2 1 (lane_place l) (lane_place k) _ _ refl ∙ sym (and_none (lane_eq l k) false)
 same_by l k n m true false (Some x) p = no_tag p
   where
     no_tag : (p : Option ℕ) → bytes_eq (awaited_by l n true (Some x)) (awaited_by k m false p) ≡ ((lane_eq l k && false) && offset_eq (Some x) p)
-    no_tag None = apart (n.count == m.count) (l.link == k.link) ∙ sym (and_none (lane_eq l k) false)
-    no_tag (Some y) = apart (n.count == m.count) (l.link == k.link) ∙ sym (and_none (lane_eq l k) (x == y))
+    no_tag None = apart 3 0 (lane_place l) (lane_place k) _ _ refl ∙ sym (and_none (lane_eq l k) false)
+    no_tag (Some y) = apart 3 1 (lane_place l) (lane_place k) _ _ refl ∙ sym (and_none (lane_eq l k) (x == y))
 
 pub awaited_are : (w : Awaited) → AreGroups awaited_groups (passes (is_same w)) (awaited_group w)
 awaited_are w = record { asked = by; nothing = refl }

@@ -3,6 +3,7 @@ use Rattle.std.proofs.Common.{◌≡◌, ℕ, zero, suc, ◌<◌, Bool, true, fa
 use Rattle.std.specs.Prelude.{map, slice_set, ◌==◌, if◌then◌else◌}
 use Rattle.std.specs.List.{list_any}
 use Rattle.std.specs.Str.{bytes_eq}
+use Rattle.qkd_base.specs.Lane.{lane_place}
 use Rattle.qkd_base.specs.Name.{Name}
 use Rattle.qkd_base.specs.declared.lane.Lane.{Lane}
 use Rattle.relay_core.proofs.Names.{eq_same}
@@ -13,8 +14,8 @@ use Rattle.resend_window.proofs.Grouped.{behind}
 
 -- a tick's group is no other one of a place
 pub sent_apart : (tick : ℕ) (l : Lane) (x : ℕ) (k : Lane) (n : Name) (o : Option ℕ) → list_any (bytes_eq (sent_group tick)) (offset_group 0 l x ∷ item_group k n o ∷ []) ≡ false
-sent_apart tick l x k n None = behind (tick == x) (0 == l.link) _ ∙ behind (tick == n.count) (0 == k.link) false
-sent_apart tick l x k n (Some y) = behind (tick == x) (0 == l.link) _ ∙ behind (tick == y) (0 == k.link) false
+sent_apart tick l x k n None = behind 3 0 0 (lane_place l) _ _ _ refl ∙ behind 3 2 0 (lane_place k) _ _ false refl
+sent_apart tick l x k n (Some y) = behind 3 0 0 (lane_place l) _ _ _ refl ∙ behind 3 1 0 (lane_place k) _ _ false refl
 
 set_end : (keys : List (List (List ℕ))) (k x : List (List ℕ)) → slice_set (keys ++ k ∷ []) (length keys) x ≡ keys ++ x ∷ []
 set_end [] k x = refl

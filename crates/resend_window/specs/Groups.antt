@@ -1,8 +1,9 @@
 -- The groups in which frames, acknowledgements and orders are found.
 use Rattle.std.specs.Prelude.{ℕ, Bool, true, false, List, [], ◌∷◌, ◌++◌, Option, Some, None}
-use Rattle.qkd_base.specs.Lane.{way_number}
-use Rattle.qkd_base.specs.Name.{Name, kind_number}
+use Rattle.qkd_base.specs.Lane.{lane_place}
+use Rattle.qkd_base.specs.Name.{Name}
 use Rattle.qkd_base.specs.declared.lane.Lane.{Lane}
+use Rattle.relay_core.specs.Index.{origin_number, tagged}
 use Rattle.resend_window.specs.declared.held.Held.{Held}
 use Rattle.resend_window.specs.declared.edit.Query.{Query}
 use Rattle.resend_window.specs.declared.edit.Query.TheVariants.{At, Answering, DataOf, SentAt}
@@ -27,18 +28,20 @@ pub record AwaitedItems : Type 0 where
   pub items : List (Option Awaited)
   pub spare : ℕ
 
--- Groups that a lane and an offset tell, and that a lane and a name do. The offset or the count differs most and stands first.
+-- Groups that a lane and an offset tell, and that a lane and a name do. The offset or the count differs most and stands first. A lane's
+-- place shares a number with a tag, which is less than four.
 
 abbrev pub offset_group : ℕ → Lane → ℕ → List ℕ
-offset_group tag l x = x ∷ l.link ∷ tag ∷ way_number l.way ∷ 0 ∷ 0 ∷ 0 ∷ []
+offset_group tag l x = x ∷ tagged tag (lane_place l) ∷ 0 ∷ 0 ∷ []
 
 abbrev pub name_group : ℕ → Lane → Name → ℕ → List ℕ
-name_group tag l n x = n.count ∷ l.link ∷ tag ∷ way_number l.way ∷ n.node ∷ kind_number n.kind ∷ x ∷ []
+name_group tag l n x = n.count ∷ tagged tag (lane_place l) ∷ origin_number n ∷ x ∷ []
 
 -- frames
 
+-- of no lane
 abbrev pub sent_group : ℕ → List ℕ
-sent_group tick = tick ∷ 0 ∷ 3 ∷ 0 ∷ 0 ∷ 0 ∷ 0 ∷ []
+sent_group tick = tick ∷ tagged 3 0 ∷ 0 ∷ 0 ∷ []
 
 -- that of the tick at which it went out, if it is of a fact
 abbrev pub sent_groups : Option ℕ → ℕ → List (List ℕ)

@@ -8,8 +8,8 @@ ghost use Rattle.resend_window.specs.Catalogued.{Catalogues, groups_at};
 use ordered_entries::{Entries, Entry};
 use std::alloc::Global;
 
-/// Seven numbers that name a group.
-pub type Group = [u64; 7];
+/// Four numbers that name a group.
+pub type Group = [u64; 4];
 
 /// An index of places. It has all of them unless memory was wanting.
 #[derive(Drop)]
@@ -22,8 +22,8 @@ pub struct Catalogue {
 fn entry(group: &Group, place: usize) -> Entry
     ensures { result ≡ entry_at group.now place }
 {
-    let [a, b, c, d, e, f, g] = *group;
-    [a, b, c, d, e, f, g, place as u64]
+    let [a, b, c, d] = *group;
+    [a, b, c, d, place as u64]
 }
 
 // Puts a place into a group. False where memory is wanting.

@@ -25,8 +25,8 @@ pub struct DueSet {
 fn entry(lane: &Lane, offset: u64) -> Entry
     ensures { result ≡ due_entry lane.now offset }
 {
-    let [a, b, c, d, e, f, g] = offset_group(0, lane, 0);
-    [a, b, c, d, e, f, g, offset]
+    let [a, b, c, d] = offset_group(0, lane, 0);
+    [a, b, c, d, offset]
 }
 
 // Puts an offset of a lane in. False where memory is wanting.
