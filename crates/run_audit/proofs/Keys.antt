@@ -6,6 +6,8 @@ use Rattle.qkd_base.specs.declared.lane.Way.{Way}
 use Rattle.qkd_base.specs.declared.lane.Way.TheVariants.{Up, Down}
 use Rattle.qkd_base.specs.declared.lane.Lane.{Lane}
 use Rattle.qkd_base.specs.Lane.{lane_eq, lane_place, way_eq, way_number}
+use Rattle.qkd_base.specs.declared.key_name.NameKind.{NameKind}
+use Rattle.qkd_base.specs.declared.key_name.NameKind.TheVariants.{Key, Stream, Note}
 use Rattle.qkd_base.specs.Name.{Name, name_eq, kind_number}
 use Rattle.run_audit.specs.declared.subject.Subject.{Subject}
 use Rattle.run_audit.specs.declared.subject.Subject.TheVariants as subjects
@@ -13,7 +15,7 @@ use Rattle.run_audit.specs.declared.takings.Taking.{Taking}
 use Rattle.run_audit.specs.Rows.{same}
 use Rattle.run_audit.specs.Tellings.{subject_eq}
 use Rattle.run_audit.specs.Takings.{taking_eq}
-use Rattle.run_audit.specs.Kept.{place_key, last_entry, subject_key, caller_entry, bool_number, taking_entry}
+use Rattle.run_audit.specs.Kept.{place_key, last_entry, subject_key, origin_number, caller_entry, bool_number, taking_entry}
 
 pub and_true : (b : Bool) → (b && true) ≡ b
 and_true true = refl
@@ -54,19 +56,63 @@ subject_keys (subjects.Key n) (subjects.Chunk r i) = refl
 subject_keys (subjects.Chunk r i) (subjects.Key n) = refl
 subject_keys (subjects.Chunk r i) (subjects.Chunk q j) = name_then (eqb r.node q.node) (eqb (kind_number r.kind) (kind_number q.kind)) (eqb r.count q.count) (eqb i j)
 
-pub caller_entries : (s t : Subject) (c d : ℕ) → bytes_eq (caller_entry s c) (caller_entry t d) ≡ (subject_eq s t && eqb c d)
-caller_entries (subjects.Key n) (subjects.Key m) c d = name_then (eqb n.node m.node) (eqb (kind_number n.kind) (kind_number m.kind)) (eqb n.count m.count) (eqb c d)
-caller_entries (subjects.Key n) (subjects.Chunk r i) c d = refl
-caller_entries (subjects.Chunk r i) (subjects.Key n) c d = refl
-caller_entries (subjects.Chunk r i) (subjects.Chunk q j) c d = chunk_then (eqb r.node q.node) (eqb (kind_number r.kind) (kind_number q.kind)) (eqb r.count q.count) (eqb i j) (eqb c d)
+origins : (n m : Name) → eqb (origin_number n) (origin_number m) ≡ (eqb n.node m.node && eqb (kind_number n.kind) (kind_number m.kind))
+origins n m = by n.node m.node n.kind m.kind
   where
-    chunk_then : (a b k e f : Bool) → (a && (b && (k && (e && (f && true))))) ≡ (((a && b && k) && e) && f)
-    chunk_then true true true true true = refl
-    chunk_then true true true true false = refl
-    chunk_then true true true false f = refl
-    chunk_then true true false e f = refl
-    chunk_then true false k e f = refl
-    chunk_then false b k e f = refl
+    by : (a b : ℕ) (j k : NameKind) → eqb (kind_number j + 4 * a) (kind_number k + 4 * b) ≡ (eqb a b && eqb (kind_number j) (kind_number k))
+    by a b Key Key = grind (arith, nat_tests)
+    by a b Key Stream = grind (arith, nat_tests)
+    by a b Key Note = grind (arith, nat_tests)
+    by a b Stream Key = grind (arith, nat_tests)
+    by a b Stream Stream = grind (arith, nat_tests)
+    by a b Stream Note = grind (arith, nat_tests)
+    by a b Note Key = grind (arith, nat_tests)
+    by a b Note Stream = grind (arith, nat_tests)
+    by a b Note Note = grind (arith, nat_tests)
+
+-- a name's two numbers, with others behind them
+names_then : (n m : Name) (rest : Bool) → (eqb n.count m.count && (eqb (origin_number n) (origin_number m) && rest)) ≡ (name_eq n m && rest)
+names_then n m rest =
+    ap (λ (b : Bool). eqb n.count m.count && (b && rest)) (origins n m)
+    ∙ by (eqb n.count m.count) (eqb n.node m.node) (eqb (kind_number n.kind) (kind_number m.kind))
+  where
+    by : (a b c : Bool) → (a && ((b && c) && rest)) ≡ ((b && c && a) && rest)
+    by true true true = refl
+    by true true false = refl
+    by true false c = refl
+    by false true true = refl
+    by false true false = refl
+    by false false c = refl
+
+behind_zero : (i : ℕ) → eqb 0 (i + 1) ≡ false
+behind_zero i = grind (arith, nat_tests)
+
+zero_behind : (i : ℕ) → eqb (i + 1) 0 ≡ false
+zero_behind i = grind (arith, nat_tests)
+
+both_behind : (i j : ℕ) → eqb (i + 1) (j + 1) ≡ eqb i j
+both_behind i j = grind (arith, nat_tests)
+
+and_false : (b : Bool) → (b && false) ≡ false
+and_false true = refl
+and_false false = refl
+
+pub caller_entries : (s t : Subject) (c d : ℕ) → bytes_eq (caller_entry s c) (caller_entry t d) ≡ (subject_eq s t && eqb c d)
+caller_entries (subjects.Key n) (subjects.Key m) c d = names_then n m (eqb c d && true) ∙ ap (λ (b : Bool). name_eq n m && b) (and_true (eqb c d))
+caller_entries (subjects.Key n) (subjects.Chunk r i) c d =
+    names_then n r (eqb 0 (i + 1) && (eqb c d && true)) ∙ ap (λ (b : Bool). name_eq n r && (b && (eqb c d && true))) (behind_zero i) ∙ and_false (name_eq n r)
+caller_entries (subjects.Chunk r i) (subjects.Key n) c d =
+    names_then r n (eqb (i + 1) 0 && (eqb c d && true)) ∙ ap (λ (b : Bool). name_eq r n && (b && (eqb c d && true))) (zero_behind i) ∙ and_false (name_eq r n)
+caller_entries (subjects.Chunk r i) (subjects.Chunk q j) c d =
+    names_then r q (eqb (i + 1) (j + 1) && (eqb c d && true))
+    ∙ ap (λ (b : Bool). name_eq r q && (b && (eqb c d && true))) (both_behind i j)
+    ∙ by (name_eq r q) (eqb i j) (eqb c d)
+  where
+    by : (a b c : Bool) → (a && (b && (c && true))) ≡ ((a && b) && c)
+    by true true true = refl
+    by true true false = refl
+    by true false c = refl
+    by false b c = refl
 
 bools : (a b : Bool) → eqb (bool_number a) (bool_number b) ≡ same a b
 bools true true = refl
@@ -76,13 +122,14 @@ bools false false = refl
 
 pub taking_entries : (t u : Taking) → bytes_eq (taking_entry t) (taking_entry u) ≡ taking_eq t u
 taking_entries t u =
-    ap (λ (b : Bool). eqb t.node u.node && (b && (eqb t.name.node u.name.node && (eqb (kind_number t.name.kind) (kind_number u.name.kind) && (eqb t.name.count u.name.count && true))))) (bools t.is_ack u.is_ack)
-    ∙ taking_then (eqb t.node u.node) (same t.is_ack u.is_ack) (eqb t.name.node u.name.node) (eqb (kind_number t.name.kind) (kind_number u.name.kind)) (eqb t.name.count u.name.count)
+    names_then t.name u.name (eqb t.node u.node && (eqb (bool_number t.is_ack) (bool_number u.is_ack) && true))
+    ∙ ap (λ (b : Bool). name_eq t.name u.name && (eqb t.node u.node && (b && true))) (bools t.is_ack u.is_ack)
+    ∙ by (name_eq t.name u.name) (eqb t.node u.node) (same t.is_ack u.is_ack)
   where
-    taking_then : (a b c d e : Bool) → (a && (b && (c && (d && (e && true))))) ≡ (a && b && (c && d && e))
-    taking_then true true true true true = refl
-    taking_then true true true true false = refl
-    taking_then true true true false e = refl
-    taking_then true true false d e = refl
-    taking_then true false c d e = refl
-    taking_then false b c d e = refl
+    by : (a b c : Bool) → (a && (b && (c && true))) ≡ (b && c && a)
+    by true true true = refl
+    by true true false = refl
+    by true false c = refl
+    by false true true = refl
+    by false true false = refl
+    by false false c = refl

@@ -1,5 +1,5 @@
 -- What is kept of the items so far, and what it stands for.
-use Rattle.std.specs.Prelude.{◌≡◌, ℕ, suc, ◌+◌, ◌-◌, ◌^◌, ◌<◌, min, Bool, true, false, not, ◌&&◌, ◌||◌, ◌==◌, if◌then◌else◌, List, [], ◌∷◌, Option, Some, None, is_some, unwrap_or}
+use Rattle.std.specs.Prelude.{◌≡◌, ℕ, suc, ◌+◌, ◌*◌, ◌-◌, ◌^◌, ◌<◌, min, Bool, true, false, not, ◌&&◌, ◌||◌, ◌==◌, if◌then◌else◌, List, [], ◌∷◌, Option, Some, None, is_some, unwrap_or}
 use Rattle.std.specs.Map.{lookup}
 use Rattle.std.specs.List.{list_any, list_all}
 use Rattle.std.specs.Ordering.{nat_cmp}
@@ -51,7 +51,7 @@ abbrev pub place_key : Lane → ℕ → List ℕ
 place_key l x = lane_place l ∷ x ∷ 0 ∷ 0 ∷ 0 ∷ 0 ∷ []
 
 abbrev pub last_entry : Lane → ℕ → List ℕ
-last_entry l x = lane_place l ∷ 0 ∷ 0 ∷ 0 ∷ 0 ∷ 0 ∷ 0 ∷ x ∷ []
+last_entry l x = lane_place l ∷ 0 ∷ 0 ∷ 0 ∷ x ∷ []
 
 -- the last byte that a frame covers, or the greatest place that a number of 64 bits has
 abbrev pub last_of : Frame → ℕ
@@ -125,9 +125,14 @@ abbrev pub subject_key : Subject → List ℕ
 subject_key (subjects.Key n) = 0 ∷ n.node ∷ kind_number n.kind ∷ n.count ∷ 0 ∷ 0 ∷ []
 subject_key (subjects.Chunk s index) = 1 ∷ s.node ∷ kind_number s.kind ∷ s.count ∷ index ∷ 0 ∷ []
 
+-- a name's kind, which is less than four, and its node in one number, since entries are short: comparing them takes time
+abbrev pub origin_number : Name → ℕ
+origin_number n = kind_number n.kind + 4 * n.node
+
+-- the third number is 0 of a key, and of a chunk one more than its index
 abbrev pub caller_entry : Subject → ℕ → List ℕ
-caller_entry (subjects.Key n) caller = 0 ∷ n.node ∷ kind_number n.kind ∷ n.count ∷ 0 ∷ 0 ∷ caller ∷ 0 ∷ []
-caller_entry (subjects.Chunk s index) caller = 1 ∷ s.node ∷ kind_number s.kind ∷ s.count ∷ index ∷ 0 ∷ caller ∷ 0 ∷ []
+caller_entry (subjects.Key n) caller = n.count ∷ origin_number n ∷ 0 ∷ caller ∷ 0 ∷ []
+caller_entry (subjects.Chunk s index) caller = s.count ∷ origin_number s ∷ (index + 1) ∷ caller ∷ 0 ∷ []
 
 abbrev pub told_of : Subject → List ℕ → (caller master : Option ℕ) → Telling
 told_of subject bytes caller master = record { subject = subject; bytes = bytes; caller = caller; master = master }
@@ -175,7 +180,7 @@ bool_number true = 1
 bool_number false = 0
 
 abbrev pub taking_entry : Taking → List ℕ
-taking_entry t = t.node ∷ bool_number t.is_ack ∷ t.name.node ∷ kind_number t.name.kind ∷ t.name.count ∷ 0 ∷ 0 ∷ 0 ∷ []
+taking_entry t = t.name.count ∷ origin_number t.name ∷ t.node ∷ bool_number t.is_ack ∷ 0 ∷ []
 
 abbrev pub AreTaken : Takings → List Taking → Type 0
 AreTaken k ts = (t : Taking) → has_entry k.entries (taking_entry t) ≡ list_any (λ e. taking_eq e t) ts

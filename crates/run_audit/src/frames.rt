@@ -63,7 +63,7 @@ fn last_of(frame: &Frame) -> u64
 fn last_entry(lane: &Lane, last: u64) -> Entry
     ensures { result ≡ last_entry lane.now last }
 {
-    [lane_number(lane), 0, 0, 0, 0, 0, 0, last]
+    [lane_number(lane), 0, 0, 0, last]
 }
 
 impl Places {

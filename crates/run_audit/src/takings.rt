@@ -5,7 +5,7 @@ ghost use Rattle.run_audit.specs.declared.takings.Taking.{Taking as Took};
 ghost use Rattle.run_audit.specs.Takings.{receiver, is_ack, taken_on, taking_of, is_first};
 ghost use Rattle.run_audit.specs.Kept.{bool_number, taking_entry, AreTaken};
 
-use crate::tellings::kind_number;
+use crate::tellings::origin_number;
 use ordered_entries::{Entries, Entry};
 use qkd_base::{KeyName, Lane, Memory, NodeNo, Way};
 use report_items::{FrameResult, Item, PayloadKind};
@@ -80,13 +80,10 @@ fn entry_of(taking: &Taking) -> Entry
     ensures { result ≡ taking_entry taking.now }
 {
     [
+        taking.name.count(),
+        origin_number(&taking.name),
         u64::from(taking.node),
         bool_number(taking.is_ack),
-        u64::from(taking.name.node().get()),
-        kind_number(taking.name.kind()),
-        taking.name.count(),
-        0,
-        0,
         0,
     ]
 }

@@ -6,7 +6,7 @@ ghost use Rattle.ordered_entries.specs.Entries.{has_entry};
 ghost use Rattle.run_audit.specs.declared.subject.Subject.{Subject as Value};
 ghost use Rattle.run_audit.specs.Table.{at};
 ghost use Rattle.run_audit.specs.Tellings.{Telling, handed_key, handed_chunk, handed_answer, handed_keys, shown, tellings_of, onto, subject_eq, is_same, may_be_same, may_have, fits_with, fits, all_fit};
-ghost use Rattle.run_audit.specs.Kept.{subject_key, caller_entry, may_be_bytes, is_listed, told_of, AreTold};
+ghost use Rattle.run_audit.specs.Kept.{subject_key, origin_number, caller_entry, may_be_bytes, is_listed, told_of, AreTold};
 
 use crate::line_kind::LineKind;
 use crate::subject::Subject;
@@ -27,8 +27,8 @@ pub struct Told {
     pub deliveries: u32,
 }
 
-/// The number of a kind of names.
-pub fn kind_number(kind: NameKind) -> u64
+// The number of a kind of names.
+fn kind_number(kind: NameKind) -> u8
     ensures { result ≡ kind_number kind }
 {
     match kind {
@@ -36,6 +36,13 @@ pub fn kind_number(kind: NameKind) -> u64
         NameKind::Stream => 1,
         NameKind::Note => 2,
     }
+}
+
+/// A name's kind and node in one number. Names of one count differ where these numbers do.
+pub fn origin_number(name: &KeyName) -> u64
+    ensures { result ≡ origin_number name.now }
+{
+    u64::from(kind_number(name.kind())) + 4 * u64::from(name.node().get())
 }
 
 // What names a subject.
@@ -46,7 +53,7 @@ fn subject_key(subject: &Subject) -> Key
         Subject::Key(name) => [
             0,
             u64::from(name.node().get()),
-            kind_number(name.kind()),
+            u64::from(kind_number(name.kind())),
             name.count(),
             0,
             0,
@@ -54,7 +61,7 @@ fn subject_key(subject: &Subject) -> Key
         Subject::Chunk(stream, index) => [
             1,
             u64::from(stream.node().get()),
-            kind_number(stream.kind()),
+            u64::from(kind_number(stream.kind())),
             stream.count(),
             u64::from(*index),
             0,
@@ -66,8 +73,17 @@ fn subject_key(subject: &Subject) -> Key
 fn caller_entry(subject: &Subject, caller: SaeNo) -> Entry
     ensures { result ≡ caller_entry subject.now caller }
 {
-    let [a, b, c, d, e, f] = subject_key(subject);
-    [a, b, c, d, e, f, u64::from(caller.get()), 0]
+    let caller = u64::from(caller.get());
+    match subject {
+        Subject::Key(name) => [name.count(), origin_number(name), 0, caller, 0],
+        Subject::Chunk(stream, index) => [
+            stream.count(),
+            origin_number(stream),
+            u64::from(*index) + 1,
+            caller,
+            0,
+        ],
+    }
 }
 
 // Whether a key goes to its master, or to an application that is allowed with it.

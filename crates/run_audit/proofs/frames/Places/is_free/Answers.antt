@@ -11,12 +11,12 @@ use Rattle.run_audit.proofs.frames.Places.is_free.Goals as goal
 pub returns-in-None : goal.returns-in-None
 returns-in-None c fs placed new =
     let f : Frame = c.args.frame.now in
-    sym (agrees_last f fs (omega arith) (λ x le lt. sym (placed.lasts f.lane x) ∙ (c.in-None.ensures {u = tt}).last (lane_place f.lane ∷ 0 ∷ 0 ∷ 0 ∷ 0 ∷ 0 ∷ 0 ∷ []) f.offset c.last_entry.ensures x le lt))
+    sym (agrees_last f fs (omega arith) (λ x le lt. sym (placed.lasts f.lane x) ∙ (c.in-None.ensures {u = tt}).last (lane_place f.lane ∷ 0 ∷ 0 ∷ 0 ∷ []) f.offset c.last_entry.ensures x le lt))
 
 pub returns-in-Some-find : goal.returns-in-Some-find
 returns-in-Some-find c fs placed new =
     let f : Frame = c.args.frame.now in
-    let next : IsNextIn c.args.self.now.lasts (lane_place f.lane ∷ 0 ∷ 0 ∷ 0 ∷ 0 ∷ 0 ∷ 0 ∷ []) f.offset c.in-Some.last = (c.in-Some.ensures {u = tt}).next (lane_place f.lane ∷ 0 ∷ 0 ∷ 0 ∷ 0 ∷ 0 ∷ 0 ∷ []) f.offset c.last_entry.ensures in
+    let next : IsNextIn c.args.self.now.lasts (lane_place f.lane ∷ 0 ∷ 0 ∷ 0 ∷ []) f.offset c.in-Some.last = (c.in-Some.ensures {u = tt}).next (lane_place f.lane ∷ 0 ∷ 0 ∷ 0 ∷ []) f.offset c.last_entry.ensures in
     let first : IsFirstEnd f c.in-Some.last fs = record { behind_it = next.behind; first = λ x le lt. sym (placed.lasts f.lane x) ∙ next.first x le lt } in
     let there : offset_at f.lane c.in-Some.last fs ≡ Some c.in-Some-find.offset.now = sym (placed.offsets f.lane c.in-Some.last) ∙ ap (at c.args.self.now.offsets) (sym c.place_key.ensures) ∙ sym (c.in-Some-find.ensures {u = tt}) in
     let free = free_at f c.in-Some.last c.in-Some-find.offset.now fs placed.apart (omega arith) new first there in
@@ -25,7 +25,7 @@ returns-in-Some-find c fs placed new =
 pub returns-in-None-find : goal.returns-in-None-find
 returns-in-None-find c fs placed new =
     let f : Frame = c.args.frame.now in
-    let next : IsNextIn c.args.self.now.lasts (lane_place f.lane ∷ 0 ∷ 0 ∷ 0 ∷ 0 ∷ 0 ∷ 0 ∷ []) f.offset c.in-Some.last = (c.in-Some.ensures {u = tt}).next (lane_place f.lane ∷ 0 ∷ 0 ∷ 0 ∷ 0 ∷ 0 ∷ 0 ∷ []) f.offset c.last_entry.ensures in
+    let next : IsNextIn c.args.self.now.lasts (lane_place f.lane ∷ 0 ∷ 0 ∷ 0 ∷ []) f.offset c.in-Some.last = (c.in-Some.ensures {u = tt}).next (lane_place f.lane ∷ 0 ∷ 0 ∷ 0 ∷ []) f.offset c.last_entry.ensures in
     let ends : is_last f.lane c.in-Some.last fs ≡ true = sym (placed.lasts f.lane c.in-Some.last) ∙ next.there in
     let none : offset_at f.lane c.in-Some.last fs ≡ None = sym (placed.offsets f.lane c.in-Some.last) ∙ ap (at c.args.self.now.offsets) (sym c.place_key.ensures) ∙ sym (c.in-None-find.ensures {u = tt}) in
     absurd (last_is_found f.lane c.in-Some.last fs ends none)
