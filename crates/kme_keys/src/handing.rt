@@ -11,7 +11,7 @@ ghost use Rattle.kme_keys.specs.Holding.{held_fact, held_keys};
 use crate::Holder;
 use kme_step::{Change, Step};
 use net_model::{Fact, Record, Records, Reply};
-use qkd_base::{Items, KeyName, Keys, Memory, Octets, Replica, SaeNo};
+use qkd_base::{Items, KeyName, Keys, Memory, Octets, SaeNo};
 use relay_core::Known;
 use std::alloc::Global;
 
@@ -19,11 +19,19 @@ use std::alloc::Global;
 fn hand_to(alloc: Global, sae: SaeNo, names: &[KeyName]) -> Result<Records, Memory>
     ensures { IfOk result (λ batch. batch ≡ hand_to sae names.now) }
 {
-    let mut batch = Items::new(alloc);
+    let mut batch = Items::from_vec(Vec::with_capacity(alloc, names.len())?);
     for name in names {
         batch.push(Record::Handed { name: *name, sae })?;
     }
     Ok(batch)
+}
+
+// A copy of bytes, made as one block.
+fn same_bytes(alloc: Global, bytes: &Octets) -> Result<Octets, Memory>
+    ensures { IfOk result (λ copy. copy ≡ bytes.now) }
+{
+    let copy = Vec::from_slice(alloc, bytes.as_slice())?;
+    Ok(Octets::from_vec(copy))
 }
 
 // A copy of a fact's bytes, none where it has none.
@@ -31,9 +39,9 @@ fn copy_bytes(alloc: Global, fact: &Fact) -> Result<Octets, Memory>
     ensures { IfOk result (λ bytes. bytes ≡ bytes_of fact.now) }
 {
     match fact {
-        Fact::Key { bytes, .. } => bytes.copy(),
-        Fact::Chunk { bytes, .. } => bytes.copy(),
-        Fact::Part { bytes, .. } => bytes.copy(),
+        Fact::Key { bytes, .. } => same_bytes(alloc, bytes),
+        Fact::Chunk { bytes, .. } => same_bytes(alloc, bytes),
+        Fact::Part { bytes, .. } => same_bytes(alloc, bytes),
         _ => Ok(Items::new(alloc)),
     }
 }
@@ -62,7 +70,7 @@ fn held_keys(
 ) -> Result<Keys, Memory>
     ensures { IfOk result (λ keys. keys ≡ held_keys holder.now known.now.facts names.now) }
 {
-    let mut keys = Items::new(alloc);
+    let mut keys = Items::from_vec(Vec::with_capacity(alloc, names.len())?);
     for name in names {
         let bytes = held_bytes(alloc, known, holder, *name)?;
         keys.push((*name, bytes))?;
