@@ -83,7 +83,7 @@ fn fields(alloc: Global, text: &[u8], headers: &[HeaderSpan]) -> Result<Fields, 
     requires { All (IsHeaderWithin (length text.now)) headers.now }
     ensures { IfOk result (λ fs. fs ≡ map (header_bytes text.now) headers.now) }
 {
-    let mut fields = Fields::new(alloc);
+    let mut fields = Fields::from_vec(Vec::with_capacity(alloc, headers.len())?);
     for header in headers {
         let name = Octets::from_slice(alloc, header.name.of(text))?;
         let value = Octets::from_slice(alloc, header.value.of(text))?;

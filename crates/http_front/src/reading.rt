@@ -1,5 +1,5 @@
 // Requests read from a source.
-ghost use Rattle.std.specs.Prelude.{◌≡◌, ◌≤◌, ◌<◌, max, length, take, drop, true, false, IfOk, IfErr, OnOk};
+ghost use Rattle.std.specs.Prelude.{◌≡◌, ◌≤◌, ◌<◌, max, length, take, drop, true, false, IfOk, IfErr, OnOk, OnErr};
 ghost use Rattle.std.specs.Io.KnownBytes.{IsAtEnd, prepend_known};
 ghost use Rattle.http_front.specs.Front.{IsRefused, closes};
 ghost use Rattle.http_front.specs.Reading.{Came, HasSome, IsEnough, IsEnd, IsShort, IsDisturbed, IsHeadOf, no_more, FaultsAre, IsRead, Reads, OneAnswer};
@@ -60,10 +60,10 @@ fn read_from<S: Source>(
         Err(refusal) => return Err(refusal),
     }
     match Octets::from_slice(alloc, &octets[head.len..head.len + length]) {
-        Ok(body) => {
-            drop_front(octets, head.len + length);
-            Ok(request_of(head, body))
-        }
+        Ok(body) => match drop_front(alloc, octets, head.len + length) {
+            Ok(()) => Ok(request_of(head, body)),
+            Err(Memory) => Err(FrontRefusal::Memory),
+        },
         Err(Memory) => Err(FrontRefusal::Memory),
     }
 }
@@ -164,14 +164,18 @@ fn fetch<S: Source>(
     Ok(count > 0)
 }
 
-// Cuts so many octets off the front.
-fn drop_front(octets: &mut Vec<u8>, count: usize)
+// Cuts so many octets off the front. Where none is left the room stays.
+fn drop_front(alloc: Global, octets: &mut Vec<u8>, count: usize) -> Result<(), Memory>
     requires { count ≤ length octets.old.items }
-    ensures { octets.new.items ≡ drop count octets.old.items }
+    ensures ok { OnOk result (octets.new.items ≡ drop count octets.old.items) }
+    ensures err { OnErr result (octets.new ≡ octets.old) }
 {
-    let rest = octets.len() - count;
-    octets.copy_within(count.., 0);
-    octets.truncate(rest);
+    if octets.len() == count {
+        octets.clear();
+    } else {
+        *octets = Vec::from_slice(alloc, &octets[count..])?;
+    }
+    Ok(())
 }
 
 // The request of a head and a body.

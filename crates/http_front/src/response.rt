@@ -1,11 +1,14 @@
 // A response.
-ghost use Rattle.std.specs.Prelude.{◌≡◌, [], IfOk, OnOk, IsTrue};
+ghost use Rattle.std.specs.Prelude.{◌≡◌, ◌++◌, [], IfOk, OnOk, IsTrue};
 ghost use Rattle.std.specs.Fmt.{decimal};
-ghost use Rattle.std.specs.String.{string_bytes};
 ghost use Rattle.http_front.specs.Response.{has_reason, reason_text, status_text, response_text, connection_text};
 
+use itoa::Buffer;
 use qkd_base::{Memory, Octets};
 use std::alloc::Global;
+
+// The most octets that stand before a body: 34 of a status line, 76 of the fields, and the 20 digits of a length.
+const HEAD_ROOM: usize = 130;
 
 /// A response: its status, a JSON text, and whether the connection closes behind it.
 #[derive(Debug, Drop)]
@@ -20,10 +23,11 @@ pub fn response_bytes(alloc: Global, response: &HttpResponse) -> Result<Octets, 
     requires { IsTrue (has_reason response.now.status) }
     ensures { IfOk result (λ octets. octets ≡ response_text response.now) }
 {
-    let mut octets = Octets::new(alloc);
-    status_line(alloc, response.status, &mut octets)?;
+    let room = response.body.len().saturating_add(HEAD_ROOM);
+    let mut octets = Octets::from_vec(Vec::with_capacity(alloc, room)?);
+    status_line(response.status, &mut octets)?;
     octets.extend(b"Content-Type: application/json\r\nContent-Length: ")?;
-    octets.extend(number(alloc, response.body.len() as u64)?.as_bytes())?;
+    number(response.body.len() as u64, &mut octets)?;
     octets.extend(b"\r\nConnection: ")?;
     octets.extend(connection(response.close).as_bytes())?;
     octets.extend(b"\r\n\r\n")?;
@@ -33,12 +37,12 @@ pub fn response_bytes(alloc: Global, response: &HttpResponse) -> Result<Octets, 
 
 // The status line.
 #[tactic(auto, unfolding(crate::specs::Response::status_text))]
-fn status_line(alloc: Global, status: u16, octets: &mut Octets) -> Result<(), Memory>
+fn status_line(status: u16, octets: &mut Octets) -> Result<(), Memory>
     requires { octets.old ≡ [] }
     ensures { OnOk result (octets.new ≡ status_text status) }
 {
     octets.extend(b"HTTP/1.1 ")?;
-    octets.extend(number(alloc, u64::from(status))?.as_bytes())?;
+    number(u64::from(status), octets)?;
     octets.extend(b" ")?;
     octets.extend(reason(status).as_bytes())?;
     octets.extend(b"\r\n")?;
@@ -46,11 +50,11 @@ fn status_line(alloc: Global, status: u16, octets: &mut Octets) -> Result<(), Me
 }
 
 // A number in decimal digits.
-fn number(alloc: Global, value: u64) -> Result<String, Memory>
-    ensures { IfOk result (λ text. string_bytes text ≡ decimal value) }
+fn number(value: u64, octets: &mut Octets) -> Result<(), Memory>
+    ensures { OnOk result (octets.new ≡ octets.old ++ decimal value) }
 {
-    let text = format!(in alloc; "{value}")?;
-    Ok(text)
+    let mut digits = Buffer::new();
+    octets.extend(digits.format(value).as_bytes())
 }
 
 // What the field Connection says.
