@@ -1,5 +1,6 @@
 // Key containers.
 ghost use Rattle.std.specs.Prelude.{◌≡◌, ◌++◌, false, IfOk, OnOk};
+ghost use Rattle.std.specs.String.{string_bytes};
 ghost use Rattle.uuid.specs.Text.{lower, hyphenated_text};
 ghost use Rattle.base64.specs.GeneralPurpose.{encode_of};
 ghost use Rattle.base64.specs.Engines.{standard};
@@ -11,70 +12,81 @@ use qkd_base::uuid::Uuid;
 use qkd_base::{KeyName, Keys, Memory, Octets};
 use std::alloc::Global;
 
+// The octets of a body round its keys.
+const BODY_FRAME: usize = 11;
+
+// The most octets of a key round its base64: 23 of marks and labels, and 36 of the name.
+const KEY_FRAME: usize = 59;
+
 /// The body that hands keys (ETSI GS QKD 014 V1.1.1, Key container).
 #[tactic(auto, unfolding(crate::specs::Texts::keys_body))]
 pub(crate) fn keys_body(alloc: Global, keys: &Keys) -> Result<Octets, Memory>
     ensures { IfOk result (λ body. body ≡ keys_body keys.now) }
 {
-    let mut body = Octets::from_slice(alloc, b"{\"keys\":[")?;
-    listed(alloc, keys.as_slice(), &mut body)?;
-    body.extend(b"]}")?;
-    Ok(body)
+    let mut body = String::with_capacity(alloc, room(keys.as_slice()))?;
+    body.push_str("{\"keys\":[")?;
+    listed(keys.as_slice(), &mut body)?;
+    body.push_str("]}")?;
+    Ok(Octets::from_vec(body.into_bytes()))
+}
+
+// How much room the body is given at once: enough where no key is longer than the first.
+fn room(keys: &[(KeyName, Octets)]) -> usize {
+    let base64 = match keys.first() {
+        Some(key) => (key.1.len() / 3 + 1).saturating_mul(4),
+        None => 0,
+    };
+    let each = base64.saturating_add(KEY_FRAME);
+    keys.len().saturating_mul(each).saturating_add(BODY_FRAME)
 }
 
 // Each key in order.
-fn listed(alloc: Global, keys: &[(KeyName, Octets)], body: &mut Octets) -> Result<(), Memory>
-    ensures { OnOk result (body.new ≡ body.old ++ keys_text false keys.now) }
+fn listed(keys: &[(KeyName, Octets)], body: &mut String) -> Result<(), Memory>
+    ensures { OnOk result (string_bytes body.new ≡ string_bytes body.old ++ keys_text false keys.now) }
 {
     for (place, key) in keys.iter().enumerate() {
-        one(alloc, place > 0, key.0, key.1.as_slice(), body)?;
+        one(place > 0, key.0, key.1.as_slice(), body)?;
     }
     Ok(())
 }
 
 // One key, which is the first, or a later one.
 #[tactic(auto, unfolding(crate::specs::Texts::key_text))]
-fn one(
-    alloc: Global,
-    later: bool,
-    name: KeyName,
-    bytes: &[u8],
-    body: &mut Octets,
-) -> Result<(), Memory>
-    ensures { OnOk result (body.new ≡ body.old ++ (comma_text later ++ key_text name bytes.now)) }
+fn one(later: bool, name: KeyName, bytes: &[u8], body: &mut String) -> Result<(), Memory>
+    ensures { OnOk result (string_bytes body.new ≡ string_bytes body.old ++ (comma_text later ++ key_text name bytes.now)) }
 {
-    body.extend(comma(later))?;
-    body.extend(b"{\"key\":\"")?;
-    encoded(alloc, bytes, body)?;
-    body.extend(b"\",\"key_ID\":\"")?;
+    body.push_str(comma(later))?;
+    body.push_str("{\"key\":\"")?;
+    encoded(bytes, body)?;
+    body.push_str("\",\"key_ID\":\"")?;
     identified(name, body)?;
-    body.extend(b"\"}")?;
+    body.push_str("\"}")?;
     Ok(())
 }
 
 // What stands before a key.
-fn comma(later: bool) -> &'static [u8]
+fn comma(later: bool) -> &'static str
     ensures { result.now ≡ comma_text later }
 {
-    if later { b"," } else { b"" }
+    if later { "," } else { "" }
 }
 
 // Bytes in base64 (RFC 4648, section 4).
-fn encoded(alloc: Global, bytes: &[u8], body: &mut Octets) -> Result<(), Memory>
-    ensures { OnOk result (body.new ≡ body.old ++ encode_of standard bytes.now) }
+fn encoded(bytes: &[u8], body: &mut String) -> Result<(), Memory>
+    ensures { OnOk result (string_bytes body.new ≡ string_bytes body.old ++ encode_of standard bytes.now) }
 {
-    let text = STANDARD.encode(alloc, bytes)?;
-    body.extend(text.as_bytes())
+    STANDARD.encode_string(bytes, body)?;
+    Ok(())
 }
 
 // A name as the text of its UUID.
-fn identified(name: KeyName, body: &mut Octets) -> Result<(), Memory>
-    ensures { OnOk result (body.new ≡ body.old ++ hyphenated_text lower (octets_of name)) }
+fn identified(name: KeyName, body: &mut String) -> Result<(), Memory>
+    ensures { OnOk result (string_bytes body.new ≡ string_bytes body.old ++ hyphenated_text lower (octets_of name)) }
 {
     let mut buffer = Uuid::encode_buffer();
     let uuid = name.to_uuid();
     let form = uuid.hyphenated();
     let text = form.encode_lower(&mut buffer);
-    body.extend(text.as_bytes())?;
+    body.push_str(text)?;
     Ok(())
 }

@@ -1,14 +1,17 @@
 // Error messages.
-ghost use Rattle.std.specs.Prelude.{◌≡◌, ◌++◌, IfOk};
+ghost use Rattle.std.specs.Prelude.{◌≡◌, ◌++◌, IfOk, codes};
 ghost use Rattle.std.specs.Option.{option_map};
 ghost use Rattle.std.specs.Fmt.{decimal};
-ghost use Rattle.std.specs.String.{string_bytes};
-ghost use Rattle.qkd014_api.specs.Texts.{message_body, error_response};
+ghost use Rattle.qkd014_api.specs.Texts.{error_response};
 ghost use Rattle.qkd014_api.specs.Fronts.{front_message, IsFrontResponse};
 
 use http_front::{FrontRefusal, HttpResponse};
+use itoa::Buffer;
 use qkd_base::{Memory, Octets};
 use std::alloc::Global;
+
+// The most octets of an error's body: 14 round the message, and 33 of the longest message.
+const ERROR_ROOM: usize = 47;
 
 /// The response to a connection whose octets begin no request; the connection closes behind it. A refusal that has none
 /// gets want of memory, so that the connection ends.
@@ -47,17 +50,13 @@ pub(crate) fn error(
 ) -> Result<HttpResponse, Memory>
     ensures { IfOk result (λ response. response ≡ error_response status text.now close) }
 {
-    let mut body = Octets::from_slice(alloc, b"{\"message\":\"")?;
+    let mut body = begun(alloc)?;
     body.extend(text.as_bytes())?;
-    body.extend(b"\"}")?;
-    Ok(HttpResponse {
-        status,
-        body,
-        close,
-    })
+    ended(body, status, close)
 }
 
 /// A response of an error whose message has a number.
+#[tactic(auto, unfolding(crate::specs::Texts::message_body))]
 pub(crate) fn numbered_error(
     alloc: Global,
     status: u16,
@@ -68,16 +67,32 @@ pub(crate) fn numbered_error(
 ) -> Result<HttpResponse, Memory>
     ensures { IfOk result (λ response. response ≡ error_response status (front.now ++ decimal number ++ back.now) close) }
 {
-    let mut text = String::from_str(alloc, front)?;
-    text.push_str(digits(alloc, u64::from(number))?.as_str())?;
-    text.push_str(back)?;
-    error(alloc, status, text.as_str(), close)
+    let mut digits = Buffer::new();
+    let mut body = begun(alloc)?;
+    body.extend(front.as_bytes())?;
+    body.extend(digits.format(number).as_bytes())?;
+    body.extend(back.as_bytes())?;
+    ended(body, status, close)
 }
 
-/// A number in decimal digits.
-pub(crate) fn digits(alloc: Global, number: u64) -> Result<String, Memory>
-    ensures { IfOk result (λ text. string_bytes text ≡ decimal number) }
+// What stands before a message.
+fn begun(alloc: Global) -> Result<Octets, Memory>
+    ensures { IfOk result (λ body. body ≡ codes "{\"message\":\"") }
 {
-    let text = format!(in alloc; "{number}")?;
-    Ok(text)
+    let mut body = Octets::from_vec(Vec::with_capacity(alloc, ERROR_ROOM)?);
+    body.extend(b"{\"message\":\"")?;
+    Ok(body)
+}
+
+// The response of a body that lacks what stands behind its message.
+fn ended(body: Octets, status: u16, close: bool) -> Result<HttpResponse, Memory>
+    ensures { IfOk result (λ response. response ≡ record { status = status; body = body ++ codes "\"}"; close = close }) }
+{
+    let mut body = body;
+    body.extend(b"\"}")?;
+    Ok(HttpResponse {
+        status,
+        body,
+        close,
+    })
 }

@@ -1,6 +1,7 @@
 // Parameters in a query.
 ghost use Rattle.std.specs.Prelude.{◌≡◌, IfOk, length};
 ghost use Rattle.std.specs.Cow.{cow_str_bytes};
+ghost use Rattle.std.specs.Str.{bytes_eq};
 ghost use Rattle.std.specs.String.{string_bytes};
 ghost use Rattle.qkd014_api.specs.Queries.{values_in, text_of, one_of, number_given, size_given};
 ghost use Rattle.qkd014_api.specs.Numbers.{number_at, size_at};
@@ -25,7 +26,7 @@ pub(crate) fn parameter(alloc: Global, query: &[u8], name: &str) -> Result<Given
     let mut found = Given::Absent;
     let mut pairs = raw_pairs(query);
     while let Some((key, value)) = pairs.next() {
-        if text(alloc, key)?.as_str() == name {
+        if stands_for(alloc, key, name)? {
             found = match found {
                 Given::Absent => Given::Once(text(alloc, value)?),
                 Given::Once(_) | Given::Often => Given::Often,
@@ -33,6 +34,15 @@ pub(crate) fn parameter(alloc: Global, query: &[u8], name: &str) -> Result<Given
         }
     }
     Ok(found)
+}
+
+// Whether octets stand for a text.
+#[tactic(auto, unfolding(crate::specs::Queries::text_of))]
+fn stands_for(alloc: Global, octets: &[u8], text: &str) -> Result<bool, Memory>
+    ensures { IfOk result (λ same. same ≡ bytes_eq (text_of octets.now) text.now) }
+{
+    let decoded = decode(alloc, octets)?;
+    Ok(decoded.as_str() == text)
 }
 
 // A decoded text.

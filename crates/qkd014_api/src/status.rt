@@ -3,10 +3,13 @@ ghost use Rattle.std.specs.Prelude.{◌≡◌, ◌++◌, IfOk, OnOk};
 ghost use Rattle.std.specs.String.{string_bytes};
 ghost use Rattle.qkd014_api.specs.Texts.{quoted_text, master_label, slave_label, source_label, count_label, target_label, status_body};
 
-use crate::message::digits;
+use itoa::Buffer;
 use qkd_base::{Memory, Octets};
 use serde_json::Value;
 use std::alloc::Global;
+
+// The room of a body: 219 octets of labels and a number, and four names of at most 64 octets between quotation marks.
+const STATUS_ROOM: usize = 483;
 
 /// What a status tells: the master and the slave with their nodes, and how many keys of 256 bits are ready.
 #[derive(Drop)]
@@ -22,14 +25,16 @@ pub(crate) struct Pool<'a> {
 pub(crate) fn status_body(alloc: Global, pool: &Pool) -> Result<Octets, Memory>
     ensures { IfOk result (λ body. body ≡ status_body pool.now.master.now pool.now.slave.now pool.now.source.now pool.now.target.now pool.now.count) }
 {
-    let mut body = Octets::from_slice(alloc, master_label())?;
+    let mut digits = Buffer::new();
+    let mut body = Octets::from_vec(Vec::with_capacity(alloc, STATUS_ROOM)?);
+    body.extend(master_label())?;
     body.extend(quoted(alloc, pool.master)?.as_bytes())?;
     body.extend(slave_label())?;
     body.extend(quoted(alloc, pool.slave)?.as_bytes())?;
     body.extend(source_label())?;
     body.extend(quoted(alloc, pool.source)?.as_bytes())?;
     body.extend(count_label())?;
-    body.extend(digits(alloc, u64::from(pool.count))?.as_bytes())?;
+    body.extend(digits.format(pool.count).as_bytes())?;
     body.extend(target_label())?;
     body.extend(quoted(alloc, pool.target)?.as_bytes())?;
     body.extend(b"}")?;
