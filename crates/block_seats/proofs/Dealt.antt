@@ -18,7 +18,7 @@ use Rattle.lane_shares.specs.Names.{knows, Fits}
 use Rattle.lane_shares.specs.Views.{issuer, with_amount}
 use Rattle.lane_sides.specs.Lane.{LaneForm}
 use Rattle.run_acts.specs.Acting.{IsReady}
-use Rattle.turn_desks.specs.Leases.{lease_at}
+use Rattle.plan_desks.specs.Passed.{lease_at}
 use Rattle.plan_emissions.specs.Emitting.{grant_at}
 use Rattle.plan_desks.specs.Opening.{IsOpened, AreOpened, AllOpened, issued_by, issued_from, issued_in}
 use Rattle.plan_desks.specs.Posts.{is_on}
@@ -26,7 +26,7 @@ use Rattle.plan_desks.proofs.Grants.{shares_of}
 use Rattle.plan_desks.proofs.Openings.{opened_at, opened_long}
 use Rattle.plan_desks.proofs.Places.{same_place}
 use Rattle.shared_machines.proofs.Zips.{zip_of, item_at}
-use Rattle.world_turns.specs.Passed.{State, Stands}
+use Rattle.plan_desks.specs.Passed.{State, Stands}
 use Rattle.block_seats.specs.Seats.{IsUsed, AreUsed}
 use Rattle.block_seats.specs.Sheets.{IsDealt}
 

@@ -11,7 +11,7 @@ use Rattle.lane_shares.specs.declared.shares.Shares.{Shares}
 use Rattle.lane_sides.specs.Lane.{LaneForm}
 use Rattle.either_machines.specs.declared.either.Either.{Either}
 use Rattle.either_machines.specs.declared.either.Either.TheVariants.{Left, Right}
-use Rattle.world_turns.specs.Passed.{State}
+use Rattle.plan_desks.specs.Passed.{State}
 use Rattle.block_seats.specs.Seats.{IsUsed, AreUsed, SitLanes, SitManagers, IsAtStart, HaveSat, lefts, rights}
 
 module _ {A : Type 0} where

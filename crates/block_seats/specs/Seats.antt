@@ -10,7 +10,7 @@ use Rattle.lane_sides.specs.Lane.{LaneForm}
 use Rattle.lane_desks.specs.Grants.{IsShareOf}
 use Rattle.either_machines.specs.declared.either.Either.{Either}
 use Rattle.either_machines.specs.declared.either.Either.TheVariants.{Left, Right}
-use Rattle.world_turns.specs.Passed.{State}
+use Rattle.plan_desks.specs.Passed.{State}
 
 -- those on one side, in their order
 

@@ -12,7 +12,7 @@ use Rattle.lane_sides.specs.Lane.{LaneForm}
 use Rattle.plan_emissions.specs.Emitting.{grant_at}
 use Rattle.plan_desks.specs.Issuing.{AreShares}
 use Rattle.plan_desks.specs.Opening.{IsOpened}
-use Rattle.world_turns.specs.Passed.{State}
+use Rattle.plan_desks.specs.Passed.{State}
 
 -- of each lane that leaves the node there is the issuer as it was opened
 abbrev pub HasOpened : {K Q E X : Type 0} → State K Q E X → List Shares → (v : ℕ) → Post K E → List Share → Type 0

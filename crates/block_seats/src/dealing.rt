@@ -4,17 +4,17 @@ ghost use Rattle.net_model.specs.World.{Network, World};
 ghost use Rattle.run_acts.specs.Acting.{IsReady};
 ghost use Rattle.lane_shares.specs.declared.share.Share.{Share as ShareValue};
 ghost use Rattle.plan_desks.specs.Opening.{AllOpened};
-ghost use Rattle.world_turns.specs.Passed.{Stands};
+ghost use Rattle.plan_desks.specs.Passed.{Stands};
 ghost use Rattle.block_seats.specs.Sheets.{IsDealt};
 
 use crate::rows::node_row;
 use disk_model::Disk;
 use lane_shares::{Share, Shares};
+use plan_desks::turn_desks::world_turns::world_state::State;
 use qkd_base::{Memory, NodeNo};
 use source_devices::{Device, Entropy, Wire};
 use std::alloc::Global;
 use std::snapshot::Snapshot;
-use world_state::State;
 
 /// What a manager's desk has beside the manager as a block begins.
 #[derive(Drop)]

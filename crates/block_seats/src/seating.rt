@@ -5,7 +5,7 @@ ghost use Rattle.net_model.specs.World.{Network, World};
 ghost use Rattle.run_acts.specs.Acting.{IsReady};
 ghost use Rattle.block_seats.specs.Seats.{IsUsed, AreUsed, SitLanes, SitManagers, HaveSat, lefts, rights};
 ghost use Rattle.block_seats.specs.Sheets.{IsDealt};
-ghost use Rattle.world_turns.specs.Passed.{Stands};
+ghost use Rattle.plan_desks.specs.Passed.{Stands};
 
 use crate::dealing::Sheet;
 use declared_site::Site;
@@ -16,10 +16,10 @@ use lane_desks::LaneDesk;
 use lane_shares::{Share, Shares};
 use lane_sides::LaneSide;
 use plan_desks::PlanDesk;
+use plan_desks::turn_desks::world_turns::world_state::State;
 use qkd_base::NodeNo;
 use source_devices::{Device, Entropy, Wire};
 use std::snapshot::Snapshot;
-use world_state::State;
 
 /// A machine of a block.
 pub type Seat<'a, K, Q, E, X> = Either<PlanDesk<'a, K, Q, E, X>, LaneDesk<'a, X>>;

@@ -3,7 +3,7 @@ use Rattle.std.specs.Prelude.{slice_get}
 use Rattle.std.proofs.lemmas.Grind.{common_steps}
 use Rattle.net_model.specs.World.{Network, World}
 use Rattle.run_acts.specs.Acting.{IsReady}
-use Rattle.world_turns.specs.Passed.{Stands}
+use Rattle.plan_desks.specs.Passed.{Stands}
 use Rattle.block_seats.specs.Sheets.{HasOpened}
 use Rattle.block_seats.proofs.Sitting.{in_front, at_end, last_at, manager_sits, no_manager}
 use Rattle.block_seats.proofs.seating.seat_managers.Goals as goal
