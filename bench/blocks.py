@@ -6,12 +6,14 @@
 PROGRAM is the built program, and crates/qkdnet/out/qkdnet where none is named. Eight pairs of nodes make keys: no two pairs share a
 manager or a lane, and of each number of workers here each has pairs of its own. Printed are the least times of seven turns, without that
 of a scenario that ends before the lines: of the lines outside of a block, and in a block by 1, 2 and 4 workers, each as a ratio to the
-first. A last column has the lines a second of so many workers as a multiple of one worker's. No test depends on them.
+first. A last column has the lines a second of so many workers as a multiple of one worker's. The last lines say what the machine itself
+gives: the same for 2 and 4 programs at once that do the lines outside, which share nothing. No test depends on them.
 """
 import os
 import pathlib
 import subprocess
 import sys
+import tempfile
 import time
 
 HERE = pathlib.Path(__file__).resolve().parent
@@ -32,24 +34,48 @@ def fills():
     return [f"fill m{p}x{a} s{p}x{a} 4096 128" for a in APPLICATIONS for _ in range(16) for p in PAIRS]
 
 
-def seconds(workers, lines):
-    text = "".join(line + "\n" for line in [*declarations(), *lines, "end"]).encode()
-    start = time.perf_counter()
-    ran = subprocess.run([PROGRAM, "run", str(workers)], input=text, stdout=subprocess.DEVNULL)
-    if ran.returncode:
-        sys.exit(f"{PROGRAM} ends with {ran.returncode}")
-    return time.perf_counter() - start
+def text(lines):
+    return "".join(line + "\n" for line in [*declarations(), *lines, "end"]).encode()
+
+
+def seconds(workers, lines, programs=1):
+    """The time until so many programs at once have done the lines."""
+    with tempfile.TemporaryFile() as source:
+        source.write(text(lines))
+        start = time.perf_counter()
+        running = [subprocess.Popen([PROGRAM, "run", str(workers)], stdin=opened(source), stdout=subprocess.DEVNULL) for _ in range(programs)]
+        if any([it.wait() for it in running]):
+            sys.exit(f"{PROGRAM} fails")
+        return time.perf_counter() - start
+
+
+def opened(source):
+    """The file from its beginning, at a place of its own."""
+    source.flush()
+    return open(f"/proc/self/fd/{source.fileno()}", "rb")
 
 
 def main():
     block = ["together", *fills(), "apart"]
-    cases = [("before the lines", 1, []), ("outside", 1, fills()), ("block, 1 worker", 1, block), ("block, 2 workers", 2, block), ("block, 4 workers", 4, block)]
-    least = {name: min(seconds(workers, lines) for _ in range(TURNS)) for name, workers, lines in cases}
+    cases = {
+        "before the lines": (1, []),
+        "outside": (1, fills()),
+        "block, 1 worker": (1, block),
+        "block, 2 workers": (2, block),
+        "block, 4 workers": (4, block),
+        "2 programs": (1, fills(), 2),
+        "4 programs": (1, fills(), 4),
+    }
+    turns = [{name: seconds(*case) for name, case in cases.items()} for _ in range(TURNS)]
+    least = {name: min(turn[name] for turn in turns) for name in cases}
     start = least.pop("before the lines")
     outside, alone = least["outside"] - start, least["block, 1 worker"] - start
     print(f"processors {len(os.sched_getaffinity(0))}, lines {len(fills())}, start {start * 1000:.0f} ms")
+    programs = {count: least.pop(f"{count} programs") for count in (2, 4)}
     for name, time_of in least.items():
         print(f"{name:18} {(time_of - start) * 1000:7.0f} ms  {(time_of - start) / outside:5.2f} of outside  {alone / (time_of - start):5.2f} of one worker's rate")
+    for count, time_of in programs.items():
+        print(f"{count} programs at once {count * (outside + start) / time_of:5.2f} of one program's rate")
 
 
 if __name__ == "__main__":

@@ -29,7 +29,7 @@ use Rattle.world_frames.specs.declared.log.Log.{Log}
 use Rattle.world_frames.specs.Adding.{IsEmpty}
 use Rattle.world_frames.specs.Frames.{MayNoteAll}
 use Rattle.world_frames.specs.Noting.{NotesAll, EndsNotes}
-use Rattle.world_frames.proofs.ByLane.{all_note}
+use Rattle.world_frames.proofs.AllNote.{all_note}
 use Rattle.world_frames.proofs.Passed.{tallied_more}
 use Rattle.world_frames.proofs.RestsOver.{rests_over, notes_still}
 use Rattle.plan_emissions.specs.declared.emitted.Emitted.{Emitted}

@@ -5,6 +5,7 @@ use crate::script::{BASE, Lines, Script};
 use edge_io::{MemSink, MemSource, ReadSource};
 use qkd_base::Memory;
 use qkd_network::Status;
+use source_devices::Wire;
 use std::alloc::Global;
 use std::io;
 use std::test::Fail;
@@ -28,6 +29,10 @@ const DELIVERY: Lines = &[
     (
         "http A GET /api/v1/keys/bob/enc_keys HTTP/1.1\r\nX-SAE-ID: alice\r\n\r\n",
         "http A 200 {\"keys\":[{\"key\":\"AAECAwQFBgcICQoLDA0ODxAREhMUFRYXGBkaGxwdHh8=\",\"key_ID\":\"{K1}\"}]}",
+    ),
+    (
+        "http B POST /api/v1/keys/alice/dec_keys HTTP/1.1\r\nX-SAE-ID: bob\r\nContent-Length: 63\r\n\r\n{\"key_IDs\":[{\"key_ID\":\"{K1}\"}]}",
+        "http B 200 {\"keys\":[{\"key\":\"AAECAwQFBgcICQoLDA0ODxAREhMUFRYXGBkaGxwdHh8=\",\"key_ID\":\"{K1}\"}]}",
     ),
 ];
 
@@ -88,7 +93,32 @@ fn each_write_fails(rt: HostRuntime) -> Result<(), Fail> {
         report.push('\n')?;
         call = call.saturating_add(1);
     }
-    assert_eq!(rt; call, 18);
+    assert_eq!(rt; call, 19);
+    Ok(())
+}
+
+// A settle's lines are written as things are done: behind one that can't be written no later frame is put. Frames are those up and down.
+#[test]
+fn a_settle_ends_where_its_line_fails(rt: HostRuntime) -> Result<(), Fail> {
+    let alloc = rt.alloc();
+    let script = Script::of(alloc, &[BASE, DELIVERY])?;
+    for (call, up, down) in [
+        (5u64, 1u64, 0u64),
+        (7, 1, 0),
+        (8, 1, 2),
+        (12, 1, 2),
+        (13, 2, 2),
+    ] {
+        let mut source = source(alloc, script.text.as_str())?;
+        let mut sink = MemSink::new(alloc, ROOM, vec![in alloc; call]?)?;
+        let first = FirstParts::new(alloc, 2)?;
+        let (status, bench) = over(&rt, alloc, ONE_WORKER, first, &mut source, &mut sink)?;
+        assert_eq!(rt; status, Status::WriteFault, "write {call}");
+        let wire = bench.wires.first().ok_or("no wire")?;
+        assert_eq!(rt; wire.count(), up, "write {call}");
+        let wire = bench.wires.get(1).ok_or("no wire")?;
+        assert_eq!(rt; wire.count(), down, "write {call}");
+    }
     Ok(())
 }
 

@@ -68,6 +68,40 @@ fn words_are_a_form_or_not(rt: HostRuntime) -> Result<(), Fail> {
     Ok(())
 }
 
+// The ledgers of a load of one round, in which the first link alone carries keys, and how many were handed out.
+const LOADED: &str = "93 ledger 0 up received 1024 unused 652 spent 372 burnt 0\n\
+     94 ledger 0 down received 1024 unused 740 spent 284 burnt 0\n\
+     95 ledger 1 up received 1024 unused 1016 spent 8 burnt 0\n\
+     96 ledger 1 down received 1024 unused 1016 spent 8 burnt 0\n\
+     97 ledger 2 up received 1024 unused 1016 spent 8 burnt 0\n\
+     98 ledger 2 down received 1024 unused 1016 spent 8 burnt 0\n\
+     99 ledger 3 up received 1024 unused 1016 spent 8 burnt 0\n\
+     100 ledger 3 down received 1024 unused 1016 spent 8 burnt 0\n\
+     101 ledger 4 up received 1024 unused 1016 spent 8 burnt 0\n\
+     102 ledger 4 down received 1024 unused 1016 spent 8 burnt 0\n\
+     103 ledger 5 up received 1024 unused 1016 spent 8 burnt 0\n\
+     104 ledger 5 down received 1024 unused 1016 spent 8 burnt 0\n\
+     105 ledger 6 up received 1024 unused 1016 spent 8 burnt 0\n\
+     106 ledger 6 down received 1024 unused 1016 spent 8 burnt 0\n\
+     107 ledger 7 up received 1024 unused 1016 spent 8 burnt 0\n\
+     108 ledger 7 down received 1024 unused 1016 spent 8 burnt 0\n\
+     handed 4 4\n";
+
+#[test]
+fn a_load_is_run(rt: HostRuntime) -> Result<(), Fail> {
+    let alloc = rt.alloc();
+    let mut source = source(alloc, "no line of a scenario\n")?;
+    let mut sink = MemSink::new(alloc, ROOM, Vec::new(alloc))?;
+    let first = FirstParts::new(alloc, 2)?;
+    let (status, bench) = over(&rt, alloc, "load 1", first, &mut source, &mut sink)?;
+    assert_eq!(rt; status, Status::Done);
+    assert_eq!(rt; sink.taken(), LOADED.as_bytes());
+    assert_eq!(rt; sink.pieces(), 17);
+    assert_eq!(rt; source.left(), "no line of a scenario\n".as_bytes());
+    assert!(rt; is_whole(&bench));
+    Ok(())
+}
+
 // Scenarios, and how they end.
 const TEXTS: &[(&str, Status)] = &[
     ("end", Status::Done),

@@ -60,3 +60,68 @@ fn a_worker_goes_on_while_another_is_held(rt: HostRuntime) -> Result<(), Fail> {
     assert_eq!(rt; gate.was_in_vain.load(Ordering::SeqCst), 0);
     Ok(())
 }
+
+// Holds worker 1 before its first line until a frame is being sealed, and who seals first until another does too.
+#[derive(Drop)]
+struct BothSeal {
+    sealing: AtomicU64,
+    was_in_vain: AtomicU64,
+}
+
+impl BothSeal {
+    // Waits until so many frames are being sealed, or were.
+    fn wait_for(&self, count: u64) {
+        for _ in 0..TRIES {
+            if self.sealing.load(Ordering::SeqCst) >= count {
+                return;
+            }
+        }
+        self.was_in_vain.store(1, Ordering::SeqCst);
+    }
+}
+
+impl Gate for BothSeal {
+    fn pass(&self, worker: u32, turn: u32) {
+        if worker == 1 && turn == 0 {
+            self.wait_for(1);
+        }
+    }
+
+    fn seal(&self, _link: u8, _offset: u64) {
+        self.sealing.fetch_add(1, Ordering::SeqCst);
+        self.wait_for(2);
+    }
+}
+
+// One key on its way, and a block in which two workers tick its node.
+const TWO_TICKS: &str = "fill alice bob 256 1\n\
+    together\n\
+    tick A\n\
+    fill alice bob 256 1\n\
+    status A alice bob\n\
+    tick A\n\
+    apart\nend\n";
+
+#[test]
+fn two_workers_seal_at_once(rt: HostRuntime) -> Result<(), Fail> {
+    let alloc = rt.alloc();
+    let gate = BothSeal {
+        sealing: AtomicU64::new(0),
+        was_in_vain: AtomicU64::new(0),
+    };
+    let text = format!(in alloc;
+        "node A\nnode B\nlink A B\nsae alice A\nsae bob B\nallow alice bob\nbits 0 both 8\n{TWO_TICKS}"
+    )?;
+    let mut first = FirstParts::new(alloc, 8)?;
+    first.drawn = octets(alloc, 64)?;
+    let mut source = source(alloc, text.as_str())?;
+    let mut sink = MemSink::new(alloc, ROOM, Vec::new(alloc))?;
+    let (status, _bench) = held_over(&rt, alloc, &gate, "run 2", first, &mut source, &mut sink)?;
+    let report = String::from_utf8_lossy(alloc, sink.taken())?;
+    assert_eq!(rt; status, Status::Done);
+    assert!(rt;
+        report.as_str().contains("sent 0 up 0 ") && report.as_str().contains("sent 0 up 1 ")
+    );
+    assert_eq!(rt; gate.was_in_vain.load(Ordering::SeqCst), 0);
+    Ok(())
+}

@@ -1,29 +1,18 @@
 -- The ends of lanes are written down place by place.
-use Rattle.std.proofs.Common.{◌≡◌, ℕ, ◌+◌, ◌*◌, ◌/◌, ◌%◌, ◌<◌, ◌≤◌, Bool, true, false, List, [], ◌∷◌, ◌++◌, length, take, drop, refl, sym, ap, subst, ◌∙◌, arith, Option, Some, None}
+use Rattle.std.proofs.Common.{◌≡◌, ℕ, ◌+◌, ◌*◌, ◌/◌, ◌%◌, ◌<◌, ◌≤◌, true, false, List, [], ◌∷◌, ◌++◌, length, refl, sym, ap, subst, ◌∙◌, arith, Option, Some, None}
 use Rattle.std.specs.Prelude.{◌==◌, slice_get, slice_set, is_some}
 use Rattle.qkd_base.specs.declared.lane.Lane.{Lane}
 use Rattle.qkd_base.specs.declared.lane.Way.{Way}
 use Rattle.qkd_base.specs.declared.lane.Way.TheVariants.{Up, Down}
-use Rattle.net_model.specs.declared.reply.Reply.{Reply}
-use Rattle.net_model.specs.OctetSequence.{OctetSequence}
 use Rattle.net_model.specs.Site.{Site, sender}
-use Rattle.net_model.specs.World.{Network, World}
 use Rattle.net_model.specs.Events.{is_lane}
 use Rattle.kme_store.specs.declared.post.Post.{Post}
-use Rattle.kme_store.specs.declared.post.Post.TheVariants.{On, Off}
-use Rattle.run_blocks.specs.declared.job.Job.{Job}
 use Rattle.law_records.proofs.Base.{eq_same, eq_from, not_both}
 use Rattle.resend_window.proofs.Lists.{get_set_same, get_set_other}
-use Rattle.world_lanes.specs.Stands.{IsRunning}
-use Rattle.world_turns.specs.Passed.{PostStands}
 use Rattle.world_turns.specs.Passed.{of_way, place_of}
-use Rattle.world_turns.proofs.Passed.{manager_lease, no_manager}
 use Rattle.world_turns.proofs.Passed.{placed_length}
-use Rattle.world_turns.specs.Leases.{Wrote, WroteFor}
 use Rattle.world_turns.specs.Turning.{planner}
 use Rattle.turn_desks.specs.Leases.{lease_at, EndsOf, EndsAt, WroteOf, WroteAt}
-use Rattle.turn_desks.specs.Taking.{IsTurnAt}
-use Rattle.turn_desks.proofs.Takes.{planned_node}
 
 -- ---- the lane at a place
 
@@ -123,47 +112,3 @@ module _ {K E : Type 0} (s : Site) (v : ℕ) (post : Post K E) (old new : List �
   pub wrote_not : (planner : Option ℕ) → is_some planner ≡ false → new ≡ old → WroteAt s v planner post old new
   wrote_not None is h = h
   wrote_not (Some u) is h = cc
-
--- ---- a list of which all was written
-
-front : {A : Type 0} (xs ys : List A) → take (length xs) (xs ++ ys) ≡ xs
-front [] [] = refl
-front [] (y ∷ ys) = refl
-front {A} (x ∷ xs) ys = ap (λ (zs : List A). x ∷ zs) (front xs ys)
-
-written_back : {A : Type 0} (n : ℕ) (xs ys : List A) → length xs ≡ n → take n (xs ++ drop (length xs) ys) ≡ xs
-written_back {A} n xs ys long = ap (λ (m : ℕ). take m (xs ++ drop (length xs) ys)) (sym long) ∙ front xs (drop (length xs) ys)
-
-module _ {K E : Type 0} (s : Site) (v : ℕ) (post : Post K E) where
-  wrote_length : (planner : Option ℕ) (old new : List ℕ) → WroteAt s v planner post old new → length new ≡ length old
-  wrote_length None old new h = ap (λ (xs : List ℕ). length xs) h
-  wrote_length (Some u) old new h = h.sides
-
-  pub wrote_back : (planner : Option ℕ) (items given now : List ℕ) (n : ℕ) → given ≡ items → n ≡ length items → WroteAt s v planner post given now → WroteAt s v planner post items (take n (now ++ drop (length now) items))
-  wrote_back planner items given now n gives size h =
-      let wrote : WroteAt s v planner post items now = subst (λ (xs : List ℕ). WroteAt s v planner post xs now) gives h in
-      subst (WroteAt s v planner post items) (sym (written_back n now items (wrote_length planner items now wrote ∙ sym size))) wrote
-
--- ---- what a manager has is what the network has
-
-module _ {K E : Type 0} (is_honest : K → Bool) (moment : K → ℕ) (image : K → ℕ → List ℕ → Type 0) (left : E → Option OctetSequence) (net : Network) (w : World) (v : ℕ) (running : IsRunning net w) where
-  its_lease : (post : Post K E) → PostStands is_honest moment image left net w v post → (l : Lane) → is_lane net.site l ≡ true → sender net.site l ≡ v → w.up v ≡ true → lease_at post l ≡ w.durable.lease l
-  its_lease (On m) stands l at from up = manager_lease is_honest moment image left net w v l running up at from m stands
-  its_lease (Off disk entropy) stands l at from up = no_manager is_honest moment image left net w v l running up at from disk entropy stands
-
-  module _ (post : Post K E) (stands : PostStands is_honest moment image left net w v post) (old new : List ℕ) where
-    wrote : WroteOf net.site v post old new → Wrote net w v old new
-    wrote h = record {
-      sides = h.sides;
-      mine = λ l at from up below. h.mine l at from below ∙ ap Some (its_lease post stands l at from up);
-      others = h.others;
-    }
-
-    -- behind a plan of this node's manager, or of none
-    pub wrote_for : (planner : Option ℕ) → ((u : ℕ) → planner ≡ Some u → u ≡ v) → WroteAt net.site v planner post old new → WroteFor net w planner old new
-    wrote_for None mine h = h
-    wrote_for (Some u) mine h = subst (λ (n : ℕ). Wrote net w n old new) (sym (mine u refl)) (wrote h)
-
-    -- behind a turn
-    pub wrote_turn : (place : ℕ) (job : Job) (reply : Reply) → IsTurnAt net.site v place job → WroteAt net.site v (planner job reply) post old new → WroteFor net w (planner job reply) old new
-    wrote_turn place job reply mine h = wrote_for (planner job reply) (λ u is. planned_node net.site v place u job reply mine is) h

@@ -1,6 +1,5 @@
 -- A manager takes its turns, one at a time.
-use Rattle.std.specs.Prelude.{◌≡◌, ℕ, ◌<◌, Bool, true, List, [], ◌∷◌, ◌++◌, length, Option, Vec, vec_capacity}
-use Rattle.std.specs.declared.alloc.Global.{Global}
+use Rattle.std.specs.Prelude.{◌≡◌, ℕ, Bool, true, List, [], ◌∷◌, Option}
 use Rattle.disk_model.specs.declared.arm.Armings.{Armings}
 use Rattle.net_model.specs.declared.reply.Reply.{Reply}
 use Rattle.net_model.specs.OctetSequence.{OctetSequence}
@@ -12,7 +11,6 @@ use Rattle.kme_site.specs.Up.{AreUp}
 use Rattle.kme_store.specs.declared.post.Post.{Post}
 use Rattle.run_acts.specs.Acting.{IsReady}
 use Rattle.run_blocks.specs.declared.job.Job.{Job}
-use Rattle.run_blocks.specs.declared.done_block.Turned.{Turned}
 use Rattle.run_blocks.specs.Jobs.{asked_for, is_job, turn_for}
 use Rattle.world_lanes.specs.Stands.{IsRunning}
 use Rattle.world_turns.specs.Passed.{Happens}
@@ -20,8 +18,7 @@ use Rattle.world_turns.specs.Passed.{PostStands}
 use Rattle.world_turns.specs.Passed.{Stands}
 use Rattle.world_turns.specs.Passed.{State}
 use Rattle.world_turns.specs.Order.{HasOctets}
-use Rattle.world_turns.specs.Turning.{asked_with, planner}
-use Rattle.turn_desks.specs.Leases.{WroteAt}
+use Rattle.world_turns.specs.Turning.{asked_with}
 
 -- the one turn of the node's manager that the job at a place asks for
 abbrev pub IsTurnAt : Site → (v place : ℕ) → Job → Type 0
@@ -49,16 +46,3 @@ abbrev pub HappensAt : {K E : Type 0} → (K → Bool) → (K → ℕ) → (K �
     Job → Reply → Type 0
 HappensAt is_honest moment image disk_count armed left entropy_count net w v old new job reply =
     Happens is_honest moment image disk_count armed left entropy_count (λ environment. asked_with job environment) net w v old new (Replies reply)
-
--- A turn was taken: what the manager did in any world in which it could take it, its reply behind those before, and what is written down of
--- leases.
-pub record TookTurnAt {K E : Type 0} (is_honest : K → Bool) (moment : K → ℕ) (image : K → ℕ → List ℕ → Type 0) (disk_count : K → ℕ) (armed : K → Armings) (left : E → Option OctetSequence) (entropy_count : E → ℕ)
-    (s : Site) (v linked : ℕ) (old : Post K E) (said : Vec Turned Global) (leases : List ℕ) (place : ℕ) (job : Job) (octets : Option (List ℕ))
-    (linked' : ℕ) (new : Post K E) (said' : Vec Turned Global) (leases' : List ℕ) : Type 0 where
-  pub reply : Reply
-  pub happens : (net : Network) (w : World) → MayTurnAt is_honest moment image left net w v place old job octets linked →
-      HappensAt is_honest moment image disk_count armed left entropy_count net w v old new job reply
-  pub done : length said.items < vec_capacity said → said'.items ≡ said.items ++ record { place = place; reply = reply } ∷ []
-  pub room : vec_capacity said' ≡ vec_capacity said
-  pub leased : WroteAt s v (planner job reply) new leases leases'
-  pub up : linked' ≡ linked

@@ -16,7 +16,7 @@ use run_blocks::Job;
 use source_devices::Entropy;
 
 /// The lane that stands at a place, if one may.
-pub fn lane_at(place: usize) -> Option<Lane>
+fn lane_at(place: usize) -> Option<Lane>
     ensures { (l : LaneValue) → l.link < 32 → place_of l ≡ place → result ≡ Some l }
 {
     if place >= 64 {

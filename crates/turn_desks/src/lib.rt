@@ -1,16 +1,12 @@
-//! The machine of one node in a block of lines: its manager, which takes turns one at a time, in whatever order they come.
+//! A turn of one node's manager in a block of lines, and the leases behind a plan.
 #![tactic(auto)]
 
-mod desk;
 mod leases;
-mod machine;
 mod putting;
-mod room;
 mod taking;
 mod turn;
 
-pub use desk::Desk;
-pub use leases::{lane_at, write_leases};
+pub use leases::write_leases;
 pub use taking::take_turn;
 pub use turn::Turn;
 pub use world_turns;

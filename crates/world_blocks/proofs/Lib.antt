@@ -1,4 +1,2 @@
-pub mod AllDone
-pub mod InOrder
+pub mod Nobody
 pub mod Passed
-pub mod Tallied

@@ -9,18 +9,18 @@ use disk_model::Disk;
 use edge_io::Gate;
 use qkd_base::Memory;
 use run_blocks::{DoneBlock, Job};
-use shared_turns::take_turns;
-use shared_turns::world_turns::Turns;
+use shared_blocks::block_notes::note_block;
+use shared_blocks::block_notes::world_frames::world_state::State;
+use shared_blocks::work_block;
 use source_devices::{Device, Entropy, Wire};
 use std::alloc::Global;
 use std::sync::Wait;
 use std::thread::Threads;
-use world_frames::put_frames;
-use world_frames::world_state::State;
 
-/// So many workers do the jobs of a block: the managers take their turns, all workers at the same time where threads can be had; then all
-/// frames that the plans want put are put, lane by lane; and then each node notes what became of its own. It answers the replies and what
-/// is reported of the frames. An `Err` is want of memory, which ends the run: nobody was asked, or all was done.
+/// So many workers do the jobs of a block, all at the same time where threads can be had: each asks the managers for the turns of its
+/// own jobs, and puts the frames of each plan over the lanes before its next job. When all are done each node notes what became of its
+/// own frames. It answers the replies and what is reported of the frames. An `Err` is want of memory, which ends the run: nobody was
+/// asked, or all was done.
 pub fn together<
     R: Threads + Wait + Sync,
     G: Gate,
@@ -41,10 +41,6 @@ pub fn together<
         (Rests K.is_honest K.moment K.image E.left Q.told X.frames X.counted) (Tallied K.faults K.armings E.faults Q.faults X.faults)
         (λ s. most_armed K.armings s.posts.items) state.old state.new workers jobs.now result }
 {
-    let Turns { done, leases } = take_turns(rt, alloc, gate, state, workers, jobs)?;
-    let frames = put_frames(alloc, state, &done, &leases)?;
-    Ok(DoneBlock {
-        turns: done,
-        frames,
-    })
+    let worked = work_block(rt, alloc, gate, state, workers, jobs)?;
+    note_block(alloc, state, worked)
 }

@@ -30,7 +30,7 @@ use Rattle.world_state.proofs.StateGoesOn.{enabled_of}
 use Rattle.world_state.proofs.Tallies.{none_tallied, tallied_more}
 use Rattle.world_frames.specs.Frames.{MayNoteAll}
 use Rattle.world_frames.specs.Noting.{MayNoteOne, NotesOne, StaysOne, NotesAll, EndsNotes}
-use Rattle.world_frames.proofs.ByLane.{all_note}
+use Rattle.world_frames.proofs.AllNote.{all_note}
 use Rattle.world_frames.proofs.Noted.{notes_of, noted_run, noted_over, run_next, over_next, rest_of, may_next, placings_kept}
 use Rattle.world_frames.proofs.RestsOver.{rests_over, notes_still}
 

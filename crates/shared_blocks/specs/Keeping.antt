@@ -1,0 +1,14 @@
+-- What a worker keeps before its first job.
+use Rattle.std.specs.Prelude.{◌≡◌, ◌≤◌, true, List, [], length, vec_capacity}
+use Rattle.std.specs.List.{AllZip}
+use Rattle.lane_shares.specs.declared.shares.Shares.{Shares}
+use Rattle.lane_desks.specs.Grants.{IsShareOf}
+use Rattle.block_talks.specs.declared.keep.Keep.{Keep}
+
+-- a share of each lane that has no byte, room for a reply to each entry of its shift, and neither a reply nor a frame
+pub record IsFresh (shares : List Shares) (keep : Keep) : Type 0 where
+  pub granted : AllZip (λ d share. IsShareOf d 0 share) shares keep.granted.items
+  pub replies : keep.replies.items ≡ []
+  pub room : length keep.shift.items ≤ vec_capacity keep.replies
+  pub whole : keep.log.is_whole ≡ true
+  pub frames : keep.log.frames.items ≡ []
