@@ -5,5 +5,6 @@ mod gathering;
 mod order;
 mod room;
 
+pub use block_notes;
 pub use gathering::gather;
 pub use room::Room;

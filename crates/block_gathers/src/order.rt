@@ -4,9 +4,9 @@ ghost use Rattle.std.specs.List.Sorted.{IsPermutation};
 ghost use Rattle.qkd_base.specs.Lane.{lane_place};
 ghost use Rattle.world_lane_works.specs.Sorting.{IsSortedByBoth};
 
+use block_notes::world_frames::world_state::lane_place;
 use block_talks::Replied;
 use plan_emissions::Emitted;
-use world_state::lane_place;
 
 // Replies in order of node, and those of a node in the order of its manager's turns.
 pub(crate) fn by_node(mut replies: Vec<Replied>) -> Vec<Replied>

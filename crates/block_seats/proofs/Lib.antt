@@ -2,3 +2,4 @@ pub mod Mixing
 pub mod Leaving
 pub mod Dealt
 pub mod Sitting
+pub mod Passed

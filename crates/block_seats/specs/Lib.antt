@@ -1,3 +1,4 @@
 pub mod Rows
 pub mod Seats
 pub mod Sheets
+pub mod Passed

@@ -8,3 +8,4 @@ pub mod Managers
 pub mod Lanes
 pub mod Frames
 pub mod Whole
+pub mod Passed

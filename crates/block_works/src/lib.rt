@@ -1,4 +1,6 @@
 //! What the workers of a block did at the desks of its managers and lanes is what so many workers may do in the network.
+pub use turn_shifts;
+
 #![tactic(auto)]
 
 ghost use Rattle.std.specs.Prelude.{◌≡◌, ℕ, List};

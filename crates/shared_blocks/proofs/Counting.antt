@@ -6,7 +6,7 @@ use Rattle.std.proofs.Math.Nat.{mod-lt}
 use mathlib.Core.Logic.{dite}
 use native.Mathlib.Decide.{dec_le}
 use Rattle.block_run.specs.Jobs.{job_count}
-use Rattle.turn_shifts.proofs.Counting.{count_none, count_in, count_out}
+use Rattle.block_works.proofs.Passed.{count_none, count_in, count_out}
 
 -- how many jobs the first workers have
 abbrev pub counts : (n jobs : ℕ) → ℕ → ℕ

@@ -15,13 +15,13 @@ use Rattle.lane_sides.specs.Lane.{LaneForm}
 use Rattle.shared_machines.specs.declared.call.Call.{Call}
 use Rattle.shared_machines.proofs.Lasts.{written_back}
 use Rattle.shared_machines.proofs.Zips.{zip_same}
-use Rattle.block_talks.specs.Passed.{Turn}
-use Rattle.turn_shifts.specs.Calls.{AreShifts}
+use Rattle.block_gathers.specs.Passed.{Turn}
+use Rattle.block_works.specs.Passed.{AreShifts}
 use Rattle.plan_desks.specs.Opening.{AllOpened}
 use Rattle.plan_desks.proofs.Openings.{opened_long}
-use Rattle.world_turns.specs.Passed.{State, Stands}
-use Rattle.block_notes.specs.declared.worked.Worked.{Worked}
-use Rattle.block_notes.specs.Working.{HasWorked}
+use Rattle.block_seats.specs.Passed.{State, Stands}
+use Rattle.block_gathers.specs.Passed.{Worked}
+use Rattle.block_gathers.specs.Passed.{HasWorked}
 use Rattle.block_seats.specs.Sheets.{IsDealt}
 use Rattle.block_seats.proofs.Dealt.{opened_as}
 

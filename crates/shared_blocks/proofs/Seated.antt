@@ -20,13 +20,13 @@ use Rattle.shared_machines.proofs.Zips.{item_at}
 use Rattle.plan_desks.specs.declared.ask.PlanAsk.{PlanAsk}
 use Rattle.plan_desks.specs.declared.ask.PlanAnswer.{PlanAnswer}
 use Rattle.plan_desks.proofs.Places.{same_place, lane_within}
-use Rattle.block_talks.specs.declared.keep.Keep.{Keep}
-use Rattle.block_talks.specs.Together.{HaveWorked}
+use Rattle.block_gathers.specs.Passed.{Keep}
+use Rattle.block_gathers.specs.Passed.{HaveWorked}
 use Rattle.block_errands.specs.Working.{AreSeated}
 use Rattle.block_seats.specs.Seats.{HaveSat, IsAtStart, lefts, rights}
 use Rattle.block_works.specs.Seats.{AreSat, HaveRisen}
-use Rattle.world_turns.specs.Passed.{State, Stands}
-use Rattle.world_turns.proofs.Histories.{counted_at}
+use Rattle.block_seats.specs.Passed.{State, Stands}
+use Rattle.block_seats.proofs.Passed.{counted_at}
 use Rattle.shared_blocks.proofs.Places.{made_of, makes, left_at, right_at, right_back, lefts_of, rights_of, AreSplit, split_at}
 use Rattle.shared_blocks.proofs.Replies.{all_at}
 

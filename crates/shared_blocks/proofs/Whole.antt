@@ -22,15 +22,15 @@ use Rattle.plan_desks.specs.declared.ask.PlanAnswer.{PlanAnswer}
 use Rattle.declared_site.specs.SiteOf.{site_of}
 use Rattle.shared_machines.specs.declared.call.Call.{Call}
 use Rattle.shared_machines.proofs.Zips.{zip_weaker}
-use Rattle.block_talks.specs.Passed.{Turn}
-use Rattle.turn_shifts.specs.Calls.{AreShifts, AreComing}
-use Rattle.turn_shifts.proofs.Workers.{long_jobs}
-use Rattle.block_talks.specs.declared.keep.Keep.{Keep}
-use Rattle.block_talks.specs.Together.{HaveWorked}
-use Rattle.block_notes.specs.declared.worked.Worked.{Worked}
-use Rattle.block_talks.specs.Passed.{MayCall, TookPlanTurn}
-use Rattle.block_talks.specs.Doing.{DoesJob}
-use Rattle.block_talks.proofs.Together.{either_turn, worked as talked}
+use Rattle.block_gathers.specs.Passed.{Turn}
+use Rattle.block_works.specs.Passed.{AreShifts, AreComing}
+use Rattle.block_works.proofs.Passed.{long_jobs}
+use Rattle.block_gathers.specs.Passed.{Keep}
+use Rattle.block_gathers.specs.Passed.{HaveWorked}
+use Rattle.block_gathers.specs.Passed.{Worked}
+use Rattle.block_gathers.specs.Passed.{MayCall, TookPlanTurn}
+use Rattle.block_gathers.specs.Passed.{DoesJob}
+use Rattle.block_gathers.proofs.Passed.{either_turn, worked as talked}
 use Rattle.block_errands.specs.Working.{AreSeated, MayAsk, MayWork}
 use Rattle.block_seats.specs.Seats.{HaveSat, lefts, rights}
 use Rattle.block_gathers.specs.Gathering.{AreGathered}
@@ -38,7 +38,7 @@ use Rattle.block_works.specs.Desks.{ManagerTurns, LaneTurns}
 use Rattle.block_works.specs.Gathering.{AreBare}
 use Rattle.block_works.specs.Gathering.{AreGathered as AreAll}
 use Rattle.block_works.specs.Going.{WentThrough}
-use Rattle.world_turns.specs.Passed.{State}
+use Rattle.block_seats.specs.Passed.{State}
 use Rattle.shared_blocks.specs.Keeping.{IsFresh}
 use Rattle.shared_blocks.proofs.Replies.{all_at}
 use Rattle.shared_blocks.proofs.Places.{AreSplit, lefts_of, rights_of}

@@ -5,7 +5,7 @@ use Rattle.qkd_base.specs.declared.lane.Lane.{Lane}
 use Rattle.qkd_base.specs.declared.lane.Way.{Way}
 use Rattle.qkd_base.specs.declared.lane.Way.TheVariants.{Up, Down}
 use Rattle.world_lane_works.specs.Sorting.{IsSortedByBoth}
-use Rattle.world_state.specs.Stands.{of_way, place_of}
+use Rattle.block_notes.specs.Passed.{of_way, place_of}
 use Rattle.block_gathers.proofs.order.by_lane.Goals as goal
 
 same_place : (l : Lane) → place_of l ≡ lane_place l

@@ -3,7 +3,7 @@ use denote.Param.{param}
 use denote.Param.Send.{param_send, param_sync, arg_send, arg_sync}
 use Rattle.std.proofs.Common.{◌≡◌, ◌++◌, length, map, refl, sym, ap, ◌∙◌, arith}
 use Rattle.shared_machines.proofs.Lasts.{same_vec}
-use Rattle.world_turns.specs.Passed.{most_armed}
+use Rattle.block_seats.specs.Passed.{most_armed}
 use Rattle.block_seats.specs.Seats.{lefts, rights}
 use Rattle.block_seats.proofs.Dealt.{few_nodes}
 use Rattle.block_works.proofs.Whole.{has_worked, has_armed}

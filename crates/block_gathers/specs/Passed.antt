@@ -1,0 +1,8 @@
+-- What stands below this crate, for those above it that name it no other way.
+pub use Rattle.block_notes.specs.Working.{HasWorked}
+pub use Rattle.block_notes.specs.declared.worked.Worked.{Worked}
+pub use Rattle.block_talks.specs.Doing.{Answer, Ask, DidEntry, DoesJob}
+pub use Rattle.block_talks.specs.Passed.{MayCall, TookPlanTurn, Turn}
+pub use Rattle.block_talks.specs.Together.{HaveWorked}
+pub use Rattle.block_talks.specs.declared.keep.Keep.{Keep}
+pub use Rattle.block_talks.specs.declared.keep.Replied.{Replied}
