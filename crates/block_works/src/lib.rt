@@ -1,6 +1,4 @@
 //! What the workers of a block did at the desks of its managers and lanes is what so many workers may do in the network.
-pub use turn_shifts;
-
 #![tactic(auto)]
 
 ghost use Rattle.std.specs.Prelude.{◌≡◌, ℕ, List};
@@ -17,6 +15,7 @@ ghost use Rattle.block_works.specs.Going.{WentThrough};
 
 use disk_model::Disk;
 use source_devices::{Device, Entropy, Wire};
+pub use turn_shifts;
 
 /// A block that went through from a network that was ready is one that so many workers may do. The managers took the turns that the
 /// workers ask of them, and each lane did just what the plans want of it; the state stands for the world behind that; and where all was
