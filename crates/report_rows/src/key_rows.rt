@@ -48,10 +48,8 @@ fn key_list(alloc: Global, rest: &[u8]) -> Result<Keys, LineRefusal>
 pub fn keys(alloc: Global, rest: &[u8]) -> Result<Item, LineRefusal>
     ensures { Gives (keys_at (words_in rest.now)) result }
 {
-    match key_list(alloc, rest) {
-        Ok(keys) => Ok(Item::Keys(keys)),
-        Err(refusal) => Err(refusal),
-    }
+    let keys = key_list(alloc, rest)?;
+    Ok(Item::Keys(keys))
 }
 
 /// `status READY`
@@ -119,10 +117,8 @@ fn chunk(alloc: Global, rest: &[u8]) -> Result<Chunk, LineRefusal>
 {
     let (index_word, hex) = two(rest).ok_or(LineRefusal::NotALine)?;
     let index = number(index_word).ok_or(LineRefusal::NotALine)?;
-    match octets(alloc, hex) {
-        Ok(bytes) => Ok(Chunk { index, bytes }),
-        Err(refusal) => Err(refusal),
-    }
+    let bytes = octets(alloc, hex)?;
+    Ok(Chunk { index, bytes })
 }
 
 fn handed_chunk(alloc: Global, rest: &[u8]) -> Result<Option<Chunk>, LineRefusal>
@@ -131,10 +127,8 @@ fn handed_chunk(alloc: Global, rest: &[u8]) -> Result<Option<Chunk>, LineRefusal
     if is_over(rest) {
         return Ok(None);
     }
-    match chunk(alloc, rest) {
-        Ok(chunk) => Ok(Some(chunk)),
-        Err(refusal) => Err(refusal),
-    }
+    let chunk = chunk(alloc, rest)?;
+    Ok(Some(chunk))
 }
 
 /// `GET_KEY STATUS` or `GET_KEY STATUS INDEX HEX`
@@ -144,10 +138,8 @@ pub fn got(alloc: Global, rest: &[u8]) -> Result<Item, LineRefusal>
 {
     let (status_word, rest) = word(rest).ok_or(LineRefusal::NotALine)?;
     let status = byte(status_word).ok_or(LineRefusal::NotALine)?;
-    match handed_chunk(alloc, rest) {
-        Ok(chunk) => Ok(Item::Stream(StreamAnswer::GetKey { status, chunk })),
-        Err(refusal) => Err(refusal),
-    }
+    let chunk = handed_chunk(alloc, rest)?;
+    Ok(Item::Stream(StreamAnswer::GetKey { status, chunk }))
 }
 
 /// `CLOSE STATUS`
@@ -180,15 +172,15 @@ fn shown(alloc: Global, node: NodeNo, name: KeyName, text: &[u8]) -> Result<Item
 {
     let (first, rest) = word(text).ok_or(LineRefusal::NotALine)?;
     match state(first) {
-        Some(held) => match held_octets(alloc, held, rest) {
-            Ok(bytes) => Ok(Item::Shown {
+        Some(held) => {
+            let bytes = held_octets(alloc, held, rest)?;
+            Ok(Item::Shown {
                 node,
                 name,
                 held,
                 bytes,
-            }),
-            Err(refusal) => Err(refusal),
-        },
+            })
+        }
         None => match refusal(text) {
             Some(refusal) => Ok(Item::NotShown {
                 node,

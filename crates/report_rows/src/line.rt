@@ -35,10 +35,8 @@ fn candidate(alloc: Global, nodes: &Texts, line: &[u8]) -> Result<NumberedItem, 
 {
     let size = len_to(b' ', line);
     let number = number(front(line, size)).ok_or(LineRefusal::NotALine)?;
-    match item(alloc, nodes, without_end(behind(line, size))) {
-        Ok(item) => Ok(NumberedItem { number, item }),
-        Err(refusal) => Err(refusal),
-    }
+    let item = item(alloc, nodes, without_end(behind(line, size)))?;
+    Ok(NumberedItem { number, item })
 }
 
 // The line that tells this.
