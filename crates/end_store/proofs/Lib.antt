@@ -7,4 +7,5 @@ pub mod Forgotten
 pub mod Stocked
 pub mod Readied
 pub mod Released
+pub mod Handing
 pub mod Learning

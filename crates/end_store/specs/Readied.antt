@@ -23,6 +23,10 @@ readied_pool me facts handed (Some (Stored note about route)) =
     if is_own me about && not (list_any (is_stored_about about) facts) then free_pool handed (fact_at facts about) else None
 readied_pool me facts handed _ = None
 
+-- the pool of a key of this name, if it is ready
+abbrev pub ready_pool : ℕ → List Fact → Name → Option Pool → Option Pool
+ready_pool me facts n o = if is_own me n && list_any (is_stored_about n) facts then o else None
+
 -- the pool of the ready key of a name, if this is its master
 abbrev pub ready_pool_of : ℕ → List Fact → Name → ℕ → Option Pool
-ready_pool_of me facts n sae = if is_own me n && list_any (is_stored_about n) facts then key_pool sae (fact_at facts n) else None
+ready_pool_of me facts n sae = ready_pool me facts n (key_pool sae (fact_at facts n))

@@ -25,6 +25,15 @@ pub record IsPut (old new : List (List ℕ × ℕ)) (p : Pool) (n : ℕ) : Type 
   pub own : (m : ℕ) → stock_at new p ≡ Some m → m ≡ n
   pub others : (q : Pool) → pool_eq p q ≡ false → stock_at new q ≡ stock_at old q
 
+-- the pool's number, if it has one, is one less
+pub record IsLowered (old new : List (List ℕ × ℕ)) (p : Pool) : Type 0 where
+  pub absent : stock_at old p ≡ None → new ≡ old
+  pub less : (n : ℕ) → stock_at old p ≡ Some n → IsPut old new p (n - 1)
+
+abbrev pub LowersBy : List (List ℕ × ℕ) → List (List ℕ × ℕ) → Option Pool → Type 0
+LowersBy old new None = new ≡ old
+LowersBy old new (Some p) = IsLowered old new p
+
 -- each number that is there is that of the pool's keys that their master hasn't got
 pub record AreStocks (facts : List Fact) (handed : List (Name × ℕ)) (stocks : List (List ℕ × ℕ)) : Type 0 where
   pub right : (p : Pool) (n : ℕ) → stock_at stocks p ≡ Some n → n ≡ count_by (is_free_key handed p) facts

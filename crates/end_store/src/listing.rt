@@ -1,6 +1,7 @@
 // How what waits is put into an index and taken out of it. The index may lag behind the facts where memory was wanting.
-ghost use Rattle.std.specs.Prelude.{◌≡◌, ◌+◌, IsTrue, false};
-ghost use Rattle.net_model.specs.Table.{fact_at};
+ghost use Rattle.std.specs.Prelude.{◌≡◌, ◌+◌, IsTrue, IfSome, true, false};
+ghost use Rattle.std.specs.Option.{option_copied};
+ghost use Rattle.net_model.specs.Table.{fact_at, was_handed};
 ghost use Rattle.end_store.specs.Waiting.{is_own, is_taken, pool_of, place_entry, count_entry, free_entry, brought_entry, GrowsBy, ShrinksBy, AreWaiting};
 
 use crate::{Line, Marks, Pool};
@@ -110,7 +111,7 @@ fn brought_entry(known: &Known, handed: &Marks, fact: &Fact) -> Option<Entry>
 {
     match fact {
         Fact::Key { name, .. } => {
-            if known.is_confirmed(*name) {
+            if is_own(*name, known.me()) && known.is_confirmed(*name) {
                 count_entry(fact, known.me())
             } else {
                 None
@@ -182,15 +183,36 @@ pub fn list_more(index: &mut Entries, known: &Known, handed: &Marks, from: usize
     place
 }
 
-// Takes the fact at a place out of the index, if its master has got it.
-fn release(index: &mut Entries, known: &Known, handed: &Marks, count: usize, place: usize)
+// The last handing.
+fn last_of(pairs: &[(KeyName, SaeNo)]) -> Option<&(KeyName, SaeNo)>
+    ensures { IfSome (option_copied result) (λ pair. was_handed pairs.now pair.0 pair.1 ≡ true) }
+{
+    pairs.last()
+}
+
+// Whether the last handing is that of a key or a group key to its master.
+fn is_taken_last(fact: &Fact, handed: &Marks) -> bool
+    ensures { IsTrue result → is_taken handed.now.pairs fact.now ≡ true }
+{
+    match last_of(handed.as_slice()) {
+        None => false,
+        Some(pair) => match fact {
+            Fact::Key { name, master, .. } => *name == pair.0 && *master == pair.1,
+            Fact::Part { key, master, .. } => *key == pair.0 && *master == pair.1,
+            _ => false,
+        },
+    }
+}
+
+/// Takes the fact at a place out of the index, if the last handing gave it to its master.
+pub fn release(index: &mut Entries, known: &Known, handed: &Marks, count: usize, place: usize)
     requires { AreWaiting known.now.me known.now.facts handed.now.pairs index.old count }
     ensures { AreWaiting known.now.me known.now.facts handed.now.pairs index.new count }
 {
     match known.at(place) {
         None => {}
         Some(fact) => {
-            if is_taken(fact, handed) {
+            if is_taken_last(fact, handed) {
                 drop_entry(index, place_entry(fact, place));
                 drop_entry(index, count_entry(fact, known.me()));
             }
@@ -198,8 +220,8 @@ fn release(index: &mut Entries, known: &Known, handed: &Marks, count: usize, pla
     }
 }
 
-// Takes the parts of a group key out of the index whose master has got it.
-fn release_parts(index: &mut Entries, known: &Known, handed: &Marks, count: usize, key: KeyName)
+/// Takes the parts of a group key out of the index, if the last handing gave it to their master.
+pub fn release_parts(index: &mut Entries, known: &Known, handed: &Marks, count: usize, key: KeyName)
     requires { AreWaiting known.now.me known.now.facts handed.now.pairs index.old count }
     ensures { AreWaiting known.now.me known.now.facts handed.now.pairs index.new count }
 {
@@ -211,20 +233,6 @@ fn release_parts(index: &mut Entries, known: &Known, handed: &Marks, count: usiz
                 release(index, known, handed, count, place);
                 from = place + 1;
             }
-        }
-    }
-}
-
-/// Takes what was handed out under a name out of the index.
-pub fn release_name(index: &mut Entries, known: &Known, handed: &Marks, count: usize, name: KeyName)
-    requires { AreWaiting known.now.me known.now.facts handed.now.pairs index.old count }
-    ensures { AreWaiting known.now.me known.now.facts handed.now.pairs index.new count }
-{
-    match known.place(name) {
-        None => release_parts(index, known, handed, count, name),
-        Some(place) => {
-            release(index, known, handed, count, place);
-            release_parts(index, known, handed, count, name);
         }
     }
 }

@@ -1,19 +1,18 @@
 // How the numbers of ready keys keep up with what is learned and handed.
 ghost use Rattle.std.specs.Prelude.{◌≡◌, ◌<◌, ◌&&◌, min, length, Some};
-ghost use Rattle.net_model.specs.Fold.{marked};
 ghost use Rattle.end_store.specs.Waiting.{AreWaiting};
 ghost use Rattle.end_store.specs.Pooled.{ready_names};
 ghost use Rattle.end_store.specs.Stocked.{all_but_last, last_of_facts};
-ghost use Rattle.end_store.specs.Readied.{AreReady, readied_pool, ready_pool_of};
+ghost use Rattle.end_store.specs.Readied.{AreReady, readied_pool, ready_pool};
 
 use crate::listing::{is_own, pool_of};
-use crate::stocking::{free_pool_named, pool_named};
+use crate::stocking::free_pool_named;
 use crate::stocks::Stocks;
 use crate::waiting::next;
 use crate::{Line, Marks, Pool};
 use net_model::Fact;
 use ordered_entries::Entries;
-use qkd_base::{KeyName, SaeNo};
+use qkd_base::KeyName;
 use relay_core::Known;
 
 /// How many keys of a pool are ready, counted one by one up to a number.
@@ -76,14 +75,19 @@ pub fn readied_pool(known: &Known, handed: &Marks, fact: &Fact) -> Option<Pool>
     }
 }
 
-// The pool of the ready key of a name, if this is its master.
-fn ready_pool_of(known: &Known, name: KeyName, sae: SaeNo) -> Option<Pool>
-    ensures { result ≡ ready_pool_of known.now.me known.now.facts name sae }
+/// The pool of a key of a name, if it is ready.
+pub fn ready_pool(known: &Known, name: KeyName, pool: &Option<Pool>) -> Option<Pool>
+    ensures { result ≡ ready_pool known.now.me known.now.facts name pool.now }
 {
-    if is_own(name, known.me()) && known.is_confirmed(name) {
-        pool_named(known, name, sae)
-    } else {
-        None
+    match pool {
+        None => None,
+        Some(pool) => {
+            if is_own(name, known.me()) && known.is_confirmed(name) {
+                Some(*pool)
+            } else {
+                None
+            }
+        }
     }
 }
 
@@ -113,26 +117,6 @@ pub fn ready_last(
                 let number = count_ready(index, listed, known, handed, pool, last as usize);
                 readies.put(pool, number as u64);
             }
-        },
-    }
-}
-
-/// Counts a handing that is to be noted, where it is that of a ready key to its master and new.
-pub fn ready_handing(readies: &mut Stocks, known: &Known, handed: &Marks, name: KeyName, sae: SaeNo)
-    requires { AreReady known.now.me known.now.facts handed.now.pairs readies.old }
-    ensures { AreReady known.now.me known.now.facts (marked handed.now.pairs name sae) readies.new }
-{
-    if handed.has(name, sae) {
-        return;
-    }
-    // That names are names, and that they differ, is what they say.
-    let _holds = known.last_count();
-    let _holds = known.len();
-    match ready_pool_of(known, name, sae) {
-        None => {}
-        Some(pool) => match readies.find(&pool) {
-            None => {}
-            Some(number) => readies.put(&pool, number - 1),
         },
     }
 }

@@ -1,10 +1,9 @@
 // How the numbers of waiting keys keep up with what is learned and handed.
-ghost use Rattle.std.specs.Prelude.{◌≡◌, ◌<◌, ◌==◌, min, count_by, length, Some};
+ghost use Rattle.std.specs.Prelude.{ℕ, ◌≡◌, ◌<◌, ◌≤◌, ◌==◌, min, count_by, length, slice_get, Some, IfSome};
 ghost use Rattle.net_model.specs.Table.{fact_at};
-ghost use Rattle.net_model.specs.Fold.{marked};
 ghost use Rattle.relay_core.specs.Knowledge.{AreDistinct};
 ghost use Rattle.end_store.specs.Waiting.{is_free_key, AreWaiting};
-ghost use Rattle.end_store.specs.Stocked.{AreStocks, all_but_last, last_of_facts, free_pool, key_pool};
+ghost use Rattle.end_store.specs.Stocked.{AreStocks, LowersBy, stock_at, all_but_last, last_of_facts, free_pool, key_pool};
 
 use crate::listing::pool_of;
 use crate::stocks::Stocks;
@@ -64,11 +63,11 @@ fn key_pool(fact: &Fact, sae: SaeNo) -> Option<Pool>
     }
 }
 
-/// The pool of the fact of a name, if it is a key of this master.
-pub fn pool_named(known: &Known, name: KeyName, sae: SaeNo) -> Option<Pool>
-    ensures { result ≡ key_pool sae (fact_at known.now.facts name) }
+/// The pool of the fact at a place, if it is a key of this master.
+pub fn pool_at(known: &Known, place: usize, sae: SaeNo) -> Option<Pool>
+    ensures { result ≡ key_pool sae (slice_get known.now.facts place) }
 {
-    match known.fact(name) {
+    match known.at(place) {
         None => None,
         Some(fact) => key_pool(fact, sae),
     }
@@ -147,21 +146,16 @@ pub fn stock_last(
     }
 }
 
-/// Counts a handing that is to be noted, where it is that of a key to its master and new.
-pub fn stock_handing(stocks: &mut Stocks, known: &Known, handed: &Marks, name: KeyName, sae: SaeNo)
-    requires { AreStocks known.now.facts handed.now.pairs stocks.old }
-    ensures { AreStocks known.now.facts (marked handed.now.pairs name sae) stocks.new }
+/// One key less in a pool, if there is one.
+pub fn lower(stocks: &mut Stocks, pool: &Option<Pool>)
+    requires { IfSome pool.now (λ p. (n : ℕ) → stock_at stocks.old p ≡ Some n → 1 ≤ n) }
+    ensures { LowersBy stocks.old stocks.new pool.now }
 {
-    if handed.has(name, sae) {
-        return;
-    }
-    // That names differ is what it says.
-    let _holds = known.len();
-    match pool_named(known, name, sae) {
+    match pool {
         None => {}
-        Some(pool) => match stocks.find(&pool) {
+        Some(pool) => match stocks.find(pool) {
             None => {}
-            Some(number) => stocks.put(&pool, number - 1),
+            Some(number) => stocks.put(pool, number - 1),
         },
     }
 }

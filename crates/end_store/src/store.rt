@@ -6,16 +6,16 @@ ghost use Rattle.relay_core.specs.Knowledge.{acked_with, forgotten};
 ghost use Rattle.end_store.specs.Waiting.{IsNextWaiting, IsLastWaiting, is_free_key};
 ghost use Rattle.end_store.specs.Pooled.{ready_names};
 
-use crate::listing::{list_more, release_name};
-use crate::readying::{count_ready, readied_pool, ready_handing, ready_last};
-use crate::stocking::{count_stock, stock_handing, stock_last};
+use crate::listing::{list_more, release, release_parts};
+use crate::readying::{count_ready, readied_pool, ready_last, ready_pool};
+use crate::stocking::{count_stock, lower, pool_at, stock_last};
 use crate::stocks::Stocks;
 use crate::waiting::next;
 use crate::{Line, Marks, Pool};
 use net_model::Fact;
 use ordered_entries::Entries;
 use qkd_base::{KeyName, Memory, NodeNo, SaeNo};
-use relay_core::Known;
+use relay_core::{Group, Known};
 use std::alloc::Global;
 use std::marker::Model;
 
@@ -228,16 +228,36 @@ impl EndStore {
         ensures known { self.new.known ≡ self.old.known }
         ensures spare { self.old.handed_spare ≤ self.new.handed_spare + 1 }
     {
-        stock_handing(&mut self.stocks, &self.known, &self.handed, name, sae);
-        ready_handing(&mut self.readies, &self.known, &self.handed, name, sae);
+        let before = self.handed.as_slice().len();
         self.handed.mark(name, sae);
-        release_name(
-            &mut self.waiting,
-            &self.known,
-            &self.handed,
-            self.listed,
-            name,
-        );
+        if self.handed.as_slice().len() == before {
+            return;
+        }
+        // That names differ is what it says.
+        let _holds = self.known.len();
+        // A name is that of a fact or of a group key.
+        match self.known.next(&Group::Named(name), 0) {
+            None => release_parts(
+                &mut self.waiting,
+                &self.known,
+                &self.handed,
+                self.listed,
+                name,
+            ),
+            Some(place) => {
+                let pool = pool_at(&self.known, place, sae);
+                let ready = ready_pool(&self.known, name, &pool);
+                lower(&mut self.stocks, &pool);
+                lower(&mut self.readies, &ready);
+                release(
+                    &mut self.waiting,
+                    &self.known,
+                    &self.handed,
+                    self.listed,
+                    place,
+                );
+            }
+        }
     }
 
     /// Overwrites the bytes of the fact at a place with zeros, if it has some. It takes no memory.
