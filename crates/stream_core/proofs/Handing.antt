@@ -195,3 +195,21 @@ module _ (facts : List Fact) (handed : List (Name × ℕ)) (n : Name) (x : ℕ) 
             let both : true ≡ false = sym (names_same stream s same) ∙ e in
             let w : ⊥ = cc in
             w)
+
+-- where it was handed out already, or nothing is counted, nothing changes
+
+pub handing_twice : (facts : List Fact) (handed : List (Name × ℕ)) (n : Name) (x : ℕ) (old : List (List ℕ × Tally)) → was_handed handed n x ≡ true → AreTallies facts handed old → AreTallies facts (marked handed n x) old
+handing_twice facts handed n x old was right =
+    subst (λ (hs : List (Name × ℕ)). AreTallies facts hs old) (sym (ap (λ (b : Bool). if b then handed else handed ++ (n, x) ∷ []) was)) right
+
+pub handing_anyway : (facts : List Fact) (handed : List (Name × ℕ)) (n : Name) (x : ℕ) (old : List (List ℕ × Tally)) → AreTallies facts handed old →
+    (was_handed handed n x ≡ false → AreTallies facts (marked handed n x) old) → AreTallies facts (marked handed n x) old
+handing_anyway facts handed n x old right new = by (was_handed handed n x) refl
+  where
+    by : (b : Bool) → was_handed handed n x ≡ b → AreTallies facts (marked handed n x) old
+    by true e = handing_twice facts handed n x old e right
+    by false e = new e
+
+pub no_tallies : (facts : List Fact) (handed : List (Name × ℕ)) (old : List (List ℕ × Tally)) → length old ≡ 0 → AreTallies facts handed old
+no_tallies facts handed [] e = record { right = λ s t h. absurd (let u : ⊥ = cc in u) }
+no_tallies facts handed (p ∷ ps) e = absurd (omega arith)

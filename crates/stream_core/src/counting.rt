@@ -141,7 +141,7 @@ pub fn tally_handing(tallies: &mut Tallies, ends: &EndStore, name: KeyName, sae:
     requires { AreTallies ends.now.known.facts ends.now.handed tallies.old }
     ensures { AreTallies ends.now.known.facts (marked ends.now.handed name sae) tallies.new }
 {
-    if ends.was_handed(name, sae) {
+    if tallies.is_empty() {
         return;
     }
     // That names differ is what it says.
@@ -151,7 +151,7 @@ pub fn tally_handing(tallies: &mut Tallies, ends: &EndStore, name: KeyName, sae:
         Some(stream) => match tallies.find(stream) {
             None => {}
             Some(tally) => {
-                if tally.source == sae {
+                if tally.source == sae && !ends.was_handed(name, sae) {
                     tallies.put(
                         stream,
                         Tally {

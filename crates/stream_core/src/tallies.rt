@@ -1,5 +1,5 @@
 // How many chunks of streams are known.
-ghost use Rattle.std.specs.Prelude.{◌≡◌, None};
+ghost use Rattle.std.specs.Prelude.{◌≡◌, ◌↔◌, IsTrue, None, length};
 ghost use Rattle.qkd_base.specs.Name.{Name, kind_number};
 ghost use Rattle.stream_core.specs.Tallied.{stream_key, tally_at, IsPut};
 
@@ -61,6 +61,13 @@ impl Tallies {
         Tallies {
             tallies: BTreeMap::new(alloc),
         }
+    }
+
+    /// Whether there are none.
+    pub fn is_empty(&self) -> bool
+        ensures { IsTrue result ↔ (length self.now ≡ 0) }
+    {
+        self.tallies.is_empty()
     }
 
     /// The tally of a stream.
