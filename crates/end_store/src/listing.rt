@@ -95,13 +95,16 @@ fn free_entry(known: &Known, handed: &Marks, name: KeyName) -> Option<Entry>
 {
     match known.fact(name) {
         None => None,
-        Some(fact) => {
-            if is_taken(fact, handed) {
-                None
-            } else {
-                count_entry(fact, known.me())
+        Some(fact) => match count_entry(fact, known.me()) {
+            None => None,
+            Some(entry) => {
+                if is_taken(fact, handed) {
+                    None
+                } else {
+                    Some(entry)
+                }
             }
-        }
+        },
     }
 }
 
@@ -152,12 +155,13 @@ fn list_one(index: &mut Entries, known: &Known, handed: &Marks, place: usize) ->
     ensures done { IsTrue result → AreWaiting known.now.me known.now.facts handed.now.pairs index.new (place + 1) }
     ensures not_done { result ≡ false → AreWaiting known.now.me known.now.facts handed.now.pairs index.new place }
 {
-    // That names differ is what it says.
-    let _holds = known.len();
+    // That names differ is what it says, too.
+    let count = known.len();
     match known.at(place) {
         None => false,
         Some(fact) => {
-            if is_taken(fact, handed) {
+            // What was learned last wasn't handed out before.
+            if place + 1 < count && is_taken(fact, handed) {
                 return true;
             }
             if !add(index, place_entry(fact, place)) {
