@@ -26,22 +26,14 @@ fn hand_to(alloc: Global, sae: SaeNo, names: &[KeyName]) -> Result<Records, Memo
     Ok(batch)
 }
 
-// A copy of bytes, made as one block.
-fn same_bytes(alloc: Global, bytes: &Octets) -> Result<Octets, Memory>
-    ensures { IfOk result (λ copy. copy ≡ bytes.now) }
-{
-    let copy = Vec::from_slice(alloc, bytes.as_slice())?;
-    Ok(Octets::from_vec(copy))
-}
-
 // A copy of a fact's bytes, none where it has none.
 fn copy_bytes(alloc: Global, fact: &Fact) -> Result<Octets, Memory>
     ensures { IfOk result (λ bytes. bytes ≡ bytes_of fact.now) }
 {
     match fact {
-        Fact::Key { bytes, .. } => same_bytes(alloc, bytes),
-        Fact::Chunk { bytes, .. } => same_bytes(alloc, bytes),
-        Fact::Part { bytes, .. } => same_bytes(alloc, bytes),
+        Fact::Key { bytes, .. } => Octets::from_slice(alloc, bytes.as_slice()),
+        Fact::Chunk { bytes, .. } => Octets::from_slice(alloc, bytes.as_slice()),
+        Fact::Part { bytes, .. } => Octets::from_slice(alloc, bytes.as_slice()),
         _ => Ok(Items::new(alloc)),
     }
 }
