@@ -5,3 +5,4 @@ mod starting;
 
 pub use kme_recovery::RecoverRefusal;
 pub use starting::recover;
+pub use kme_store;

@@ -13,11 +13,11 @@ use Rattle.disk_model.specs.declared.arm.Armings.{Armings}
 use Rattle.journal_snapshot.specs.declared.live.Live.{Live}
 use Rattle.journal_snapshot.specs.Snapshots.{SnapshotForm}
 use Rattle.law_records.proofs.Base.{and_both}
-use Rattle.kme_store.specs.Manager.{ManagerForm, IsArmed, StandsOver}
-use Rattle.kme_store.specs.declared.standing.Standing.{Standing}
-use Rattle.kme_store.specs.declared.standing.Standing.TheVariants.{Up, Down, Between}
-use Rattle.kme_store.specs.declared.post.Post.{Post}
-use Rattle.kme_store.specs.declared.post.Post.TheVariants.{On, Off}
+use Rattle.kme_start.specs.Passed.{ManagerForm, IsArmed, StandsOver}
+use Rattle.kme_start.specs.Passed.{Standing}
+use Rattle.kme_start.specs.Passed.{Up, Down, Between}
+use Rattle.kme_start.specs.Passed.{Post}
+use Rattle.kme_start.specs.Passed.{On, Off}
 use Rattle.world_posts.specs.Stands.{HasStory, UpStands, journal_with, DownStands, StandingStands, PostStands}
 use Rattle.world_posts.specs.Counts.{disk_in, IsCounted}
 use Rattle.world_posts.specs.Lives.{MayArm, HasArmed, IsArmedWith}

@@ -14,7 +14,7 @@ use Rattle.net_model.specs.Step.{step, is_enabled, is_node, is_asked}
 use Rattle.disk_model.specs.declared.arm.Armings.{Armings}
 use Rattle.law_records.proofs.Base.{and_left, and_right, and_both}
 use Rattle.law_folds.proofs.Asked.{event_goes, event_fits}
-use Rattle.kme_store.specs.declared.post.Post.{Post}
+use Rattle.kme_start.specs.Passed.{Post}
 use Rattle.world_posts.specs.Stands.{PostStands}
 use Rattle.world_posts.specs.Handled.{MayHandle, Handled}
 use Rattle.world_posts.specs.Asking.{MayAsk, Asked}

@@ -12,9 +12,9 @@ use Rattle.disk_model.specs.declared.arm.Armings.{Armings}
 use Rattle.source_devices.specs.Telling.{GivesBlock}
 use Rattle.source_devices.specs.declared.shortage.Shortage.{Shortage}
 use Rattle.source_devices.specs.declared.shortage.Shortage.TheVariants.{Failed, End}
-use Rattle.kme_store.specs.Manager.{ManagerForm, is_up}
-use Rattle.kme_store.specs.declared.post.Post.{Post}
-use Rattle.kme_store.specs.declared.post.Post.TheVariants.{On, Off}
+use Rattle.kme_start.specs.Passed.{ManagerForm, is_up}
+use Rattle.kme_start.specs.Passed.{Post}
+use Rattle.kme_start.specs.Passed.{On, Off}
 use Rattle.world_posts.specs.Stands.{PostStands}
 use Rattle.world_posts.specs.Blocks.{MayTake, IsNext, MayPut, IsTaken}
 use Rattle.world_posts.proofs.Handles.{up_is, down_is}

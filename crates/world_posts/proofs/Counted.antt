@@ -9,11 +9,11 @@ use Rattle.net_model.specs.Action.{Environment, OutOfMemory, EntropyFault, IoFau
 use Rattle.net_model.specs.Action.{Ok as Fine}
 use Rattle.declared_site.specs.declared.site.Site.{Site as Declared}
 use Rattle.disk_model.specs.declared.arm.Armings.{Armings}
-use Rattle.kme_store.specs.Manager.{ManagerForm, HasDisk}
-use Rattle.kme_store.specs.declared.standing.Standing.{Standing}
-use Rattle.kme_store.specs.declared.standing.Standing.TheVariants.{Up, Down, Between}
-use Rattle.kme_store.specs.declared.post.Post.{Post}
-use Rattle.kme_store.specs.declared.post.Post.TheVariants.{On, Off}
+use Rattle.kme_start.specs.Passed.{ManagerForm, HasDisk}
+use Rattle.kme_start.specs.Passed.{Standing}
+use Rattle.kme_start.specs.Passed.{Up, Down, Between}
+use Rattle.kme_start.specs.Passed.{Post}
+use Rattle.kme_start.specs.Passed.{On, Off}
 use Rattle.world_posts.specs.Stands.{StandingStands, PostStands}
 use Rattle.world_posts.specs.Counts.{disk_in, disk_of, entropy_of, IsCounted, Counts}
 

@@ -17,11 +17,11 @@ use Rattle.journal_snapshot.specs.Snapshots.{SnapshotForm}
 use Rattle.run_turns.specs.Reported.{crashed}
 use Rattle.law_folds.specs.Fitting.{AllFit}
 use Rattle.law_records.proofs.Base.{and_both, number_set_same}
-use Rattle.kme_store.specs.Manager.{ManagerForm, HasDisk, WhereUp, is_up}
-use Rattle.kme_store.specs.declared.standing.Standing.{Standing}
-use Rattle.kme_store.specs.declared.standing.Standing.TheVariants.{Up, Down, Between}
-use Rattle.kme_store.specs.declared.post.Post.{Post}
-use Rattle.kme_store.specs.declared.post.Post.TheVariants.{On, Off}
+use Rattle.kme_start.specs.Passed.{ManagerForm, HasDisk, WhereUp, is_up}
+use Rattle.kme_start.specs.Passed.{Standing}
+use Rattle.kme_start.specs.Passed.{Up, Down, Between}
+use Rattle.kme_start.specs.Passed.{Post}
+use Rattle.kme_start.specs.Passed.{On, Off}
 use Rattle.world_lanes.specs.Stands.{IsRunning}
 use Rattle.world_posts.specs.Stands.{EntropyStands, HasStory, UpStands, HoldsJournal, DownStands, StandingStands, PostStands}
 use Rattle.world_posts.specs.Lives.{MayCrash, HasCrashed}

@@ -14,7 +14,7 @@ use Rattle.net_model.specs.Action.{Environment, Deliver, Outcome, is_shown}
 use Rattle.net_model.specs.Step.{step, is_enabled}
 use Rattle.disk_model.specs.declared.arm.Armings.{Armings}
 use Rattle.law_records.proofs.Base.{and_both, eq_same}
-use Rattle.kme_store.specs.declared.post.Post.{Post}
+use Rattle.kme_start.specs.Passed.{Post}
 use Rattle.world_posts.specs.Stands.{PostStands}
 use Rattle.world_posts.specs.Handled.{MayHandle, Handled}
 use Rattle.world_posts.specs.Hearing.{MayHear, HasHeard}

@@ -4,7 +4,7 @@ use Rattle.std.specs.Prelude.{Option, Some, None, option_map}
 use Rattle.net_model.specs.OctetSequence.{OctetSequence}
 use Rattle.net_model.specs.World.{Network, World}
 use Rattle.source_devices.specs.Telling.{IsRest}
-use Rattle.kme_store.specs.Manager.{ComesNext, IsDrawn}
+use Rattle.kme_start.specs.Passed.{ComesNext, IsDrawn}
 use Rattle.world_posts.specs.Stands.{EntropyStands}
 
 minus_twice : (end : Option ℕ) (n m : ℕ) → option_map (λ (e : ℕ). e - m) (option_map (λ (e : ℕ). e - n) end) ≡ option_map (λ (e : ℕ). e - (n + m)) end

@@ -28,14 +28,14 @@ use Rattle.journal_snapshot.specs.Snapshots.{SnapshotForm, journal_of}
 use Rattle.law_records.proofs.Base.{number_set_same}
 use Rattle.law_folds.specs.Fitting.{AllFit}
 use Rattle.law_folds.proofs.Doubtful.{stopped_view, doubt_fits}
-use Rattle.kme_recovery.specs.Passed.{with_batch, batch_in_doubt, IsBody, IsSpelling}
-use Rattle.kme_recovery.proofs.Passed.{body_written, body_with, body_in_doubt}
-use Rattle.kme_store.specs.Course.{Course, Stays, Stops, Goes, course, in_world}
-use Rattle.kme_store.specs.Manager.{ManagerForm, IsUpWith, IsDownWith, HasDisk, Keeps, Writes, IsAdded, HasBodyIn, HasStayed, HasStopped, HasGone, IsAfter, Answers, Acts}
-use Rattle.kme_store.specs.declared.standing.Standing.{Standing}
-use Rattle.kme_store.specs.declared.standing.Standing.TheVariants.{Up, Down, Between}
-use Rattle.kme_store.specs.declared.post.Post.TheVariants.{On}
-use Rattle.kme_store.proofs.Courses.{asks}
+use Rattle.kme_start.specs.Passed.{with_batch, batch_in_doubt, IsBody, IsSpelling}
+use Rattle.kme_start.proofs.Passed.{body_written, body_with, body_in_doubt}
+use Rattle.kme_start.specs.Passed.{Course, Stays, Stops, Goes, course, in_world}
+use Rattle.kme_start.specs.Passed.{ManagerForm, IsUpWith, IsDownWith, HasDisk, Keeps, Writes, IsAdded, HasBodyIn, HasStayed, HasStopped, HasGone, IsAfter, Answers, Acts}
+use Rattle.kme_start.specs.Passed.{Standing}
+use Rattle.kme_start.specs.Passed.{Up, Down, Between}
+use Rattle.kme_start.specs.Passed.{On}
+use Rattle.kme_start.proofs.Passed.{asks}
 use Rattle.law_starts.specs.Starting.{resolved_view}
 use Rattle.world_lanes.specs.Stands.{IsRunning}
 use Rattle.world_posts.specs.Stands.{EntropyStands, HasStory, UpStands, journal_with, IsBehind, HoldsJournal, HoldsNothing, DownStands, StandingStands, ManagerStands}

@@ -16,12 +16,12 @@ use Rattle.declared_site.specs.SiteOf.{site_of}
 use Rattle.disk_model.specs.declared.arm.Armings.{Armings}
 use Rattle.journal_snapshot.specs.Snapshots.{SnapshotForm}
 use Rattle.source_devices.specs.Telling.{IsRest}
-use Rattle.kme_store.specs.Course.{Course, Stays, Stops, Goes, course, in_world}
-use Rattle.kme_store.specs.Manager.{ManagerForm, IsUpWith, IsDownWith, HasDisk, Keeps, Writes, IsAdded, HasBodyIn, IsAfter, Answers, Acts}
-use Rattle.kme_store.specs.declared.standing.Standing.{Standing}
-use Rattle.kme_store.specs.declared.standing.Standing.TheVariants.{Up, Down, Between}
-use Rattle.kme_store.specs.declared.post.Post.TheVariants.{On}
-use Rattle.kme_store.proofs.Courses.{asks}
+use Rattle.kme_start.specs.Passed.{Course, Stays, Stops, Goes, course, in_world}
+use Rattle.kme_start.specs.Passed.{ManagerForm, IsUpWith, IsDownWith, HasDisk, Keeps, Writes, IsAdded, HasBodyIn, IsAfter, Answers, Acts}
+use Rattle.kme_start.specs.Passed.{Standing}
+use Rattle.kme_start.specs.Passed.{Up, Down, Between}
+use Rattle.kme_start.specs.Passed.{On}
+use Rattle.kme_start.proofs.Passed.{asks}
 use Rattle.world_lanes.specs.Stands.{IsRunning}
 use Rattle.world_posts.specs.Stands.{UpStands, DownStands, StandingStands, ManagerStands}
 use Rattle.world_posts.specs.Handled.{BatchFits, ViewGoesOn, Handled}

@@ -13,7 +13,7 @@ use Rattle.journal_snapshot.specs.Standing.{HasBatches, new_live}
 use Rattle.journal_snapshot.specs.Opening.{IsOpened, IsRefusedAt}
 use Rattle.journal_snapshot.proofs.Once.{not_refused, holds_stands}
 use Rattle.journal_snapshot.proofs.Standings.{batches_of, new_closed, new_holds}
-use Rattle.kme_recovery.specs.Unread.{IsUnreadable}
+use Rattle.kme_start.specs.Passed.{IsUnreadable}
 use Rattle.world_posts.specs.Stands.{HasStory, HoldsJournal, HoldsCheckpoint, IsUnused, HoldsNothing, MayFind}
 use Rattle.world_posts.proofs.Found.{opened_is, is_readable}
 use Rattle.world_posts.proofs.Halts.{new_opened, checkpoint_plain}

@@ -24,10 +24,10 @@ use Rattle.journal_snapshot.specs.Snapshots.{SnapshotForm}
 use Rattle.journal_snapshot.proofs.Fronts.{start_floor}
 use Rattle.journal_snapshot.proofs.Once.{opened_again, not_refused, holds_stands}
 use Rattle.journal_snapshot.proofs.Standings.{batches_of, stands_long, new_says}
-use Rattle.kme_recovery.specs.Passed.{body, version_named}
-use Rattle.kme_recovery.specs.Passed.{IsReadAs, AreReadAs}
-use Rattle.kme_recovery.specs.Recovery.{GivesBack}
-use Rattle.kme_recovery.specs.Unread.{IsUnreadable}
+use Rattle.kme_start.specs.Passed.{body, version_named}
+use Rattle.kme_start.specs.Passed.{IsReadAs, AreReadAs}
+use Rattle.kme_start.specs.Passed.{GivesBack}
+use Rattle.kme_start.specs.Passed.{IsUnreadable}
 use Rattle.world_posts.specs.Stands.{HasStory}
 
 -- bodies spell one story

@@ -14,10 +14,10 @@ use Rattle.law_others.specs.Touched.{ManagerStays}
 use Rattle.law_folds.specs.Fitting.{AllFit}
 use Rattle.law_starts.specs.Starting.{resolved_view, MayCheckpoint}
 use Rattle.law_journals.specs.GivesBack.{GivesBack}
-use Rattle.kme_store.specs.declared.standing.Standing.{Standing}
-use Rattle.kme_store.specs.declared.standing.Standing.TheVariants.{Up, Down, Between}
-use Rattle.kme_store.specs.declared.post.Post.{Post}
-use Rattle.kme_store.specs.declared.post.Post.TheVariants.{On, Off}
+use Rattle.kme_start.specs.Passed.{Standing}
+use Rattle.kme_start.specs.Passed.{Up, Down, Between}
+use Rattle.kme_start.specs.Passed.{Post}
+use Rattle.kme_start.specs.Passed.{On, Off}
 use Rattle.journal_snapshot.specs.declared.live.Live.{Live}
 use Rattle.journal_snapshot.specs.Snapshots.{SnapshotForm}
 use Rattle.range_journal.specs.Header.{new_header}

@@ -22,12 +22,12 @@ use Rattle.journal_snapshot.specs.Snapshots.{SnapshotForm, journal_of, moved_to}
 use Rattle.journal_snapshot.proofs.Areas.{need_is}
 use Rattle.journal_snapshot.proofs.Once.{opened_again}
 use Rattle.journal_snapshot.proofs.Standings.{batches_of, closing_holds, closing_plain, new_closing}
-use Rattle.kme_recovery.specs.Passed.{AreReadAs}
-use Rattle.kme_recovery.proofs.Passed.{bodies_need}
-use Rattle.kme_recovery.specs.Putting.{checkpoint_bodies}
-use Rattle.kme_recovery.specs.Recovery.{GivesBack, HasCheckpoint, HasRead, IsAfter}
-use Rattle.kme_recovery.specs.declared.recovering.Recovered.{Recovered}
-use Rattle.kme_recovery.specs.declared.refusal.RecoverRefusal.{RecoverRefusal}
+use Rattle.kme_start.specs.Passed.{AreReadAs}
+use Rattle.kme_start.proofs.Passed.{bodies_need}
+use Rattle.kme_start.specs.Passed.{checkpoint_bodies}
+use Rattle.kme_start.specs.Passed.{GivesBack, HasCheckpoint, HasRead, IsAfter}
+use Rattle.kme_start.specs.Passed.{Recovered}
+use Rattle.kme_start.specs.Passed.{RecoverRefusal}
 use Rattle.law_journals.proofs.Restarting.{restarted_twice, recovered_restarts}
 use Rattle.law_journals.proofs.Checkpoint.{checkpoint_given, same_need}
 use Rattle.law_starts.specs.Starting.{resolved_view, checkpoint_of}

@@ -16,11 +16,11 @@ use Rattle.declared_site.specs.SiteOf.{site_of}
 use Rattle.declared_site.specs.declared.site.Site.{Site as Declared}
 use Rattle.disk_model.specs.declared.arm.Armings.{Armings}
 use Rattle.journal_snapshot.specs.Snapshots.{SnapshotForm}
-use Rattle.kme_store.specs.Manager.{ManagerForm, HasDisk, Acts, is_up}
-use Rattle.kme_store.specs.declared.standing.Standing.{Standing}
-use Rattle.kme_store.specs.declared.standing.Standing.TheVariants.{Up, Down, Between}
-use Rattle.kme_store.specs.declared.post.Post.{Post}
-use Rattle.kme_store.specs.declared.post.Post.TheVariants.{On, Off}
+use Rattle.kme_start.specs.Passed.{ManagerForm, HasDisk, Acts, is_up}
+use Rattle.kme_start.specs.Passed.{Standing}
+use Rattle.kme_start.specs.Passed.{Up, Down, Between}
+use Rattle.kme_start.specs.Passed.{Post}
+use Rattle.kme_start.specs.Passed.{On, Off}
 use Rattle.world_lanes.specs.Stands.{IsRunning}
 use Rattle.world_posts.specs.Stands.{UpStands, StandingStands, PostStands}
 use Rattle.world_posts.specs.Handled.{MayHandle, Handled}

@@ -22,7 +22,7 @@ use Rattle.law_records.proofs.Base.{and_both}
 use Rattle.law_others.specs.Touched.{ManagerStays}
 use Rattle.law_folds.proofs.Asked.{note_goes}
 use Rattle.law_starts.proofs.Passed.{note_effect}
-use Rattle.kme_store.specs.declared.post.Post.{Post}
+use Rattle.kme_start.specs.Passed.{Post}
 use Rattle.world_posts.specs.Stands.{PostStands}
 use Rattle.world_posts.specs.Handled.{MayHandle, Handled}
 use Rattle.world_posts.specs.Noting.{MayNote, HasNoted, is_memory}

@@ -37,19 +37,19 @@ use Rattle.law_journals.proofs.Restarting.{restarted_twice, recovered_restarts}
 use Rattle.law_journals.proofs.Checkpoint.{same_need}
 use Rattle.law_starts.specs.Starting.{resolved_view, checkpoint_of, MayStart as MayBegin, Starts, Stops}
 use Rattle.law_starts.proofs.Starts.{reads_back, finds, unsettled, unsettled_rest, settled, settled_rest, wants_memory, is_foreign}
-use Rattle.kme_recovery.proofs.Passed.{nothing_read}
-use Rattle.kme_recovery.specs.Passed.{view as seen_by}
-use Rattle.kme_recovery.specs.Recovery.{GivesBack, IsAfter, IsLeft, HasRead, LeavesOneKind, Leaves}
-use Rattle.kme_recovery.specs.Unread.{IsUnreadable}
-use Rattle.kme_recovery.specs.declared.recovering.Recovered.{Recovered}
-use Rattle.kme_recovery.specs.declared.refusal.RecoverRefusal.{RecoverRefusal}
+use Rattle.kme_start.proofs.Passed.{nothing_read}
+use Rattle.kme_start.specs.Passed.{view as seen_by}
+use Rattle.kme_start.specs.Passed.{GivesBack, IsAfter, IsLeft, HasRead, LeavesOneKind, Leaves}
+use Rattle.kme_start.specs.Passed.{IsUnreadable}
+use Rattle.kme_start.specs.Passed.{Recovered}
+use Rattle.kme_start.specs.Passed.{RecoverRefusal}
 use Rattle.kme_recovery.specs.declared.refusal.RecoverRefusal.TheVariants as refusals
 use Rattle.kme_start.specs.Start.{IsOver, Recovers}
-use Rattle.kme_store.specs.Manager.{ManagerForm, HasDisk, is_up}
-use Rattle.kme_store.specs.declared.standing.Standing.{Standing}
-use Rattle.kme_store.specs.declared.standing.Standing.TheVariants.{Up, Down, Between}
-use Rattle.kme_store.specs.declared.post.Post.{Post}
-use Rattle.kme_store.specs.declared.post.Post.TheVariants.{On, Off}
+use Rattle.kme_start.specs.Passed.{ManagerForm, HasDisk, is_up}
+use Rattle.kme_start.specs.Passed.{Standing}
+use Rattle.kme_start.specs.Passed.{Up, Down, Between}
+use Rattle.kme_start.specs.Passed.{Post}
+use Rattle.kme_start.specs.Passed.{On, Off}
 use Rattle.world_posts.specs.Stands.{EntropyStands, HasStory, UpStands, journal_with, HoldsJournal, HoldsCheckpoint, HoldsNothing, MayFind, DownStands, StandingStands, PostStands}
 use Rattle.world_posts.specs.Counts.{disk_in, entropy_of, IsCounted, Counts}
 use Rattle.world_posts.specs.Starting.{MayStart, HasStarted, result_of}

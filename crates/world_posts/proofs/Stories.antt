@@ -13,12 +13,12 @@ use Rattle.range_journal.proofs.Whole.{length_more}
 use Rattle.journal_snapshot.specs.declared.live.Live.{Live}
 use Rattle.law_journals.specs.GivesBack.{GivesBack}
 use Rattle.law_journals.proofs.Restarting.{effect_given, reply_given, batch_given}
-use Rattle.kme_recovery.specs.Passed.{with_batch, IsBody, IsSpelling, added}
-use Rattle.kme_recovery.specs.Passed.{AreReadAs}
-use Rattle.kme_recovery.specs.Passed.{with_octets}
-use Rattle.kme_recovery.proofs.Passed.{body_added, body_with}
-use Rattle.kme_recovery.proofs.Passed.{read_more}
-use Rattle.kme_store.specs.Manager.{HasBodyIn}
+use Rattle.kme_start.specs.Passed.{with_batch, IsBody, IsSpelling, added}
+use Rattle.kme_start.specs.Passed.{AreReadAs}
+use Rattle.kme_start.specs.Passed.{with_octets}
+use Rattle.kme_start.proofs.Passed.{body_added, body_with}
+use Rattle.kme_start.proofs.Passed.{read_more}
+use Rattle.kme_start.specs.Passed.{HasBodyIn}
 use Rattle.world_posts.specs.Stands.{IsStory, HasStory, journal_with}
 use Rattle.world_posts.proofs.Images.{journal_read}
 

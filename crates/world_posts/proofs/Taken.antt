@@ -24,7 +24,7 @@ use Rattle.law_records.proofs.Base.{and_left, and_right, and_both, eq_same}
 use Rattle.law_records.proofs.Octets.{length-octets_from}
 use Rattle.law_folds.proofs.Arriving.{block_goes}
 use Rattle.law_starts.proofs.Passed.{block_effect}
-use Rattle.kme_store.specs.declared.post.Post.{Post}
+use Rattle.kme_start.specs.Passed.{Post}
 use Rattle.world_posts.specs.Stands.{PostStands}
 use Rattle.world_posts.specs.Handled.{BatchFits, ViewGoesOn, MayHandle, Handled}
 use Rattle.world_posts.specs.Blocks.{MayTake, MayPut, IsTaken}

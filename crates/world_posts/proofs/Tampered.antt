@@ -18,12 +18,12 @@ use Rattle.declared_site.specs.declared.site.Site.{Site as Declared}
 use Rattle.disk_model.specs.declared.arm.Armings.{Armings}
 use Rattle.hop_frames.specs.Opening.{open_of}
 use Rattle.law_records.proofs.Base.{and_both}
-use Rattle.kme_recovery.specs.Passed.{is_match}
-use Rattle.kme_store.specs.Manager.{ManagerForm, is_up}
-use Rattle.kme_store.specs.declared.standing.Standing.{Standing}
-use Rattle.kme_store.specs.declared.standing.Standing.TheVariants.{Up, Down, Between}
-use Rattle.kme_store.specs.declared.post.Post.{Post}
-use Rattle.kme_store.specs.declared.post.Post.TheVariants.{On}
+use Rattle.kme_start.specs.Passed.{is_match}
+use Rattle.kme_start.specs.Passed.{ManagerForm, is_up}
+use Rattle.kme_start.specs.Passed.{Standing}
+use Rattle.kme_start.specs.Passed.{Up, Down, Between}
+use Rattle.kme_start.specs.Passed.{Post}
+use Rattle.kme_start.specs.Passed.{On}
 use Rattle.world_lanes.specs.Stands.{IsRunning}
 use Rattle.world_posts.specs.Stands.{StandingStands, PostStands}
 use Rattle.world_posts.specs.Handled.{MayHandle, Handled}

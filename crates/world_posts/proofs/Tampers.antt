@@ -22,7 +22,7 @@ use Rattle.hop_frames.specs.declared.opened.Opened.{Opened as OpenedFrame}
 use Rattle.hop_frames.specs.declared.open_refusal.OpenRefusal.{OpenRefusal}
 use Rattle.hop_frames.specs.declared.open_refusal.OpenRefusal.TheVariants.{NotAFrame, WrongLane, NoBits, BadTag, NotAPayload, Memory}
 use Rattle.law_records.proofs.Base.{and_left, and_right, eq_from}
-use Rattle.kme_recovery.specs.Passed.{is_match}
+use Rattle.kme_start.specs.Passed.{is_match}
 use Rattle.world_lanes.specs.Stands.{IsRunning}
 use Rattle.world_posts.specs.Handled.{BatchFits, ViewGoesOn}
 use Rattle.world_posts.specs.Tampering.{put_as}

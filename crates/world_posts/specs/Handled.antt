@@ -16,9 +16,9 @@ use Rattle.law_decisions.specs.May.{decided}
 use Rattle.law_folds.specs.Fitting.{AllFit}
 use Rattle.disk_model.specs.declared.arm.Armings.{Armings}
 use Rattle.kme_site.specs.Up.{AreUp}
-use Rattle.kme_store.specs.Manager.{HasDisk}
-use Rattle.kme_store.specs.declared.post.Post.{Post}
-use Rattle.kme_store.specs.declared.post.Post.TheVariants.{On, Off}
+use Rattle.kme_start.specs.Passed.{HasDisk}
+use Rattle.kme_start.specs.Passed.{Post}
+use Rattle.kme_start.specs.Passed.{On, Off}
 use Rattle.world_lanes.specs.Stands.{IsRunning}
 use Rattle.world_posts.specs.Stands.{PostStands}
 use Rattle.world_posts.specs.Counts.{Counts}

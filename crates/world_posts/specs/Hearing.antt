@@ -10,7 +10,7 @@ use Rattle.net_model.specs.Frames.{frame_octets}
 use Rattle.net_model.specs.Action.{Deliver, Replies}
 use Rattle.disk_model.specs.declared.arm.Armings.{Armings}
 use Rattle.kme_site.specs.Up.{AreUp}
-use Rattle.kme_store.specs.declared.post.Post.{Post}
+use Rattle.kme_start.specs.Passed.{Post}
 use Rattle.world_lanes.specs.Stands.{IsRunning}
 use Rattle.world_posts.specs.Stands.{PostStands}
 use Rattle.world_posts.specs.Handled.{Happens}

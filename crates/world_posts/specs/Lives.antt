@@ -7,7 +7,7 @@ use Rattle.net_model.specs.Step.{step, is_enabled, IsStep}
 use Rattle.disk_model.specs.declared.arm.Arm.{Arm as DiskArm}
 use Rattle.disk_model.specs.declared.arm.Armings.{Armings}
 use Rattle.run_turns.specs.Reported.{crashed}
-use Rattle.kme_store.specs.declared.post.Post.{Post}
+use Rattle.kme_start.specs.Passed.{Post}
 use Rattle.world_lanes.specs.Stands.{IsRunning}
 use Rattle.world_posts.specs.Stands.{PostStands}
 use Rattle.world_posts.specs.Counts.{CountsBy, Counts}

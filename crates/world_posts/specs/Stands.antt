@@ -20,12 +20,12 @@ use Rattle.journal_snapshot.specs.Snapshots.{SnapshotForm, journal_of}
 use Rattle.law_folds.specs.Fitting.{AllFit}
 use Rattle.law_journals.specs.GivesBack.{GivesBack}
 use Rattle.law_starts.specs.Starting.{resolved_view, MayCheckpoint, checkpoint_of}
-use Rattle.kme_recovery.specs.Passed.{AreReadAs}
-use Rattle.kme_store.specs.Manager.{ManagerForm}
-use Rattle.kme_store.specs.declared.standing.Standing.{Standing}
-use Rattle.kme_store.specs.declared.standing.Standing.TheVariants.{Up, Down, Between}
-use Rattle.kme_store.specs.declared.post.Post.{Post}
-use Rattle.kme_store.specs.declared.post.Post.TheVariants.{On, Off}
+use Rattle.kme_start.specs.Passed.{AreReadAs}
+use Rattle.kme_start.specs.Passed.{ManagerForm}
+use Rattle.kme_start.specs.Passed.{Standing}
+use Rattle.kme_start.specs.Passed.{Up, Down, Between}
+use Rattle.kme_start.specs.Passed.{Post}
+use Rattle.kme_start.specs.Passed.{On, Off}
 
 -- an entropy tells what is left of the node's octets
 pub record EntropyStands {E : Type 0} (told : E → Option OctetSequence) (net : Network) (w : World) (v : ℕ) (entropy : E) : Type 0 where

@@ -11,9 +11,9 @@ use Rattle.disk_model.specs.declared.arm.Armings.{Armings}
 use Rattle.report_items.specs.declared.start_result.StartResult.{StartResult}
 use Rattle.report_items.specs.declared.start_result.StartResult.TheVariants as starts
 use Rattle.run_turns.specs.Reported.{started}
-use Rattle.kme_recovery.specs.declared.refusal.RecoverRefusal.{RecoverRefusal}
+use Rattle.kme_start.specs.Passed.{RecoverRefusal}
 use Rattle.kme_recovery.specs.declared.refusal.RecoverRefusal.TheVariants as refusals
-use Rattle.kme_store.specs.declared.post.Post.{Post}
+use Rattle.kme_start.specs.Passed.{Post}
 use Rattle.world_lanes.specs.Stands.{IsRunning}
 use Rattle.world_posts.specs.Stands.{PostStands}
 use Rattle.world_posts.specs.Counts.{Counts}

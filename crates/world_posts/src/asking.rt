@@ -5,7 +5,7 @@ ghost use Rattle.world_posts.specs.Asking.{MayAsk, Asked};
 
 use crate::handling::handle;
 use disk_model::Disk;
-use kme_store::Post;
+use kme_start::kme_store::Post;
 use net_model::{Event, Reply};
 use source_devices::Entropy;
 

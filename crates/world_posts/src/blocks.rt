@@ -11,7 +11,7 @@ ghost use Rattle.world_posts.specs.Blocks.{MayTake, IsNext, MayPut, IsTaken};
 
 use crate::handling::handle;
 use disk_model::Disk;
-use kme_store::Post;
+use kme_start::kme_store::Post;
 use net_model::{Event, Reply};
 use qkd_base::{LinkNo, Octets};
 use run_turns::BlockTake;

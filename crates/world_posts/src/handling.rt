@@ -4,7 +4,7 @@ ghost use Rattle.net_model.specs.World.{Network, World};
 ghost use Rattle.world_posts.specs.Handled.{MayHandle, Handled};
 
 use disk_model::Disk;
-use kme_store::Post;
+use kme_start::kme_store::Post;
 use net_model::{Event, Reply};
 use source_devices::Entropy;
 

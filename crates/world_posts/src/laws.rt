@@ -4,14 +4,14 @@ ghost use Rattle.net_model.specs.declared.event.Event.{Event as EventValue};
 ghost use Rattle.net_model.specs.declared.reply.Reply.{Reply as ReplyValue};
 ghost use Rattle.net_model.specs.World.{Network, World};
 ghost use Rattle.law_others.specs.Touched.{ManagerStays};
-ghost use Rattle.kme_store.specs.declared.post.Post.{Post as PostValue};
-ghost use Rattle.kme_store.specs.Manager.{ManagerForm, Acts, HasDisk};
+ghost use Rattle.kme_start.specs.Passed.{Post as PostValue};
+ghost use Rattle.kme_start.specs.Passed.{ManagerForm, Acts, HasDisk};
 ghost use Rattle.world_lanes.specs.Stands.{IsRunning};
 ghost use Rattle.world_posts.specs.Handled.{ViewGoesOn, BatchFits, Handled};
 ghost use Rattle.world_posts.specs.Stands.{PostStands};
 
 use disk_model::Disk;
-use kme_store::Post;
+use kme_start::kme_store::Post;
 use source_devices::Entropy;
 
 /// Where a manager of the network is as it was, a post stands for it as before.

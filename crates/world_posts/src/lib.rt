@@ -14,7 +14,7 @@ mod tampering;
 pub use asking::ask;
 pub use blocks::take_block;
 pub use hearing::hear;
-pub use kme_store;
+pub use kme_start::kme_store;
 pub use laws::{law_answered_is_handled, law_post_goes_on};
 pub use lives::{arm, crash};
 pub use noting::note;

@@ -6,7 +6,7 @@ ghost use Rattle.world_posts.specs.Handled.{OnDisk};
 ghost use Rattle.world_posts.specs.Lives.{MayCrash, HasCrashed, MayArm, HasArmed, IsArmedWith};
 
 use disk_model::{Arm, Disk};
-use kme_store::Post;
+use kme_start::kme_store::Post;
 use source_devices::Entropy;
 
 /// Ends the life of a node's manager, and says whether it was up. What is on its disk stays.

@@ -7,7 +7,7 @@ ghost use Rattle.world_posts.specs.Counts.{Counts};
 
 use crate::handling::handle;
 use disk_model::Disk;
-use kme_store::Post;
+use kme_start::kme_store::Post;
 use net_model::{Event, Placings, Reply};
 use qkd_base::Memory;
 use source_devices::Entropy;

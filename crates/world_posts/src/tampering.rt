@@ -2,7 +2,7 @@
 ghost use Rattle.std.specs.Prelude.{◌≡◌, ◌&&◌, not, ℕ, Bool, List, IfOk, OnErr};
 ghost use Rattle.hop_frames.specs.Opening.{open_of};
 ghost use Rattle.qkd_base.specs.declared.lane.Lane.{Lane as LaneValue};
-ghost use Rattle.kme_recovery.specs.Passed.{is_match};
+ghost use Rattle.kme_start.specs.Passed.{is_match};
 ghost use Rattle.net_model.specs.Frames.{octets_received};
 ghost use Rattle.net_model.specs.Site.{receiver};
 ghost use Rattle.net_model.specs.World.{Network, World};
@@ -11,7 +11,7 @@ ghost use Rattle.world_posts.specs.Tampering.{MayTamper, HasTampered, MayForge, 
 
 use crate::handling::handle;
 use disk_model::Disk;
-use kme_store::Post;
+use kme_start::kme_store::Post;
 use net_model::{Event, Reply};
 use qkd_base::{Lane, Memory, Octets};
 use source_devices::Entropy;

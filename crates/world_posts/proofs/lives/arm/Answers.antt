@@ -1,5 +1,5 @@
 use Rattle.std.proofs.Common.{subst, ◌<◌, ◌^◌}
-use Rattle.kme_store.specs.declared.post.Post.{Post}
+use Rattle.kme_start.specs.Passed.{Post}
 use Rattle.world_posts.specs.Handled.{OnDisk}
 use Rattle.world_posts.proofs.Armed.{armed_on, armed_off, counted_on, counted_off}
 use Rattle.world_posts.proofs.lives.arm.Goals as goal

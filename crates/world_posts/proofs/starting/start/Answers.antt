@@ -1,6 +1,6 @@
 use Rattle.std.proofs.Common.{sym, subst, ◌∙◌}
-use Rattle.kme_store.specs.declared.post.Post.{Post}
-use Rattle.kme_store.specs.declared.post.Post.TheVariants.{On}
+use Rattle.kme_start.specs.Passed.{Post}
+use Rattle.kme_start.specs.Passed.{On}
 use Rattle.report_items.specs.declared.start_result.StartResult.TheVariants as starts
 use Rattle.world_posts.specs.Stands.{PostStands}
 use Rattle.world_posts.specs.Starting.{HasStarted}

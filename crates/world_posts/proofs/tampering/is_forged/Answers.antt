@@ -3,7 +3,7 @@ use Rattle.std.specs.Prelude.{IfOk}
 use Rattle.net_model.specs.Frames.{octets_received}
 use Rattle.net_model.specs.Site.{receiver}
 use Rattle.hop_frames.specs.Opening.{open_of}
-use Rattle.kme_recovery.specs.Passed.{is_match}
+use Rattle.kme_start.specs.Passed.{is_match}
 use Rattle.world_posts.specs.Tampering.{MayTamper}
 use Rattle.world_posts.proofs.Tampered.{if_ok}
 use Rattle.world_posts.proofs.tampering.is_forged.Goals as goal
