@@ -20,3 +20,4 @@ pub use lives::{arm, crash};
 pub use noting::note;
 pub use starting::start;
 pub use tampering::{flip, forge};
+pub use kme_start;

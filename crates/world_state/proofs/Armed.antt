@@ -2,7 +2,7 @@
 use Rattle.std.proofs.Common.{◌≡◌, ℕ, zero, suc, ◌+◌, ◌<◌, ◌≤◌, Bool, List, [], ◌∷◌, refl, sym, ap, ◌∙◌, subst, arith, Option, Some}
 use Rattle.std.specs.Prelude.{max, slice_get, slice_set}
 use Rattle.disk_model.specs.declared.arm.Armings.{Armings}
-use Rattle.kme_store.specs.declared.post.Post.{Post}
+use Rattle.world_posts.specs.Passed.{Post}
 use Rattle.world_posts.specs.Counts.{disk_of, CountsBy, Counts}
 use Rattle.world_state.specs.Armed.{times_of, most_armed}
 

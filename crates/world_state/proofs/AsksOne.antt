@@ -11,7 +11,7 @@ use Rattle.net_model.specs.Action.{Environment, Ask, Ok, Replies, is_io_fault, i
 use Rattle.net_model.specs.declared.reply.Reply.{Reply}
 use Rattle.net_model.specs.OctetSequence.{OctetSequence}
 use Rattle.declared_site.specs.SiteOf.{site_of}
-use Rattle.kme_store.specs.declared.post.Post.{Post}
+use Rattle.world_posts.specs.Passed.{Post}
 use Rattle.run_acts.specs.Acting.{IsReady, Does}
 use Rattle.world_posts.specs.Asking.{MayAsk, Asked}
 use Rattle.world_state.specs.Stands.{Stands}

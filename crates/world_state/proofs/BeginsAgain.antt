@@ -20,9 +20,9 @@ use Rattle.declared_site.specs.declared.site.Site.{Site as Declared}
 use Rattle.report_items.specs.declared.start_result.StartResult.{StartResult}
 use Rattle.report_items.specs.declared.start_result.StartResult.TheVariants as starts
 use Rattle.route_table.specs.Layer.{bit_is_set}
-use Rattle.kme_store.specs.Manager.{ManagerForm}
-use Rattle.kme_store.specs.declared.post.Post.{Post}
-use Rattle.kme_store.specs.declared.post.Post.TheVariants.{On, Off}
+use Rattle.world_posts.specs.Passed.{ManagerForm}
+use Rattle.world_posts.specs.Passed.{Post}
+use Rattle.world_posts.specs.Passed.{On, Off}
 use Rattle.law_records.proofs.Base.{eq_from, eq_same, not_false, not_both}
 use Rattle.law_others.proofs.Links.{step_link}
 use Rattle.lane_sides.specs.Lane.{LaneForm}

@@ -3,7 +3,7 @@ use Rattle.std.proofs.Common.{◌≡◌, ℕ, Bool, List, Option, Some}
 use Rattle.std.specs.Prelude.{slice_get}
 use Rattle.net_model.specs.OctetSequence.{OctetSequence}
 use Rattle.net_model.specs.World.{Network, World}
-use Rattle.kme_store.specs.declared.post.Post.{Post}
+use Rattle.world_posts.specs.Passed.{Post}
 use Rattle.world_posts.specs.Counts.{disk_of}
 use Rattle.world_posts.proofs.Counted.{post_disk}
 use Rattle.world_state.specs.Stands.{Stands}

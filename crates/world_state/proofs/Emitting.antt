@@ -23,7 +23,7 @@ use Rattle.source_devices.specs.declared.wire.WireFailed.TheVariants.{Fault, Mem
 use Rattle.lane_sides.specs.Lane.{LaneForm}
 use Rattle.lane_sides.specs.declared.sent.Sent.{Sent}
 use Rattle.lane_sides.specs.Sending.{answer_of}
-use Rattle.kme_store.specs.declared.post.Post.{Post}
+use Rattle.world_posts.specs.Passed.{Post}
 use Rattle.law_records.proofs.Base.{and_left, and_right, number_set_same}
 use Rattle.law_lanes.proofs.Lists.{lane_set_same}
 use Rattle.law_others.proofs.ManagerSteps.{claim_unseen, transmit_unseen}

@@ -11,11 +11,11 @@ use Rattle.net_model.specs.Needed.{view_of}
 use Rattle.net_model.specs.View.{View, Port, port_of}
 use Rattle.net_model.specs.Events.{is_lane}
 use Rattle.law_records.proofs.Base.{eq_same, or_left, or_right, not_both}
-use Rattle.kme_store.specs.Manager.{ManagerForm, lease_of}
-use Rattle.kme_store.specs.declared.standing.Standing.{Standing}
+use Rattle.world_posts.specs.Passed.{ManagerForm, lease_of}
+use Rattle.world_posts.specs.Passed.{Standing}
 use Rattle.kme_store.specs.declared.standing.Standing.TheVariants as standings
-use Rattle.kme_store.specs.declared.post.Post.{Post}
-use Rattle.kme_store.specs.declared.post.Post.TheVariants.{On, Off}
+use Rattle.world_posts.specs.Passed.{Post}
+use Rattle.world_posts.specs.Passed.{On, Off}
 use Rattle.world_lanes.specs.Stands.{IsRunning}
 use Rattle.world_lanes.proofs.Taking.{own_lane}
 use Rattle.world_posts.specs.Stands.{StandingStands, PostStands}

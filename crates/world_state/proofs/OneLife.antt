@@ -15,11 +15,11 @@ use Rattle.net_model.specs.Action.{Action, Outcome, Fault, Crash, Arm, Armed}
 use Rattle.net_model.specs.Faults.{disk_faults, entropy_faults, armings, fault_armed}
 use Rattle.net_model.specs.Step.{step, is_node, is_sent, is_quiet, is_enabled}
 use Rattle.declared_site.specs.SiteOf.{site_of}
-use Rattle.kme_store.specs.Manager.{HasDisk}
-use Rattle.kme_store.specs.declared.standing.Standing.{Standing}
-use Rattle.kme_store.specs.declared.standing.Standing.TheVariants.{Up, Down, Between}
-use Rattle.kme_store.specs.declared.post.Post.{Post}
-use Rattle.kme_store.specs.declared.post.Post.TheVariants.{On, Off}
+use Rattle.world_posts.specs.Passed.{HasDisk}
+use Rattle.world_posts.specs.Passed.{Standing}
+use Rattle.world_posts.specs.Passed.{Up, Down, Between}
+use Rattle.world_posts.specs.Passed.{Post}
+use Rattle.world_posts.specs.Passed.{On, Off}
 use Rattle.law_records.proofs.Base.{and_both, eq_same, eq_from, not_false, when_true}
 use Rattle.run_turns.specs.Reported.{crashed}
 use Rattle.run_model.specs.Bench.{last_of_both}

@@ -9,7 +9,7 @@ use Rattle.net_model.specs.World.{Network, World}
 use Rattle.net_model.specs.Action.{Environment, Action, Outcome, is_io_fault, is_entropy_fault}
 use Rattle.net_model.specs.Step.{step, IsStep}
 use Rattle.declared_site.specs.SiteOf.{site_of}
-use Rattle.kme_store.specs.declared.post.Post.{Post}
+use Rattle.world_posts.specs.Passed.{Post}
 use Rattle.lane_sides.specs.Lane.{LaneForm}
 use Rattle.route_table.specs.Layer.{bit_is_set}
 use Rattle.run_model.specs.Play.{plain}

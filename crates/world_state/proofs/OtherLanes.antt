@@ -12,7 +12,7 @@ use Rattle.net_model.specs.Step.{step, IsStep}
 use Rattle.declared_site.specs.SiteOf.{site_of}
 use Rattle.route_table.specs.Layer.{bit_is_set}
 use Rattle.kme_site.specs.Up.{AreUp}
-use Rattle.kme_store.specs.declared.post.Post.{Post}
+use Rattle.world_posts.specs.Passed.{Post}
 use Rattle.lane_sides.specs.Lane.{LaneForm}
 use Rattle.law_records.proofs.Base.{by_test}
 use Rattle.law_others.specs.Touched.{ManagerStays, changes_part, Blocks, Own, Wire}

@@ -11,7 +11,7 @@ use Rattle.net_model.specs.World.{Network, World}
 use Rattle.net_model.specs.Events.{is_valid_event}
 use Rattle.net_model.specs.Action.{Ask, Complete, Ok}
 use Rattle.net_model.specs.Step.{step, is_node, is_enabled, IsStep}
-use Rattle.kme_store.specs.declared.post.Post.{Post}
+use Rattle.world_posts.specs.Passed.{Post}
 use Rattle.law_records.proofs.Base.{and_both}
 use Rattle.law_ticks.proofs.Completing.{may_complete, completes}
 use Rattle.run_acts.specs.Acting.{IsReady}

@@ -6,7 +6,7 @@ use Rattle.net_model.specs.declared.event.Event.{Event}
 use Rattle.net_model.specs.Site.{Site}
 use Rattle.net_model.specs.Action.{Environment, Ask, Complete, is_io_fault, is_entropy_fault}
 use Rattle.net_model.specs.Faults.{disk_faults, entropy_faults, armings}
-use Rattle.kme_store.specs.declared.post.Post.{Post}
+use Rattle.world_posts.specs.Passed.{Post}
 use Rattle.lane_sides.specs.Lane.{LaneForm}
 use Rattle.world_posts.specs.Counts.{disk_of, entropy_of, Counts}
 use Rattle.world_state.specs.Stands.{place_of}

@@ -8,7 +8,7 @@ use Rattle.net_model.specs.World.{Network, World}
 use Rattle.net_model.specs.Action.{Action, Outcome}
 use Rattle.net_model.specs.Step.{step, IsStep}
 use Rattle.declared_site.specs.SiteOf.{site_of}
-use Rattle.kme_store.specs.declared.post.Post.{Post}
+use Rattle.world_posts.specs.Passed.{Post}
 use Rattle.lane_sides.specs.Lane.{LaneForm}
 use Rattle.run_model.specs.Script.{Reports, Ends, asks}
 use Rattle.run_model.specs.Play.{Played, plain, play, is_forged}

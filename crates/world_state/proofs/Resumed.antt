@@ -18,10 +18,10 @@ use Rattle.net_model.specs.Frames.{octets_sent}
 use Rattle.net_model.specs.Events.{is_lane}
 use Rattle.net_model.specs.Action.{Recovery, Recovers, Resumes, Interrupted, NoMemory, Foreign, Start, Outcome, Started}
 use Rattle.net_model.specs.Step.{step}
-use Rattle.kme_store.specs.Manager.{ManagerForm}
-use Rattle.kme_store.specs.declared.standing.Standing.{Standing}
+use Rattle.world_posts.specs.Passed.{ManagerForm}
+use Rattle.world_posts.specs.Passed.{Standing}
 use Rattle.kme_store.specs.declared.standing.Standing.TheVariants as standings
-use Rattle.kme_store.specs.declared.post.Post.TheVariants.{On}
+use Rattle.world_posts.specs.Passed.{On}
 use Rattle.lane_sides.specs.Lane.{LaneForm}
 use Rattle.law_records.proofs.Base.{by_test, number_set_same, not_both}
 use Rattle.law_records.proofs.Resuming.{resumed_durable}

@@ -8,7 +8,7 @@ use Rattle.net_model.specs.Events.{is_lane}
 use Rattle.net_model.specs.Action.{Action, Start, Crash, Arm, SetLink, TakeBlock, Ask, Allocate, Transmit, Complete, Deliver, Flip, Forge, WantMemory, is_shown, environment_of}
 use Rattle.net_model.specs.Step.{step, is_enabled, IsStep}
 use Rattle.declared_site.specs.SiteOf.{site_of}
-use Rattle.kme_store.specs.declared.post.Post.{Post}
+use Rattle.world_posts.specs.Passed.{Post}
 use Rattle.lane_sides.specs.Lane.{LaneForm}
 use Rattle.law_records.proofs.Base.{and_left}
 use Rattle.law_steps.proofs.Steps.{step_keeps}

@@ -20,7 +20,7 @@ use Rattle.net_model.specs.Faults.{is_block_fault, wire_faults}
 use Rattle.net_model.specs.Step.{step, is_enabled}
 use Rattle.declared_site.specs.SiteOf.{site_of}
 use Rattle.declared_site.specs.declared.site.Site.{Site as Declared}
-use Rattle.kme_store.specs.declared.post.Post.{Post}
+use Rattle.world_posts.specs.Passed.{Post}
 use Rattle.route_table.specs.Layer.{bit_is_set}
 use Rattle.law_records.proofs.Base.{and_left, and_right}
 use Rattle.law_records.proofs.Extending.{end_of}

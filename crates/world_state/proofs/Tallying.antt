@@ -11,7 +11,7 @@ use Rattle.net_model.specs.Action.{Action, Allocate, Transmit, is_io_fault}
 use Rattle.net_model.specs.Faults.{disk_faults, entropy_faults, device_faults, wire_faults, armings}
 use Rattle.source_devices.specs.declared.wire.WireFailed.{WireFailed}
 use Rattle.source_devices.specs.declared.wire.WireFailed.TheVariants.{Fault, Memory}
-use Rattle.kme_store.specs.declared.post.Post.{Post}
+use Rattle.world_posts.specs.Passed.{Post}
 use Rattle.lane_sides.specs.Lane.{LaneForm}
 use Rattle.law_records.proofs.Base.{lane_same, not_both}
 use Rattle.law_ticks.proofs.Puts.{lanes_apart}

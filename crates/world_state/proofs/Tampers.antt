@@ -14,7 +14,7 @@ use Rattle.net_model.specs.Action.{Environment, Flip, Forge, Outcome, NoFrame, N
 use Rattle.net_model.specs.Action.{Ok as Fine}
 use Rattle.net_model.specs.Step.{step, is_enabled}
 use Rattle.declared_site.specs.SiteOf.{site_of}
-use Rattle.kme_store.specs.declared.post.Post.{Post}
+use Rattle.world_posts.specs.Passed.{Post}
 use Rattle.law_records.proofs.Base.{and_left, and_right}
 use Rattle.run_acts.specs.Fitting.{is_fit, fits_a_frame}
 use Rattle.run_acts.specs.Acting.{IsReady, Does}

@@ -2,11 +2,11 @@
 use Rattle.std.proofs.Common.{◌≡◌, ℕ, ◌<◌, Bool, true, false, List, length, refl, sym, ap, ◌∙◌, Option, Some}
 use Rattle.net_model.specs.OctetSequence.{OctetSequence}
 use Rattle.net_model.specs.World.{Network, World}
-use Rattle.kme_store.specs.Manager.{ManagerForm, is_up}
-use Rattle.kme_store.specs.declared.standing.Standing.{Standing}
-use Rattle.kme_store.specs.declared.standing.Standing.TheVariants.{Up, Down, Between}
-use Rattle.kme_store.specs.declared.post.Post.{Post}
-use Rattle.kme_store.specs.declared.post.Post.TheVariants.{On, Off}
+use Rattle.world_posts.specs.Passed.{ManagerForm, is_up}
+use Rattle.world_posts.specs.Passed.{Standing}
+use Rattle.world_posts.specs.Passed.{Up, Down, Between}
+use Rattle.world_posts.specs.Passed.{Post}
+use Rattle.world_posts.specs.Passed.{On, Off}
 use Rattle.world_posts.specs.Stands.{PostStands, StandingStands}
 
 module _ {K E : Type 0} (is_honest : K → Bool) (moment : K → ℕ) (image : K → ℕ → List ℕ → Type 0) (left : E → Option OctetSequence) (net : Network) (w : World) (v : ℕ) where

@@ -1,7 +1,7 @@
 -- How often a disk of a state was armed, at most.
 use Rattle.std.specs.Prelude.{ℕ, max, List, [], ◌∷◌, Option, Some, None}
 use Rattle.disk_model.specs.declared.arm.Armings.{Armings}
-use Rattle.kme_store.specs.declared.post.Post.{Post}
+use Rattle.world_posts.specs.Passed.{Post}
 use Rattle.world_posts.specs.Counts.{disk_of}
 
 abbrev pub times_of : {K : Type 0} → (K → Armings) → Option K → ℕ

@@ -7,7 +7,7 @@ use Rattle.net_model.specs.World.{Network, World}
 use Rattle.net_model.specs.Handle.{blocks_at}
 use Rattle.net_model.specs.Action.{Environment, TakeBlock, Outcome, Replies}
 use Rattle.net_model.specs.Step.{step, IsStep}
-use Rattle.kme_store.specs.declared.post.Post.{Post}
+use Rattle.world_posts.specs.Passed.{Post}
 use Rattle.world_posts.specs.Stands.{PostStands}
 use Rattle.world_state.specs.Tallied.{Tallied}
 use Rattle.world_state.specs.declared.state.State.{State}

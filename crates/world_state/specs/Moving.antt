@@ -7,7 +7,7 @@ use Rattle.net_model.specs.Events.{is_lane}
 use Rattle.net_model.specs.Action.{Action}
 use Rattle.net_model.specs.Step.{step}
 use Rattle.kme_site.specs.Up.{AreUp}
-use Rattle.kme_store.specs.declared.post.Post.{Post}
+use Rattle.world_posts.specs.Passed.{Post}
 use Rattle.lane_sides.specs.Lane.{LaneForm}
 use Rattle.world_lanes.specs.Stands.{LaneStands}
 use Rattle.world_posts.specs.Stands.{PostStands}

@@ -1,5 +1,5 @@
 -- What stands below this crate, for those above it that name it no other way.
-pub use Rattle.kme_store.specs.declared.post.Post.{Post}
+pub use Rattle.world_posts.specs.Passed.{Post}
 pub use Rattle.world_posts.specs.Asking.{Asked, MayAsk}
 pub use Rattle.world_posts.specs.Counts.{Counts, disk_in, disk_of, entropy_of}
 pub use Rattle.world_posts.specs.Handled.{Handled, Happens, MayHandle}

@@ -6,7 +6,7 @@ use Rattle.net_model.specs.World.{Network, World}
 use Rattle.net_model.specs.Events.{is_lane}
 use Rattle.net_model.specs.Fold.{view_restarted}
 use Rattle.declared_site.specs.SiteOf.{site_of}
-use Rattle.kme_store.specs.declared.post.Post.{Post}
+use Rattle.world_posts.specs.Passed.{Post}
 use Rattle.world_posts.specs.Passed.{resolved_view}
 use Rattle.lane_sides.specs.Lane.{LaneForm}
 use Rattle.world_lanes.specs.Stands.{IsRunning, WireStands}

@@ -8,7 +8,7 @@ use Rattle.net_model.specs.World.{Network, World}
 use Rattle.net_model.specs.Events.{is_lane}
 use Rattle.declared_site.specs.SiteOf.{site_of}
 use Rattle.kme_site.specs.Up.{AreUp}
-use Rattle.kme_store.specs.declared.post.Post.{Post}
+use Rattle.world_posts.specs.Passed.{Post}
 use Rattle.lane_sides.specs.Lane.{LaneForm}
 use Rattle.world_lanes.specs.Stands.{IsRunning, LaneStands}
 use Rattle.world_posts.specs.Stands.{PostStands}

@@ -12,8 +12,8 @@ use Rattle.pad_ledger.specs.Ledger.{Ledger, received_more}
 use Rattle.report_items.specs.declared.start_result.StartResult.{StartResult}
 use Rattle.report_items.specs.declared.start_result.StartResult.TheVariants as starts
 use Rattle.run_turns.specs.Reported.{started}
-use Rattle.kme_store.specs.Manager.{lease_of}
-use Rattle.kme_store.specs.declared.post.Post.{Post}
+use Rattle.world_posts.specs.Passed.{lease_of}
+use Rattle.world_posts.specs.Passed.{Post}
 use Rattle.lane_sides.specs.Lane.{LaneForm, burnt_to}
 use Rattle.world_posts.specs.Stands.{PostStands}
 use Rattle.world_state.specs.Tallied.{Tallied}

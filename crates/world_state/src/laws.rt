@@ -10,7 +10,7 @@ ghost use Rattle.world_lanes.specs.Stands.{IsRunning, LaneStands};
 ghost use Rattle.run_acts.specs.Quiet.{IsQuiet};
 ghost use Rattle.world_state.specs.Changed.{changes_lane, sends};
 ghost use Rattle.net_model.specs.Site.{Site as SiteValue};
-ghost use Rattle.kme_store.specs.declared.post.Post.{Post as PostValue};
+ghost use Rattle.world_posts.specs.Passed.{Post as PostValue};
 ghost use Rattle.world_state.specs.Stands.{Stands};
 ghost use Rattle.world_posts.specs.Counts.{disk_of};
 ghost use Rattle.world_state.specs.Tallied.{Tallied};

@@ -9,7 +9,7 @@ ghost use Rattle.world_state.specs.Stands.{Stands, place_of};
 use crate::State;
 use crate::places::at;
 use disk_model::Disk;
-use kme_store::Post;
+use world_posts::kme_start::kme_store::Post;
 use net_model::Counts4;
 use qkd_base::{Lane, NodeNo, Way};
 use source_devices::{Device, Entropy, Wire};

@@ -13,7 +13,7 @@ ghost use Rattle.world_state.specs.Sending.{Sending, PutsOn, Breaks};
 use crate::places::at;
 use crate::{Progress, State, lane_place};
 use disk_model::Disk;
-use kme_store::Post;
+use world_posts::kme_start::kme_store::Post;
 use lane_sides::Sent;
 use net_model::{Order, Placing, Repeat, spelled_len};
 use qkd_base::{Lane, Memory, NodeNo};

@@ -17,7 +17,7 @@ use crate::State;
 use declared_site::Site;
 use disk_model::Disk;
 use kme_site::sender;
-use kme_store::{Manager, Post};
+use world_posts::kme_start::kme_store::{Manager, Post};
 use lane_sides::LaneSide;
 use qkd_base::{Memory, NodeNo};
 use report_items::StartResult;

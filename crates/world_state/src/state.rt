@@ -1,7 +1,7 @@
 // The state of a run.
 use declared_site::Site;
 use disk_model::Disk;
-use kme_store::Post;
+use world_posts::kme_start::kme_store::Post;
 use lane_sides::LaneSide;
 use source_devices::{Device, Entropy, Wire};
 
