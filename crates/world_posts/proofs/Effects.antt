@@ -31,7 +31,7 @@ use Rattle.law_folds.proofs.Doubtful.{stopped_view, doubt_fits}
 use Rattle.kme_start.specs.Passed.{with_batch, batch_in_doubt, IsBody, IsSpelling}
 use Rattle.kme_start.proofs.Passed.{body_written, body_with, body_in_doubt}
 use Rattle.kme_start.specs.Passed.{Course, Stays, Stops, Goes, course, in_world}
-use Rattle.kme_start.specs.Passed.{ManagerForm, IsUpWith, IsDownWith, HasDisk, Keeps, Writes, IsAdded, HasBodyIn, HasStayed, HasStopped, HasGone, IsAfter, Answers, Acts}
+use Rattle.kme_start.specs.Passed.{ManagerForm, IsUpWith, IsDownWith, HasDisk, Keeps, Writes, IsAdded, HasBodyIn, HasStayed, HasStopped, HasGone, IsAfter_of_Manager as IsAfter, Answers, Acts}
 use Rattle.kme_start.specs.Passed.{Standing}
 use Rattle.kme_start.specs.Passed.{Up, Down, Between}
 use Rattle.kme_start.specs.Passed.{On}

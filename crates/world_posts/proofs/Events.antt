@@ -17,7 +17,7 @@ use Rattle.disk_model.specs.declared.arm.Armings.{Armings}
 use Rattle.journal_snapshot.specs.Snapshots.{SnapshotForm}
 use Rattle.source_devices.specs.Telling.{IsRest}
 use Rattle.kme_start.specs.Passed.{Course, Stays, Stops, Goes, course, in_world}
-use Rattle.kme_start.specs.Passed.{ManagerForm, IsUpWith, IsDownWith, HasDisk, Keeps, Writes, IsAdded, HasBodyIn, IsAfter, Answers, Acts}
+use Rattle.kme_start.specs.Passed.{ManagerForm, IsUpWith, IsDownWith, HasDisk, Keeps, Writes, IsAdded, HasBodyIn, IsAfter_of_Manager as IsAfter, Answers, Acts}
 use Rattle.kme_start.specs.Passed.{Standing}
 use Rattle.kme_start.specs.Passed.{Up, Down, Between}
 use Rattle.kme_start.specs.Passed.{On}

@@ -43,7 +43,7 @@ use Rattle.kme_start.specs.Passed.{GivesBack, IsAfter, IsLeft, HasRead, LeavesOn
 use Rattle.kme_start.specs.Passed.{IsUnreadable}
 use Rattle.kme_start.specs.Passed.{Recovered}
 use Rattle.kme_start.specs.Passed.{RecoverRefusal}
-use Rattle.kme_recovery.specs.declared.refusal.RecoverRefusal.TheVariants as refusals
+use Rattle.kme_start.specs.Refusals as refusals
 use Rattle.kme_start.specs.Start.{IsOver, Recovers}
 use Rattle.kme_start.specs.Passed.{ManagerForm, HasDisk, is_up}
 use Rattle.kme_start.specs.Passed.{Standing}

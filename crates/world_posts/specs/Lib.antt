@@ -9,3 +9,4 @@ pub mod Passed
 pub mod Stands
 pub mod Starting
 pub mod Tampering
+pub mod Standings

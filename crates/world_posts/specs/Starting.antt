@@ -12,7 +12,7 @@ use Rattle.report_items.specs.declared.start_result.StartResult.{StartResult}
 use Rattle.report_items.specs.declared.start_result.StartResult.TheVariants as starts
 use Rattle.run_turns.specs.Reported.{started}
 use Rattle.kme_start.specs.Passed.{RecoverRefusal}
-use Rattle.kme_recovery.specs.declared.refusal.RecoverRefusal.TheVariants as refusals
+use Rattle.kme_start.specs.Refusals as refusals
 use Rattle.kme_start.specs.Passed.{Post}
 use Rattle.world_lanes.specs.Stands.{IsRunning}
 use Rattle.world_posts.specs.Stands.{PostStands}

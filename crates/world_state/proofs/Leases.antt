@@ -13,7 +13,7 @@ use Rattle.net_model.specs.Events.{is_lane}
 use Rattle.law_records.proofs.Base.{eq_same, or_left, or_right, not_both}
 use Rattle.world_posts.specs.Passed.{ManagerForm, lease_of}
 use Rattle.world_posts.specs.Passed.{Standing}
-use Rattle.kme_store.specs.declared.standing.Standing.TheVariants as standings
+use Rattle.world_posts.specs.Standings as standings
 use Rattle.world_posts.specs.Passed.{Post}
 use Rattle.world_posts.specs.Passed.{On, Off}
 use Rattle.world_lanes.specs.Stands.{IsRunning}

@@ -20,7 +20,7 @@ use Rattle.net_model.specs.Action.{Recovery, Recovers, Resumes, Interrupted, NoM
 use Rattle.net_model.specs.Step.{step}
 use Rattle.world_posts.specs.Passed.{ManagerForm}
 use Rattle.world_posts.specs.Passed.{Standing}
-use Rattle.kme_store.specs.declared.standing.Standing.TheVariants as standings
+use Rattle.world_posts.specs.Standings as standings
 use Rattle.world_posts.specs.Passed.{On}
 use Rattle.lane_sides.specs.Lane.{LaneForm}
 use Rattle.law_records.proofs.Base.{by_test, number_set_same, not_both}
