@@ -1,4 +1,6 @@
 -- What stands below this crate, for those above it that name it no other way.
+pub use Rattle.block_notes.specs.Passed.{Rests, Stands, State, Tallied, most_armed}
+pub use Rattle.block_notes.specs.Passed.{state_row}
 pub use Rattle.block_notes.specs.Working.{HasWorked}
 pub use Rattle.block_notes.specs.declared.worked.Worked.{Worked}
 pub use Rattle.block_talks.specs.Doing.{Answer, Ask, DidEntry, DoesJob}

@@ -1,3 +1,4 @@
 pub mod Standing
 pub mod Counting
 pub mod Ending
+pub mod Passed

@@ -8,3 +8,4 @@ pub mod Sizes
 pub mod Tallied
 pub mod Together
 pub mod Whole
+pub mod Passed

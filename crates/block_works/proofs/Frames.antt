@@ -12,16 +12,16 @@ use Rattle.run_model.specs.Lines.{all_lanes}
 use Rattle.run_model.specs.Works.{Work}
 use Rattle.run_blocks.specs.declared.job.Job.{Job}
 use Rattle.law_records.proofs.Base.{eq_from, eq_same, lane_eq_from, lane_same, not_false}
-use Rattle.world_lane_works.specs.Passed.{turns_over}
-use Rattle.world_lane_works.specs.Passed.{reported_on, placings_on}
+use Rattle.block_lanes.specs.Passed.{turns_over}
+use Rattle.block_lanes.specs.Passed.{reported_on, placings_on}
 use Rattle.plan_emissions.specs.declared.emitted.Emitted.{Emitted}
 use Rattle.block_talks.proofs.Passed.{lane_there}
-use Rattle.world_lane_works.specs.Blocks.{LanesWorked, LanesLeft}
-use Rattle.world_lane_works.specs.Sorting.{IsSortedByBoth}
-use Rattle.world_lane_works.specs.Telling.{AreSorted}
-use Rattle.world_lane_works.specs.Telling.{on_lane as placed_on}
-use Rattle.world_lane_works.proofs.Runs.{lane_by_lane}
-use Rattle.world_lane_works.proofs.SortedFrames.{just, ordered}
+use Rattle.block_lanes.specs.Passed.{LanesWorked, LanesLeft}
+use Rattle.block_lanes.specs.Passed.{IsSortedByBoth}
+use Rattle.block_lanes.specs.Passed.{AreSorted}
+use Rattle.block_lanes.specs.Passed.{on_lane as placed_on}
+use Rattle.block_lanes.proofs.Passed.{lane_by_lane}
+use Rattle.block_lanes.proofs.Passed.{just, ordered}
 use Rattle.block_notes.specs.Frames.{frame_done, frame_placing, on_lane}
 
 -- a lane is told by its place

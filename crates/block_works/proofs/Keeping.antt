@@ -13,7 +13,7 @@ use Rattle.law_lanes.proofs.Lists.{all_both}
 use Rattle.plan_emissions.specs.declared.emitted.Emitted.{Emitted}
 use Rattle.plan_emissions.specs.Wants.{lane_for}
 use Rattle.block_talks.specs.Passed.{CanLeave}
-use Rattle.world_lane_works.specs.Working.{IsOfItsLine, wanted_for, kept}
+use Rattle.block_lanes.specs.Passed.{IsOfItsLine, wanted_for, kept}
 use Rattle.block_talks.specs.declared.keep.Replied.{Replied}
 use Rattle.block_talks.specs.declared.keep.Keep.{Keep}
 use Rattle.block_talks.specs.Talking.{wanted_in}

@@ -27,14 +27,14 @@ use Rattle.world_lanes.specs.Stands.{LaneStands}
 use Rattle.world_lanes.proofs.Going.{get_within}
 use Rattle.world_lanes.proofs.Wires.{get-map}
 use Rattle.block_talks.specs.Passed.{place_of}
-use Rattle.world_lane_works.specs.Passed.{turns_over, wanted_by}
-use Rattle.world_lane_works.specs.Passed.{wanted_on}
-use Rattle.world_lane_works.specs.Passed.{of_worker}
-use Rattle.world_lane_works.specs.Owning.{AreOwnTurns, wants_of}
-use Rattle.world_lane_works.specs.Working.{IsOfItsLine, wanted_for}
-use Rattle.world_lane_works.specs.Blocks.{LaneWorked}
-use Rattle.world_lane_works.proofs.OnALane.{wanted_emitted}
-use Rattle.world_lane_works.proofs.Owning.{own_wanted}
+use Rattle.block_lanes.specs.Passed.{turns_over, wanted_by}
+use Rattle.block_lanes.specs.Passed.{wanted_on}
+use Rattle.block_lanes.specs.Passed.{of_worker}
+use Rattle.block_lanes.specs.Passed.{AreOwnTurns, wants_of}
+use Rattle.block_lanes.specs.Passed.{IsOfItsLine, wanted_for}
+use Rattle.block_lanes.specs.Passed.{LaneWorked}
+use Rattle.block_lanes.proofs.Passed.{wanted_emitted}
+use Rattle.block_lanes.proofs.Passed.{own_wanted}
 use Rattle.block_talks.proofs.Passed.{lane_within, same_place}
 use Rattle.block_talks.specs.declared.keep.Replied.{Replied}
 use Rattle.block_talks.specs.Talking.{wanted_in}

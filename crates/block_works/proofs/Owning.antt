@@ -18,14 +18,14 @@ use Rattle.law_merges.specs.Rising.{placed_from, together}
 use Rattle.law_merges.proofs.Alls.{all_map}
 use Rattle.law_merges.proofs.Holding.{all_of_parts}
 use Rattle.law_merges.proofs.Mapping.{merge_map}
-use Rattle.world_lane_works.specs.Passed.{lane_of}
+use Rattle.block_lanes.specs.Passed.{lane_of}
 use Rattle.world_lanes.proofs.Going.{get_within}
 use Rattle.world_lanes.proofs.Wires.{get-map}
 use Rattle.block_talks.proofs.Passed.{length-count_up, counted_at}
 use Rattle.shared_machines.specs.Asked.{requests_on}
 use Rattle.block_talks.specs.Passed.{Turn}
 use Rattle.turn_shifts.specs.Calls.{work_of}
-use Rattle.world_lane_works.specs.Owning.{NodeTurn, told_by, turns_at, SendsItsOwn, AreOwnTurns}
+use Rattle.block_lanes.specs.Passed.{NodeTurn, told_by, turns_at, SendsItsOwn, AreOwnTurns}
 use Rattle.block_talks.specs.Passed.{PlanAsk}
 use Rattle.block_talks.specs.Passed.{PlanAnswer}
 use Rattle.block_talks.specs.Passed.{CanLeave}

@@ -14,12 +14,12 @@ use Rattle.law_merges.proofs.Mapping.{merge_map}
 use Rattle.world_lanes.proofs.Going.{get_within}
 use Rattle.world_lanes.proofs.Wires.{get-map}
 use Rattle.block_talks.proofs.Passed.{length-count_up, counted_at}
-use Rattle.world_lane_works.specs.Sorting.{HasJust, IsSortedByBoth}
-use Rattle.world_lane_works.proofs.InOrder.{of_parts}
-use Rattle.world_lane_works.proofs.Parts.{just_moved, just_both, just_part, part_ordered}
-use Rattle.world_lane_works.proofs.Rising.{Rise, one_order}
-use Rattle.world_lane_works.proofs.Runs.{Below, Rise as NeverFalls, rise, one_more, all_below}
-use Rattle.world_lane_works.proofs.Sorted.{in_part, places_rise}
+use Rattle.block_lanes.specs.Passed.{HasJust, IsSortedByBoth}
+use Rattle.block_lanes.proofs.Passed.{of_parts}
+use Rattle.block_lanes.proofs.Passed.{just_moved, just_both, just_part, part_ordered}
+use Rattle.block_lanes.proofs.Passed.{Rise, one_order}
+use Rattle.block_lanes.proofs.Passed.{Below, Rise_of_Runs as NeverFalls, rise, one_more, all_below}
+use Rattle.block_lanes.proofs.Passed.{in_part, places_rise}
 use Rattle.block_talks.specs.Passed.{PlanAsk}
 use Rattle.block_talks.specs.Passed.{PlanAnswer}
 use Rattle.block_talks.specs.declared.keep.Replied.{Replied}

@@ -24,11 +24,11 @@ use Rattle.block_talks.specs.Passed.{Stands, State, most_armed}
 use Rattle.block_talks.specs.Passed.{PlanAsk}
 use Rattle.block_talks.specs.Passed.{PlanAnswer}
 use Rattle.block_talks.specs.Passed.{TookAllTurns}
-use Rattle.world_lane_works.specs.Blocks.{LanesWorked, LanesLeft}
-use Rattle.world_lane_works.specs.Owning.{AreOwnTurns}
-use Rattle.world_lane_works.specs.Telling.{AreSorted}
-use Rattle.world_lane_works.specs.Working.{kept}
-use Rattle.world_lane_works.proofs.AllLanes.{lanes_left}
+use Rattle.block_lanes.specs.Passed.{LanesWorked, LanesLeft}
+use Rattle.block_lanes.specs.Passed.{AreOwnTurns}
+use Rattle.block_lanes.specs.Passed.{AreSorted}
+use Rattle.block_lanes.specs.Passed.{kept}
+use Rattle.block_lanes.proofs.Passed.{lanes_left}
 use Rattle.block_lanes.specs.States.{HasLanes}
 use Rattle.block_lanes.proofs.Counting.{lanes_tallied}
 use Rattle.block_lanes.proofs.Standing.{stands}

@@ -4,7 +4,7 @@ use Rattle.std.specs.List.{AllByRecursion, flat_map}
 use Rattle.std.specs.List.Sorted.{IsPermutation}
 use Rattle.qkd_base.specs.Lane.{lane_place}
 use Rattle.plan_emissions.specs.declared.emitted.Emitted.{Emitted}
-use Rattle.world_lane_works.specs.Sorting.{IsSortedByBoth}
+use Rattle.block_lanes.specs.Passed.{IsSortedByBoth}
 use Rattle.block_talks.specs.declared.keep.Replied.{Replied}
 use Rattle.block_talks.specs.declared.keep.Keep.{Keep}
 use Rattle.block_notes.specs.declared.worked.Worked.{Worked}

@@ -5,3 +5,4 @@ pub mod Replies
 pub mod Whole
 pub mod Sent
 pub mod Opened
+pub mod Passed

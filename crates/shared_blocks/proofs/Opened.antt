@@ -17,8 +17,8 @@ use Rattle.shared_machines.proofs.Lasts.{written_back}
 use Rattle.shared_machines.proofs.Zips.{zip_same}
 use Rattle.block_gathers.specs.Passed.{Turn}
 use Rattle.block_works.specs.Passed.{AreShifts}
-use Rattle.plan_desks.specs.Opening.{AllOpened}
-use Rattle.plan_desks.proofs.Openings.{opened_long}
+use Rattle.block_seats.specs.Passed.{AllOpened}
+use Rattle.block_seats.proofs.Passed.{opened_long}
 use Rattle.block_seats.specs.Passed.{State, Stands}
 use Rattle.block_gathers.specs.Passed.{Worked}
 use Rattle.block_gathers.specs.Passed.{HasWorked}

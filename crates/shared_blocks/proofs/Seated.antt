@@ -17,9 +17,9 @@ use Rattle.either_machines.specs.declared.either.Either.{Either}
 use Rattle.either_machines.specs.declared.either.Either.TheVariants.{Left, Right}
 use Rattle.run_acts.specs.Acting.{IsReady}
 use Rattle.shared_machines.proofs.Zips.{item_at}
-use Rattle.plan_desks.specs.declared.ask.PlanAsk.{PlanAsk}
-use Rattle.plan_desks.specs.declared.ask.PlanAnswer.{PlanAnswer}
-use Rattle.plan_desks.proofs.Places.{same_place, lane_within}
+use Rattle.block_seats.specs.Passed.{PlanAsk}
+use Rattle.block_seats.specs.Passed.{PlanAnswer}
+use Rattle.block_seats.proofs.Passed.{same_place, lane_within}
 use Rattle.block_gathers.specs.Passed.{Keep}
 use Rattle.block_gathers.specs.Passed.{HaveWorked}
 use Rattle.block_errands.specs.Working.{AreSeated}

@@ -12,23 +12,23 @@ use Rattle.source_devices.specs.declared.wire.Wire as Wire
 use Rattle.either_machines.proofs.either.Either.TheSendSync as either
 use Rattle.either_machines.specs.contracts.either.Either as Either
 use Rattle.lane_desks.specs.contracts.desk.LaneDesk as LaneDesk
-use Rattle.plan_desks.specs.contracts.desk.PlanDesk as PlanDesk
+use Rattle.block_seats.specs.Passed.{plan_desk_row}
 use Rattle.lane_shares.specs.contracts.shares.Shares as Shares
 use Rattle.lane_shares.proofs.shares.Shares.TheSendSync as shares
 use Rattle.plan_emissions.specs.contracts.plan.Lanes as Lanes
 use Rattle.block_errands.specs.contracts.errands.BlockErrands as BlockErrands
-use Rattle.world_state.specs.contracts.state.State as State
-use Rattle.plan_desks.proofs.Sent.{desk_send, lane_send}
+use Rattle.block_gathers.specs.Passed.{state_row}
+use Rattle.block_seats.proofs.Passed.{desk_send, lane_send}
 
 module _ (a : NamedLft) (K Q E X : RattleType) (disk : Disk.Ghosts K.Denot) (device : Device.Ghosts Q.Denot) (entropy : Entropy.Ghosts E.Denot) (wire : Wire.Ghosts X.Denot) (disk_send : IsSend K) (entropy_send : IsSend E)
     (wire_send : IsSend X) where
-  manager_send : IsSend (PlanDesk.the_row a K Q E X disk device entropy wire)
+  manager_send : IsSend (plan_desk_row a K Q E X disk device entropy wire)
   manager_send = desk_send a K Q E X disk device entropy wire disk_send entropy_send
 
   side_send : IsSend (LaneDesk.the_row a X wire)
   side_send = lane_send a X wire wire_send
 
-  pub seat_send : IsSend (Either.the_row (PlanDesk.the_row a K Q E X disk device entropy wire) (LaneDesk.the_row a X wire))
+  pub seat_send : IsSend (Either.the_row (plan_desk_row a K Q E X disk device entropy wire) (LaneDesk.the_row a X wire))
   seat_send = search (either.the_send, manager_send, side_send, sendable, crosses)
 
 -- The errands may be shared by threads.
@@ -48,4 +48,4 @@ snapshot_sync R = record { shared = λ d b o κ q. part_keyless (Snapshot.the_fi
 pub errands_sync : (a : NamedLft) (K Q E X : RattleType) (disk : Disk.Ghosts K.Denot) (entropy : Entropy.Ghosts E.Denot) (wire : Wire.Ghosts X.Denot) → IsSync (BlockErrands.the_row a K Q E X disk entropy wire)
 errands_sync a K Q E X disk entropy wire =
     let errands = BlockErrands.the_type a K Q E X disk entropy wire in
-    recorded_sync _ _ errands.to errands.to_one (struct_sync (shape errands) (search (sendable, crosses), (lanes_sync a, (snapshot_sync (State.the_row K Q E X disk entropy wire), tt))))
+    recorded_sync _ _ errands.to errands.to_one (struct_sync (shape errands) (search (sendable, crosses), (lanes_sync a, (snapshot_sync (state_row K Q E X disk entropy wire), tt))))

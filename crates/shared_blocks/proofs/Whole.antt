@@ -17,8 +17,8 @@ use Rattle.lane_desks.specs.Asking.{MayAsk as MayAskLane}
 use Rattle.lane_desks.specs.Turns.{desk_charter, DeskTurns}
 use Rattle.either_machines.specs.declared.either.Either.{Either}
 use Rattle.shared_errands.specs.Done.{AreDone}
-use Rattle.plan_desks.specs.declared.ask.PlanAsk.{PlanAsk}
-use Rattle.plan_desks.specs.declared.ask.PlanAnswer.{PlanAnswer}
+use Rattle.block_seats.specs.Passed.{PlanAsk}
+use Rattle.block_seats.specs.Passed.{PlanAnswer}
 use Rattle.declared_site.specs.SiteOf.{site_of}
 use Rattle.shared_machines.specs.declared.call.Call.{Call}
 use Rattle.shared_machines.proofs.Zips.{zip_weaker}

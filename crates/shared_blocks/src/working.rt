@@ -34,7 +34,7 @@ use std::alloc::Global;
 use std::snapshot::Snapshot;
 use std::sync::Wait;
 use std::thread::Threads;
-use world_state::State;
+use block_gathers::block_notes::world_frames::world_state::State;
 
 // The most that a job calls a machine: a manager once, and a lane for the frames of a plan.
 const MOST: u64 = 2_097_153;

@@ -13,7 +13,7 @@ use Rattle.net_model.specs.Action.{Environment, Action}
 use Rattle.net_model.specs.Events.{is_lane}
 use Rattle.net_model.specs.Step.{step, is_enabled}
 use Rattle.declared_site.specs.SiteOf.{site_of}
-use Rattle.kme_store.specs.declared.post.Post.{Post}
+use Rattle.world_turns.specs.Passed.{Post}
 use Rattle.law_others.specs.Touched.{touches_link}
 use Rattle.law_others.proofs.Links.{step_link}
 use Rattle.run_acts.specs.Acting.{IsReady}

@@ -9,7 +9,7 @@ use Rattle.net_model.specs.OctetSequence.{OctetSequence}
 use Rattle.net_model.specs.Site.{receiver}
 use Rattle.net_model.specs.World.{Network, World}
 use Rattle.net_model.specs.Action.{Ask}
-use Rattle.kme_store.specs.declared.post.Post.{Post}
+use Rattle.world_turns.specs.Passed.{Post}
 use Rattle.run_blocks.specs.declared.job.Job.{Job}
 use Rattle.run_blocks.specs.declared.job.Job.TheVariants as jobs
 use Rattle.world_turns.specs.Passed.{Happens}

@@ -18,9 +18,9 @@ use Rattle.net_model.specs.Action.{Ask, Deliver, Ok, Replies}
 use Rattle.net_model.specs.BlockOrder.{is_block_event, is_turn_of}
 use Rattle.net_model.specs.Step.{is_asked, is_enabled}
 use Rattle.declared_site.specs.SiteOf.{site_of}
-use Rattle.kme_store.specs.Manager.{ManagerForm, is_up}
-use Rattle.kme_store.specs.declared.post.Post.{Post}
-use Rattle.kme_store.specs.declared.post.Post.TheVariants.{On}
+use Rattle.world_turns.specs.Passed.{ManagerForm, is_up}
+use Rattle.world_turns.specs.Passed.{Post}
+use Rattle.world_turns.specs.Passed.{On}
 use Rattle.run_model.specs.Works.{Work}
 use Rattle.run_blocks.specs.declared.job.Job.{Job}
 use Rattle.run_blocks.specs.declared.job.Job.TheVariants as jobs

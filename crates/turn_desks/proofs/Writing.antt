@@ -6,7 +6,7 @@ use Rattle.qkd_base.specs.declared.lane.Way.{Way}
 use Rattle.qkd_base.specs.declared.lane.Way.TheVariants.{Up, Down}
 use Rattle.net_model.specs.Site.{Site, sender}
 use Rattle.net_model.specs.Events.{is_lane}
-use Rattle.kme_store.specs.declared.post.Post.{Post}
+use Rattle.world_turns.specs.Passed.{Post}
 use Rattle.law_records.proofs.Base.{eq_same, eq_from, not_both}
 use Rattle.resend_window.proofs.Lists.{get_set_same, get_set_other}
 use Rattle.world_turns.specs.Passed.{of_way, place_of}

@@ -5,7 +5,7 @@ use Rattle.net_model.specs.OctetSequence.{OctetSequence}
 use Rattle.net_model.specs.World.{Network, World}
 use Rattle.net_model.specs.Events.{is_lane}
 use Rattle.kme_site.specs.Up.{AreUp}
-use Rattle.kme_store.specs.declared.post.Post.{Post}
+use Rattle.world_turns.specs.Passed.{Post}
 use Rattle.run_acts.specs.Acting.{IsReady}
 use Rattle.world_lanes.specs.Stands.{IsRunning}
 use Rattle.world_turns.specs.Passed.{PostStands}

@@ -4,9 +4,9 @@ use Rattle.qkd_base.specs.declared.lane.Lane.{Lane}
 use Rattle.net_model.specs.Site.{Site, sender}
 use Rattle.net_model.specs.View.{port_of}
 use Rattle.net_model.specs.Events.{is_lane}
-use Rattle.kme_store.specs.Manager.{lease_of}
-use Rattle.kme_store.specs.declared.post.Post.{Post}
-use Rattle.kme_store.specs.declared.post.Post.TheVariants.{On, Off}
+use Rattle.world_turns.specs.Passed.{lease_of}
+use Rattle.world_turns.specs.Passed.{Post}
+use Rattle.world_turns.specs.Passed.{On, Off}
 use Rattle.world_turns.specs.Passed.{place_of}
 
 -- the end of a lane of a manager's node, 0 where the manager isn't there

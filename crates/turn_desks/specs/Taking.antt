@@ -8,7 +8,7 @@ use Rattle.net_model.specs.World.{Network, World}
 use Rattle.net_model.specs.Action.{Ok, Replies}
 use Rattle.declared_site.specs.SiteOf.{site_of}
 use Rattle.kme_site.specs.Up.{AreUp}
-use Rattle.kme_store.specs.declared.post.Post.{Post}
+use Rattle.world_turns.specs.Passed.{Post}
 use Rattle.run_acts.specs.Acting.{IsReady}
 use Rattle.run_blocks.specs.declared.job.Job.{Job}
 use Rattle.run_blocks.specs.Jobs.{asked_for, is_job, turn_for}

@@ -9,7 +9,7 @@ ghost use Rattle.turn_desks.specs.Leases.{lease_at, EndsOf, EndsAt, WroteOf, Wro
 use declared_site::Site;
 use disk_model::Disk;
 use kme_site::sender;
-use kme_store::Post;
+use world_turns::world_state::world_posts::kme_start::kme_store::Post;
 use net_model::{Event, Reply};
 use qkd_base::{Lane, LinkNo, NodeNo, Way};
 use run_blocks::Job;

@@ -1,13 +1,13 @@
 // An event is put to a node's manager.
 ghost use Rattle.std.specs.Prelude.{◌≡◌, ℕ, true};
 ghost use Rattle.declared_site.specs.SiteOf.{site_of};
-ghost use Rattle.kme_store.specs.Manager.{ManagerForm, is_up};
+ghost use Rattle.world_turns.specs.Passed.{ManagerForm, is_up};
 ghost use Rattle.net_model.specs.Events.{is_valid_event};
 ghost use Rattle.net_model.specs.World.{Network, World};
 ghost use Rattle.world_turns.specs.Passed.{MayHandle, Handled};
 
 use disk_model::Disk;
-use kme_store::Post;
+use world_turns::world_state::world_posts::kme_start::kme_store::Post;
 use net_model::{Event, Reply};
 use source_devices::Entropy;
 

@@ -5,7 +5,7 @@ ghost use Rattle.turn_desks.specs.Taking.{MayTurnAt, HappensAt};
 
 use crate::putting::put;
 use disk_model::Disk;
-use kme_store::Post;
+use world_turns::world_state::world_posts::kme_start::kme_store::Post;
 use net_model::{Event, Reply};
 use qkd_base::Octets;
 use run_blocks::Job;

@@ -5,13 +5,13 @@ use Rattle.net_model.specs.OctetSequence.{OctetSequence}
 use Rattle.net_model.specs.World.{Network, World}
 use Rattle.run_blocks.specs.declared.job.Job.{Job}
 use Rattle.run_blocks.specs.Together.{LeftTogether}
-use Rattle.world_frames.specs.Passed.{Rests}
-use Rattle.world_frames.specs.Passed.{Stands}
-use Rattle.world_frames.specs.Passed.{Tallied}
-use Rattle.world_frames.specs.Passed.{State}
-use Rattle.world_frames.proofs.Passed.{has_disks}
-use Rattle.world_frames.proofs.Passed.{comes_to_rest}
-use Rattle.world_frames.proofs.Passed.{none_tallied}
+use Rattle.shared_blocks.specs.Passed.{Rests}
+use Rattle.shared_blocks.specs.Passed.{Stands}
+use Rattle.shared_blocks.specs.Passed.{Tallied}
+use Rattle.shared_blocks.specs.Passed.{State}
+use Rattle.shared_blocks.proofs.Passed.{has_disks}
+use Rattle.shared_blocks.proofs.Passed.{comes_to_rest}
+use Rattle.shared_blocks.proofs.Passed.{none_tallied}
 
 -- what is left rests in the world of the block's start
 pub nobody_asked : {K Q E X : Type 0} (is_honest : K → Bool) (moment : K → ℕ) (image : K → ℕ → List ℕ → Type 0) (left : E → Option OctetSequence) (told : Q → Option OctetSequence)

@@ -1,2 +1,2 @@
 -- What stands below this crate, for those above it that name it no other way.
-pub use Rattle.world_frames.proofs.Passed.{comes_to_rest, has_disks, none_tallied, tallied_more}
+pub use Rattle.shared_blocks.proofs.Passed.{comes_to_rest, has_disks, none_tallied, tallied_more}

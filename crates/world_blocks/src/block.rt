@@ -1,9 +1,9 @@
 // The lines of a block.
 ghost use Rattle.run_blocks.specs.Doing.{MayTogether, DidTogether};
-ghost use Rattle.world_frames.specs.Passed.{most_armed};
-ghost use Rattle.world_frames.specs.Passed.{Rests};
-ghost use Rattle.world_frames.specs.Passed.{Stands};
-ghost use Rattle.world_frames.specs.Passed.{Tallied};
+ghost use Rattle.shared_blocks.specs.Passed.{most_armed};
+ghost use Rattle.shared_blocks.specs.Passed.{Rests};
+ghost use Rattle.shared_blocks.specs.Passed.{Stands};
+ghost use Rattle.shared_blocks.specs.Passed.{Tallied};
 
 use disk_model::Disk;
 use edge_io::Gate;

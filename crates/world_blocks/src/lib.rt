@@ -4,4 +4,4 @@
 mod block;
 
 pub use block::together;
-pub use world_frames::world_state;
+pub use shared_blocks::block_notes::world_frames::world_state;

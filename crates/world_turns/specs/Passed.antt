@@ -4,6 +4,9 @@ pub use Rattle.world_state.specs.Armed.{most_armed}
 pub use Rattle.world_state.specs.Changed.{changes_lane}
 pub use Rattle.world_state.specs.Frames.{IsOnWire}
 pub use Rattle.world_state.specs.Passed.{Asked, Handled, Happens, HasHeard, MayAsk, MayHandle, MayHear, PostStands}
+pub use Rattle.world_state.specs.Passed.{ManagerForm, is_up, lease_of}
+pub use Rattle.world_state.specs.Passed.{Off, On}
+pub use Rattle.world_state.specs.Passed.{Post}
 pub use Rattle.world_state.specs.Passed.{StandingStands}
 pub use Rattle.world_state.specs.Stands.{Stands, of_way, place_of}
 pub use Rattle.world_state.specs.Tallied.{Tallied}

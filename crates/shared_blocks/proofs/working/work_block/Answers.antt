@@ -4,7 +4,7 @@ use Rattle.std.proofs.lemmas.Result.{IfOk-weaker}
 use Rattle.lane_shares.specs.declared.share.Share.{Share}
 use Rattle.lane_shares.specs.declared.shares.Shares.{Shares}
 use Rattle.lane_shares.specs.Names.{Fits}
-use Rattle.plan_desks.proofs.Openings.{opened_long}
+use Rattle.block_seats.proofs.Passed.{opened_long}
 use Rattle.block_seats.specs.Seats.{AreUsed}
 use Rattle.block_seats.proofs.Dealt.{opened_fit, used_of}
 use Rattle.shared_blocks.specs.Keeping.{IsFresh}

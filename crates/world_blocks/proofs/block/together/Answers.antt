@@ -1,7 +1,7 @@
 use Rattle.std.proofs.Common.{◌∙◌, inr}
 use Rattle.std.specs.Prelude.{Result, Ok, Err, IfOk, OnErr}
 use Rattle.std.specs.Result.{IsErr}
-use Rattle.world_frames.proofs.Passed.{on_err}
+use Rattle.shared_blocks.proofs.Passed.{on_err}
 use Rattle.world_blocks.proofs.Nobody.{nobody_asked}
 use Rattle.world_blocks.proofs.block.together.Goals as goal
 
