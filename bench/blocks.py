@@ -4,13 +4,15 @@
     python3 bench/blocks.py [PROGRAM]
 
 PROGRAM is the built program, and crates/qkdnet/out/qkdnet where none is named. Eight pairs of nodes make keys: no two pairs share a
-manager or a lane, and of each number of workers here each has pairs of its own. Printed are the least times of seven turns, without that
-of a scenario that ends before the lines: of the lines outside of a block, and in a block by 1, 2 and 4 workers, each as a ratio to the
-first. A last column has the lines a second of so many workers as a multiple of one worker's. The last lines say what the machine itself
-gives: the same for 2 and 4 programs at once that do the lines outside, which share nothing. No test depends on them.
+manager or a lane, and of each number of workers here each has pairs of its own. A time ends with the last octet of the report: what the
+program still lets go of before it exits belongs to no line. Printed are the least times of 25 turns, without that of a scenario that
+ends before the lines: of the lines outside of a block, and in a block by 1, 2 and 4 workers, each as a ratio to the first. A last column
+has the lines a second of so many workers as a multiple of one worker's. The last lines say what the machine itself gives: the same for 2
+and 4 programs at once that do the lines outside, which share nothing. No test depends on them.
 """
 import os
 import pathlib
+import selectors
 import subprocess
 import sys
 import tempfile
@@ -20,7 +22,7 @@ HERE = pathlib.Path(__file__).resolve().parent
 PROGRAM = pathlib.Path(sys.argv[1] if len(sys.argv) > 1 else HERE.parent / "crates/qkdnet/out/qkdnet").resolve()
 PAIRS = range(8)
 APPLICATIONS = range(8)
-TURNS = 7
+TURNS = 25
 
 
 def declarations():
@@ -43,10 +45,27 @@ def seconds(workers, lines, programs=1):
     with tempfile.TemporaryFile() as source:
         source.write(text(lines))
         start = time.perf_counter()
-        running = [subprocess.Popen([PROGRAM, "run", str(workers)], stdin=opened(source), stdout=subprocess.DEVNULL) for _ in range(programs)]
+        running = [subprocess.Popen([PROGRAM, "run", str(workers)], stdin=opened(source), stdout=subprocess.PIPE) for _ in range(programs)]
+        last = reported(running)
         if any([it.wait() for it in running]):
             sys.exit(f"{PROGRAM} fails")
-        return time.perf_counter() - start
+        return last - start
+
+
+def reported(running):
+    """When the last octet of all these programs' reports came."""
+    last = time.perf_counter()
+    with selectors.DefaultSelector() as reports:
+        for it in running:
+            reports.register(it.stdout, selectors.EVENT_READ)
+        while reports.get_map():
+            for ready, _ in reports.select():
+                if os.read(ready.fd, 1 << 16):
+                    last = time.perf_counter()
+                else:
+                    reports.unregister(ready.fileobj)
+                    ready.fileobj.close()
+    return last
 
 
 def opened(source):

@@ -4,8 +4,9 @@
     python3 bench/load.py [PROGRAM]
 
 PROGRAM is the built program, and crates/qkdnet/out/qkdnet where none is named. The plain program stands in bench/plain and
-is built by cargo, without a network. Both run the same scenario of N rounds; their reports have to be equal. Printed are, for
-each N, the least processor time of five turns and the greatest memory of each, and the ratios. No test depends on them.
+is built by cargo, without a network. Both get the words `load N`, and then `run 1` with the same lines as a scenario, whose whole
+report is written too; what they write has to be equal. Printed are, for each N, the least processor time of 15 turns, which the
+programs take one after the other, and the greatest memory of each, and the ratios. No test depends on them.
 """
 import os
 import pathlib
@@ -18,6 +19,7 @@ from cargo import built
 HERE = pathlib.Path(__file__).resolve().parent
 PROGRAM = pathlib.Path(sys.argv[1] if len(sys.argv) > 1 else HERE.parent / "crates/qkdnet/out/qkdnet").resolve()
 NODES = range(8)
+TURNS = 15
 
 
 def key(node, count):
@@ -40,12 +42,12 @@ def scenario(rounds):
     return "".join(line + "\n" for line in [*lines, "end"]).encode()
 
 
-def turn(program, text, report):
+def turn(program, words, text, report):
     """The processor seconds and the KB of one run, whose report goes to the file."""
     with open(report, "wb") as out, tempfile.TemporaryFile() as source:
         source.write(text)
         source.seek(0)
-        child = subprocess.Popen([program, "run", "1"], stdin=source, stdout=out)
+        child = subprocess.Popen([program, *words], stdin=source, stdout=out)
         _, status, used = os.wait4(child.pid, 0)
         child.returncode = os.waitstatus_to_exitcode(status)
     if child.returncode:
@@ -54,16 +56,17 @@ def turn(program, text, report):
 
 
 def main():
-    plain = built("plain", "qkdnet-plain")
-    print("rounds  program: s, KB  plain: s, KB  ratio of time, of memory")
+    programs = PROGRAM, built("plain", "qkdnet-plain")
+    print("words     rounds  program: s, KB  plain: s, KB  ratio of time, of memory")
     with tempfile.TemporaryDirectory() as room:
-        for rounds in (50, 100, 200, 500):
-            text, reports = scenario(rounds), [f"{room}/program", f"{room}/plain"]
-            ours, theirs = ([turn(it, text, report) for _ in range(5)] for it, report in zip((PROGRAM, plain), reports))
-            if pathlib.Path(reports[0]).read_bytes() != pathlib.Path(reports[1]).read_bytes():
-                sys.exit(f"the reports of {rounds} rounds differ")
-            (a, m), (b, n) = ((min(s for s, _ in it), max(kb for _, kb in it)) for it in (ours, theirs))
-            print(f"{rounds:6}  {a:.3f} {m}  {b:.3f} {n}  {a / b:.2f} {m / n:.2f}")
+        for words in ("load N", "run 1"):
+            for rounds in (50, 100, 200, 500):
+                text, said, reports = scenario(rounds), words.replace("N", str(rounds)).split(), [f"{room}/program", f"{room}/plain"]
+                turns = [[turn(it, said, text, report) for it, report in zip(programs, reports)] for _ in range(TURNS)]
+                if pathlib.Path(reports[0]).read_bytes() != pathlib.Path(reports[1]).read_bytes():
+                    sys.exit(f"the reports of {words}, {rounds} rounds, differ")
+                (a, m), (b, n) = ((min(s for s, _ in it), max(kb for _, kb in it)) for it in zip(*turns))
+                print(f"{words:8}  {rounds:6}  {a:.3f} {m}  {b:.3f} {n}  {a / b:.2f} {m / n:.2f}")
 
 
 main()
