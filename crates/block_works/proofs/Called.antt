@@ -8,12 +8,12 @@ use Rattle.net_model.specs.BlockOrder.{IsMerge}
 use Rattle.run_model.specs.Works.{wanted_put}
 use Rattle.law_merges.specs.Rising.{placed_from}
 use Rattle.shared_machines.specs.Asked.{requests_on}
-use Rattle.block_talks.specs.Passed.{PlanAsk}
-use Rattle.block_talks.specs.Passed.{PlanAnswer}
-use Rattle.block_talks.specs.Passed.{CanLeave}
-use Rattle.block_talks.specs.declared.keep.Replied.{Replied}
-use Rattle.block_talks.specs.declared.keep.Keep.{Keep}
-use Rattle.block_talks.specs.Talking.{line_asked, line_of, reply_kept}
+use Rattle.block_gathers.specs.Passed.{PlanAsk}
+use Rattle.block_gathers.specs.Passed.{PlanAnswer}
+use Rattle.block_gathers.specs.Passed.{CanLeave}
+use Rattle.block_gathers.specs.Passed.{Replied}
+use Rattle.block_gathers.specs.Passed.{Keep}
+use Rattle.block_gathers.specs.Passed.{line_asked, line_of, reply_kept}
 
 -- Its history is a merge of the workers' calls of it: each asks what its shift asks, and keeps the replies with their places.
 pub record IsCalled (v : ℕ) (keeps : List Keep) (mines : List (List Replied)) (log : List (PlanAsk × PlanAnswer)) : Type 0 where

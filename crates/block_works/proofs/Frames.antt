@@ -14,15 +14,15 @@ use Rattle.run_blocks.specs.declared.job.Job.{Job}
 use Rattle.law_records.proofs.Base.{eq_from, eq_same, lane_eq_from, lane_same, not_false}
 use Rattle.block_lanes.specs.Passed.{turns_over}
 use Rattle.block_lanes.specs.Passed.{reported_on, placings_on}
-use Rattle.plan_emissions.specs.declared.emitted.Emitted.{Emitted}
-use Rattle.block_talks.proofs.Passed.{lane_there}
+use Rattle.block_gathers.specs.Passed.{Emitted}
+use Rattle.block_gathers.proofs.Passed.{lane_there}
 use Rattle.block_lanes.specs.Passed.{LanesWorked, LanesLeft}
 use Rattle.block_lanes.specs.Passed.{IsSortedByBoth}
 use Rattle.block_lanes.specs.Passed.{AreSorted}
 use Rattle.block_lanes.specs.Passed.{on_lane as placed_on}
 use Rattle.block_lanes.proofs.Passed.{lane_by_lane}
 use Rattle.block_lanes.proofs.Passed.{just, ordered}
-use Rattle.block_notes.specs.Frames.{frame_done, frame_placing, on_lane}
+use Rattle.block_gathers.specs.Passed.{frame_done, frame_placing, on_lane}
 
 -- a lane is told by its place
 

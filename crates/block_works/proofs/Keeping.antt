@@ -10,14 +10,14 @@ use Rattle.net_model.specs.Tick.{Emission, Again, New}
 use Rattle.run_model.specs.Works.{wanted_put}
 use Rattle.law_merges.specs.Rising.{together}
 use Rattle.law_lanes.proofs.Lists.{all_both}
-use Rattle.plan_emissions.specs.declared.emitted.Emitted.{Emitted}
-use Rattle.plan_emissions.specs.Wants.{lane_for}
-use Rattle.block_talks.specs.Passed.{CanLeave}
+use Rattle.block_gathers.specs.Passed.{Emitted}
+use Rattle.block_gathers.specs.Passed.{lane_for}
+use Rattle.block_gathers.specs.Passed.{CanLeave}
 use Rattle.block_lanes.specs.Passed.{IsOfItsLine, wanted_for, kept}
-use Rattle.block_talks.specs.declared.keep.Replied.{Replied}
-use Rattle.block_talks.specs.declared.keep.Keep.{Keep}
-use Rattle.block_talks.specs.Talking.{wanted_in}
-use Rattle.block_talks.specs.Together.{HaveKept}
+use Rattle.block_gathers.specs.Passed.{Replied}
+use Rattle.block_gathers.specs.Passed.{Keep}
+use Rattle.block_gathers.specs.Passed.{wanted_in}
+use Rattle.block_gathers.specs.Passed.{HaveKept}
 use Rattle.block_works.specs.Gathering.{AreBare}
 use Rattle.block_works.proofs.Called.{Leaves}
 use Rattle.block_works.proofs.Lists.{all_flat, from_map}

@@ -20,13 +20,13 @@ use Rattle.lane_desks.specs.Turns.{Turns}
 use Rattle.lane_desks.proofs.Lanes.{lane_leads}
 use Rattle.either_machines.specs.declared.either.Either.{Either}
 use Rattle.either_machines.specs.declared.either.Either.TheVariants.{Right}
-use Rattle.plan_emissions.specs.declared.emitted.Emitted.{Emitted}
-use Rattle.plan_emissions.specs.Wants.{is_at}
-use Rattle.plan_emissions.specs.Calls.{emitted_at}
+use Rattle.block_gathers.specs.Passed.{Emitted}
+use Rattle.block_gathers.specs.Passed.{is_at}
+use Rattle.block_gathers.specs.Passed.{emitted_at}
 use Rattle.world_lanes.specs.Stands.{LaneStands}
 use Rattle.world_lanes.proofs.Going.{get_within}
 use Rattle.world_lanes.proofs.Wires.{get-map}
-use Rattle.block_talks.specs.Passed.{place_of}
+use Rattle.block_gathers.specs.Passed.{place_of}
 use Rattle.block_lanes.specs.Passed.{turns_over, wanted_by}
 use Rattle.block_lanes.specs.Passed.{wanted_on}
 use Rattle.block_lanes.specs.Passed.{of_worker}
@@ -35,10 +35,10 @@ use Rattle.block_lanes.specs.Passed.{IsOfItsLine, wanted_for}
 use Rattle.block_lanes.specs.Passed.{LaneWorked}
 use Rattle.block_lanes.proofs.Passed.{wanted_emitted}
 use Rattle.block_lanes.proofs.Passed.{own_wanted}
-use Rattle.block_talks.proofs.Passed.{lane_within, same_place}
-use Rattle.block_talks.specs.declared.keep.Replied.{Replied}
-use Rattle.block_talks.specs.Talking.{wanted_in}
-use Rattle.block_talks.specs.Together.{IsLaid}
+use Rattle.block_gathers.proofs.Passed.{lane_within, same_place}
+use Rattle.block_gathers.specs.Passed.{Replied}
+use Rattle.block_gathers.specs.Passed.{wanted_in}
+use Rattle.block_gathers.specs.Passed.{IsLaid}
 use Rattle.block_works.specs.Desks.{LaneTurns}
 use Rattle.block_works.proofs.Keeping.{AllKept, all_of_lines, one_kept}
 use Rattle.block_works.proofs.Owning.{own_turn}

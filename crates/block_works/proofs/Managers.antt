@@ -20,21 +20,21 @@ use Rattle.law_merges.specs.Rising.{placed_from, together}
 use Rattle.law_merges.proofs.Mapping.{merge_map}
 use Rattle.turnstile.specs.Turns.{Leads}
 use Rattle.lane_shares.specs.declared.shares.Shares.{Shares}
-use Rattle.block_talks.specs.Passed.{Stands, State, most_armed}
-use Rattle.block_talks.specs.Passed.{asked_with}
+use Rattle.block_gathers.specs.Passed.{Stands, State, most_armed}
+use Rattle.block_gathers.specs.Passed.{asked_with}
 use Rattle.shared_machines.specs.declared.call.Call.{Call}
 use Rattle.shared_machines.specs.Asked.{requests_on}
-use Rattle.block_talks.specs.Passed.{Turn}
+use Rattle.block_gathers.specs.Passed.{Turn}
 use Rattle.turn_shifts.specs.Calls.{work_of, AreShifts, AreComing}
 use Rattle.turn_shifts.proofs.Requests.{all_requests}
-use Rattle.block_talks.specs.Passed.{PlanAsk}
-use Rattle.block_talks.specs.Passed.{PlanAnswer}
-use Rattle.block_talks.specs.Passed.{TookAllTurns}
-use Rattle.block_talks.specs.Passed.{CanLeave}
-use Rattle.block_talks.proofs.Passed.{IsServed, AreServed, Turns, armed_all, is_served, took_all}
-use Rattle.block_talks.specs.declared.keep.Replied.{Replied}
-use Rattle.block_talks.specs.declared.keep.Keep.{Keep}
-use Rattle.block_talks.specs.Talking.{line_asked, line_of}
+use Rattle.block_gathers.specs.Passed.{PlanAsk}
+use Rattle.block_gathers.specs.Passed.{PlanAnswer}
+use Rattle.block_gathers.specs.Passed.{TookAllTurns}
+use Rattle.block_gathers.specs.Passed.{CanLeave}
+use Rattle.block_gathers.proofs.Passed.{IsServed, AreServed, Turns, armed_all, is_served, took_all}
+use Rattle.block_gathers.specs.Passed.{Replied}
+use Rattle.block_gathers.specs.Passed.{Keep}
+use Rattle.block_gathers.specs.Passed.{line_asked, line_of}
 use Rattle.block_works.specs.Desks.{ManagerTurns}
 use Rattle.block_works.proofs.Called.{IsCalled, said}
 use Rattle.block_works.proofs.Lists.{from_maps, fused, Listed, mapped_is, to_map}

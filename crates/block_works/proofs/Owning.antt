@@ -21,17 +21,17 @@ use Rattle.law_merges.proofs.Mapping.{merge_map}
 use Rattle.block_lanes.specs.Passed.{lane_of}
 use Rattle.world_lanes.proofs.Going.{get_within}
 use Rattle.world_lanes.proofs.Wires.{get-map}
-use Rattle.block_talks.proofs.Passed.{length-count_up, counted_at}
+use Rattle.block_gathers.proofs.Passed.{length-count_up, counted_at}
 use Rattle.shared_machines.specs.Asked.{requests_on}
-use Rattle.block_talks.specs.Passed.{Turn}
+use Rattle.block_gathers.specs.Passed.{Turn}
 use Rattle.turn_shifts.specs.Calls.{work_of}
 use Rattle.block_lanes.specs.Passed.{NodeTurn, told_by, turns_at, SendsItsOwn, AreOwnTurns}
-use Rattle.block_talks.specs.Passed.{PlanAsk}
-use Rattle.block_talks.specs.Passed.{PlanAnswer}
-use Rattle.block_talks.specs.Passed.{CanLeave}
-use Rattle.block_talks.specs.declared.keep.Replied.{Replied}
-use Rattle.block_talks.specs.declared.keep.Keep.{Keep}
-use Rattle.block_talks.specs.Talking.{line_asked, line_of, reply_kept}
+use Rattle.block_gathers.specs.Passed.{PlanAsk}
+use Rattle.block_gathers.specs.Passed.{PlanAnswer}
+use Rattle.block_gathers.specs.Passed.{CanLeave}
+use Rattle.block_gathers.specs.Passed.{Replied}
+use Rattle.block_gathers.specs.Passed.{Keep}
+use Rattle.block_gathers.specs.Passed.{line_asked, line_of, reply_kept}
 use Rattle.block_works.proofs.Asked.{asked_own}
 use Rattle.block_works.proofs.Called.{IsCalled, Leaves, said, told}
 use Rattle.block_works.proofs.Lists.{all_fused, all_parts, flat_mapped, from_map, some_is, to_map, to_maps}

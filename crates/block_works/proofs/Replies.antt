@@ -13,18 +13,18 @@ use Rattle.law_merges.specs.Rising.{placed_from, together}
 use Rattle.law_merges.proofs.Mapping.{merge_map}
 use Rattle.world_lanes.proofs.Going.{get_within}
 use Rattle.world_lanes.proofs.Wires.{get-map}
-use Rattle.block_talks.proofs.Passed.{length-count_up, counted_at}
+use Rattle.block_gathers.proofs.Passed.{length-count_up, counted_at}
 use Rattle.block_lanes.specs.Passed.{HasJust, IsSortedByBoth}
 use Rattle.block_lanes.proofs.Passed.{of_parts}
 use Rattle.block_lanes.proofs.Passed.{just_moved, just_both, just_part, part_ordered}
 use Rattle.block_lanes.proofs.Passed.{Rise, one_order}
 use Rattle.block_lanes.proofs.Passed.{Below, Rise_of_Runs as NeverFalls, rise, one_more, all_below}
 use Rattle.block_lanes.proofs.Passed.{in_part, places_rise}
-use Rattle.block_talks.specs.Passed.{PlanAsk}
-use Rattle.block_talks.specs.Passed.{PlanAnswer}
-use Rattle.block_talks.specs.declared.keep.Replied.{Replied}
-use Rattle.block_talks.specs.declared.keep.Keep.{Keep}
-use Rattle.block_talks.specs.Talking.{reply_kept}
+use Rattle.block_gathers.specs.Passed.{PlanAsk}
+use Rattle.block_gathers.specs.Passed.{PlanAnswer}
+use Rattle.block_gathers.specs.Passed.{Replied}
+use Rattle.block_gathers.specs.Passed.{Keep}
+use Rattle.block_gathers.specs.Passed.{reply_kept}
 use Rattle.block_works.proofs.Lists.{all_flat, all_moved, flat_kept, flat_listed, flat_mapped, map_flat, mapped_is, some_is}
 use Rattle.block_works.proofs.Called.{IsCalled, said, told}
 

@@ -18,12 +18,12 @@ use Rattle.run_blocks.specs.Together.{turned}
 use Rattle.law_merges.specs.Rising.{together}
 use Rattle.lane_shares.specs.declared.shares.Shares.{Shares}
 use Rattle.lane_sides.specs.Lane.{LaneForm}
-use Rattle.plan_emissions.specs.declared.emitted.Emitted.{Emitted}
+use Rattle.block_gathers.specs.Passed.{Emitted}
 use Rattle.world_lanes.proofs.Going.{get_within}
-use Rattle.block_talks.specs.Passed.{Stands, State, most_armed}
-use Rattle.block_talks.specs.Passed.{PlanAsk}
-use Rattle.block_talks.specs.Passed.{PlanAnswer}
-use Rattle.block_talks.specs.Passed.{TookAllTurns}
+use Rattle.block_gathers.specs.Passed.{Stands, State, most_armed}
+use Rattle.block_gathers.specs.Passed.{PlanAsk}
+use Rattle.block_gathers.specs.Passed.{PlanAnswer}
+use Rattle.block_gathers.specs.Passed.{TookAllTurns}
 use Rattle.block_lanes.specs.Passed.{LanesWorked, LanesLeft}
 use Rattle.block_lanes.specs.Passed.{AreOwnTurns}
 use Rattle.block_lanes.specs.Passed.{AreSorted}
@@ -32,9 +32,9 @@ use Rattle.block_lanes.proofs.Passed.{lanes_left}
 use Rattle.block_lanes.specs.States.{HasLanes}
 use Rattle.block_lanes.proofs.Counting.{lanes_tallied}
 use Rattle.block_lanes.proofs.Standing.{stands}
-use Rattle.block_talks.specs.declared.keep.Replied.{Replied}
-use Rattle.block_notes.specs.declared.worked.Worked.{Worked}
-use Rattle.block_notes.specs.Working.{HasWorked}
+use Rattle.block_gathers.specs.Passed.{Replied}
+use Rattle.block_gathers.specs.Passed.{Worked}
+use Rattle.block_gathers.specs.Passed.{HasWorked}
 use Rattle.block_works.specs.Going.{WentThrough}
 use Rattle.block_works.proofs.Called.{IsCalled, Leaves, said}
 use Rattle.block_works.proofs.Frames.{lanes_in_order, reported, noted}

@@ -11,10 +11,10 @@ use Rattle.lane_desks.specs.declared.ask.LaneAsk.{LaneAsk}
 use Rattle.lane_desks.specs.declared.ask.LaneAnswer.{LaneAnswer}
 use Rattle.lane_desks.specs.Asking.{MayAsk}
 use Rattle.lane_desks.specs.Turns.{desk_charter, DeskTurns}
-use Rattle.block_talks.specs.Passed.{PlanAsk}
-use Rattle.block_talks.specs.Passed.{PlanAnswer}
-use Rattle.block_talks.specs.Passed.{MayCall, TookPlanTurn}
-use Rattle.block_talks.specs.Passed.{State}
+use Rattle.block_gathers.specs.Passed.{PlanAsk}
+use Rattle.block_gathers.specs.Passed.{PlanAnswer}
+use Rattle.block_gathers.specs.Passed.{MayCall, TookPlanTurn}
+use Rattle.block_gathers.specs.Passed.{State}
 
 -- A manager's: what stays of its desk are the state at the block's start, its node and how many bytes of each lane are issued.
 abbrev pub ManagerTurns : {K Q E X D : Type 0} → (is_honest : K → Bool) → (moment : K → ℕ) → (image : K → ℕ → List ℕ → Type 0) → (left : E → Option OctetSequence) →

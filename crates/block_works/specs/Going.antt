@@ -8,13 +8,14 @@ use Rattle.lane_shares.specs.declared.shares.Shares.{Shares}
 use Rattle.lane_sides.specs.Lane.{LaneForm}
 use Rattle.either_machines.specs.declared.either.Either.{Either}
 use Rattle.turn_shifts.specs.Calls.{AreShifts}
-use Rattle.block_talks.specs.declared.keep.Keep.{Keep}
-use Rattle.block_talks.specs.Together.{HaveWorked}
-use Rattle.block_talks.specs.Passed.{State}
-use Rattle.block_notes.specs.declared.worked.Worked.{Worked}
+use Rattle.block_gathers.specs.Passed.{Keep}
+use Rattle.block_gathers.specs.Passed.{HaveWorked}
+use Rattle.block_gathers.specs.Passed.{State}
+use Rattle.block_gathers.specs.Passed.{Worked}
 use Rattle.block_works.specs.Desks.{ManagerTurns, LaneTurns}
 use Rattle.block_works.specs.Seats.{AreSat, HaveRisen}
-use Rattle.block_works.specs.Gathering.{AreBare, AreGathered}
+use Rattle.block_gathers.specs.Gathering.{AreGathered}
+use Rattle.block_works.specs.Gathering.{AreBare}
 
 -- So many workers begin with the shifts of the jobs, and keep nothing. Managers and lanes sit down at their desks; the workers do their jobs there; managers
 -- and lanes rise; and what the workers keep is gathered.

@@ -4,7 +4,7 @@ use Rattle.kme_store.specs.declared.post.Post.{Post}
 use Rattle.lane_sides.specs.Lane.{LaneForm}
 use Rattle.either_machines.specs.declared.either.Either.{Either}
 use Rattle.either_machines.specs.declared.either.Either.TheVariants.{Left, Right}
-use Rattle.block_talks.specs.Passed.{State}
+use Rattle.block_gathers.specs.Passed.{State}
 
 module _ {K Q E X D L : Type 0} (opening_of : D → State K Q E X) (node_of up_of : D → ℕ) (post_of : D → Post K E) (side_of : L → LaneForm X) (opening : State K Q E X) where
   -- the manager of a node at its desk, with the links that are up, as a block begins

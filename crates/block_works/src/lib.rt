@@ -8,14 +8,15 @@ ghost use Rattle.run_acts.specs.Acting.{IsReady};
 ghost use Rattle.run_blocks.specs.declared.job.Job.{Job as JobValue};
 ghost use Rattle.lane_shares.specs.declared.shares.Shares.{Shares as SharesValue};
 ghost use Rattle.lane_sides.specs.Lane.{LaneForm};
-ghost use Rattle.block_talks.specs.Passed.{Stands, State, most_armed};
-ghost use Rattle.block_notes.specs.declared.worked.Worked.{Worked};
-ghost use Rattle.block_notes.specs.Working.{HasWorked};
+ghost use Rattle.block_gathers.specs.Passed.{Stands, State, most_armed};
+ghost use Rattle.block_gathers.specs.Passed.{Worked};
+ghost use Rattle.block_gathers.specs.Passed.{HasWorked};
 ghost use Rattle.block_works.specs.Going.{WentThrough};
 
 use disk_model::Disk;
 use source_devices::{Device, Entropy, Wire};
 pub use turn_shifts;
+pub use block_gathers;
 
 /// A block that went through from a network that was ready is one that so many workers may do. The managers took the turns that the
 /// workers ask of them, and each lane did just what the plans want of it; the state stands for the world behind that; and where all was

@@ -15,13 +15,13 @@ use Rattle.lane_sides.specs.Lane.{LaneForm}
 use Rattle.shared_machines.specs.declared.call.Call.{Call}
 use Rattle.shared_machines.proofs.Lasts.{written_back}
 use Rattle.shared_machines.proofs.Zips.{zip_same}
-use Rattle.block_gathers.specs.Passed.{Turn}
+use Rattle.block_works.specs.Passed.{Turn}
 use Rattle.block_works.specs.Passed.{AreShifts}
 use Rattle.block_seats.specs.Passed.{AllOpened}
 use Rattle.block_seats.proofs.Passed.{opened_long}
 use Rattle.block_seats.specs.Passed.{State, Stands}
-use Rattle.block_gathers.specs.Passed.{Worked}
-use Rattle.block_gathers.specs.Passed.{HasWorked}
+use Rattle.block_works.specs.Passed.{Worked}
+use Rattle.block_works.specs.Passed.{HasWorked}
 use Rattle.block_seats.specs.Sheets.{IsDealt}
 use Rattle.block_seats.proofs.Dealt.{opened_as}
 

@@ -11,10 +11,10 @@ use Rattle.shared_machines.proofs.Zips.{item_at}
 use Rattle.shared_errands.specs.Said.{Said}
 use Rattle.shared_errands.specs.Done.{HaveTalked}
 use Rattle.block_works.proofs.Passed.{long_jobs}
-use Rattle.block_gathers.specs.Passed.{Turn}
-use Rattle.block_gathers.specs.Passed.{Replied}
-use Rattle.block_gathers.specs.Passed.{Keep}
-use Rattle.block_gathers.specs.Passed.{Ask, Answer, DidEntry, DoesJob}
+use Rattle.block_works.specs.Passed.{Turn}
+use Rattle.block_works.specs.Passed.{Replied}
+use Rattle.block_works.specs.Passed.{Keep}
+use Rattle.block_works.specs.Passed.{Ask, Answer, DidEntry, DoesJob}
 use Rattle.shared_blocks.proofs.Counting.{counts, all_counted, few_of_all}
 
 some_is : {A : Type 0} {a b : A} → ◌≡◌ {A = Option A} (Some a) (Some b) → a ≡ b

@@ -20,8 +20,8 @@ use Rattle.shared_machines.proofs.Zips.{item_at}
 use Rattle.block_seats.specs.Passed.{PlanAsk}
 use Rattle.block_seats.specs.Passed.{PlanAnswer}
 use Rattle.block_seats.proofs.Passed.{same_place, lane_within}
-use Rattle.block_gathers.specs.Passed.{Keep}
-use Rattle.block_gathers.specs.Passed.{HaveWorked}
+use Rattle.block_works.specs.Passed.{Keep}
+use Rattle.block_works.specs.Passed.{HaveWorked}
 use Rattle.block_errands.specs.Working.{AreSeated}
 use Rattle.block_seats.specs.Seats.{HaveSat, IsAtStart, lefts, rights}
 use Rattle.block_works.specs.Seats.{AreSat, HaveRisen}

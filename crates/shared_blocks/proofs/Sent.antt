@@ -17,7 +17,7 @@ use Rattle.lane_shares.specs.contracts.shares.Shares as Shares
 use Rattle.lane_shares.proofs.shares.Shares.TheSendSync as shares
 use Rattle.plan_emissions.specs.contracts.plan.Lanes as Lanes
 use Rattle.block_errands.specs.contracts.errands.BlockErrands as BlockErrands
-use Rattle.block_gathers.specs.Passed.{state_row}
+use Rattle.block_works.specs.Passed.{state_row}
 use Rattle.block_seats.proofs.Passed.{desk_send, lane_send}
 
 module _ (a : NamedLft) (K Q E X : RattleType) (disk : Disk.Ghosts K.Denot) (device : Device.Ghosts Q.Denot) (entropy : Entropy.Ghosts E.Denot) (wire : Wire.Ghosts X.Denot) (disk_send : IsSend K) (entropy_send : IsSend E)

@@ -22,21 +22,20 @@ use Rattle.block_seats.specs.Passed.{PlanAnswer}
 use Rattle.declared_site.specs.SiteOf.{site_of}
 use Rattle.shared_machines.specs.declared.call.Call.{Call}
 use Rattle.shared_machines.proofs.Zips.{zip_weaker}
-use Rattle.block_gathers.specs.Passed.{Turn}
+use Rattle.block_works.specs.Passed.{Turn}
 use Rattle.block_works.specs.Passed.{AreShifts, AreComing}
 use Rattle.block_works.proofs.Passed.{long_jobs}
-use Rattle.block_gathers.specs.Passed.{Keep}
-use Rattle.block_gathers.specs.Passed.{HaveWorked}
-use Rattle.block_gathers.specs.Passed.{Worked}
-use Rattle.block_gathers.specs.Passed.{MayCall, TookPlanTurn}
-use Rattle.block_gathers.specs.Passed.{DoesJob}
-use Rattle.block_gathers.proofs.Passed.{either_turn, worked as talked}
+use Rattle.block_works.specs.Passed.{Keep}
+use Rattle.block_works.specs.Passed.{HaveWorked}
+use Rattle.block_works.specs.Passed.{Worked}
+use Rattle.block_works.specs.Passed.{MayCall, TookPlanTurn}
+use Rattle.block_works.specs.Passed.{DoesJob}
+use Rattle.block_works.proofs.Passed.{either_turn, worked as talked}
 use Rattle.block_errands.specs.Working.{AreSeated, MayAsk, MayWork}
 use Rattle.block_seats.specs.Seats.{HaveSat, lefts, rights}
-use Rattle.block_gathers.specs.Gathering.{AreGathered}
+use Rattle.block_works.specs.Passed.{AreGathered}
 use Rattle.block_works.specs.Desks.{ManagerTurns, LaneTurns}
 use Rattle.block_works.specs.Gathering.{AreBare}
-use Rattle.block_works.specs.Gathering.{AreGathered as AreAll}
 use Rattle.block_works.specs.Going.{WentThrough}
 use Rattle.block_seats.specs.Passed.{State}
 use Rattle.shared_blocks.specs.Keeping.{IsFresh}
@@ -47,9 +46,6 @@ use Rattle.shared_blocks.proofs.Seated.{are_sat, have_stayed, have_risen}
 pub all_weaker : {A : Type 0} (P R : A → Type 0) → ((x : A) → P x → R x) → (xs : List A) → AllByRecursion P xs → AllByRecursion R xs
 all_weaker P R w [] h = tt
 all_weaker P R w (x ∷ xs) h = (w x h.0, all_weaker P R w xs h.1)
-
-gathered : (nexts : List Keep) (worked : Worked) → AreGathered nexts worked → AreAll nexts worked
-gathered nexts worked h = record { replied = h.replied; turns = h.turns; replies = h.replies; order = h.order; whole = h.whole; frames = h.frames; lanes = h.lanes }
 
 -- few calls in all
 pub few_calls : (workers jobs : ℕ) → workers ≤ 32 → jobs < 2 ^ 32 → workers * (jobs * 2097153) < 2 ^ 63
@@ -170,5 +166,5 @@ module _ {K Q E X D L : Type 0} (is_honest : K → Bool) (moment : K → ℕ) (i
         (have_stayed opening_of node_of up_of post_of shares_in side_of shares_of opening shares machines sat
         (ManagerTurns is_honest moment image left told frames counted disk_count armed entropy_count opening_of node_of up_of post_of shares_in) (LaneTurns frames counted wire_count side_of shares_of)
         keeps nexts machines' same did) posts lanes site devices links;
-    gathered = gathered nexts worked all;
+    gathered = all;
   }

@@ -3,7 +3,7 @@ use Rattle.std.specs.Prelude.{◌≡◌, ◌≤◌, true, List, [], length, vec_
 use Rattle.std.specs.List.{AllZip}
 use Rattle.lane_shares.specs.declared.shares.Shares.{Shares}
 use Rattle.lane_desks.specs.Grants.{IsShareOf}
-use Rattle.block_gathers.specs.Passed.{Keep}
+use Rattle.block_works.specs.Passed.{Keep}
 
 -- a share of each lane that has no byte, room for a reply to each entry of its shift, and neither a reply nor a frame
 pub record IsFresh (shares : List Shares) (keep : Keep) : Type 0 where

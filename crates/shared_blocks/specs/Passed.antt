@@ -1,2 +1,2 @@
 -- What stands below this crate, for those above it that name it no other way.
-pub use Rattle.block_gathers.specs.Passed.{Rests, Stands, State, Tallied, most_armed}
+pub use Rattle.block_works.specs.Passed.{Rests, Stands, State, Tallied, most_armed}

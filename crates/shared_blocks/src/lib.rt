@@ -5,5 +5,5 @@
 mod keeping;
 mod working;
 
-pub use block_gathers::block_notes;
+pub use block_works::block_gathers::block_notes;
 pub use working::work_block;

@@ -6,7 +6,7 @@ ghost use Rattle.run_acts.specs.Acting.{IsReady};
 ghost use Rattle.run_blocks.specs.Doing.{MayTogether};
 ghost use Rattle.block_works.specs.Passed.{AreShifts};
 ghost use Rattle.block_seats.specs.Passed.{Stands, most_armed};
-ghost use Rattle.block_gathers.specs.Passed.{HasWorked};
+ghost use Rattle.block_works.specs.Passed.{HasWorked};
 ghost use Rattle.block_seats.specs.Seats.{AreUsed};
 ghost use Rattle.block_seats.specs.Sheets.{IsDealt};
 ghost use Rattle.shared_blocks.specs.Keeping.{IsFresh};
@@ -15,8 +15,8 @@ use crate::keeping::keeps;
 use block_errands::BlockErrands;
 use block_errands::block_talks::Keep;
 use block_errands::block_talks::plan_desks::{Opened, open_lanes};
-use block_gathers::block_notes::Worked;
-use block_gathers::{Room, gather};
+use block_works::block_gathers::block_notes::Worked;
+use block_works::block_gathers::{Room, gather};
 use block_seats::{Seat, Sheet, rise, sheets, sit};
 use block_works::turn_shifts::shifts;
 use declared_site::Site;
@@ -34,7 +34,7 @@ use std::alloc::Global;
 use std::snapshot::Snapshot;
 use std::sync::Wait;
 use std::thread::Threads;
-use block_gathers::block_notes::world_frames::world_state::State;
+use block_works::block_gathers::block_notes::world_frames::world_state::State;
 
 // The most that a job calls a machine: a manager once, and a lane for the frames of a plan.
 const MOST: u64 = 2_097_153;
