@@ -10,6 +10,6 @@ pub use Rattle.world_turns.proofs.Passed.{plan_adds}
 pub use Rattle.world_turns.proofs.Passed.{port_there}
 pub use Rattle.world_turns.proofs.Passed.{post_below, same_receiver}
 pub use Rattle.world_turns.proofs.Passed.{read_at}
-pub use Rattle.world_turns.proofs.SoFar.{due_still}
+pub use Rattle.world_turns.proofs.Due.{due_still}
 pub use Rattle.world_turns.proofs.Takes.{may_take}
 pub use Rattle.world_turns.proofs.Turning.{noted_still, up_after, wants_none}

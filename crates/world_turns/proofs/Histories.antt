@@ -1,14 +1,10 @@
 -- Turns, one after another, are each manager's history.
-use Rattle.std.proofs.Common.{◌≡◌, inl, inr, ℕ, zero, suc, ◌+◌, ◌<◌, List, [], ◌∷◌, ◌++◌, length, map, refl, sym, ap, ◌∙◌, arith, Option, Some, length-append}
+use Rattle.std.proofs.Common.{◌≡◌, inl, inr, ℕ, zero, suc, ◌+◌, ◌<◌, List, [], ◌∷◌, ◌++◌, length, map, refl, sym, ap, ◌∙◌, arith, Some, length-append}
 use Rattle.std.specs.Prelude.{slice_get}
-use Rattle.std.specs.List.{flat_map}
-use Rattle.std.specs.Option.{option_map}
-use Rattle.std.proofs.lemmas.List.{length-map}
-use Rattle.std.proofs.lemmas.Option.{slice_get-map, slice_get_within}
 use Rattle.net_model.specs.Site.{count_up}
 use Rattle.net_model.specs.World.{Network, World}
 use Rattle.net_model.specs.Step.{step, run}
-use Rattle.run_model.specs.Works.{Work, Done, actions_in, done_from, flat, plain_work}
+use Rattle.run_model.specs.Works.{Work, Done, actions_in, done_from, flat}
 use Rattle.law_records.proofs.Base.{split, slice_get-append_left, slice_get-append_right}
 use Rattle.law_blocks.proofs.Runs.{run_none, run_one}
 
@@ -96,35 +92,3 @@ counted_at (suc n) v h = elim (split v n) as (λ s. slice_get (count_up n ++ n �
 
   there : (v n k : ℕ) → v < suc n → v ≡ n + k → v ≡ n
   there v n k h at = omega (arith, h, at)
-
-flat_of : {A B : Type 0} (f : A → List B) (xs : List A) → flat (map f xs) ≡ flat_map f xs
-flat_of f [] = refl
-flat_of f (x ∷ xs) = ap (λ zs. f x ++ zs) (flat_of f xs)
-
-some_is : {A : Type 0} {a b : A} → ◌≡◌ {A = Option A} (Some a) (Some b) → a ≡ b
-some_is h = cc
-
--- so turns that are all that is asked for, node by node, are a history of each node
-
-pub record AreHistories (n : ℕ) (asked_of : ℕ → List Work) (works : List Work) : Type 0 where
-  pub histories : List (List Work)
-  pub whole : flat histories ≡ works
-  pub nodes : length histories ≡ n
-  pub asked : (v : ℕ) (h : List Work) → slice_get histories v ≡ Some h → map plain_work h ≡ asked_of v
-
-pub histories_of : (n : ℕ) (asked_of : ℕ → List Work) (works : List Work) → map plain_work works ≡ flat_map asked_of (count_up n) → AreHistories n asked_of works
-histories_of n asked_of works h =
-    let p : Pieces plain_work (map asked_of (count_up n)) works = pieces plain_work (map asked_of (count_up n)) works (h ∙ sym (flat_of asked_of (count_up n))) in
-    let long : length p.parts ≡ n =
-    sym (length-map p.parts (map plain_work)) ∙ ap (λ (xs : List (List Work)). length xs) p.are ∙ length-map (count_up n) asked_of ∙ length-count_up n in
-    record {
-      histories = p.parts;
-      whole = p.whole;
-      nodes = long;
-      asked = λ v x at.
-          let within = slice_get_within p.parts v x at in
-          let below : v < n = omega (arith, within, long) in
-          some_is
-          (sym (slice_get-map (map plain_work) p.parts v ∙ ap (option_map (map plain_work)) at) ∙ ap (λ (xs : List (List Work)). slice_get xs v) p.are
-          ∙ slice_get-map asked_of (count_up n) v ∙ ap (option_map asked_of) (counted_at n v below));
-    }

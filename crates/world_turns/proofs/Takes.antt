@@ -1,20 +1,15 @@
 -- The turn that is due next is taken.
-use Rattle.std.proofs.Common.{◌≡◌, ℕ, Bool, true, List, refl, sym, subst, ◌∙◌, Option, Some}
+use Rattle.std.proofs.Common.{◌≡◌, ℕ, Bool, true, List, sym, subst, ◌∙◌, Option, Some}
 use Rattle.std.specs.Prelude.{slice_get}
-use Rattle.disk_model.specs.declared.arm.Armings.{Armings}
-use Rattle.net_model.specs.declared.reply.Reply.{Reply}
 use Rattle.net_model.specs.OctetSequence.{OctetSequence}
 use Rattle.net_model.specs.World.{Network, World}
-use Rattle.net_model.specs.Step.{step}
 use Rattle.run_blocks.specs.declared.job.Job.{Job}
 use Rattle.run_blocks.specs.Jobs.{is_job}
 use Rattle.world_state.specs.Stands.{Stands}
 use Rattle.world_state.specs.declared.state.State.{State}
 use Rattle.world_turns.specs.declared.next.Next.{Next}
-use Rattle.world_turns.specs.Leases.{WroteFor}
 use Rattle.world_turns.specs.Order.{HasOctets, IsDue}
-use Rattle.world_turns.specs.Taking.{MayTurn, TookTurn, TookNext}
-use Rattle.world_turns.specs.Turning.{asked_with, planner}
+use Rattle.world_turns.specs.Taking.{MayTurn}
 
 some_is : {A : Type 0} {a b : A} → ◌≡◌ {A = Option A} (Some a) (Some b) → a ≡ b
 some_is h = cc
@@ -30,16 +25,3 @@ module _ {K Q E X : Type 0} (is_honest : K → Bool) (moment : K → ℕ) (image
 
   pub may_take : MayTurn is_honest moment image left told frames counted s net w job next.octets
   may_take = record { stands = stands; fit = fits; has = subst (λ (j : Job). HasOctets net w j next.octets) same due.has }
-
-  pub took_next : (disk_count : K → ℕ) (armed : K → Armings) (entropy_count : E → ℕ) (device_count : Q → ℕ) (wire_count : X → ℕ) (new : State K Q E X) (reply : Reply) (before now : List ℕ) →
-      TookTurn is_honest moment image left told frames counted disk_count armed entropy_count device_count wire_count s new net w job reply →
-      ((u : World) → Stands is_honest moment image left told frames counted new net u → WroteFor net u (planner job reply) before now) →
-      TookNext is_honest moment image left told frames counted disk_count armed entropy_count device_count wire_count s new net w all next (record { place = next.place; reply = reply }) before now
-  took_next disk_count armed entropy_count device_count wire_count new reply before now turn wrote = record {
-    job = job;
-    there = there;
-    fit = fits;
-    turn = turn;
-    place = refl;
-    wrote = wrote (step net w (asked_with job turn.environment)).0 turn.stands;
-  }

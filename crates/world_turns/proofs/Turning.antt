@@ -1,13 +1,13 @@
--- What a turn of a manager leaves: wires, frames and placings, and most leases.
-use Rattle.std.proofs.Common.{◌≡◌, ℕ, ◌+◌, Bool, true, false, not, ◌&&◌, ◌||◌, List, [], ◌∷◌, refl, sym, ap, subst, ◌∙◌, Option, Some, None}
+-- What a turn of a manager leaves: wires, frames and placings.
+use Rattle.std.proofs.Common.{◌≡◌, ℕ, ◌+◌, Bool, true, false, not, ◌&&◌, ◌||◌, List, [], refl, sym, ap, subst, ◌∙◌, Option, Some, None}
 use Rattle.std.specs.Prelude.{◌==◌, nat_lt, slice_get}
-use Rattle.std.specs.List.{list_all, AllByRecursion}
+use Rattle.std.specs.List.{list_all}
 use Rattle.qkd_base.specs.declared.lane.Lane.{Lane}
 use Rattle.net_model.specs.declared.event.Event.{Event}
 use Rattle.net_model.specs.declared.event.Event.TheVariants.{Plan}
 use Rattle.net_model.specs.declared.payload.Payload.{Payload}
 use Rattle.net_model.specs.declared.reply.Reply.{Reply}
-use Rattle.net_model.specs.declared.reply.Reply.TheVariants.{Planned, Stopped}
+use Rattle.net_model.specs.declared.reply.Reply.TheVariants.{Planned}
 use Rattle.net_model.specs.Journal.{journal_limit, added_len, is_nil}
 use Rattle.net_model.specs.OctetSequence.{has_octets}
 use Rattle.net_model.specs.Item.{payload}
@@ -15,7 +15,6 @@ use Rattle.net_model.specs.Site.{Site, sender, receiver}
 use Rattle.net_model.specs.World.{Network, World, Allocation}
 use Rattle.net_model.specs.Premises.{IsNetwork}
 use Rattle.net_model.specs.Invariant.{Conserved}
-use Rattle.net_model.specs.View.{View}
 use Rattle.net_model.specs.Needed.{view_of}
 use Rattle.net_model.specs.Decision.{Effect}
 use Rattle.net_model.specs.Decide.{decide, random_need}
@@ -26,21 +25,18 @@ use Rattle.net_model.specs.Frames.{frame_octets, receive_item}
 use Rattle.net_model.specs.Handle.{is_numbered, commit, stopped, perform, handle}
 use Rattle.net_model.specs.BlockOrder.{is_block_event}
 use Rattle.net_model.specs.Step.{step, is_asked, is_enabled}
-use Rattle.net_model.specs.Tick.{Emission, Again, New}
 use Rattle.run_model.specs.Works.{wanted_put}
 use Rattle.run_blocks.specs.declared.job.Job.{Job}
 use Rattle.run_blocks.specs.declared.job.Job.TheVariants as jobs
 use Rattle.run_blocks.specs.Jobs.{is_job}
-use Rattle.law_records.proofs.Base.{and_left, and_right, by_test, eq_from, not_false}
+use Rattle.law_records.proofs.Base.{and_left, and_right, by_test}
 use Rattle.law_records.proofs.Walks.{perform_walk, handle_walk, deliver_walk}
 use Rattle.law_decisions.specs.May.{is_plan}
 use Rattle.law_decisions.proofs.Decisions.{plan_is}
-use Rattle.law_others.specs.Touched.{touches_lane, Lease, Frames, Wire, changes_part}
+use Rattle.law_others.specs.Touched.{touches_lane, Frames, Wire, changes_part}
 use Rattle.law_others.proofs.LaneParts.{step_part}
 use Rattle.law_others.proofs.Frames.{frame_stays}
-use Rattle.law_ticks.specs.Sending.{IsEmission}
 use Rattle.law_works.proofs.Passed.{event_none, delivery_none}
-use Rattle.law_works.proofs.Passed.{plan_adds}
 use Rattle.world_turns.specs.Turning.{asked_with, planner}
 
 no_part : (b : Bool) → (b && false) ≡ false
@@ -90,38 +86,14 @@ module _ (net : Network) (w : World) where
   pub noted_still : (job : Job) (environment : Environment) (v : ℕ) → (step net w (asked_with job environment)).0.placings v ≡ w.placings v
   noted_still job environment v = ap (λ (f : ℕ → _). f v) (turn_placings job environment)
 
--- a plan that isn't replied leaves leases
+-- what a plan's reply says
 
 abbrev pub is_planned : Outcome → Bool
 is_planned (Replies (Planned orders repeats shorts)) = true
 is_planned _ = false
 
 module _ (net : Network) (w : World) (v : ℕ) where
-  abbrev Leases : World × Outcome → Type 0
-  Leases r = is_planned r.1 ≡ false → r.0.durable ≡ w.durable
-
-  stopped_leases : (octets : ℕ) (e : Effect) (out : Outcome) → Leases (stopped w v octets e, out)
-  unfolding stopped
-  stopped_leases octets e out none = refl
-
-  planned_leases : (octets : ℕ) (x : View) → Leases (commit net.site w v octets (plan net.site w.link_up x), Replies (plan net.site w.link_up x).reply)
-  unfolding plan
-  planned_leases octets x none = cc
-
-  performed_leases : (octets : ℕ) (environment : Environment) (x : View) → Leases (perform net w v octets environment (plan net.site w.link_up x))
-  unfolding perform
-  performed_leases octets environment x =
-      let e : Effect = plan net.site w.link_up x in
-      by_test Leases (is_no_memory environment || not (list_all is_numbered e.batch)) _ _ (λ t none. refl)
-      (λ t. by_test Leases (nat_lt journal_limit ((w.journal v).length' + added_len (w.journal v).version e.batch)) _ _ (λ t none. refl)
-      (λ t. by_test Leases (nat_lt 0 octets && (not (has_octets (net.entropy v) (w.drawn v + octets)) || is_entropy_fault environment)) _ _ (λ t none. refl)
-      (λ t. by_test Leases (is_io_fault environment && not (is_nil e.batch)) _ _ (λ t. stopped_leases octets e (Replies Stopped)) (λ t. planned_leases octets x))))
-
-  unplanned_leases : (environment : Environment) → Leases (step net w (Ask v Plan environment))
-  unfolding step handle decide random_need
-  unplanned_leases environment = by_test Leases (w.up v) _ _ (λ t. performed_leases 0 environment (view_of net w v)) (λ t none. refl)
-
-  -- a manager whose plan is replied is up
+  -- its manager is up
 
   abbrev Ups : World × Outcome → Type 0
   Ups r = is_planned r.1 ≡ true → r.0.up v ≡ true
@@ -143,19 +115,6 @@ module _ (net : Network) (w : World) (v : ℕ) where
   planned_up environment = by_test Ups (w.up v) _ _ (λ t. up_performed 0 environment _ t) (λ t h. cc)
 
 -- ---- by what the turn is
-
--- a new order of a lane that leaves the node
-abbrev pub IsFrom : Site → ℕ → Emission → Type 0
-IsFrom s v (Again r) = Unit {0}
-IsFrom s v (New o) = (is_lane s o.lane ≡ true) × (sender s o.lane ≡ v)
-
-emission_from : (net : Network) (w : World) (v : ℕ) (e : Emission) → IsEmission net w v e → IsFrom net.site v e
-emission_from net w v (Again r) h = tt
-emission_from net w v (New o) h = (h.site, h.lane)
-
-all_from : (net : Network) (w : World) (v : ℕ) (es : List Emission) → AllByRecursion (IsEmission net w v) es → AllByRecursion (IsFrom net.site v) es
-all_from net w v [] h = tt
-all_from net w v (e ∷ es) h = (emission_from net w v e h.0, all_from net w v es h.1)
 
 none_planned : (v : ℕ) (reply : Reply) → ◌≡◌ {A = Option ℕ} (planner (jobs.Ask v Plan) reply) None → is_planned (Replies reply) ≡ false
 none_planned v (Planned orders repeats shorts) h = cc
@@ -196,17 +155,6 @@ module _ (net : Network) (w : World) (network : IsNetwork net) (c : Conserved ne
         | Some a ↦ λ there. frame_stays net w (asked_with job environment) l j a network c at there
       ] refl
 
-  lease_still : (l : Lane) → (touches_lane net.site (asked_with job environment) l && changes_part Lease (asked_with job environment)) ≡ false → after.durable.lease l ≡ w.durable.lease l
-  lease_still l h = step_part net w l network c Lease (asked_with job environment) may h
-
-  -- where no plan is replied leases stay
-
-  plain_leases : (v : ℕ) (event : Event) → job ≡ jobs.Ask v event → is_plan event ≡ false → (l : Lane) → after.durable.lease l ≡ w.durable.lease l
-  plain_leases v event is other l =
-      lease_still l
-      (subst (λ (j : Job). (touches_lane net.site (asked_with j environment) l && changes_part Lease (asked_with j environment)) ≡ false) (sym is)
-      (ap (λ (b : Bool). (b && (sender net.site l == v)) && b) other))
-
 -- ---- one turn, by the plan that is replied, if one is
 
 module _ (net : Network) (w : World) (network : IsNetwork net) (c : Conserved net w) where
@@ -216,24 +164,7 @@ module _ (net : Network) (w : World) (network : IsNetwork net) (c : Conserved ne
   abbrev Says : Job → Environment → Reply → Type 0
   Says job environment reply = (step net w (asked_with job environment)).1 ≡ Replies reply
 
-  pub leases_still : (job : Job) (environment : Environment) (reply : Reply) → is_enabled net w (asked_with job environment) ≡ true → planner job reply ≡ None → Says job environment reply →
-      (l : Lane) → (After job environment).durable.lease l ≡ w.durable.lease l
-  leases_still jobs.Nothing environment reply may none said l = lease_still net w network c jobs.Nothing environment may l refl
-  leases_still (jobs.Pass lane number) environment reply may none said l = lease_still net w network c (jobs.Pass lane number) environment may l refl
-  leases_still (jobs.Ask v event) environment reply may none said l =
-      elim (is_plan event) as (λ t. is_plan event ≡ t → (After (jobs.Ask v event) environment).durable.lease l ≡ w.durable.lease l) [
-        | true ↦ λ is. planned (plan_is event is)
-        | false ↦ λ other. plain_leases net w network c (jobs.Ask v event) environment may v event refl other l
-      ] refl
-    where
-      planned : event ≡ Plan → (After (jobs.Ask v event) environment).durable.lease l ≡ w.durable.lease l
-      planned is =
-          let none' : planner (jobs.Ask v Plan) reply ≡ None = subst (λ (x : Event). planner (jobs.Ask v x) reply ≡ None) is none in
-          let said' : Says (jobs.Ask v Plan) environment reply = subst (λ (x : Event). Says (jobs.Ask v x) environment reply) is said in
-          subst (λ (x : Event). (After (jobs.Ask v x) environment).durable.lease l ≡ w.durable.lease l) (sym is)
-          (ap (λ d. d.lease l) (unplanned_leases net w v environment (ap is_planned said' ∙ none_planned v reply none')))
-
-  -- and nothing is wanted put
+  -- where no plan is replied nothing is wanted put
   pub wants_none : (job : Job) (environment : Environment) (reply : Reply) → is_job net.site job ≡ true → planner job reply ≡ None → Says job environment reply → wanted_put (Replies reply) ≡ []
   unfolding step
   wants_none jobs.Nothing environment reply fit none said = ap wanted_put (sym said)
@@ -259,16 +190,3 @@ module _ (net : Network) (w : World) (network : IsNetwork net) (c : Conserved ne
     -- a manager whose plan is replied is up
     pub up_after : (After job environment).up v ≡ true
     up_after = subst (λ (j : Job). (After j environment).up v ≡ true) (sym p.job') (planned_up net w v environment (ap is_planned said_plan ∙ p.replied))
-
-    -- its new orders go on lanes that leave the node
-    pub wanted_from : AllByRecursion (IsFrom net.site v) (wanted_put (Replies reply))
-    unfolding step
-    wanted_from =
-        subst (λ (out : Outcome). AllByRecursion (IsFrom net.site v) (wanted_put out)) said_plan (all_from net w v _ (plan_adds net w v c environment).each)
-
-    -- and the leases of other lanes stay
-    pub leases_elsewhere : is_enabled net w (asked_with job environment) ≡ true → (l : Lane) → (sender net.site l ≡ v → ⊥) → (After job environment).durable.lease l ≡ w.durable.lease l
-    leases_elsewhere may l apart =
-        lease_still net w network c job environment may l
-        (subst (λ (j : Job). (touches_lane net.site (asked_with j environment) l && changes_part Lease (asked_with j environment)) ≡ false) (sym p.job')
-        (ap (λ (b : Bool). (true && b) && true) (not_false (sender net.site l == v) (λ e. apart (eq_from (sender net.site l) v e)))))

@@ -1,4 +1,3 @@
-pub mod Leases
 pub mod Order
 pub mod Passed
 pub mod Taking

@@ -1,17 +1,14 @@
 -- The turns that jobs ask of managers.
 use Rattle.std.specs.Prelude.{ℕ, List, slice_get, Option, Some, None}
-use Rattle.std.specs.List.{flat_map}
 use Rattle.qkd_base.specs.declared.lane.Lane.{Lane}
 use Rattle.net_model.specs.declared.event.Event.{Event}
 use Rattle.net_model.specs.declared.event.Event.TheVariants.{Plan}
 use Rattle.net_model.specs.declared.reply.Reply.{Reply}
 use Rattle.net_model.specs.declared.reply.Reply.TheVariants.{Planned}
-use Rattle.net_model.specs.Site.{Site, count_up}
 use Rattle.net_model.specs.Action.{Environment, Action, Ok, Ask, Deliver, WantMemory}
 use Rattle.run_model.specs.Works.{Work}
 use Rattle.run_blocks.specs.declared.job.Job.{Job}
 use Rattle.run_blocks.specs.declared.job.Job.TheVariants as jobs
-use Rattle.run_blocks.specs.Jobs.{asked_in_order}
 use Rattle.world_turns.specs.declared.next.Next.{Next}
 
 -- the action that a job asks for, with an answer of the outside
@@ -27,10 +24,6 @@ action_at (Some job) = asked_with job Ok
 -- the turn that is to come, as if the outside answered well
 abbrev pub work_of : List Job → Next → Work
 work_of all next = record { place = next.place; action = action_at (slice_get all next.place) }
-
--- all turns that jobs ask for, in order of node and of place
-abbrev pub all_asked : Site → List Job → List Work
-all_asked s all = flat_map (λ v. asked_in_order s v all) (count_up s.nodes)
 
 -- the node whose plan was replied
 abbrev pub planner : Job → Reply → Option ℕ

@@ -2,8 +2,6 @@
 #![tactic(auto)]
 
 mod next;
-mod turns;
 
 pub use next::Next;
-pub use turns::Turns;
 pub use world_state;
