@@ -13,10 +13,10 @@ ghost use Rattle.block_gathers.specs.Passed.{Worked};
 ghost use Rattle.block_gathers.specs.Passed.{HasWorked};
 ghost use Rattle.block_works.specs.Going.{WentThrough};
 
+pub use block_gathers;
 use disk_model::Disk;
 use source_devices::{Device, Entropy, Wire};
 pub use turn_shifts;
-pub use block_gathers;
 
 /// A block that went through from a network that was ready is one that so many workers may do. The managers took the turns that the
 /// workers ask of them, and each lane did just what the plans want of it; the state stands for the world behind that; and where all was

@@ -4,5 +4,5 @@
 mod starting;
 
 pub use kme_recovery::RecoverRefusal;
-pub use starting::recover;
 pub use kme_store;
+pub use starting::recover;

@@ -15,9 +15,10 @@ use crate::keeping::keeps;
 use block_errands::BlockErrands;
 use block_errands::block_talks::Keep;
 use block_errands::block_talks::plan_desks::{Opened, open_lanes};
-use block_works::block_gathers::block_notes::Worked;
-use block_works::block_gathers::{Room, gather};
 use block_seats::{Seat, Sheet, rise, sheets, sit};
+use block_works::block_gathers::block_notes::Worked;
+use block_works::block_gathers::block_notes::world_frames::world_state::State;
+use block_works::block_gathers::{Room, gather};
 use block_works::turn_shifts::shifts;
 use declared_site::Site;
 use disk_model::Disk;
@@ -34,7 +35,6 @@ use std::alloc::Global;
 use std::snapshot::Snapshot;
 use std::sync::Wait;
 use std::thread::Threads;
-use block_works::block_gathers::block_notes::world_frames::world_state::State;
 
 // The most that a job calls a machine: a manager once, and a lane for the frames of a plan.
 const MOST: u64 = 2_097_153;

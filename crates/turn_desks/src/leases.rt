@@ -9,11 +9,11 @@ ghost use Rattle.turn_desks.specs.Leases.{lease_at, EndsOf, EndsAt, WroteOf, Wro
 use declared_site::Site;
 use disk_model::Disk;
 use kme_site::sender;
-use world_turns::world_state::world_posts::kme_start::kme_store::Post;
 use net_model::{Event, Reply};
 use qkd_base::{Lane, LinkNo, NodeNo, Way};
 use run_blocks::Job;
 use source_devices::Entropy;
+use world_turns::world_state::world_posts::kme_start::kme_store::Post;
 
 /// The lane that stands at a place, if one may.
 fn lane_at(place: usize) -> Option<Lane>

@@ -7,9 +7,9 @@ ghost use Rattle.net_model.specs.World.{Network, World};
 ghost use Rattle.world_turns.specs.Passed.{MayHandle, Handled};
 
 use disk_model::Disk;
-use world_turns::world_state::world_posts::kme_start::kme_store::Post;
 use net_model::{Event, Reply};
 use source_devices::Entropy;
+use world_turns::world_state::world_posts::kme_start::kme_store::Post;
 
 /// Puts an event to a node's manager, which it may be asked wherever it is up. Bit l of `up` says that link l is up. A node with no
 /// manager that is up answers `Down`.

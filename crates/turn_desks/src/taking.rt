@@ -5,11 +5,11 @@ ghost use Rattle.turn_desks.specs.Taking.{MayTurnAt, HappensAt};
 
 use crate::putting::put;
 use disk_model::Disk;
-use world_turns::world_state::world_posts::kme_start::kme_store::Post;
 use net_model::{Event, Reply};
 use qkd_base::Octets;
 use run_blocks::Job;
 use source_devices::Entropy;
+use world_turns::world_state::world_posts::kme_start::kme_store::Post;
 
 /// A node's manager does the job that is its turn, with the octets of the frame that comes, if one does. Bit l of `up` says that
 /// link l is up.

@@ -6,8 +6,8 @@ ghost use Rattle.world_posts.specs.Starting.{MayStart, HasStarted, result_of};
 
 use declared_site::Site;
 use disk_model::Disk;
-use kme_start::{RecoverRefusal, recover};
 use kme_start::kme_store::Post;
+use kme_start::{RecoverRefusal, recover};
 use qkd_base::NodeNo;
 use report_items::StartResult;
 use source_devices::Entropy;

@@ -9,10 +9,10 @@ ghost use Rattle.world_state.specs.Stands.{Stands, place_of};
 use crate::State;
 use crate::places::at;
 use disk_model::Disk;
-use world_posts::kme_start::kme_store::Post;
 use net_model::Counts4;
 use qkd_base::{Lane, NodeNo, Way};
 use source_devices::{Device, Entropy, Wire};
+use world_posts::kme_start::kme_store::Post;
 
 /// Where a lane stands in order of link, the lane up before the lane down.
 pub fn lane_place(lane: Lane) -> usize

@@ -13,7 +13,6 @@ ghost use Rattle.world_state.specs.Sending.{Sending, PutsOn, Breaks};
 use crate::places::at;
 use crate::{Progress, State, lane_place};
 use disk_model::Disk;
-use world_posts::kme_start::kme_store::Post;
 use lane_sides::Sent;
 use net_model::{Order, Placing, Repeat, spelled_len};
 use qkd_base::{Lane, Memory, NodeNo};
@@ -21,6 +20,7 @@ use report_items::{Item, UnsentCause};
 use run_turns::put_item;
 use source_devices::{Device, Entropy, Wire, WireFailed};
 use world_lanes::{again, emit, order_placing, repeat_placing};
+use world_posts::kme_start::kme_store::Post;
 
 /// The end below which bytes of a lane that leaves a node may be claimed.
 pub fn lease<K: Disk + Drop, Q: Device + Drop, E: Entropy + Drop, X: Wire + Drop>(

@@ -17,12 +17,12 @@ use crate::State;
 use declared_site::Site;
 use disk_model::Disk;
 use kme_site::sender;
-use world_posts::kme_start::kme_store::{Manager, Post};
 use lane_sides::LaneSide;
 use qkd_base::{Memory, NodeNo};
 use report_items::StartResult;
 use source_devices::{Device, Entropy, Wire};
 use std::alloc::Global;
+use world_posts::kme_start::kme_store::{Manager, Post};
 
 fn is_started(answer: &StartResult) -> bool
     ensures { result ≡ is_started answer.now }

@@ -1,9 +1,9 @@
 // The state of a run.
 use declared_site::Site;
 use disk_model::Disk;
-use world_posts::kme_start::kme_store::Post;
 use lane_sides::LaneSide;
 use source_devices::{Device, Entropy, Wire};
+use world_posts::kme_start::kme_store::Post;
 
 /// The managers, lanes and devices of a network, and which of its links are up.
 #[derive(Drop)]
