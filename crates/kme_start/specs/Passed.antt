@@ -5,7 +5,8 @@ pub use Rattle.kme_recovery.specs.Recovery.{GivesBack, HasCheckpoint, HasRead, I
 pub use Rattle.kme_recovery.specs.Unread.{IsUnreadable}
 pub use Rattle.kme_recovery.specs.declared.recovering.Recovered.{Recovered}
 pub use Rattle.kme_recovery.specs.declared.refusal.RecoverRefusal.{RecoverRefusal}
-pub use Rattle.kme_store.specs.Course.{Course, Goes, Stays, Stops, course, decided, in_world, performed, resolved}
+pub use Rattle.kme_store.specs.Course.{Course, Goes, Stays, Stops, course, decided, in_world, resolved}
+unfoldable pub use Rattle.kme_store.specs.Course.{performed}
 pub use Rattle.kme_store.specs.Manager.{Acts, Answers, ComesNext, HasBodyIn, HasDisk, HasGone, HasStayed, HasStopped, IsAdded, IsAfter as IsAfter_of_Manager, IsArmed, IsDownWith, IsDrawn, IsUpWith, Keeps, ManagerForm, StandsOver, WhereUp, Writes, is_up}
 pub use Rattle.kme_store.specs.Manager.{lease_of}
 pub use Rattle.kme_store.specs.declared.post.Post.TheVariants.{Off, On}
