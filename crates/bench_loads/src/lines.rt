@@ -2,7 +2,8 @@
 ghost use Rattle.std.specs.Prelude.{◌≡◌, ◌⊎◌, ℕ, true};
 ghost use Rattle.std.specs.List.{list_all};
 ghost use Rattle.run_acts.specs.Runnable.{IsRunnable};
-ghost use Rattle.run_lines.specs.Reporting.{IsBlamed};
+ghost use Rattle.load_lines.specs.Pieces.{IsLoadLine};
+ghost use Rattle.run_lines.specs.Reporting.{InLines, IsBlamed};
 ghost use Rattle.run_model.specs.Course.{Load};
 ghost use Rattle.run_model.specs.Load.{load_scenario};
 ghost use Rattle.law_loads.specs.Kinds.{is_load_entry};
@@ -36,6 +37,7 @@ pub fn run_lines_of<K: Disk + Drop, Q: Device + Drop, E: Entropy + Drop, X: Wire
         ⊎ HasHeadlines K.is_honest K.content K.moment K.image E.left Q.told X.frames X.counted K.faults K.armings E.faults Q.faults X.faults bench.old bench.new (Load rounds) scenario (W.taken sink.old) (W.taken sink.new) (ended result) }
     ensures whole { IsWhole bench.new }
     ensures blame { IsBlamed (W.faults sink.old) (W.faults sink.new) result }
+    ensures lined { InLines W.taken W.pieces (IsLoadLine scenario.site.nodes) sink.old sink.new result }
 {
     let Scenario {
         site,

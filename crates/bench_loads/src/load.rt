@@ -1,6 +1,7 @@
 // A generated load over a bench.
 ghost use Rattle.std.specs.Prelude.{◌≡◌, ◌≤◌, ◌⊎◌};
-ghost use Rattle.run_lines.specs.Reporting.{IsBlamed};
+ghost use Rattle.load_lines.specs.Pieces.{IsLoadLine};
+ghost use Rattle.run_lines.specs.Reporting.{InLines, IsBlamed};
 ghost use Rattle.run_model.specs.Course.{Load};
 ghost use Rattle.run_model.specs.Load.{load_scenario};
 ghost use Rattle.bench_runs.specs.Passed.{IsWhole};
@@ -30,6 +31,7 @@ pub fn run_load<K: Disk + Drop, Q: Device + Drop, E: Entropy + Drop, X: Wire + D
         ⊎ HasHeadlines K.is_honest K.content K.moment K.image E.left Q.told X.frames X.counted K.faults K.armings E.faults Q.faults X.faults bench.old bench.new (Load rounds) (load_scenario rounds) (W.taken sink.old) (W.taken sink.new) (ended result) }
     ensures whole { IsWhole bench.new }
     ensures blame { IsBlamed (W.faults sink.old) (W.faults sink.new) result }
+    ensures lined { InLines W.taken W.pieces (IsLoadLine (load_scenario rounds).site.nodes) sink.old sink.new result }
 {
     let scenario = match generated(alloc, rounds) {
         Ok(scenario) => scenario,

@@ -3,3 +3,4 @@ pub mod Going
 pub mod Ending
 pub mod Blaming
 pub mod Headlines
+pub mod Lined

@@ -8,7 +8,9 @@ ghost use Rattle.run_model.specs.Course.{Serve, served_by};
 ghost use Rattle.bench_runs.specs.Passed.{IsSized};
 ghost use Rattle.world_serves.specs.Passed.{Rests};
 ghost use Rattle.world_serves.specs.Passed.{Stands};
+ghost use Rattle.run_lines.specs.Reporting.{InLines};
 ghost use Rattle.bench_serves.specs.Behind.{Ends};
+ghost use Rattle.bench_serves.specs.Lines.{IsServedLine};
 ghost use Rattle.bench_serves.specs.Serving.{IsBlamed};
 ghost use Rattle.bench_serves.specs.declared.stop.ServeStop.TheVariants.{Listen, Stopped};
 
@@ -66,6 +68,7 @@ where
         workers connections port state.old state.new net w (record { asked = P.asked ports.old; back = P.back ports.old }) (record { asked = P.asked ports.new; back = P.back ports.new })
         (W.taken sink.old) (W.taken sink.new) (served_text (served_by (Serve workers connections port) (length state.old.site.nodes))) lines result }
     ensures blame { MatchResult lines (λ done. IsBlamed (W.faults sink.old) (W.faults sink.new) result) (λ stop. (result ≡ Err (Stopped stop)) × (sink.new ≡ sink.old)) }
+    ensures lined { MatchResult lines (λ done. InLines W.taken W.pieces IsServedLine sink.old sink.new result) (λ stop. (result ≡ Err (Stopped stop)) × (sink.new ≡ sink.old)) }
     ensures listen { result ≡ Err Listen → IsListenFault P.Door.faults (P.faults ports.old) (P.faults ports.new)
         (record { asked = P.asked ports.old; back = P.back ports.old }) (record { asked = P.asked ports.new; back = P.back ports.new }) }
 {

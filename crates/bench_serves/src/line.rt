@@ -2,7 +2,9 @@
 ghost use Rattle.std.specs.Prelude.{◌≡◌, ◌≤◌, ℕ, Err, length};
 ghost use Rattle.report_items.specs.Texts.{served_text};
 ghost use Rattle.run_model.specs.Course.{Serve, served_by};
+ghost use Rattle.run_lines.specs.Reporting.{InLines};
 ghost use Rattle.bench_serves.specs.Behind.{IsLineTold};
+ghost use Rattle.bench_serves.specs.Lines.{IsServedLine};
 ghost use Rattle.bench_serves.specs.Serving.{IsBlamed, ended};
 ghost use Rattle.bench_serves.specs.declared.stop.ServeStop.TheVariants.{Listen};
 
@@ -35,6 +37,7 @@ pub(crate) fn write_served<W: Sink>(
     ensures line { IsLineTold (ended result) (W.taken sink.old) (W.taken sink.new) (served_text count) }
     ensures calm { result ≡ Err Listen → ⊥ }
     ensures blame { IsBlamed (W.faults sink.old) (W.faults sink.new) result }
+    ensures lined { InLines W.taken W.pieces IsServedLine sink.old sink.new result }
 {
     let Ok(text) = served_text(alloc, count) else {
         return Err(ServeStop::Stopped(Stop::Memory));

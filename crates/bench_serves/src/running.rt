@@ -3,8 +3,10 @@ ghost use Rattle.std.specs.Prelude.{◌≡◌, ◌⊎◌, ◌≤◌, Err, IsSome
 ghost use Rattle.std.specs.List.{All};
 ghost use Rattle.port_doors.specs.Doors.{HasRoom, IsListenFault};
 ghost use Rattle.run_acts.specs.Runnable.{IsRunnable};
+ghost use Rattle.run_lines.specs.Reporting.{InLines};
 ghost use Rattle.law_serves.specs.Passed.{IsWhole};
 ghost use Rattle.law_serves.specs.Passed.{IsNew};
+ghost use Rattle.bench_serves.specs.Lines.{IsServeLine};
 ghost use Rattle.bench_serves.specs.Serving.{HasServedHeadlines, IsBlamed, WasLeft, ended};
 ghost use Rattle.bench_serves.specs.declared.stop.ServeStop.TheVariants.{Listen};
 
@@ -68,6 +70,7 @@ where
         workers connections port scenario (W.taken sink.old) (W.taken sink.new) (ended result) }
     ensures whole { IsWhole bench.new }
     ensures blame { IsBlamed (W.faults sink.old) (W.faults sink.new) result }
+    ensures lined { InLines W.taken W.pieces (IsServeLine scenario.site.nodes) sink.old sink.new result }
     ensures listen { result ≡ Err Listen → IsListenFault P.Door.faults (P.faults ports.old) (P.faults ports.new)
         (record { asked = P.asked ports.old; back = P.back ports.old }) (record { asked = P.asked ports.new; back = P.back ports.new }) }
 {

@@ -1,3 +1,4 @@
 pub mod Codes
 pub mod Outcome
 pub mod Passed
+pub mod Lines

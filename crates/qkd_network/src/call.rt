@@ -8,6 +8,8 @@ ghost use Rattle.bench_veils.specs.Passed.{IsNew};
 ghost use Rattle.bench_veils.specs.Passed.{HasHeadlines};
 ghost use Rattle.bench_serves.specs.Serving.{HasServedHeadlines};
 ghost use Rattle.bench_veils.specs.Veiling.{HasVeiled};
+ghost use Rattle.run_model.specs.Course.{Serve};
+ghost use Rattle.qkd_network.specs.Lines.{WroteLines};
 ghost use Rattle.qkd_network.specs.Outcome.{AsksServe, Outcome, outside};
 ghost use Rattle.qkd_network.specs.declared.status.Status.TheVariants.{ReadFault, WriteFault, ListenFault};
 
@@ -42,7 +44,7 @@ use word_forms::{Form, read_form};
 /// touched. On `BadLine` that line is the first that is refused; nothing is judged before the source was read to its end or past the
 /// limit of a scenario, and sink, bench and ports are as they were. A read that failed is not tried again: the source's count of faults
 /// rose on `ReadFault`, and is as it was otherwise. On `Done`, `WriteFault`, `ForgedMatch`, `Memory` and `ListenFault` the headline
-/// holds of the run, whole or up to where it ended: of the report that the sink took, of the frames on the wires, of what stands on the
+/// holds of the run, whole or up to where it ended: of the report that the sink took, a line a piece, of the frames on the wires, of what stands on the
 /// disks, of keys and of lane bytes, of faults and of armings; for `veil` of all but the report, and every other key fits the wires; of
 /// an answer about keys or of the veil's line the sink took the whole line, or a first part, and at a forged match nothing. For `serve`
 /// the run goes on with what connections asked, each of which got the responses to its requests; each port was asked for once, and the
@@ -76,13 +78,15 @@ where
     requires unarmed { All (λ k. (K.armings k).count ≡ 0) bench.old.disks.items }
     requires ports { AreFresh P.asked P.back ports.old }
     ensures outcome { Outcome (λ s. S.left s) (λ k. W.taken k) (λ asked scenario stop.
-        HasHeadlines K.is_honest K.content K.moment K.image E.left Q.told X.frames X.counted K.faults K.armings E.faults Q.faults X.faults bench.old bench.new asked scenario (W.taken sink.old) (W.taken sink.new) stop)
+        HasHeadlines K.is_honest K.content K.moment K.image E.left Q.told X.frames X.counted K.faults K.armings E.faults Q.faults X.faults bench.old bench.new asked scenario (W.taken sink.old) (W.taken sink.new) stop
+        × WroteLines W.taken W.pieces asked scenario sink.old sink.new stop)
         (λ scenario stop. HasVeiled K.moment K.image E.left Q.told X.frames K.faults K.armings E.faults Q.faults X.faults (λ k. W.taken k) bench.old bench.new scenario sink.old sink.new stop)
         (λ workers connections port scenario stop.
         HasServedHeadlines K.moment K.image E.left Q.told X.frames K.faults K.armings E.faults Q.faults X.faults
         (telling P.Door.port P.Door.accepted P.Door.finished P.Door.waiting P.Door.done) P.Door.faults (IsSome (P.asked ports.old)) bench.old bench.new
         (record { asked = P.asked ports.old; back = P.back ports.old }) (record { asked = P.asked ports.new; back = P.back ports.new })
-        workers connections port scenario (W.taken sink.old) (W.taken sink.new) stop)
+        workers connections port scenario (W.taken sink.old) (W.taken sink.new) stop
+        × WroteLines W.taken W.pieces (Serve workers connections port) scenario sink.old sink.new stop)
         result words.now source.old source.new sink.old sink.new (outside bench.old ports.old) (outside bench.new ports.new) }
     ensures ports { AsksServe words.now ⊎ (ports.new ≡ ports.old) }
     ensures whole { IsWhole bench.new }

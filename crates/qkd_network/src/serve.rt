@@ -6,6 +6,8 @@ ghost use Rattle.port_doors.specs.Doors.{AreFresh, IsListenFault, PortsTold, tel
 ghost use Rattle.bench_veils.specs.Passed.{IsWhole};
 ghost use Rattle.bench_veils.specs.Passed.{IsNew};
 ghost use Rattle.bench_serves.specs.Serving.{HasServedHeadlines};
+ghost use Rattle.run_model.specs.Course.{Serve};
+ghost use Rattle.qkd_network.specs.Lines.{WroteLines};
 ghost use Rattle.qkd_network.specs.Outcome.{ScenarioOutcome, outside};
 ghost use Rattle.qkd_network.specs.declared.status.Status.TheVariants.{ReadFault, WriteFault, ListenFault};
 
@@ -57,7 +59,8 @@ where
         HasServedHeadlines K.moment K.image E.left Q.told X.frames K.faults K.armings E.faults Q.faults X.faults
         (telling P.Door.port P.Door.accepted P.Door.finished P.Door.waiting P.Door.done) P.Door.faults (IsSome (P.asked ports.old)) bench.old bench.new
         (record { asked = P.asked ports.old; back = P.back ports.old }) (record { asked = P.asked ports.new; back = P.back ports.new })
-        workers connections port scenario (W.taken sink.old) (W.taken sink.new) stop)
+        workers connections port scenario (W.taken sink.old) (W.taken sink.new) stop
+        × WroteLines W.taken W.pieces (Serve workers connections port) scenario sink.old sink.new stop)
         result source.old source.new sink.old sink.new (outside bench.old ports.old) (outside bench.new ports.new) }
     ensures whole { IsWhole bench.new }
     ensures read_fault { result ≡ ReadFault → Rose (S.faults source.old) (S.faults source.new) }

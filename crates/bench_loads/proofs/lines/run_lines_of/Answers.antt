@@ -8,6 +8,8 @@ use Rattle.run_acts.specs.Acting.{IsReady}
 use Rattle.run_acts.specs.Runnable.{IsEntryFor}
 use Rattle.load_lines.specs.Loaded.{RanLoad}
 use Rattle.run_model.specs.Report.{tasks}
+use Rattle.run_lines.specs.Reporting.{InLines}
+use Rattle.load_lines.specs.Pieces.{IsLoadLine}
 use Rattle.bench_runs.specs.Passed.{Rests}
 use Rattle.bench_runs.specs.Passed.{Stands}
 use Rattle.bench_runs.specs.Passed.{Tallied}
@@ -18,6 +20,7 @@ use Rattle.bench_runs.proofs.Passed.{stands_first}
 use Rattle.bench_runs.specs.Passed.{Running}
 use Rattle.bench_runs.proofs.Rooms.{first_is_quiet, whole_again}
 use Rattle.bench_loads.proofs.Headlines.{headlines}
+use Rattle.bench_loads.proofs.Lined.{none_written}
 use Rattle.bench_loads.proofs.lines.run_lines_of.Goals as goal
 
 pub new-running-requires-clause-sized : goal.new-running-requires-clause-sized
@@ -97,3 +100,12 @@ returns-clause-whole g c =
     whole_again g.K.Disk.is_honest g.K.Disk.content g.K.Disk.moment g.K.Disk.image c.args.bench.now c.lay_out.new.bench c.put_back.new.bench c.args.scenario.site
     c.new-running.result.state c.into_state.result c.requires.runnable.site c.requires.fresh.whole laid c.into_state.ensures.sized
     (ap (λ (s : State-here). s.site) c.into_state.ensures.state ∙ c.run_load-result.ensures.site ∙ laid.sited) c.put_back.ensures
+
+pub returns-clause-lined : goal.returns-clause-lined
+returns-clause-lined g c =
+    let sited : c.new-running.result.state.site ≡ c.args.scenario.site = ap (λ (s : State g.row.K.Denot g.row.Q.Denot g.row.E.Denot g.row.X.Denot). s.site) c.new-running.ensures ∙ c.in-Ok.ensures.laid.sited in
+    subst (λ (d : Site). InLines g.W.Sink.taken g.W.Sink.pieces (IsLoadLine d.nodes) c.args.sink.now c.run_load-result.new.sink c.run_load-result.result) sited
+    c.run_load-result.ensures.lined
+
+pub returns-in-Err-clause-lined : goal.returns-in-Err-clause-lined
+returns-in-Err-clause-lined g c = none_written g.W.Sink.taken g.W.Sink.pieces c.args.scenario.site.nodes c.args.sink.now

@@ -13,6 +13,7 @@ use Rattle.bench_serves.specs.Serving.{ended}
 use Rattle.bench_serves.specs.declared.stop.ServeStop.{ServeStop}
 use Rattle.bench_serves.specs.declared.stop.ServeStop.TheVariants.{Stopped, Listen}
 use Rattle.bench_serves.proofs.Ending.{ends_there, ends_at_last, ends_with_lines, of_all, of_some}
+use Rattle.bench_serves.proofs.Lined.{unserved, where_ended}
 use Rattle.bench_serves.proofs.behind.serve_behind.Goals as goal
 
 pub returns-in-Err-clause-ends : goal.returns-in-Err-clause-ends
@@ -82,3 +83,9 @@ returns-clause-ends g c net w left =
     ends_at_last g.K.Disk.is_honest g.K.Disk.moment g.K.Disk.image g.E.Entropy.left g.Q.Device.told g.X.Wire.frames g.X.Wire.counted g.K.Disk.faults g.K.Disk.armings g.E.Entropy.faults g.Q.Device.faults g.X.Wire.faults tell failed tells c.args.workers c.args.connections c.args.port
     c.args.state.now c.serve_nodes.new.state net w before after (g.W.Sink.taken c.args.sink.now) (g.W.Sink.taken c.write_served.new.sink) text
     c.args.lines c.in_default.field-0 c.in_default.is c.write_served.result all c.write_served.ensures.calm line
+
+pub returns-in-Err-Listen-clause-lined : goal.returns-in-Err-Listen-clause-lined
+returns-in-Err-Listen-clause-lined g c = where_ended _ _ c.args.lines c.in_default.field-0 c.in_default.is (unserved g.W.Sink.taken g.W.Sink.pieces c.args.sink.now)
+
+pub returns-in-Err-Memory-clause-lined : goal.returns-in-Err-Memory-clause-lined
+returns-in-Err-Memory-clause-lined g c = where_ended _ _ c.args.lines c.in_default.field-0 c.in_default.is (unserved g.W.Sink.taken g.W.Sink.pieces c.args.sink.now)

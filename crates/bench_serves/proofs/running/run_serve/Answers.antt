@@ -6,6 +6,7 @@ use Rattle.port_doors.specs.Doors.{PortsTold}
 use Rattle.bench_runs.proofs.Rooms.{whole_again}
 use Rattle.bench_serves.proofs.Headlines.{headlines}
 use Rattle.bench_serves.proofs.Blaming.{blamed}
+use Rattle.bench_serves.proofs.Lined.{unlined, lined_behind}
 use Rattle.bench_serves.proofs.running.run_serve.Goals as goal
 
 pub returns-in-Ok-clause-headline : goal.returns-in-Ok-clause-headline
@@ -32,3 +33,11 @@ pub returns-in-Ok-clause-blame : goal.returns-in-Ok-clause-blame
 returns-in-Ok-clause-blame g c =
     blamed (g.W.Sink.faults c.args.sink.now) (g.W.Sink.faults c.run_out.new.sink) (g.W.Sink.faults c.serve_behind-result.new.sink) c.in-Ok.left.ended c.serve_behind-result.result
     (c.serve_behind-result.new.sink ≡ c.run_out.new.sink) (λ same. ap g.W.Sink.faults same) c.in-Ok.ensures.blame c.serve_behind-result.ensures.blame
+
+pub returns-in-Ok-clause-lined : goal.returns-in-Ok-clause-lined
+returns-in-Ok-clause-lined g c =
+    lined_behind g.W.Sink.taken g.W.Sink.pieces c.args.scenario.site.nodes _ _ c.args.sink.now c.run_out.new.sink c.serve_behind-result.new.sink c.in-Ok.left.ended c.serve_behind-result.result
+    c.in-Ok.ensures.lined c.serve_behind-result.ensures.lined
+
+pub returns-in-Err-clause-lined : goal.returns-in-Err-clause-lined
+returns-in-Err-clause-lined g c = rw c.in-Err.ensures.err.1 (unlined g.W.Sink.taken g.W.Sink.pieces c.args.scenario.site.nodes c.args.sink.now)

@@ -2,23 +2,27 @@ use Rattle.std.proofs.Common.{◌≡◌, ℕ, Ok, Err, sym, ap, subst, ◌∙◌
 use Rattle.std.specs.Prelude.{◌⊎◌}
 use Rattle.scenario_lines.specs.declared.scenario.Scenario.{Scenario}
 use Rattle.run_lines.specs.declared.stop.Stop.TheVariants as stops
-use Rattle.run_model.specs.Course.{Words, Load}
+use Rattle.run_model.specs.Course.{Words, Run, Load}
 use Rattle.run_model.specs.Load.{load_scenario}
 use Rattle.run_model.specs.Headline as headline
 use Rattle.bench_veils.specs.Passed.{HasHeadlines, ended}
 use Rattle.bench_veils.specs.Veiling.{HasVeiled}
 use Rattle.word_forms.specs.Forms.{wanted_of}
 use Rattle.word_forms.specs.declared.form.Form.{Form}
+use Rattle.bench_loads.specs.Passed.{IsLoadLine}
+use Rattle.qkd_network.specs.Lines.{IsLineOf, WroteLines}
 use Rattle.qkd_network.specs.Outcome.{RunOutcome, outside}
 use Rattle.qkd_network.specs.declared.status.Status.{Status}
 use Rattle.qkd_network.proofs.Outcomes.{unread, ran, loaded, left_beside, beside_ports, answered_calm}
+use Rattle.qkd_network.proofs.Lined.{with_lines, run_lined}
 use Rattle.qkd_network.proofs.call.network.Goals as goal
 
 pub returns-in-Err-scenario_in-clause-outcome : goal.returns-in-Err-scenario_in-clause-outcome
 returns-in-Err-scenario_in-clause-outcome g c =
     inl (unread g.S.Source.left
     (λ (asked : Words) (scenario : Scenario) (stop : headline.Stop). HasHeadlines g.K.Disk.is_honest g.K.Disk.content g.K.Disk.moment g.K.Disk.image g.E.Entropy.left g.Q.Device.told g.X.Wire.frames g.X.Wire.counted
-    g.K.Disk.faults g.K.Disk.armings g.E.Entropy.faults g.Q.Device.faults g.X.Wire.faults c.args.bench.now c.args.bench.now asked scenario (g.W.Sink.taken c.args.sink.now) (g.W.Sink.taken c.args.sink.now) stop)
+    g.K.Disk.faults g.K.Disk.armings g.E.Entropy.faults g.Q.Device.faults g.X.Wire.faults c.args.bench.now c.args.bench.now asked scenario (g.W.Sink.taken c.args.sink.now) (g.W.Sink.taken c.args.sink.now) stop
+    × WroteLines g.W.Sink.taken g.W.Sink.pieces asked scenario c.args.sink.now c.args.sink.now stop)
     c.args.words.now c.in-Ok-Run.workers (c.in-Ok-Run.ensures.form ∙ ap (λ (f : Form). Ok (wanted_of f)) c.in-Ok-Run.field-0-is) c.args.source.now c.scenario_in.new.source
     c.in-Err-scenario_in.status c.args.sink.now (outside c.args.bench.now c.args.ports.now) c.in-Err-scenario_in.ensures.read)
 
@@ -51,34 +55,41 @@ pub returns-in-Ok-clause-outcome : goal.returns-in-Ok-clause-outcome
 returns-in-Ok-clause-outcome g c =
     inl (subst (λ (s : Status). RunOutcome g.S.Source.left
     (λ (asked : Words) (scenario : Scenario) (stop : headline.Stop). HasHeadlines g.K.Disk.is_honest g.K.Disk.content g.K.Disk.moment g.K.Disk.image g.E.Entropy.left g.Q.Device.told g.X.Wire.frames g.X.Wire.counted
-    g.K.Disk.faults g.K.Disk.armings g.E.Entropy.faults g.Q.Device.faults g.X.Wire.faults c.args.bench.now c.run_scenario.new.bench asked scenario (g.W.Sink.taken c.args.sink.now) (g.W.Sink.taken c.run_scenario.new.sink) stop)
+    g.K.Disk.faults g.K.Disk.armings g.E.Entropy.faults g.Q.Device.faults g.X.Wire.faults c.args.bench.now c.run_scenario.new.bench asked scenario (g.W.Sink.taken c.args.sink.now) (g.W.Sink.taken c.run_scenario.new.sink) stop
+    × WroteLines g.W.Sink.taken g.W.Sink.pieces asked scenario c.args.sink.now c.run_scenario.new.sink stop)
     s c.args.words.now c.args.source.now c.scenario_in.new.source c.args.sink.now c.run_scenario.new.sink (outside c.args.bench.now c.args.ports.now) (outside c.run_scenario.new.bench c.args.ports.now))
     (sym c.of_run-in-Ok.ensures)
     (ran g.S.Source.left
     (λ (asked : Words) (scenario : Scenario) (stop : headline.Stop). HasHeadlines g.K.Disk.is_honest g.K.Disk.content g.K.Disk.moment g.K.Disk.image g.E.Entropy.left g.Q.Device.told g.X.Wire.frames g.X.Wire.counted
-    g.K.Disk.faults g.K.Disk.armings g.E.Entropy.faults g.Q.Device.faults g.X.Wire.faults c.args.bench.now c.run_scenario.new.bench asked scenario (g.W.Sink.taken c.args.sink.now) (g.W.Sink.taken c.run_scenario.new.sink) stop)
+    g.K.Disk.faults g.K.Disk.armings g.E.Entropy.faults g.Q.Device.faults g.X.Wire.faults c.args.bench.now c.run_scenario.new.bench asked scenario (g.W.Sink.taken c.args.sink.now) (g.W.Sink.taken c.run_scenario.new.sink) stop
+    × WroteLines g.W.Sink.taken g.W.Sink.pieces asked scenario c.args.sink.now c.run_scenario.new.sink stop)
     c.args.words.now c.in-Ok-Run.workers (c.in-Ok-Run.ensures.form ∙ ap (λ (f : Form). Ok (wanted_of f)) c.in-Ok-Run.field-0-is) c.args.source.now c.scenario_in.new.source
     c.in-Ok.scenario c.in-Ok.ensures.read
     c.args.sink.now c.run_scenario.new.sink (outside c.args.bench.now c.args.ports.now) (outside c.run_scenario.new.bench c.args.ports.now) c.run_scenario.result
-    (left_beside c.args.bench.now c.run_scenario.new.bench c.args.ports.now c.args.sink.now c.run_scenario.new.sink c.run_scenario.result _ c.run_scenario.ensures.headline)))
+    (with_lines _ _ _ (left_beside c.args.bench.now c.run_scenario.new.bench c.args.ports.now c.args.sink.now c.run_scenario.new.sink c.run_scenario.result _ c.run_scenario.ensures.headline)
+    (run_lined g.W.Sink.taken g.W.Sink.pieces (IsLineOf (Run c.in-Ok-Run.workers) c.in-Ok.scenario.site.nodes) c.args.sink.now c.run_scenario.new.sink c.run_scenario.result c.run_scenario.ensures.lined))))
 
 pub returns-in-Ok-Load-clause-outcome : goal.returns-in-Ok-Load-clause-outcome
 returns-in-Ok-Load-clause-outcome g c =
     inl (subst (λ (s : Status). RunOutcome g.S.Source.left
     (λ (asked : Words) (scenario : Scenario) (stop : headline.Stop). HasHeadlines g.K.Disk.is_honest g.K.Disk.content g.K.Disk.moment g.K.Disk.image g.E.Entropy.left g.Q.Device.told g.X.Wire.frames g.X.Wire.counted
-    g.K.Disk.faults g.K.Disk.armings g.E.Entropy.faults g.Q.Device.faults g.X.Wire.faults c.args.bench.now c.run_load.new.bench asked scenario (g.W.Sink.taken c.args.sink.now) (g.W.Sink.taken c.run_load.new.sink) stop)
+    g.K.Disk.faults g.K.Disk.armings g.E.Entropy.faults g.Q.Device.faults g.X.Wire.faults c.args.bench.now c.run_load.new.bench asked scenario (g.W.Sink.taken c.args.sink.now) (g.W.Sink.taken c.run_load.new.sink) stop
+    × WroteLines g.W.Sink.taken g.W.Sink.pieces asked scenario c.args.sink.now c.run_load.new.sink stop)
     s c.args.words.now c.args.source.now c.args.source.now c.args.sink.now c.run_load.new.sink (outside c.args.bench.now c.args.ports.now) (outside c.run_load.new.bench c.args.ports.now))
     (sym c.of_run.ensures)
     (loaded g.S.Source.left
     (λ (asked : Words) (scenario : Scenario) (stop : headline.Stop). HasHeadlines g.K.Disk.is_honest g.K.Disk.content g.K.Disk.moment g.K.Disk.image g.E.Entropy.left g.Q.Device.told g.X.Wire.frames g.X.Wire.counted
-    g.K.Disk.faults g.K.Disk.armings g.E.Entropy.faults g.Q.Device.faults g.X.Wire.faults c.args.bench.now c.run_load.new.bench asked scenario (g.W.Sink.taken c.args.sink.now) (g.W.Sink.taken c.run_load.new.sink) stop)
+    g.K.Disk.faults g.K.Disk.armings g.E.Entropy.faults g.Q.Device.faults g.X.Wire.faults c.args.bench.now c.run_load.new.bench asked scenario (g.W.Sink.taken c.args.sink.now) (g.W.Sink.taken c.run_load.new.sink) stop
+    × WroteLines g.W.Sink.taken g.W.Sink.pieces asked scenario c.args.sink.now c.run_load.new.sink stop)
     c.args.words.now c.in-Ok-Load.rounds (c.in-Ok-Load.ensures.form ∙ ap (λ (f : Form). Ok (wanted_of f)) c.in-Ok-Load.field-0-is) c.args.source.now
     c.args.sink.now c.run_load.new.sink (outside c.args.bench.now c.args.ports.now) (outside c.run_load.new.bench c.args.ports.now) c.run_load.result
     (subst (λ (r : ℕ). ((c.run_load.result ≡ Err stops.Memory) × (c.run_load.new.sink ≡ c.args.sink.now) × ((outside c.run_load.new.bench c.args.ports.now) ≡ (outside c.args.bench.now c.args.ports.now))) ⊎
-    HasHeadlines g.K.Disk.is_honest g.K.Disk.content g.K.Disk.moment g.K.Disk.image g.E.Entropy.left g.Q.Device.told g.X.Wire.frames g.X.Wire.counted
-    g.K.Disk.faults g.K.Disk.armings g.E.Entropy.faults g.Q.Device.faults g.X.Wire.faults c.args.bench.now c.run_load.new.bench (Load r) (load_scenario r) (g.W.Sink.taken c.args.sink.now) (g.W.Sink.taken c.run_load.new.sink) (ended c.run_load.result))
+    (HasHeadlines g.K.Disk.is_honest g.K.Disk.content g.K.Disk.moment g.K.Disk.image g.E.Entropy.left g.Q.Device.told g.X.Wire.frames g.X.Wire.counted
+    g.K.Disk.faults g.K.Disk.armings g.E.Entropy.faults g.Q.Device.faults g.X.Wire.faults c.args.bench.now c.run_load.new.bench (Load r) (load_scenario r) (g.W.Sink.taken c.args.sink.now) (g.W.Sink.taken c.run_load.new.sink) (ended c.run_load.result)
+    × WroteLines g.W.Sink.taken g.W.Sink.pieces (Load r) (load_scenario r) c.args.sink.now c.run_load.new.sink (ended c.run_load.result)))
     c.in-Ok-Load.rounds-is
-    (left_beside c.args.bench.now c.run_load.new.bench c.args.ports.now c.args.sink.now c.run_load.new.sink c.run_load.result _ c.run_load.ensures.headline))))
+    (with_lines _ _ _ (left_beside c.args.bench.now c.run_load.new.bench c.args.ports.now c.args.sink.now c.run_load.new.sink c.run_load.result _ c.run_load.ensures.headline)
+    (run_lined g.W.Sink.taken g.W.Sink.pieces (IsLoadLine (load_scenario c.in-Ok-Load.rounds).site.nodes) c.args.sink.now c.run_load.new.sink c.run_load.result c.run_load.ensures.lined)))))
 
 pub returns-in-Ok-Bound-clause-source_calm : goal.returns-in-Ok-Bound-clause-source_calm
 returns-in-Ok-Bound-clause-source_calm g c = answered_calm _ c.answer_bound.result _ c.of_answer.ensures c.answer_bound.ensures.calm

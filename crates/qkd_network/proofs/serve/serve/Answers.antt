@@ -1,13 +1,17 @@
 use Rattle.std.proofs.Common.{sym, subst, arith, ◌∙◌}
 use Rattle.std.specs.Prelude.{IsSome}
 use Rattle.scenario_lines.specs.declared.scenario.Scenario.{Scenario}
+use Rattle.run_model.specs.Course.{Serve}
 use Rattle.run_model.specs.Headline as headline
 use Rattle.port_doors.specs.Doors.{telling}
 use Rattle.port_doors.proofs.Rooms.{room_of_new}
 use Rattle.bench_serves.specs.Serving.{HasServedHeadlines}
+use Rattle.bench_serves.specs.Lines.{IsServeLine}
+use Rattle.qkd_network.specs.Lines.{WroteLines}
 use Rattle.qkd_network.specs.Outcome.{ScenarioOutcome, outside}
 use Rattle.qkd_network.specs.declared.status.Status.{Status}
 use Rattle.qkd_network.proofs.Outcomes.{scenario_unread, serve_ran, left_with, listening}
+use Rattle.qkd_network.proofs.Lined.{with_lines, serve_lined}
 use Rattle.qkd_network.proofs.serve.serve.Goals as goal
 
 pub run_serve-requires-clause-asked : goal.run_serve-requires-clause-asked
@@ -24,7 +28,8 @@ returns-in-Err-clause-outcome g c =
     (telling g.P.Door.Listener.port g.P.Door.Listener.accepted g.P.Door.Listener.finished g.P.Door.Listener.waiting g.P.Door.Listener.done) g.P.Door.Listener.faults
     (IsSome (g.P.Ports.asked c.args.ports.now)) c.args.bench.now c.args.bench.now
     (record { asked = g.P.Ports.asked c.args.ports.now; back = g.P.Ports.back c.args.ports.now }) (record { asked = g.P.Ports.asked c.args.ports.now; back = g.P.Ports.back c.args.ports.now })
-    c.args.workers c.args.connections c.args.port scenario (g.W.Sink.taken c.args.sink.now) (g.W.Sink.taken c.args.sink.now) stop)
+    c.args.workers c.args.connections c.args.port scenario (g.W.Sink.taken c.args.sink.now) (g.W.Sink.taken c.args.sink.now) stop
+    × WroteLines g.W.Sink.taken g.W.Sink.pieces (Serve c.args.workers c.args.connections c.args.port) scenario c.args.sink.now c.args.sink.now stop)
     c.args.source.now c.scenario_in.new.source c.in-Err.status c.args.sink.now (outside c.args.bench.now c.args.ports.now) c.in-Err.ensures.read
 
 pub returns-in-Ok-clause-outcome : goal.returns-in-Ok-clause-outcome
@@ -35,7 +40,8 @@ returns-in-Ok-clause-outcome g c =
     (telling g.P.Door.Listener.port g.P.Door.Listener.accepted g.P.Door.Listener.finished g.P.Door.Listener.waiting g.P.Door.Listener.done) g.P.Door.Listener.faults
     (IsSome (g.P.Ports.asked c.args.ports.now)) c.args.bench.now c.run_serve.new.bench
     (record { asked = g.P.Ports.asked c.args.ports.now; back = g.P.Ports.back c.args.ports.now }) (record { asked = g.P.Ports.asked c.run_serve.new.ports; back = g.P.Ports.back c.run_serve.new.ports })
-    c.args.workers c.args.connections c.args.port scenario (g.W.Sink.taken c.args.sink.now) (g.W.Sink.taken c.run_serve.new.sink) stop)
+    c.args.workers c.args.connections c.args.port scenario (g.W.Sink.taken c.args.sink.now) (g.W.Sink.taken c.run_serve.new.sink) stop
+    × WroteLines g.W.Sink.taken g.W.Sink.pieces (Serve c.args.workers c.args.connections c.args.port) scenario c.args.sink.now c.run_serve.new.sink stop)
     s c.args.source.now c.scenario_in.new.source c.args.sink.now c.run_serve.new.sink (outside c.args.bench.now c.args.ports.now) (outside c.run_serve.new.bench c.run_serve.new.ports))
     (sym c.of_serve.ensures)
     (serve_ran g.S.Source.left
@@ -44,10 +50,12 @@ returns-in-Ok-clause-outcome g c =
     (telling g.P.Door.Listener.port g.P.Door.Listener.accepted g.P.Door.Listener.finished g.P.Door.Listener.waiting g.P.Door.Listener.done) g.P.Door.Listener.faults
     (IsSome (g.P.Ports.asked c.args.ports.now)) c.args.bench.now c.run_serve.new.bench
     (record { asked = g.P.Ports.asked c.args.ports.now; back = g.P.Ports.back c.args.ports.now }) (record { asked = g.P.Ports.asked c.run_serve.new.ports; back = g.P.Ports.back c.run_serve.new.ports })
-    c.args.workers c.args.connections c.args.port scenario (g.W.Sink.taken c.args.sink.now) (g.W.Sink.taken c.run_serve.new.sink) stop)
+    c.args.workers c.args.connections c.args.port scenario (g.W.Sink.taken c.args.sink.now) (g.W.Sink.taken c.run_serve.new.sink) stop
+    × WroteLines g.W.Sink.taken g.W.Sink.pieces (Serve c.args.workers c.args.connections c.args.port) scenario c.args.sink.now c.run_serve.new.sink stop)
     c.args.source.now c.scenario_in.new.source c.in-Ok.scenario c.in-Ok.ensures.read c.args.sink.now c.run_serve.new.sink
     (outside c.args.bench.now c.args.ports.now) (outside c.run_serve.new.bench c.run_serve.new.ports) c.run_serve.result
-    (left_with c.args.bench.now c.run_serve.new.bench c.args.sink.now c.run_serve.new.sink c.args.ports.now c.run_serve.new.ports c.run_serve.result _ c.run_serve.ensures.headline))
+    (with_lines _ _ _ (left_with c.args.bench.now c.run_serve.new.bench c.args.sink.now c.run_serve.new.sink c.args.ports.now c.run_serve.new.ports c.run_serve.result _ c.run_serve.ensures.headline)
+    (serve_lined g.W.Sink.taken g.W.Sink.pieces (IsServeLine c.in-Ok.scenario.site.nodes) c.args.sink.now c.run_serve.new.sink c.run_serve.result c.run_serve.ensures.lined)))
 
 pub returns-in-Ok-clause-listen_fault : goal.returns-in-Ok-clause-listen_fault
 returns-in-Ok-clause-listen_fault g c same = c.run_serve.ensures.listen (listening c.run_serve.result (sym c.of_serve.ensures ∙ same))
