@@ -53,8 +53,8 @@ def seconds(workers, lines, programs=1):
 
 
 def reported(running):
-    """When the last octet of all these programs' reports came."""
-    last = time.perf_counter()
+    """When the last octet of all these programs' reports came, or where none did, their end."""
+    last = None
     with selectors.DefaultSelector() as reports:
         for it in running:
             reports.register(it.stdout, selectors.EVENT_READ)
@@ -65,7 +65,7 @@ def reported(running):
                 else:
                     reports.unregister(ready.fileobj)
                     ready.fileobj.close()
-    return last
+    return last or time.perf_counter()
 
 
 def opened(source):
