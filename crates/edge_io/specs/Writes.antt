@@ -24,6 +24,10 @@ Adds (Some xs) new more = new ≡ Some (xs ++ more)
 abbrev pub TakesPiece : {T E : Type 0} → Option (List (List ℕ)) → Option (List (List ℕ)) → Result T E → List ℕ → Type 0
 TakesPiece old new r bs = MatchResult r (λ _. Adds old new (bs ∷ [])) (λ _. Adds old new [])
 
+-- nothing that was taken is told
+abbrev pub IsUntold : Option (List ℕ) → Option (List (List ℕ)) → Type 0
+IsUntold taken pieces = (taken ≡ None) × (pieces ≡ None)
+
 -- a list cut into pieces of these lengths, from its front
 abbrev pub cut : List ℕ → List ℕ → List (List ℕ)
 cut [] bs = []

@@ -1,7 +1,7 @@
 // Where bytes go.
-ghost use Rattle.std.specs.Prelude.{◌≡◌, List, ℕ, Option, None, OnOk};
+ghost use Rattle.std.specs.Prelude.{◌≡◌, List, ℕ, Option, None, OnOk, false};
 ghost use Rattle.qkd_base.specs.Faults.{HasCause};
-ghost use Rattle.edge_io.specs.Writes.{WritesAll, TakesPiece};
+ghost use Rattle.edge_io.specs.Writes.{WritesAll, TakesPiece, IsUntold};
 
 use crate::Failed;
 
@@ -22,4 +22,11 @@ pub trait Sink {
         ensures piece { TakesPiece (pieces self.old) (pieces self.new) result bytes.now }
         ensures cause { HasCause (faults self.old) (faults self.new) result }
         ensures calm { OnOk result (faults self.new ≡ faults self.old) };
+
+    /// Whether anybody hears what is taken. A sink that isn't heard tells nothing, so no text need be made for it.
+    fn is_heard(&self) -> bool
+        ensures { result ≡ false → IsUntold (taken self.now) (pieces self.now) }
+    {
+        true
+    }
 }

@@ -15,4 +15,8 @@ impl Sink for Unheard {
     fn write_all(&mut self, _bytes: &[u8]) -> Result<(), Failed> {
         Ok(())
     }
+
+    fn is_heard(&self) -> bool {
+        false
+    }
 }

@@ -13,7 +13,7 @@ use report_items::Item;
 use report_writer::line_text;
 use std::alloc::Global;
 
-/// Writes what an item says, under the number of its line, in one write.
+/// Writes what an item says, under the number of its line, in one write. For a sink that tells nothing no text is made.
 #[tactic(auto, using(crate::proofs::Lines::stopped_unwritten))]
 pub fn write_item<W: Sink>(
     alloc: Global,
@@ -27,6 +27,9 @@ pub fn write_item<W: Sink>(
     ensures blame { IsBlamed (W.faults sink.old) (W.faults sink.new) result }
     ensures lined { InLines W.taken W.pieces (IsItemLine site.now.nodes) sink.old sink.new result }
 {
+    if !sink.is_heard() {
+        return Ok(());
+    }
     let Ok(text) = line_text(alloc, number, item, site) else {
         return Err(Stop::Memory);
     };
