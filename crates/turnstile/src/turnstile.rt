@@ -14,6 +14,9 @@ use std::snapshot::Snapshot;
 use std::sync::Wait;
 use std::thread::yield_now;
 
+// How often a caller looks whether nobody is in turn, before it lets others have its processor.
+const LOOKS: u32 = 4000;
+
 /// A machine that takes one call at a time, by any number of threads. All calls have one history: a list of requests and
 /// replies that is legal, which says that a chain of the machine's own turns leads through it. Each seat knows a beginning of
 /// that history, and its own calls with their places in it, counted from 0. Nothing is said of progress, or of the order of
@@ -72,6 +75,7 @@ impl<M: Machine> Turnstile<M> {
         ensures once { EachOnce (knows seat.new).mine }
         ensures budget { (knows seat.new).budget + 1 ≡ (knows seat.old).budget }
     {
+        self.await_lull();
         let shared = &self.table.shared;
         let ticket = shared.fetch_add::<Draw>(&mut seat.place, 0, 1);
         self.await_turn(rt, &mut seat.place, ticket);
@@ -79,6 +83,18 @@ impl<M: Machine> Turnstile<M> {
         let reply = seat.place.slot_mut(shared, 0).turn(request);
         self.serve::<Brand>(&mut seat.place, ticket, &asked, &reply);
         (ticket, reply)
+    }
+
+    // Looks a while whether nobody is in turn. No ticket is drawn yet, so a caller that isn't run meanwhile holds up none.
+    fn await_lull(&self) {
+        for _ in 0..2u32 {
+            for _ in 0..LOOKS {
+                if self.table.shared.peek(0) == self.table.shared.peek(1) {
+                    return;
+                }
+            }
+            yield_now();
+        }
     }
 
     // Looks until the ticket is the next one to be served. The seat then has the machine.
