@@ -4,7 +4,7 @@ use Rattle.std.specs.Prelude.{Option, Result, Ok, Err, MatchResult}
 use Rattle.report_items.specs.Texts.{served_text}
 use Rattle.run_lines.specs.Reporting.{IsItemLine, IsPart, TookLines, InLines}
 use Rattle.run_lines.specs.declared.stop.Stop.{Stop}
-use Rattle.run_lines.proofs.Lines.{none_stopped, in_lines_on, stopped_unwritten}
+use Rattle.run_lines.proofs.Lines.{none_stopped, in_lines_on}
 use Rattle.load_lines.proofs.Pieces.{took_also, in_lines_also}
 use Rattle.bench_serves.specs.Lines.{IsServedLine, IsServeLine}
 use Rattle.bench_serves.specs.declared.stop.ServeStop.{ServeStop}
