@@ -4,12 +4,14 @@
     python3 bench/load.py [PROGRAM]
 
 PROGRAM is the built program, and crates/qkdnet/out/qkdnet where none is named. The plain program stands in bench/plain and
-is built by cargo, without a network. Both get the words `load N`, and then `run 1` with the same lines as a scenario, whose whole
-report is written too; what they write has to be equal. Printed are, for each N, the least processor time of 15 turns, which the
-programs take one after the other, and the greatest memory of each, and the ratios. No test depends on them.
+is built by cargo, without a network: once so that its disks keep the record of all their calls, as the program's do, and once
+without that. All get the words `load N`, and then `run 1` with the same lines as a scenario, whose whole report is written too;
+what they write has to be equal. Printed are, for each N, the middle one of the processor times of 15 turns, which the programs
+take one after the other, and the greatest memory of each, and the program's ratios to both plain ones. No test depends on them.
 """
 import os
 import pathlib
+import statistics
 import subprocess
 import sys
 import tempfile
@@ -56,17 +58,19 @@ def turn(program, words, text, report):
 
 
 def main():
-    programs = PROGRAM, built("plain", "qkdnet-plain")
-    print("words     rounds  program: s, KB  plain: s, KB  ratio of time, of memory")
+    programs = PROGRAM, built("plain", "qkdnet-plain", feature="record"), built("plain", "qkdnet-plain")
+    print("words     rounds  program: s, KB  plain with the record: s, KB  ratios of time, memory  without: s, KB  ratios")
     with tempfile.TemporaryDirectory() as room:
+        reports = [f"{room}/{number}" for number in range(len(programs))]
         for words in ("load N", "run 1"):
             for rounds in (50, 100, 200, 500):
-                text, said, reports = scenario(rounds), words.replace("N", str(rounds)).split(), [f"{room}/program", f"{room}/plain"]
+                text, said = scenario(rounds), words.replace("N", str(rounds)).split()
                 turns = [[turn(it, said, text, report) for it, report in zip(programs, reports)] for _ in range(TURNS)]
-                if pathlib.Path(reports[0]).read_bytes() != pathlib.Path(reports[1]).read_bytes():
+                if len({pathlib.Path(it).read_bytes() for it in reports}) > 1:
                     sys.exit(f"the reports of {words}, {rounds} rounds, differ")
-                (a, m), (b, n) = ((min(s for s, _ in it), max(kb for _, kb in it)) for it in zip(*turns))
-                print(f"{words:8}  {rounds:6}  {a:.3f} {m}  {b:.3f} {n}  {a / b:.2f} {m / n:.2f}")
+                ours, *others = [(statistics.median(s for s, _ in it), max(kb for _, kb in it)) for it in zip(*turns)]
+                beside = "  ".join(f"{s:.3f} {kb}  {ours[0] / s:.2f} {ours[1] / kb:.2f}" for s, kb in others)
+                print(f"{words:8}  {rounds:6}  {ours[0]:.3f} {ours[1]}  {beside}", flush=True)
 
 
 main()
