@@ -1,12 +1,13 @@
 -- How a connection ends at an exchange.
-use Rattle.std.proofs.Common.{◌≡◌, ◌⊎◌, ℕ, ◌<◌, Bool, true, false, List, [], ◌++◌, take, Option, Some, None, Ok, Err, refl, sym, ap, subst, ◌∙◌, arith, add-zero, append-nil, inl, inr}
+use Rattle.std.proofs.Common.{◌≡◌, ◌⊎◌, ℕ, ◌<◌, Bool, true, false, not, List, [], ◌++◌, length, Option, Some, None, Ok, Err, refl, sym, ap, subst, ◌∙◌, arith, add-zero, append-nil, inl, inr}
 use Rattle.std.specs.Prelude.{IsSome}
 use Rattle.std.specs.Option.{option_map}
 use Rattle.std.specs.Io.KnownBytes.{Consumes, Appends}
+use Rattle.edge_io.specs.Writes.{AppendsPrefix, WritesUpTo}
 use Rattle.edge_io.specs.declared.ended.Ended.{Ended}
 use Rattle.edge_io.specs.declared.ended.Ended.TheVariants as endings
 use Rattle.sae_entitlements.specs.Grants.{Grants}
-use Rattle.http_front.specs.Front.{IsRequest, IsRefused}
+use Rattle.http_front.specs.Front.{IsRefused}
 use Rattle.http_front.specs.Reading.{IsAnswer, IsEnd, FaultsFor}
 use Rattle.http_front.specs.Response.{response_text}
 use Rattle.http_front.specs.declared.request.HttpRequest.{HttpRequest}
@@ -19,12 +20,13 @@ use Rattle.kme_serve.specs.declared.turn.Turn.{Turn}
 use Rattle.kme_serve.specs.Exchange.{Exchange, event_of, IsTurnOf, answer_to, refusal_answer, text_with, text_of, closes}
 use Rattle.kme_serve.specs.Turns.{Takes}
 use Rattle.kme_serve.specs.Connection.{Moment, RoseOnly, is_read_fault, is_write_fault, EndsBy, IsServed}
-use Rattle.kme_serve.specs.Steps.{IsWritten, IsRefusedBy, IsResponseTo, IsAnswered, StaysOpen}
+use Rattle.kme_serve.specs.Owed.{Owes, IsUnpaid, IsGivenUp}
+use Rattle.kme_serve.specs.Steps.{Edge, moment, IsAsked, IsUnread, IsNoRequest, IsRefusedBy, IsResponseTo, IsAnswered, StaysOpen}
+use Rattle.kme_serve.proofs.Owing.{appends_none, prefix_more, wrote_behind, owes_paid, owes_unpaid, owes_more, owed_before}
 
--- what stays as it was has nothing behind it
-appends_none : (before after : Option (List ℕ)) → after ≡ before → Appends before after []
-appends_none None after same = tt
-appends_none (Some xs) after same = subst (λ (known : Option (List ℕ)). Appends (Some xs) known []) (sym same) (sym (append-nil xs))
+consumes_none : (before after : Option (List ℕ)) → after ≡ before → Consumes before after []
+consumes_none None after same = tt
+consumes_none (Some xs) after same = subst (λ (known : Option (List ℕ)). Consumes (Some xs) known []) (sym same) refl
 
 -- the source did not fail where a response tells the cause
 calm_told : (e : FrontRefusal) (text : List ℕ) (before after : ℕ) → front_message e ≡ Some text → FaultsFor e before after → after ≡ before
@@ -56,13 +58,13 @@ calm_unless refusals.Memory before after other faults = faults
 module _ (nodes : List (List ℕ)) (g : Grants) (node : ℕ) {P : Type 0} (Answers : P → Turn → P → Type 0) (seen : P → ℕ) where
   -- ---- where no request was read
 
-  module _ (count : ℕ) (kept kept_after : List ℕ) (before after : Moment P) (octets : List ℕ) where
+  module _ (count : ℕ) (kept owed : List ℕ) (before after : Moment P) (octets : List ℕ) where
     -- nothing is answered, and all octets are left
-    ends_unanswered : (ended : Ended) → count < 1000 → Consumes before.left after.left octets → after.pass ≡ before.pass → after.taken ≡ before.taken
-        → EndsBy nodes g node ended count None (kept ++ octets) after.left []
+    ends_unanswered : (ended : Ended) → count < 1000 → Consumes before.left after.left octets → after.pass ≡ before.pass
+        → WritesUpTo before.taken after.taken (not (is_write_fault ended)) (owed ++ []) → EndsBy nodes g node ended count None (kept ++ octets) after.left []
         → RoseOnly (is_read_fault ended) before.read_faults after.read_faults → RoseOnly (is_write_fault ended) before.write_faults after.write_faults
-        → IsServed nodes g node Answers seen count kept before after ended
-    ends_unanswered ended few consumed pass taken ends read_faults write_faults = record {
+        → IsServed nodes g node Answers seen count kept owed before after ended
+    ends_unanswered ended few consumed pass written ends read_faults write_faults = record {
       octets = octets;
       consumed = consumed;
       answered = [];
@@ -73,20 +75,21 @@ module _ (nodes : List (List ℕ)) (g : Grants) (node : ℕ) {P : Type 0} (Answe
       few = omega arith;
       events = tt;
       turns = pass;
-      written = [];
-      appended = appends_none before.taken after.taken taken;
+      text = [];
+      written = written;
       ends = subst (λ (n : ℕ). EndsBy nodes g node ended n None (kept ++ octets) after.left []) (sym (add-zero count)) ends;
       read_faults = read_faults;
       write_faults = write_faults;
     }
 
-    -- what is no request is answered, and so much of that is written
-    ends_refused : (ended : Ended) (e : FrontRefusal) (text written : List ℕ) → count < 1000 → Consumes before.left after.left octets → after.pass ≡ before.pass
-        → front_message e ≡ Some text → IsRefused (kept ++ octets) e → Appends before.taken after.taken written
-        → EndsBy nodes g node ended count (Some (record { read = Err e; turn = None })) (kept ++ octets) after.left written
+  module _ (count : ℕ) (kept kept_after : List ℕ) (before after : Moment P) (octets : List ℕ) where
+    -- what is no request is answered
+    ends_refused : (ended : Ended) (e : FrontRefusal) (text : List ℕ) → count < 1000 → Consumes before.left after.left octets → after.pass ≡ before.pass
+        → front_message e ≡ Some text → IsRefused (kept ++ octets) e → WritesUpTo before.taken after.taken (not (is_write_fault ended)) (response_text (error_response 400 text true))
+        → EndsBy nodes g node ended count (Some (record { read = Err e; turn = None })) (kept ++ octets) after.left (response_text (error_response 400 text true))
         → RoseOnly (is_read_fault ended) before.read_faults after.read_faults → RoseOnly (is_write_fault ended) before.write_faults after.write_faults
-        → IsServed nodes g node Answers seen count kept before after ended
-    ends_refused ended e text written few consumed pass told refused appended ends read_faults write_faults = record {
+        → IsServed nodes g node Answers seen count kept [] before after ended
+    ends_refused ended e text few consumed pass told refused written ends read_faults write_faults = record {
       octets = octets;
       consumed = consumed;
       answered = [];
@@ -97,9 +100,10 @@ module _ (nodes : List (List ℕ)) (g : Grants) (node : ℕ) {P : Type 0} (Answe
       few = omega arith;
       events = (refl, tt);
       turns = (before.pass, refl, pass);
+      text = response_text (error_response 400 text true);
       written = written;
-      appended = appended;
-      ends = subst (λ (n : ℕ). EndsBy nodes g node ended n (Some (record { read = Err e; turn = None })) (kept ++ octets) after.left written) (sym (add-zero count)) ends;
+      ends = subst (λ (n : ℕ). EndsBy nodes g node ended n (Some (record { read = Err e; turn = None })) (kept ++ octets) after.left (response_text (error_response 400 text true)))
+          (sym (add-zero count)) ends;
       read_faults = read_faults;
       write_faults = write_faults;
     }
@@ -113,78 +117,133 @@ module _ (nodes : List (List ℕ)) (g : Grants) (node : ℕ) {P : Type 0} (Answe
 
     pub refused_ends : (ended : Ended) (e : FrontRefusal) → count < 1000 → Consumes before.left after.left octets → after.pass ≡ before.pass
         → IsAnswer (kept ++ octets) kept_after after.left (Err e) → FaultsFor e before.read_faults after.read_faults
-        → IsRefusedBy e before.taken after.taken before.write_faults after.write_faults ended → IsServed nodes g node Answers seen count kept before after ended
+        → IsRefusedBy e before.taken after.taken before.write_faults after.write_faults ended → IsServed nodes g node Answers seen count kept [] before after ended
     refused_ends endings.Closed e few consumed pass answer faults by =
         elim by.0 [
           | inl none ↦
-              ends_unanswered endings.Closed few consumed pass none.1
+              ends_unanswered count kept [] before after octets endings.Closed few consumed pass (appends_none before.taken after.taken none.1)
               (subst (IsRefused (kept ++ octets)) none.0 answer.1, subst (λ (cause : FrontRefusal). IsEnd cause after.left) none.0 answer.2, refl)
               (subst (λ (cause : FrontRefusal). FaultsFor cause before.read_faults after.read_faults) none.0 faults) by.1
           | inr told ↦
-              ends_refused endings.Closed e told.0 (response_text (error_response 400 told.0 true)) few consumed pass told.1 answer.1 told.2
+              ends_refused endings.Closed e told.0 few consumed pass told.1 answer.1 told.2
               (refl, has_message e told.0 told.1, answer.2, its_text e told.0 told.1) (calm_told e told.0 _ _ told.1 faults) by.1
         ]
     refused_ends endings.ReadFault e few consumed pass answer faults by =
-        ends_unanswered endings.ReadFault few consumed pass by.0.1 refl
+        ends_unanswered count kept [] before after octets endings.ReadFault few consumed pass (appends_none before.taken after.taken by.0.1) refl
         (subst (λ (cause : FrontRefusal). FaultsFor cause before.read_faults after.read_faults) by.0.0 faults) by.1
     refused_ends endings.WriteFault e few consumed pass answer faults by =
         let told = by.0 in
-        ends_refused endings.WriteFault e told.0 (take told.2.0 (response_text (error_response 400 told.0 true))) few consumed pass told.1 answer.1 told.2.1
-        (has_message e told.0 told.1, answer.2, (told.2.0, ap (take told.2.0) (its_text e told.0 told.1))) (calm_told e told.0 _ _ told.1 faults) by.1
+        ends_refused endings.WriteFault e told.0 few consumed pass told.1 answer.1 told.2
+        (inl (has_message e told.0 told.1), answer.2, its_text e told.0 told.1) (calm_told e told.0 _ _ told.1 faults) by.1
     refused_ends endings.Memory e few consumed pass answer faults by =
-        ends_unanswered endings.Memory few consumed pass by.1 refl (calm_unless e _ _ by.0 faults) by.2
+        ends_unanswered count kept [] before after octets endings.Memory few consumed pass (appends_none before.taken after.taken by.1) refl (calm_unless e _ _ by.0 faults) by.2
+
+  -- what was owed was written first
+  pub paid_first : (count : ℕ) (kept owed : List ℕ) (before after : Moment P) (paid : Option (List ℕ)) (ended : Ended) → Appends before.taken paid owed
+      → IsServed nodes g node Answers seen count kept [] (record before { taken = paid }) after ended → IsServed nodes g node Answers seen count kept owed before after ended
+  paid_first count kept owed before after paid ended first later = record {
+    octets = later.octets;
+    consumed = later.consumed;
+    answered = later.answered;
+    last = later.last;
+    rest = later.rest;
+    means = later.means;
+    stays_open = later.stays_open;
+    few = later.few;
+    events = later.events;
+    turns = later.turns;
+    text = later.text;
+    written = wrote_behind before.taken paid after.taken (not (is_write_fault ended)) owed _ first later.written;
+    ends = later.ends;
+    read_faults = later.read_faults;
+    write_faults = later.write_faults;
+  }
+
+  -- a connection ends where no request was read
+  pub next_ends : (count : ℕ) (kept kept_after owed owed_after : List ℕ) (before after : Edge) (pass : P) (ended : Ended) → count < 1000 → (0 < length owed → 0 < count)
+      → IsUnread kept kept_after owed owed_after before after ended ⊎ IsNoRequest kept kept_after owed owed_after before after ended
+      → IsServed nodes g node Answers seen count kept owed (moment before pass) (moment after pass) ended
+  next_ends count kept kept_after owed owed_after before after pass ended few room (inl unread) =
+      subst (λ (e : Ended). IsServed nodes g node Answers seen count kept owed (moment before pass) (moment after pass) e) (sym unread.ended)
+      (ends_unanswered count kept owed (moment before pass) (moment after pass) [] endings.WriteFault few (consumes_none before.left after.left unread.left) refl
+      (prefix_more before.taken after.taken owed [] unread.unpaid.0) (room unread.unpaid.2, refl) unread.read_faults unread.unpaid.1)
+  next_ends count kept kept_after owed owed_after before after pass ended few room (inr none) =
+      paid_first count kept owed (moment before pass) (moment after pass) none.paid ended none.wrote
+      (refused_ends count kept kept_after (record (moment before pass) { taken = none.paid }) (moment after pass) none.octets ended none.cause few none.consumed refl none.answer
+      none.faults none.refused)
 
   -- ---- where a request was read
 
-  module _ (count : ℕ) (kept kept_after : List ℕ) (before after : Moment P) (octets : List ℕ) (q : HttpRequest) where
-    -- so much of its response is written
-    ends_asked : (ended : Ended) (turn : Option Turn) (written : List ℕ) → count < 1000 → Consumes before.left after.left octets → IsRequest (kept ++ octets) q kept_after
-        → IsTurnOf (event_of g node (Ok q)) turn → Takes Answers seen before.pass turn after.pass → Appends before.taken after.taken written
-        → EndsBy nodes g node ended count (Some (record { read = Ok q; turn = turn })) kept_after after.left written
-        → RoseOnly (is_read_fault ended) before.read_faults after.read_faults → RoseOnly (is_write_fault ended) before.write_faults after.write_faults
-        → IsServed nodes g node Answers seen count kept before after ended
-    ends_asked ended turn written few consumed request event takes appended ends read_faults write_faults = record {
-      octets = octets;
-      consumed = consumed;
+  module _ (count : ℕ) (kept kept_after owed owed_mid : List ℕ) (edge mid : Edge) (pass pass_after : P) (taken : Option (List ℕ)) (faults : ℕ) (q : HttpRequest) (few : count < 1000)
+      (room : 0 < length owed → 0 < count) (came : IsAsked kept kept_after owed owed_mid edge mid q) where
+    abbrev before : Moment P
+    before = moment edge pass
+
+    abbrev after : Moment P
+    after = moment (record mid { taken = taken; write_faults = faults }) pass_after
+
+    -- its response has this text
+    ends_asked : (ended : Ended) (turn : Option Turn) (text : List ℕ) → IsTurnOf (event_of g node (Ok q)) turn → Takes Answers seen pass turn pass_after
+        → WritesUpTo edge.taken taken (not (is_write_fault ended)) (owed ++ text)
+        → EndsBy nodes g node ended count (Some (record { read = Ok q; turn = turn })) kept_after mid.left text
+        → RoseOnly (is_read_fault ended) edge.read_faults mid.read_faults → RoseOnly (is_write_fault ended) edge.write_faults faults
+        → IsServed nodes g node Answers seen count kept owed before after ended
+    ends_asked ended turn text event takes written ends read_faults write_faults = record {
+      octets = came.octets;
+      consumed = came.consumed;
       answered = [];
       last = Some (record { read = Ok q; turn = turn });
       rest = kept_after;
-      means = (kept_after, request, refl);
+      means = (kept_after, came.request, refl);
       stays_open = tt;
       few = omega arith;
       events = (event, tt);
-      turns = (after.pass, takes, refl);
+      turns = (pass_after, takes, refl);
+      text = text;
       written = written;
-      appended = appended;
-      ends = subst (λ (n : ℕ). EndsBy nodes g node ended n (Some (record { read = Ok q; turn = turn })) kept_after after.left written) (sym (add-zero count)) ends;
+      ends = subst (λ (n : ℕ). EndsBy nodes g node ended n (Some (record { read = Ok q; turn = turn })) kept_after mid.left text) (sym (add-zero count)) ends;
       read_faults = read_faults;
       write_faults = write_faults;
     }
 
-    -- memory was wanting, and nothing is written
-    ends_wanting : (turn : Option Turn) → count < 1000 → Consumes before.left after.left octets → IsRequest (kept ++ octets) q kept_after
-        → (turn ≡ None) ⊎ (IsTurnOf (event_of g node (Ok q)) turn × IsSome turn) → Takes Answers seen before.pass turn after.pass → after.taken ≡ before.taken
-        → after.read_faults ≡ before.read_faults → after.write_faults ≡ before.write_faults → IsServed nodes g node Answers seen count kept before after endings.Memory
-    ends_wanting turn few consumed request (inl none) takes taken read_faults write_faults =
-        ends_unanswered count kept kept_after before after octets endings.Memory few consumed
-        (subst (λ (t : Option Turn). Takes Answers seen before.pass t after.pass) none takes) taken refl read_faults write_faults
-    ends_wanting turn few consumed request (inr asked) takes taken read_faults write_faults =
-        ends_asked endings.Memory turn [] few consumed request asked.0 takes (appends_none before.taken after.taken taken) (asked.1, refl) read_faults write_faults
+    risen : RoseOnly true mid.write_faults faults → RoseOnly true edge.write_faults faults
+    risen rose = subst (λ (n : ℕ). RoseOnly true n faults) came.write_faults rose
 
-    pub memory_ends : {E : Type 0} (close : Bool) (m : E) → count < 1000 → Consumes before.left after.left octets → IsRequest (kept ++ octets) q kept_after
-        → IsAnswered nodes g node Answers seen q close before.pass after.pass (Err m) → after.taken ≡ before.taken → after.read_faults ≡ before.read_faults
-        → after.write_faults ≡ before.write_faults → IsServed nodes g node Answers seen count kept before after endings.Memory
-    memory_ends close m few consumed request answered taken read_faults write_faults =
-        ends_wanting answered.turn few consumed request answered.response answered.takes taken read_faults write_faults
+    -- a first part of what was owed is one of that with a response behind it
+    first_part : (text : List ℕ) → AppendsPrefix mid.taken taken owed_mid → AppendsPrefix edge.taken taken (owed ++ text)
+    first_part text unpaid =
+        prefix_more edge.taken taken owed text
+        (subst (AppendsPrefix edge.taken taken) (append-nil owed) (owes_unpaid edge.taken mid.taken taken owed [] owed_mid came.owes unpaid))
+
+    -- memory was wanting
+    ends_wanting : (ended : Ended) (turn : Option Turn) → (turn ≡ None) ⊎ (IsTurnOf (event_of g node (Ok q)) turn × IsSome turn) → Takes Answers seen pass turn pass_after
+        → IsGivenUp mid.taken taken mid.write_faults faults owed_mid ended → IsServed nodes g node Answers seen count kept owed before after ended
+    ends_wanting endings.Memory turn (inl none) takes up =
+        ends_unanswered count kept owed before after came.octets endings.Memory few came.consumed (subst (λ (t : Option Turn). Takes Answers seen pass t pass_after) none takes)
+        (owes_paid edge.taken mid.taken taken owed [] owed_mid came.owes up.0) refl came.read_faults (up.1 ∙ came.write_faults)
+    ends_wanting endings.Memory turn (inr asked) takes up =
+        ends_asked endings.Memory turn [] asked.0 takes (owes_paid edge.taken mid.taken taken owed [] owed_mid came.owes up.0) (asked.1, refl) came.read_faults
+        (up.1 ∙ came.write_faults)
+    ends_wanting endings.WriteFault turn (inl none) takes up =
+        ends_unanswered count kept owed before after came.octets endings.WriteFault few came.consumed (subst (λ (t : Option Turn). Takes Answers seen pass t pass_after) none takes)
+        (first_part [] up.0) (room (owed_before edge.taken mid.taken owed owed_mid came.owes up.2), refl) came.read_faults (risen up.1)
+    ends_wanting endings.WriteFault turn (inr asked) takes up =
+        ends_asked endings.WriteFault turn (text_of nodes g node (closes count (Ok q)) (record { read = Ok q; turn = turn })) asked.0 takes (first_part _ up.0)
+        (inr asked.1, tt, refl) came.read_faults (risen up.1)
+    ends_wanting endings.Closed turn is takes up = absurd up
+    ends_wanting endings.ReadFault turn is takes up = absurd up
+
+    pub memory_ends : {E : Type 0} (close : Bool) (m : E) (ended : Ended) → IsAnswered nodes g node Answers seen q close pass pass_after (Err m)
+        → IsGivenUp mid.taken taken mid.write_faults faults owed_mid ended → IsServed nodes g node Answers seen count kept owed before after ended
+    memory_ends close m ended answered up = ends_wanting ended answered.turn answered.response answered.takes up
 
     -- a turn that was asked for, or none
     some_or_none : (turn : Option Turn) → IsTurnOf (event_of g node (Ok q)) turn → (turn ≡ None) ⊎ (IsTurnOf (event_of g node (Ok q)) turn × IsSome turn)
     some_or_none None event = inl refl
     some_or_none (Some turn) event = inr (event, refl)
 
-    module _ {E : Type 0} (response : HttpResponse) (close : Bool) (few : count < 1000) (consumed : Consumes before.left after.left octets) (request : IsRequest (kept ++ octets) q kept_after)
-        (answered : IsAnswered nodes g node Answers seen {E = E} q close before.pass after.pass (Ok response)) (same : close ≡ closes count (Ok q))
-        (calm : after.read_faults ≡ before.read_faults) where
+    module _ {E : Type 0} (response : HttpResponse) (close : Bool) (answered : IsAnswered nodes g node Answers seen {E = E} q close pass pass_after (Ok response))
+        (same : close ≡ closes count (Ok q)) where
       abbrev its : Exchange
       its = record { read = Ok q; turn = answered.turn }
 
@@ -197,33 +256,48 @@ module _ (nodes : List (List ℕ)) (g : Grants) (node : ℕ) {P : Type 0} (Answe
       its_own_text : response_text response ≡ text_of nodes g node close its
       its_own_text = ap response_text is.1.2 ∙ ap (text_with close) (sym is.1.1)
 
-      pub fault_ends : (ended : Ended) → IsWritten {T = Unit {0}} before.taken after.taken before.write_faults after.write_faults (response_text response) (Err ended)
-          → IsServed nodes g node Answers seen count kept before after ended
-      fault_ends endings.WriteFault wrote =
-          ends_asked endings.WriteFault answered.turn (take wrote.0.0 (response_text response)) few consumed request is.0 answered.takes wrote.0.1
-          (has_answer, tt, (wrote.0.0, ap (take wrote.0.0) (its_own_text ∙ ap (λ (c : Bool). text_of nodes g node c its) same))) calm wrote.1
-      fault_ends endings.Memory wrote = ends_wanting answered.turn few consumed request (some_or_none answered.turn is.0) answered.takes wrote.0 calm wrote.1
-      fault_ends endings.Closed wrote = absurd wrote
-      fault_ends endings.ReadFault wrote = absurd wrote
+      -- the sink failed
+      write_ends : AppendsPrefix edge.taken taken (owed ++ text_of nodes g node (closes count (Ok q)) its) → RoseOnly true mid.write_faults faults
+          → IsServed nodes g node Answers seen count kept owed before after endings.WriteFault
+      write_ends first rose =
+          ends_asked endings.WriteFault answered.turn (text_of nodes g node (closes count (Ok q)) its) is.0 answered.takes first (inl has_answer, tt, refl) came.read_faults (risen rose)
 
-      pub response_closes : close ≡ true → Appends before.taken after.taken (response_text response) → after.write_faults ≡ before.write_faults
-          → IsServed nodes g node Answers seen count kept before after endings.Closed
-      response_closes closing appended write_faults =
-          ends_asked endings.Closed answered.turn (response_text response) few consumed request is.0 answered.takes appended
-          (sym same ∙ closing, has_answer, tt, its_own_text ∙ ap (λ (c : Bool). text_of nodes g node c its) closing) calm write_faults
+      -- it isn't owed
+      pub fault_ends : (ended : Ended) → IsGivenUp mid.taken taken mid.write_faults faults owed_mid ended → IsServed nodes g node Answers seen count kept owed before after ended
+      fault_ends endings.WriteFault up = write_ends (first_part _ up.0) up.1
+      fault_ends endings.Memory up = ends_wanting endings.Memory answered.turn (some_or_none answered.turn is.0) answered.takes up
+      fault_ends endings.Closed up = absurd up
+      fault_ends endings.ReadFault up = absurd up
 
-      pub response_stays : close ≡ false → Appends before.taken after.taken (response_text response) → after.write_faults ≡ before.write_faults
-          → StaysOpen nodes g node Answers seen count kept kept_after before after
-      response_stays staying appended write_faults = record {
-        octets = octets;
-        consumed = consumed;
+      -- it is owed, and then written or not
+      module _ (owed_now : List ℕ) (now : Option (List ℕ)) (owes : Owes mid.taken now owed_mid (response_text response) owed_now) where
+        owes_all : Owes edge.taken now owed (response_text response) owed_now
+        owes_all = owes_more edge.taken mid.taken now owed [] owed_mid came.owes (response_text response) owed_now owes
+
+        pub response_closes : close ≡ true → Appends now taken owed_now → faults ≡ mid.write_faults → IsServed nodes g node Answers seen count kept owed before after endings.Closed
+        response_closes closing paid calm =
+            ends_asked endings.Closed answered.turn (response_text response) is.0 answered.takes (owes_paid edge.taken now taken owed (response_text response) owed_now owes_all paid)
+            (sym same ∙ closing, has_answer, tt, its_own_text ∙ ap (λ (c : Bool). text_of nodes g node c its) closing) came.read_faults (calm ∙ came.write_faults)
+
+        pub response_fails : IsUnpaid now taken mid.write_faults faults owed_now → IsServed nodes g node Answers seen count kept owed before after endings.WriteFault
+        response_fails unpaid =
+            write_ends
+            (subst (λ (text : List ℕ). AppendsPrefix edge.taken taken (owed ++ text)) (its_own_text ∙ ap (λ (c : Bool). text_of nodes g node c its) same)
+            (owes_unpaid edge.taken now taken owed (response_text response) owed_now owes_all unpaid.0)) unpaid.1
+
+      pub response_stays : (owed_now : List ℕ) → Owes mid.taken taken owed_mid (response_text response) owed_now → close ≡ false → faults ≡ mid.write_faults
+          → StaysOpen nodes g node Answers seen count kept kept_after owed owed_now before after
+      response_stays owed_now owes staying calm = record {
+        octets = came.octets;
+        consumed = came.consumed;
         exchange = its;
-        means = request;
+        means = came.request;
         stays = sym same ∙ staying;
         answered = has_answer;
         event = is.0;
         takes = answered.takes;
-        appended = subst (Appends before.taken after.taken) (its_own_text ∙ ap (λ (c : Bool). text_of nodes g node c its) staying) appended;
-        read_faults = calm;
-        write_faults = write_faults;
+        owes = subst (λ (text : List ℕ). Owes edge.taken taken owed text owed_now) (its_own_text ∙ ap (λ (c : Bool). text_of nodes g node c its) staying)
+            (owes_all owed_now taken owes);
+        read_faults = came.read_faults;
+        write_faults = calm ∙ came.write_faults;
       }

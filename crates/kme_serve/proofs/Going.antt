@@ -1,7 +1,8 @@
 -- An exchange that leaves a connection open, and then the rest of the connection.
-use Rattle.std.proofs.Common.{◌≡◌, ℕ, ◌+◌, ◌<◌, Bool, true, false, ◌||◌, List, [], ◌∷◌, ◌++◌, length, Option, Some, None, Ok, Err, refl, sym, ap, subst, ◌∙◌, arith, append_assoc}
+use Rattle.std.proofs.Common.{◌≡◌, ℕ, ◌+◌, ◌<◌, Bool, true, false, not, ◌||◌, List, [], ◌∷◌, ◌++◌, length, Option, Some, None, Ok, Err, refl, sym, ap, subst, ◌∙◌, arith, append_assoc}
 use Rattle.std.proofs.lemmas.Bool.{eqb-false}
-use Rattle.std.specs.Io.KnownBytes.{Consumes, Appends}
+use Rattle.std.specs.Io.KnownBytes.{Consumes}
+use Rattle.edge_io.specs.Writes.{WritesUpTo}
 use Rattle.edge_io.specs.declared.ended.Ended.{Ended}
 use Rattle.sae_entitlements.specs.Grants.{Grants}
 use Rattle.http_front.specs.Reading.{IsMeant}
@@ -10,18 +11,13 @@ use Rattle.kme_serve.specs.declared.turn.Turn.{Turn}
 use Rattle.kme_serve.specs.Exchange.{Front, text_of, asks_close, closes}
 use Rattle.kme_serve.specs.Connection.{Moment, RoseOnly, is_read_fault, is_write_fault, texts_of, EndsBy, IsServed}
 use Rattle.kme_serve.specs.Steps.{StaysOpen}
+use Rattle.kme_serve.proofs.Owing.{owes_rest}
 
 consumes_trans : (a b c : Option (List ℕ)) (s t : List ℕ) → Consumes a b s → Consumes b c t → Consumes a c (s ++ t)
 consumes_trans None b c s t first second = tt
 consumes_trans (Some x) None c s t first second = absurd first
 consumes_trans (Some x) (Some y) None s t first second = absurd second
 consumes_trans (Some x) (Some y) (Some z) s t first second = first ∙ ap (λ (u : List ℕ). s ++ u) second ∙ sym (append_assoc s t z)
-
-appends_trans : (a b c : Option (List ℕ)) (s t : List ℕ) → Appends a b s → Appends b c t → Appends a c (s ++ t)
-appends_trans None b c s t first second = tt
-appends_trans (Some x) None c s t first second = absurd first
-appends_trans (Some x) (Some y) None s t first second = absurd second
-appends_trans (Some x) (Some y) (Some z) s t first second = second ∙ ap (λ (u : List ℕ). u ++ t) first ∙ append_assoc x s t
 
 left_false : (a b : Bool) → (a || b) ≡ false → a ≡ false
 left_false true b is = cc
@@ -43,9 +39,10 @@ meant_append octets behind later (Ok request) stays is = request-append octets r
 meant_append octets behind later (Err refusal) stays is = cc
 
 module _ (nodes : List (List ℕ)) (g : Grants) (node : ℕ) {P : Type 0} (Answers : P → Turn → P → Type 0) (seen : P → ℕ) where
-  pub go_on : (count : ℕ) (kept kept_after : List ℕ) (before between after : Moment P) (ended : Ended) → StaysOpen nodes g node Answers seen count kept kept_after before between
-      → IsServed nodes g node Answers seen (count + 1) kept_after between after ended → IsServed nodes g node Answers seen count kept before after ended
-  go_on count kept kept_after before between after ended first later =
+  pub go_on : (count : ℕ) (kept kept_after owed owed_after : List ℕ) (before between after : Moment P) (ended : Ended)
+      → StaysOpen nodes g node Answers seen count kept kept_after owed owed_after before between
+      → IsServed nodes g node Answers seen (count + 1) kept_after owed_after between after ended → IsServed nodes g node Answers seen count kept owed before after ended
+  go_on count kept kept_after owed owed_after before between after ended first later =
       let open_still : asks_close first.exchange.read ≡ false = left_false _ _ first.stays in
       let few : count + 1 + length later.answered < 1000 = later.few in
       let same : count + 1 + length later.answered ≡ count + length (first.exchange ∷ later.answered) = omega arith in
@@ -65,16 +62,16 @@ module _ (nodes : List (List ℕ)) (g : Grants) (node : ℕ) {P : Type 0} (Answe
         few = omega arith;
         events = (first.event, later.events);
         turns = (between.pass, first.takes, later.turns);
-        written = later.written;
-        appended = subst (λ (text : List ℕ). Appends before.taken after.taken text)
-            (sym (append_assoc (text_of nodes g node false first.exchange) (texts_of nodes g node later.answered) later.written))
-            (appends_trans before.taken between.taken after.taken _ _ first.appended later.appended);
-        ends = subst (λ (n : ℕ). EndsBy nodes g node ended n later.last later.rest after.left later.written) same later.ends;
+        text = later.text;
+        written = subst (λ (text : List ℕ). WritesUpTo before.taken after.taken (not (is_write_fault ended)) (owed ++ text))
+            (sym (append_assoc (text_of nodes g node false first.exchange) (texts_of nodes g node later.answered) later.text))
+            (owes_rest before.taken between.taken after.taken owed _ owed_after first.owes (not (is_write_fault ended)) _ later.written);
+        ends = subst (λ (n : ℕ). EndsBy nodes g node ended n later.last later.rest after.left later.text) same later.ends;
         read_faults = subst (λ (n : ℕ). RoseOnly (is_read_fault ended) n after.read_faults) first.read_faults later.read_faults;
         write_faults = subst (λ (n : ℕ). RoseOnly (is_write_fault ended) n after.write_faults) first.write_faults later.write_faults;
       }
 
   -- however the connection goes on from here, with what was done it is served
-  abbrev pub GoesOn : (count : ℕ) (kept : List ℕ) (now first : Moment P) → Type 0
-  GoesOn count kept now first =
-      (after : Moment P) (ended : Ended) → IsServed nodes g node Answers seen count kept now after ended → IsServed nodes g node Answers seen 0 [] first after ended
+  abbrev pub GoesOn : (count : ℕ) (kept owed : List ℕ) (now first : Moment P) → Type 0
+  GoesOn count kept owed now first =
+      (after : Moment P) (ended : Ended) → IsServed nodes g node Answers seen count kept owed now after ended → IsServed nodes g node Answers seen 0 [] [] first after ended

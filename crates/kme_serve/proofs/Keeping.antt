@@ -22,14 +22,14 @@ module _ {P : Type 0} (Answers : P → Turn → P → Type 0) (seen : P → ℕ)
   takes_all_keep p (x ∷ xs) q did = both p did.0 q (takes_keep p x.turn did.0 did.1) (takes_all_keep did.0 xs q did.2)
 
   module _ (nodes : List (List ℕ)) (g : Grants) (node : ℕ) where
-    pub served_keeps : (count : ℕ) (kept : List ℕ) (before after : Moment P) (ended : Ended) → IsServed nodes g node Answers seen count kept before after ended
+    pub served_keeps : (count : ℕ) (kept owed : List ℕ) (before after : Moment P) (ended : Ended) → IsServed nodes g node Answers seen count kept owed before after ended
         → Keeps before.pass after.pass
-    served_keeps count kept before after ended did = takes_all_keep before.pass _ after.pass did.turns
+    served_keeps count kept owed before after ended did = takes_all_keep before.pass _ after.pass did.turns
 
     pub serves_all_keep : (p : P) (visits : List Visit) (q : P) → ServesAll nodes g node Answers seen p visits q → Keeps p q
     serves_all_keep p [] q is = unmoved p q is
     serves_all_keep p (visit ∷ visits) q did =
-        both p did.0 q (served_keeps 0 [] (first_moment visit p) (last_moment visit did.0) visit.finished.ended did.1) (serves_all_keep did.0 visits q did.2)
+        both p did.0 q (served_keeps 0 [] [] (first_moment visit p) (last_moment visit did.0) visit.finished.ended did.1) (serves_all_keep did.0 visits q did.2)
 
     -- the connections of a door
     pub door_keeps : {T E : Type 0} (connections : ℕ) (before after : Door) (p q : P) (result : Result T E) → IsDoorServed nodes g node Answers seen connections before after p q result

@@ -1,5 +1,6 @@
 pub mod Reasons
 pub mod Responding
+pub mod Owing
 pub mod Going
 pub mod Ending
 pub mod Visits

@@ -23,9 +23,9 @@ module _ {P Q : Type 0} (Answers : P → Turn → P → Type 0) (seen : P → �
   takes_all_map p (x ∷ xs) q did = (f did.0, takes_map p x.turn did.0 did.1, takes_all_map did.0 xs q did.2)
 
   module _ (nodes : List (List ℕ)) (g : Grants) (node : ℕ) where
-    pub served_maps : (count : ℕ) (kept : List ℕ) (before after : Moment P) (ended : Ended) → IsServed nodes g node Answers seen count kept before after ended
-        → IsServed nodes g node Others seen_there count kept (moment_at f before) (moment_at f after) ended
-    served_maps count kept before after ended did = record {
+    pub served_maps : (count : ℕ) (kept owed : List ℕ) (before after : Moment P) (ended : Ended) → IsServed nodes g node Answers seen count kept owed before after ended
+        → IsServed nodes g node Others seen_there count kept owed (moment_at f before) (moment_at f after) ended
+    served_maps count kept owed before after ended did = record {
       octets = did.octets;
       consumed = did.consumed;
       answered = did.answered;
@@ -36,8 +36,8 @@ module _ {P Q : Type 0} (Answers : P → Turn → P → Type 0) (seen : P → �
       few = did.few;
       events = did.events;
       turns = takes_all_map before.pass _ after.pass did.turns;
+      text = did.text;
       written = did.written;
-      appended = did.appended;
       ends = did.ends;
       read_faults = did.read_faults;
       write_faults = did.write_faults;
@@ -47,7 +47,7 @@ module _ {P Q : Type 0} (Answers : P → Turn → P → Type 0) (seen : P → �
     serves_all_maps p [] q is = ap f is
     serves_all_maps p (visit ∷ visits) q did = (
       f did.0,
-      served_maps 0 [] (first_moment visit p) (last_moment visit did.0) visit.finished.ended did.1,
+      served_maps 0 [] [] (first_moment visit p) (last_moment visit did.0) visit.finished.ended did.1,
       serves_all_maps did.0 visits q did.2,
     )
 

@@ -48,7 +48,7 @@ module _ (nodes : List (List ℕ)) (g : Grants) (node : ℕ) {P : Type 0} (Answe
   -- one came, was served and is finished
   pub one_served : {T E : Type 0} (before between after : Door) (visit : Visit) (read_faults write_faults : ℕ) (pass next : P) (done : T) → read_faults ≡ 0 → write_faults ≡ 0
       → IsNext before.waiting between.waiting visit.left visit.taken
-      → IsServed nodes g node Answers seen 0 [] (record { left = visit.left; taken = visit.taken; read_faults = read_faults; write_faults = write_faults; pass = pass }) (last_moment visit next)
+      → IsServed nodes g node Answers seen 0 [] [] (record { left = visit.left; taken = visit.taken; read_faults = read_faults; write_faults = write_faults; pass = pass }) (last_moment visit next)
       visit.finished.ended
       → between.accepted ≡ before.accepted + 1 → between.finished ≡ before.finished → between.done ≡ before.done → between.port ≡ before.port
       → after.finished ≡ between.finished + 1 → Adds between.done after.done (visit.finished ∷ []) → after.port ≡ between.port → after.accepted ≡ between.accepted → after.waiting ≡ between.waiting
@@ -57,8 +57,8 @@ module _ (nodes : List (List ℕ)) (g : Grants) (node : ℕ) {P : Type 0} (Answe
     visits = visit ∷ [];
     served = (
       next,
-      subst (λ (n : ℕ). IsServed nodes g node Answers seen 0 [] (record { left = visit.left; taken = visit.taken; read_faults = n; write_faults = 0; pass = pass }) (last_moment visit next) visit.finished.ended) read
-          (subst (λ (n : ℕ). IsServed nodes g node Answers seen 0 [] (record { left = visit.left; taken = visit.taken; read_faults = read_faults; write_faults = n; pass = pass }) (last_moment visit next) visit.finished.ended) write served),
+      subst (λ (n : ℕ). IsServed nodes g node Answers seen 0 [] [] (record { left = visit.left; taken = visit.taken; read_faults = n; write_faults = 0; pass = pass }) (last_moment visit next) visit.finished.ended) read
+          (subst (λ (n : ℕ). IsServed nodes g node Answers seen 0 [] [] (record { left = visit.left; taken = visit.taken; read_faults = read_faults; write_faults = n; pass = pass }) (last_moment visit next) visit.finished.ended) write served),
       refl,
     );
     came = (between.waiting, came, same_waiting);

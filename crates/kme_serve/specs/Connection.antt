@@ -1,8 +1,9 @@
 -- A connection: what its octets mean, what is written to them, and how it ends (ETSI GS QKD 014 V1.1.1, section 5; RFC 9112, sections 9.3 and 9.6).
-use Rattle.std.specs.Prelude.{◌≡◌, ℕ, ◌+◌, ◌≤◌, ◌<◌, Bool, true, false, List, [], ◌∷◌, ◌++◌, length, take, Option, Some, None, Ok, Err, IsSome}
+use Rattle.std.specs.Prelude.{◌≡◌, ◌⊎◌, ℕ, ◌+◌, ◌≤◌, ◌<◌, Bool, true, false, not, List, [], ◌∷◌, ◌++◌, length, Option, Some, None, Ok, Err, IsSome}
 use Rattle.std.specs.List.{flat_map, AllByRecursion}
-use Rattle.std.specs.Io.KnownBytes.{Consumes, Appends}
+use Rattle.std.specs.Io.KnownBytes.{Consumes}
 use Rattle.qkd_base.specs.Faults.{Rose}
+use Rattle.edge_io.specs.Writes.{WritesUpTo}
 use Rattle.edge_io.specs.declared.ended.Ended.{Ended}
 use Rattle.edge_io.specs.declared.ended.Ended.TheVariants as endings
 use Rattle.sae_entitlements.specs.Grants.{Grants}
@@ -63,24 +64,24 @@ module _ (nodes : List (List ℕ)) (g : Grants) (node : ℕ) where
   abbrev pub texts_of : List Exchange → List ℕ
   texts_of answered = flat_map (text_of nodes g node false) answered
 
-  -- How a connection ends behind so many responses that leave it open: by the last exchange, if there is one, of whose response so much is written.
-  -- Closed: nothing more came, or the last response closes it and was written whole.
-  -- ReadFault: nothing more could be read. WriteFault: the last response could not be written whole.
+  -- How a connection ends behind so many responses that leave it open: by the last exchange, if there is one, whose response has this text.
+  -- Closed: nothing more came, or the last response closes it. ReadFault: nothing more could be read.
+  -- WriteFault: the responses could not be written whole; for want of memory the last one may not have been spelled.
   -- Memory: it was wanting before the manager was asked, or behind its last turn.
-  abbrev pub EndsBy : Ended → (before : ℕ) → Option Exchange → (rest : List ℕ) → (left : Option (List ℕ)) → (written : List ℕ) → Type 0
-  EndsBy endings.Closed before None rest left written = IsRefused rest NoRequest × IsEnd NoRequest left × (written ≡ [])
-  EndsBy endings.Closed before (Some x) rest left written =
-      (closes before x.read ≡ true) × IsSome (answer_to nodes g node x) × IsFinal x.read left × (written ≡ text_of nodes g node true x)
-  EndsBy endings.ReadFault before None rest left written = written ≡ []
-  EndsBy endings.ReadFault before (Some x) rest left written = ⊥
-  EndsBy endings.WriteFault before None rest left written = ⊥
-  EndsBy endings.WriteFault before (Some x) rest left written =
-      IsSome (answer_to nodes g node x) × IsFinal x.read left × ((n : ℕ) × (written ≡ take n (text_of nodes g node (closes before x.read) x)))
-  EndsBy endings.Memory before None rest left written = written ≡ []
-  EndsBy endings.Memory before (Some x) rest left written = IsSome x.turn × (written ≡ [])
+  abbrev pub EndsBy : Ended → (before : ℕ) → Option Exchange → (rest : List ℕ) → (left : Option (List ℕ)) → (text : List ℕ) → Type 0
+  EndsBy endings.Closed before None rest left text = IsRefused rest NoRequest × IsEnd NoRequest left × (text ≡ [])
+  EndsBy endings.Closed before (Some x) rest left text =
+      (closes before x.read ≡ true) × IsSome (answer_to nodes g node x) × IsFinal x.read left × (text ≡ text_of nodes g node true x)
+  EndsBy endings.ReadFault before None rest left text = text ≡ []
+  EndsBy endings.ReadFault before (Some x) rest left text = ⊥
+  EndsBy endings.WriteFault before None rest left text = (0 < before) × (text ≡ [])
+  EndsBy endings.WriteFault before (Some x) rest left text =
+      (IsSome (answer_to nodes g node x) ⊎ IsSome x.turn) × IsFinal x.read left × (text ≡ text_of nodes g node (closes before x.read) x)
+  EndsBy endings.Memory before None rest left text = text ≡ []
+  EndsBy endings.Memory before (Some x) rest left text = IsSome x.turn × (text ≡ [])
 
-  -- From one moment to the other a connection is served to its end, behind so many responses and with these octets kept.
-  pub record IsServed {P : Type 0} (Answers : P → Turn → P → Type 0) (seen : P → ℕ) (count : ℕ) (kept : List ℕ) (before after : Moment P) (ended : Ended) : Type 0 where
+  -- From one moment to the other a connection is served to its end, behind so many responses, with these octets kept and these owed.
+  pub record IsServed {P : Type 0} (Answers : P → Turn → P → Type 0) (seen : P → ℕ) (count : ℕ) (kept owed : List ℕ) (before after : Moment P) (ended : Ended) : Type 0 where
     -- the octets that came
     pub octets : List ℕ
     pub consumed : Consumes before.left after.left octets
@@ -94,10 +95,10 @@ module _ (nodes : List (List ℕ)) (g : Grants) (node : ℕ) where
     -- the manager was asked once for each event that is asked for, in this order, and nothing else
     pub events : AllByRecursion (λ x. IsTurnOf (event_of g node x.read) x.turn) (answered ++ listed last)
     pub turns : TakesAll Answers seen before.pass (answered ++ listed last) after.pass
-    -- the responses were written in this order, and of the last one so much
-    pub written : List ℕ
-    pub appended : Appends before.taken after.taken (texts_of answered ++ written)
-    pub ends : EndsBy ended (count + length answered) last rest after.left written
+    -- the responses were written in this order behind what was owed; where the sink failed, a first part of it all
+    pub text : List ℕ
+    pub written : WritesUpTo before.taken after.taken (not (is_write_fault ended)) (owed ++ (texts_of answered ++ text))
+    pub ends : EndsBy ended (count + length answered) last rest after.left text
     -- faults
     pub read_faults : RoseOnly (is_read_fault ended) before.read_faults after.read_faults
     pub write_faults : RoseOnly (is_write_fault ended) before.write_faults after.write_faults

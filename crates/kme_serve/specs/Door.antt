@@ -33,7 +33,7 @@ module _ (nodes : List (List ℕ)) (g : Grants) (node : ℕ) {P : Type 0} (Answe
   abbrev pub ServesAll : P → List Visit → P → Type 0
   ServesAll pass [] next = next ≡ pass
   ServesAll pass (visit ∷ visits) next =
-      (between : P) × IsServed nodes g node Answers seen 0 [] (first_moment visit pass) (last_moment visit between) visit.finished.ended × ServesAll between visits next
+      (between : P) × IsServed nodes g node Answers seen 0 [] [] (first_moment visit pass) (last_moment visit between) visit.finished.ended × ServesAll between visits next
 
 -- what a door tells of itself
 pub record Door : Type 0 where

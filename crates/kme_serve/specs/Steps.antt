@@ -1,11 +1,12 @@
 -- What the parts of one exchange do.
-use Rattle.std.specs.Prelude.{◌≡◌, ◌⊎◌, ℕ, Bool, true, false, List, ◌++◌, Option, Some, None, Result, Ok, Err, IsSome}
+use Rattle.std.specs.Prelude.{◌≡◌, ◌⊎◌, ℕ, Bool, true, false, List, [], ◌++◌, Option, Some, None, Result, Ok, Err, IsSome}
 use Rattle.std.specs.Io.KnownBytes.{Consumes, Appends}
 use Rattle.edge_io.specs.Writes.{AppendsPrefix}
 use Rattle.edge_io.specs.declared.ended.Ended.{Ended}
 use Rattle.edge_io.specs.declared.ended.Ended.TheVariants as endings
 use Rattle.sae_entitlements.specs.Grants.{Grants}
-use Rattle.http_front.specs.Reading.{IsMeant}
+use Rattle.http_front.specs.Front.{IsRequest}
+use Rattle.http_front.specs.Reading.{IsMeant, IsAnswer, FaultsFor}
 use Rattle.http_front.specs.Response.{response_text}
 use Rattle.http_front.specs.declared.refusal.FrontRefusal.{FrontRefusal}
 use Rattle.http_front.specs.declared.refusal.FrontRefusal.TheVariants as refusals
@@ -20,6 +21,7 @@ use Rattle.kme_serve.specs.declared.turn.Turn.{Turn}
 use Rattle.kme_serve.specs.Exchange.{Exchange, event_of, IsTurnOf, answer_at, answer_to, text_of, response_with, closes}
 use Rattle.kme_serve.specs.Turns.{Takes}
 use Rattle.kme_serve.specs.Connection.{Moment, RoseOnly, IsServed}
+use Rattle.kme_serve.specs.Owed.{Owes, IsUnpaid}
 
 -- a text was written; or not: a prefix of it where the sink failed, and nothing where memory was wanting
 abbrev pub IsWritten : {T : Type 0} → Option (List ℕ) → Option (List ℕ) → (faults_before faults_after : ℕ) → List ℕ → Result T Ended → Type 0
@@ -49,6 +51,50 @@ IsRefusedBy refusal before after faults_before faults_after endings.WriteFault =
     ((text : List ℕ) × (front_message refusal ≡ Some text) × AppendsPrefix before after (response_text (error_response 400 text true))) × RoseOnly true faults_before faults_after
 IsRefusedBy refusal before after faults_before faults_after endings.Memory = (¬ (refusal ≡ refusals.ReadFault)) × (after ≡ before) × (faults_after ≡ faults_before)
 
+-- ---- the next request
+
+-- the ends of a connection: what its source has left, what its sink took, and how often each failed
+pub record Edge : Type 0 where
+  pub left : Option (List ℕ)
+  pub taken : Option (List ℕ)
+  pub read_faults : ℕ
+  pub write_faults : ℕ
+
+abbrev pub moment : {P : Type 0} → Edge → P → Moment P
+moment edge pass = record { left = edge.left; taken = edge.taken; read_faults = edge.read_faults; write_faults = edge.write_faults; pass = pass }
+
+module _ (kept kept_after owed owed_after : List ℕ) (before after : Edge) where
+  -- a request was read, and all that was owed was written, or is owed still
+  pub record IsAsked (asked : HttpRequest) : Type 0 where
+    pub octets : List ℕ
+    pub consumed : Consumes before.left after.left octets
+    pub request : IsRequest (kept ++ octets) asked kept_after
+    pub owes : Owes before.taken after.taken owed [] owed_after
+    pub read_faults : after.read_faults ≡ before.read_faults
+    pub write_faults : after.write_faults ≡ before.write_faults
+
+  -- what was owed was not written, and nothing was read
+  pub record IsUnread (end : Ended) : Type 0 where
+    pub ended : end ≡ endings.WriteFault
+    pub left : after.left ≡ before.left
+    pub unpaid : IsUnpaid before.taken after.taken before.write_faults after.write_faults owed
+    pub read_faults : after.read_faults ≡ before.read_faults
+
+  -- what was owed was written, and no request was read
+  pub record IsNoRequest (ended : Ended) : Type 0 where
+    pub paid : Option (List ℕ)
+    pub wrote : Appends before.taken paid owed
+    pub octets : List ℕ
+    pub consumed : Consumes before.left after.left octets
+    pub cause : FrontRefusal
+    pub answer : IsAnswer (kept ++ octets) kept_after after.left (Err cause)
+    pub faults : FaultsFor cause before.read_faults after.read_faults
+    pub refused : IsRefusedBy cause paid after.taken before.write_faults after.write_faults ended
+
+  abbrev pub IsNext : Result HttpRequest Ended → Type 0
+  IsNext (Ok request) = IsAsked request
+  IsNext (Err ended) = IsUnread ended ⊎ IsNoRequest ended
+
 module _ (nodes : List (List ℕ)) (g : Grants) (node : ℕ) where
   -- the response to a request, behind a turn where it asks for one; or memory was wanting, before the manager was asked or behind its turn
   abbrev pub IsResponseTo : {E : Type 0} → HttpRequest → (close : Bool) → Option Turn → Result HttpResponse E → Type 0
@@ -63,7 +109,7 @@ module _ (nodes : List (List ℕ)) (g : Grants) (node : ℕ) where
       pub response : IsResponseTo request close turn result
 
     -- one exchange, behind which the connection stays open
-    pub record StaysOpen (count : ℕ) (kept kept_after : List ℕ) (before after : Moment P) : Type 0 where
+    pub record StaysOpen (count : ℕ) (kept kept_after owed owed_after : List ℕ) (before after : Moment P) : Type 0 where
       pub octets : List ℕ
       pub consumed : Consumes before.left after.left octets
       pub exchange : Exchange
@@ -72,11 +118,11 @@ module _ (nodes : List (List ℕ)) (g : Grants) (node : ℕ) where
       pub answered : IsSome (answer_to nodes g node exchange)
       pub event : IsTurnOf (event_of g node exchange.read) exchange.turn
       pub takes : Takes Answers seen before.pass exchange.turn after.pass
-      pub appended : Appends before.taken after.taken (text_of nodes g node false exchange)
+      pub owes : Owes before.taken after.taken owed (text_of nodes g node false exchange) owed_after
       pub read_faults : after.read_faults ≡ before.read_faults
       pub write_faults : after.write_faults ≡ before.write_faults
 
     -- the connection stays open behind an exchange, or is served to its end
-    abbrev pub Goes : {T : Type 0} → (count : ℕ) → (kept kept_after : List ℕ) → (before after : Moment P) → Result T Ended → Type 0
-    Goes count kept kept_after before after (Ok done) = StaysOpen count kept kept_after before after
-    Goes count kept kept_after before after (Err ended) = IsServed nodes g node Answers seen count kept before after ended
+    abbrev pub Goes : {T : Type 0} → (count : ℕ) → (kept kept_after owed owed_after : List ℕ) → (before after : Moment P) → Result T Ended → Type 0
+    Goes count kept kept_after owed owed_after before after (Ok done) = StaysOpen count kept kept_after owed owed_after before after
+    Goes count kept kept_after owed owed_after before after (Err ended) = IsServed nodes g node Answers seen count kept owed before after ended

@@ -14,9 +14,10 @@ use std::alloc::Global;
 use std::sync::Wait;
 
 /// Serves one connection to the manager of a node, and answers how it ended (ETSI GS QKD 014 V1.1.1, section 5, over RFC
-/// 9112). Requests are read from the source, one after another, and each is answered before the next one is read. The
-/// connection closes at the end of the input, behind octets that are no request, behind a request that closes it, and
-/// behind the 1,000th response. After a fault, or for want of memory, nothing more is read or written.
+/// 9112). Requests are read from the source and answered, one after another. Answers to requests that came together are
+/// written together; all are written before more is read, and before the connection closes. It closes at the end of the
+/// input, behind octets that are no request, behind a request that closes it, and behind the 1,000th response. After a
+/// fault nothing more is read or written, and for want of memory nothing but the answers before.
 pub fn serve_connection<R: Wait, M: Managers, S: Source, W: Sink>(
     rt: &R,
     alloc: Global,
@@ -32,16 +33,17 @@ pub fn serve_connection<R: Wait, M: Managers, S: Source, W: Sink>(
     requires takes { (q : RequestValue) (event : EventValue) → asked api.now.entitlements node q ≡ Ok event → M.takes managers.now node event }
     ensures fits { M.fits managers.now pass.new }
     ensures budget { M.budget managers.now node pass.old ≤ M.budget managers.now node pass.new + 1000 }
-    ensures served { IsServed api.now.nodes api.now.entitlements node (M.answers managers.now node) (M.seen managers.now node) 0 []
+    ensures served { IsServed api.now.nodes api.now.entitlements node (M.answers managers.now node) (M.seen managers.now node) 0 [] []
         (record { left = S.left source.old; taken = W.taken sink.old; read_faults = S.faults source.old; write_faults = W.faults sink.old; pass = pass.old })
         (record { left = S.left source.new; taken = W.taken sink.new; read_faults = S.faults source.new; write_faults = W.faults sink.new; pass = pass.new })
         result }
 {
     let mut kept = Octets::new(alloc);
+    let mut owed = Octets::new(alloc);
     let mut count = 0;
     'exchanges: loop {
         match exchange(
-            rt, alloc, managers, api, pass, node, source, &mut kept, sink, count,
+            rt, alloc, managers, api, pass, node, source, &mut kept, sink, &mut owed, count,
         ) {
             Ok(()) => count += 1,
             Err(ended) => return ended,

@@ -7,6 +7,8 @@ mod connection;
 mod door;
 mod exchange;
 mod managers;
+mod next;
+mod owed;
 mod turn;
 mod writing;
 

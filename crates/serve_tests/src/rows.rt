@@ -1,13 +1,14 @@
 // Connections, each with what is written to it and how it ends.
 use edge_io::Ended;
 
-/// A connection: what its peer sends, which reads and which writes fail, the responses by their numbers in `RESPONSES`, and
-/// how it ends.
+/// A connection: what its peer sends, which reads and which writes fail, the responses by their numbers in `RESPONSES`,
+/// by how many writes they are written, and how it ends.
 pub(crate) struct Row {
     pub sent: &'static [&'static str],
     pub read_fails: &'static [u64],
     pub write_fails: &'static [u64],
     pub responses: &'static [usize],
+    pub writes: usize,
     pub ended: Ended,
 }
 
@@ -41,6 +42,7 @@ pub(crate) const ROWS: &[Row] = &[
         read_fails: &[],
         write_fails: &[],
         responses: &[0],
+        writes: 1,
         ended: Ended::Closed,
     },
     Row {
@@ -48,6 +50,7 @@ pub(crate) const ROWS: &[Row] = &[
         read_fails: &[],
         write_fails: &[],
         responses: &[1],
+        writes: 1,
         ended: Ended::Closed,
     },
     Row {
@@ -55,6 +58,7 @@ pub(crate) const ROWS: &[Row] = &[
         read_fails: &[],
         write_fails: &[],
         responses: &[],
+        writes: 0,
         ended: Ended::Closed,
     },
     Row {
@@ -62,6 +66,7 @@ pub(crate) const ROWS: &[Row] = &[
         read_fails: &[],
         write_fails: &[],
         responses: &[3, 2, 2, 4],
+        writes: 1,
         ended: Ended::Closed,
     },
     Row {
@@ -69,6 +74,7 @@ pub(crate) const ROWS: &[Row] = &[
         read_fails: &[],
         write_fails: &[],
         responses: &[2, 4],
+        writes: 1,
         ended: Ended::Closed,
     },
     Row {
@@ -76,6 +82,7 @@ pub(crate) const ROWS: &[Row] = &[
         read_fails: &[],
         write_fails: &[],
         responses: &[2, 5],
+        writes: 2,
         ended: Ended::Closed,
     },
     Row {
@@ -83,6 +90,7 @@ pub(crate) const ROWS: &[Row] = &[
         read_fails: &[],
         write_fails: &[],
         responses: &[2, 6],
+        writes: 2,
         ended: Ended::Closed,
     },
     Row {
@@ -90,6 +98,7 @@ pub(crate) const ROWS: &[Row] = &[
         read_fails: &[0],
         write_fails: &[],
         responses: &[],
+        writes: 0,
         ended: Ended::ReadFault,
     },
     Row {
@@ -97,13 +106,15 @@ pub(crate) const ROWS: &[Row] = &[
         read_fails: &[1],
         write_fails: &[],
         responses: &[2, 2],
+        writes: 1,
         ended: Ended::ReadFault,
     },
     Row {
         sent: &[GET, GET, GET],
         read_fails: &[],
-        write_fails: &[1],
-        responses: &[2],
+        write_fails: &[0],
+        responses: &[],
+        writes: 0,
         ended: Ended::WriteFault,
     },
     Row {
@@ -111,6 +122,7 @@ pub(crate) const ROWS: &[Row] = &[
         read_fails: &[],
         write_fails: &[1],
         responses: &[2],
+        writes: 1,
         ended: Ended::WriteFault,
     },
 ];

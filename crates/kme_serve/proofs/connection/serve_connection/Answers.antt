@@ -10,5 +10,6 @@ exchanges-preserved g c =
       fits = c.in-Ok.ensures.fits;
       budget = omega (arith, c.in-Ok.ensures.budget, before.budget);
       few = few_more c.exchanges.count stays.exchange.read before.few stays.stays;
-      goes_on = λ after ended later. before.goes_on after ended (go_on _ _ _ _ _ c.exchanges.count c.exchanges.kept c.exchange.new.kept _ _ after ended stays later);
+      owed = λ some. omega arith;
+      goes_on = λ after ended later. before.goes_on after ended (go_on _ _ _ _ _ c.exchanges.count c.exchanges.kept c.exchange.new.kept c.exchanges.owed c.exchange.new.owed _ _ after ended stays later);
     }

@@ -1,5 +1,6 @@
-use Rattle.std.proofs.Common.{◌≡◌, Bool, true, false, ◌||◌, refl, ap, ◌∙◌, sym}
-use Rattle.kme_serve.proofs.Ending.{refused_ends, memory_ends, fault_ends, response_closes, response_stays}
+use Rattle.std.proofs.Common.{◌≡◌, ℕ, List, Option, Bool, true, false, ◌||◌, ap, subst, ◌∙◌, sym}
+use Rattle.kme_serve.specs.Owed.{IsUnpaid}
+use Rattle.kme_serve.proofs.Ending.{next_ends, memory_ends, fault_ends, response_closes, response_fails, response_stays}
 use Rattle.kme_serve.proofs.exchange.exchange.Goals as goal
 use Rattle.kme_serve.proofs.exchange.exchange.Goals.{then-request, else-request}
 
@@ -9,39 +10,47 @@ either_left a b c left is = is ∙ left ∙ ap (λ (x : Bool). x || b) (sym left
 either_right : (a b c : Bool) → a ≡ false → c ≡ b → c ≡ (a || b)
 either_right a b c left is = is ∙ ap (λ (x : Bool). x || b) (sym left)
 
+-- no write failed in between
+unpaid_since : (before after : Option (List ℕ)) (first second third : ℕ) (owed : List ℕ) → second ≡ first → IsUnpaid before after second third owed → IsUnpaid before after first third owed
+unpaid_since before after first second third owed same unpaid = subst (λ (n : ℕ). IsUnpaid before after n third owed) same unpaid
+
 pub returns-in-Err-clause-goes : goal.returns-in-Err-clause-goes
 returns-in-Err-clause-goes g c =
-    let read = c.in-Err.ensures.read in
-    refused_ends _ _ _ _ _ _ _ c.read_request.new.kept _ _ read.taken _ c.in-Err.refusal c.requires.few read.consumed refl read.answer c.in-Err.ensures.faults c.refuse.ensures
+    next_ends _ _ _ _ _ _ _ c.next.new.kept _ c.next.new.owed _ _ _ c.in-Err.ended c.requires.few c.requires.owed c.in-Err.ensures
 
 pub returns-in-Err-answer-clause-goes : goal.returns-in-Err-answer-clause-goes
 returns-in-Err-answer-clause-goes g c =
-    let read = c.in-Ok.ensures.read in
-    memory_ends _ _ _ _ _ _ _ c.read_request.new.kept _ _ read.taken c.in-Ok.request _ _ c.requires.few read.consumed read.answer c.in-Err-answer.ensures.answered refl c.in-Ok.ensures.faults refl
+    memory_ends _ _ _ _ _ _ _ _ _ _ _ _ _ _ _ _ c.in-Ok.request c.requires.few c.requires.owed c.in-Ok.ensures _ _ _ c.in-Err-answer.ensures.answered c.give_up.ensures
 
-pub returns-in-Err-write-clause-goes : goal.returns-in-Err-write-clause-goes
-returns-in-Err-write-clause-goes g c =
-    let read = c.in-Ok.ensures.read in
-    fault_ends _ _ _ _ _ _ _ c.read_request.new.kept _ _ read.taken c.in-Ok.request c.in-Ok-answer.response _ c.requires.few read.consumed read.answer c.in-Ok-answer.ensures.answered
+pub returns-in-Err-respond-clause-goes : goal.returns-in-Err-respond-clause-goes
+returns-in-Err-respond-clause-goes g c =
+    fault_ends _ _ _ _ _ _ _ _ _ _ _ _ _ _ _ _ c.in-Ok.request c.requires.few c.requires.owed c.in-Ok.ensures c.in-Ok-answer.response _ c.in-Ok-answer.ensures.answered
     (elim c.if-request.branch [
       | then-request w ↦ either_left _ _ _ w.if-request.true w.close-is
       | else-request w ↦ either_right _ _ _ w.if-request.false w.close-is
-    ]) c.in-Ok.ensures.faults _ c.in-Err-write.ensures
+    ]) _ c.in-Err-respond.ensures
 
-pub returns-then-close-clause-goes : goal.returns-then-close-clause-goes
-returns-then-close-clause-goes g c =
-    let read = c.in-Ok.ensures.read in
-    response_closes _ _ _ _ _ _ _ c.read_request.new.kept _ _ read.taken c.in-Ok.request c.in-Ok-answer.response _ c.requires.few read.consumed read.answer c.in-Ok-answer.ensures.answered
+pub returns-then-not-close-clause-goes : goal.returns-then-not-close-clause-goes
+returns-then-not-close-clause-goes g c =
+    response_stays _ _ _ _ _ _ _ _ _ _ _ _ _ _ _ _ c.in-Ok.request c.requires.few c.requires.owed c.in-Ok.ensures c.in-Ok-answer.response _ c.in-Ok-answer.ensures.answered
     (elim c.if-request.branch [
       | then-request w ↦ either_left _ _ _ w.if-request.true w.close-is
       | else-request w ↦ either_right _ _ _ w.if-request.false w.close-is
-    ]) c.in-Ok.ensures.faults c.if-close.true c.in-Ok-write.ensures.0 c.in-Ok-write.ensures.1
+    ]) c.respond.new.owed c.in-Ok-respond.ensures.0 c.if-not-close.true c.in-Ok-respond.ensures.1
+
+pub returns-in-Ok-pay-clause-goes : goal.returns-in-Ok-pay-clause-goes
+returns-in-Ok-pay-clause-goes g c =
+    response_closes _ _ _ _ _ _ _ _ _ _ _ _ _ _ _ _ c.in-Ok.request c.requires.few c.requires.owed c.in-Ok.ensures c.in-Ok-answer.response _ c.in-Ok-answer.ensures.answered
+    (elim c.if-request.branch [
+      | then-request w ↦ either_left _ _ _ w.if-request.true w.close-is
+      | else-request w ↦ either_right _ _ _ w.if-request.false w.close-is
+    ]) c.respond.new.owed (g.W.Sink.taken c.respond.new.sink) c.in-Ok-respond.ensures.0 c.if-not-close.false c.in-Ok-pay.ensures.0 (c.in-Ok-pay.ensures.2 ∙ c.in-Ok-respond.ensures.1)
 
 pub returns-clause-goes : goal.returns-clause-goes
 returns-clause-goes g c =
-    let read = c.in-Ok.ensures.read in
-    response_stays _ _ _ _ _ _ _ c.read_request.new.kept _ _ read.taken c.in-Ok.request c.in-Ok-answer.response _ c.requires.few read.consumed read.answer c.in-Ok-answer.ensures.answered
+    response_fails _ _ _ _ _ _ _ _ _ _ _ _ _ _ _ _ c.in-Ok.request c.requires.few c.requires.owed c.in-Ok.ensures c.in-Ok-answer.response _ c.in-Ok-answer.ensures.answered
     (elim c.if-request.branch [
       | then-request w ↦ either_left _ _ _ w.if-request.true w.close-is
       | else-request w ↦ either_right _ _ _ w.if-request.false w.close-is
-    ]) c.in-Ok.ensures.faults c.if-close.false c.in-Ok-write.ensures.0 c.in-Ok-write.ensures.1
+    ]) c.respond.new.owed (g.W.Sink.taken c.respond.new.sink) c.in-Ok-respond.ensures.0
+    (unpaid_since _ _ _ _ _ _ c.in-Ok-respond.ensures.1 c.in-Err-pay.ensures)
