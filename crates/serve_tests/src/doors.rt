@@ -39,9 +39,11 @@ fn is_as_told(alloc: Global, row: &Row, finished: &MemFinished) -> Result<bool, 
     for response in row.responses {
         texts.extend_from_slice(RESPONSES.get(*response).ok_or(Memory)?.as_bytes())?;
     }
-    Ok(finished.ended == row.ended
-        && finished.sink.taken() == texts.as_slice()
-        && finished.sink.pieces() == row.writes)
+    Ok(
+        finished.ended == row.ended
+            && finished.sink.taken() == texts.as_slice()
+            && finished.sink.pieces() == row.writes,
+    )
 }
 
 #[test]
