@@ -3,7 +3,7 @@
 
     python3 bench/http.py PROGRAM
 
-PROGRAM is the built http_speed. The plain program stands in bench/http and is built by cargo out of Debian's packages of Rust
+PROGRAM is bench/out/http_speed, which `bench/build http_speed` builds. The plain program stands in bench/http and is built by cargo out of Debian's packages of Rust
 sources. First both answer each request, and others that are refused, and have to write the same octets. Then the two take turns:
 printed are the least processor times of five, without that of starting. The time for an octet is to stay the same as bodies grow.
 """

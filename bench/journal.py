@@ -3,7 +3,7 @@
 
     python3 bench/journal.py PROGRAM
 
-PROGRAM is the built journal_speed. Each time is the least of five. The time
+PROGRAM is bench/out/journal_speed, which `bench/build journal_speed` builds. Each time is the least of five. The time
 for a batch is to stay the same as the journal grows.
 """
 import subprocess

@@ -3,7 +3,7 @@
 
     python3 bench/reader.py PROGRAM
 
-PROGRAM is the built scenario_speed. The two forms take turns, and each time is
+PROGRAM is bench/out/scenario_speed, which `bench/build scenario_speed` builds. The two forms take turns, and each time is
 the least of five, for ten readings more than one. What is printed are octets
 a second, and the ratio of one run on one machine.
 """

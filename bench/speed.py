@@ -1,9 +1,9 @@
 #!/usr/bin/env python3
-"""Times the products and the tags of crates/tag_speed against bench/speed.rs.
+"""Times the products and the tags of bench/programs/tag_speed against bench/speed.rs.
 
     python3 bench/speed.py PROGRAM
 
-PROGRAM is the built tag_speed. The three forms take turns, each time is the
+PROGRAM is bench/out/tag_speed, which `bench/build tag_speed` builds. The three forms take turns, each time is the
 least of five, and what is printed are ratios of one run on one machine.
 """
 import pathlib

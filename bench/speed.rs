@@ -1,4 +1,4 @@
-//! The work of crates/tag_speed with a plain shift loop, or with the processor's carry-less
+//! The work of bench/programs/tag_speed with a plain shift loop, or with the processor's carry-less
 //! multiplication. bench/speed.py builds it, checks that all three print the same, and times them.
 use std::arch::x86_64::{_mm_clmulepi64_si128, _mm_cvtsi128_si64, _mm_set_epi64x, _mm_unpackhi_epi64};
 

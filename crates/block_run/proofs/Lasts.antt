@@ -1,19 +1,18 @@
--- Lists whose last item moves to another's end.
+-- Lists whose last item moves to the end of another list.
 use Rattle.std.proofs.Common.{◌≡◌, ℕ, zero, suc, ◌+◌, ◌<◌, List, [], ◌∷◌, ◌++◌, map, reverse, length, get_or, refl, sym, ap, subst, ◌∙◌, arith, append_assoc, length-append}
 use Rattle.std.specs.Prelude.{All}
-use Rattle.std.proofs.lemmas.List.{reverse-append, map-append}
-use Rattle.std.proofs.lemmas.List.{get_or_append_left}
+use Rattle.std.proofs.lemmas.List.{reverse-append, map-append, get_or_append_left}
 use Rattle.std.proofs.Math.Seq.{get_or-append_seam}
 use Rattle.std.proofs.lemmas.List.Elements.{All-append}
 
--- what is in order behind what was taken stays so as one more is taken
+-- When one more item moves, the images of the moved items, followed by the reverse of the others, stay the same list.
 pub moved : {A B : Type 0} (f : A → B) (done : List A) (a : A) (b : B) (done' : List A) (left left' : List B) → done' ≡ done ++ a ∷ [] → f a ≡ b → left ≡ left' ++ b ∷ [] →
     map f done' ++ reverse left' ≡ map f done ++ reverse left
 moved f done a b done' left left' more is less =
     ap (λ xs. map f xs ++ reverse left') more ∙ ap (λ xs. xs ++ reverse left') (map-append f done (a ∷ [])) ∙ append_assoc (map f done) (f a ∷ []) (reverse left')
     ∙ ap (λ x. map f done ++ x ∷ reverse left') is ∙ sym (ap (λ xs. map f done ++ xs) (ap reverse less ∙ reverse-append left' (b ∷ [])))
 
--- what holds of all holds of the last and of the others, and of one more
+-- What holds of all items holds of all but the last.
 
 pub all_but_last : {A : Type 0} (P : A → Type 0) (xs rest : List A) (x : A) → xs ≡ rest ++ x ∷ [] → All P xs → All P rest
 all_but_last P xs rest x is all = λ k d lt.

@@ -1,4 +1,4 @@
--- The jobs of all workers are each job once.
+-- Together, the workers have each job exactly once.
 use Rattle.std.proofs.Common.{◌≡◌, ℕ, zero, suc, ◌+◌, ◌-◌, ◌*◌, ◌/◌, ◌%◌, ◌<◌, ◌≤◌, Bool, true, false, ltb, List, [], ◌∷◌, ◌++◌, length, refl, sym, ap, subst, ◌∙◌, arith, ◌⊎◌, inl, inr, cond, length-append, append-nil, suc-mul, zero-mul}
 use Rattle.std.specs.Prelude.{◌==◌, nat_lt, count_by, if◌then◌else◌}
 use Rattle.std.proofs.lemmas.Bool.{cases_lt, cases_eq}
@@ -9,7 +9,8 @@ use Rattle.std.proofs.lemmas.List.Sums.{sum_by-append, sum_by-cons}
 use Rattle.block_run.specs.Jobs.{jobs_from, job_count, jobs_of}
 use Rattle.block_run.proofs.Chaining.{jobs_snoc}
 
--- of q rounds and r jobs more, a worker has a job in each round, and one of those more where its number is below theirs
+-- Let there be q rounds of n jobs and r more jobs. Each worker has one job in each round, and the first r workers have one
+-- more.
 count_low : (w n q r : ℕ) → w < r → r ≤ n → job_count w n (q * n + r) ≡ suc q
 count_low w n q r low few =
     let e : q * n + r + n - (w + 1) ≡ suc q * n + (r - (w + 1)) = omega (arith, suc-mul q n) in
@@ -20,7 +21,7 @@ count_high w n q r high few =
     let e : q * n + r + n - (w + 1) ≡ q * n + (r + n - (w + 1)) = omega arith in
     ap (λ (k : ℕ). k / n) e ∙ div-mul-add q n (r + n - (w + 1)) (omega arith)
 
--- the worker that does a job, and how many rounds are before it
+-- Job q * n + r belongs to worker r, after its q earlier jobs.
 pub one_more : (w n q r : ℕ) → w < n → r < n → jobs_of w n (suc (q * n + r)) ≡ jobs_of w n (q * n + r) ++ (if w == r then (q * n + r) ∷ [] else [])
 one_more w n q r few short =
     let e : suc (q * n + r) ≡ q * n + suc r = omega arith in
@@ -49,7 +50,7 @@ one_more w n q r few short =
         ap (jobs_from w n) (after ∙ sym before) ∙ sym (append-nil (jobs_of w n (q * n + r)))
         ∙ sym (ap (λ (t : Bool). jobs_of w n (q * n + r) ++ (if t then (q * n + r) ∷ [] else [])) test)
 
--- nobody has more jobs than the first worker
+-- No worker has more jobs than the first one.
 pub fewer : (w n jobs : ℕ) → w < n → job_count w n jobs ≤ job_count 0 n jobs
 fewer w n jobs few =
     let some : 0 < n = omega (arith, few) in
@@ -70,7 +71,7 @@ fewer w n jobs few =
         let b = count_high 0 n q r none some in
         omega (arith, a, b)
 
--- before the first job nobody has one
+-- If there are no jobs, no worker has one.
 none_of : (w n : ℕ) → w < n → jobs_of w n 0 ≡ []
 none_of w n few = let e : 0 ≡ 0 * n + 0 = omega (arith, zero-mul n) in ap (λ (k : ℕ). jobs_from w n (job_count w n k)) e ∙ ap (jobs_from w n) (count_high w n 0 0 (omega arith) few)
 
@@ -83,14 +84,14 @@ module _ (test : ℕ → Bool) where
   pub count_both : (xs ys : List ℕ) → count_by test (xs ++ ys) ≡ count_by test xs + count_by test ys
   count_both xs ys = sum_by-append (λ k. cond (test k) 1 0) xs ys
 
-  -- whether a job counts
+  -- 1 if the job passes the test, else 0
   abbrev pub counts : ℕ → ℕ
   counts job = if test job then 1 else 0
 
   count_one : (job : ℕ) → count_by test (job ∷ []) ≡ counts job
   count_one job = sum_by-cons (λ k. cond (test k) 1 0) job [] ∙ omega arith
 
-  -- how many jobs of the first workers count, with one job more
+  -- how many jobs of the first workers pass the test when there is one more job
   counted_up : (k n q r : ℕ) → k ≤ n → r < n → count_by test (up_to k n (suc (q * n + r))) ≡ count_by test (up_to k n (q * n + r)) + (if nat_lt r k then counts (q * n + r) else 0)
   counted_up zero n q r few short = let e : nat_lt r 0 ≡ false = grind (arith, nat_tests) in sym (ap (λ (t : Bool). 0 + (if t then counts (q * n + r) else 0)) e)
   counted_up (suc k) n q r few short =
@@ -128,7 +129,7 @@ module _ (test : ℕ → Bool) where
   none_up zero n few = refl
   none_up (suc k) n few = ap (λ xs. xs ++ jobs_of k n 0) (none_up k n (omega arith)) ∙ none_of k n (omega arith)
 
-  -- one job more for all workers
+  -- One more job raises the count over all workers by what that job counts.
   pub counted : (n jobs : ℕ) → 0 < n → count_by test (up_to n n (suc jobs)) ≡ count_by test (up_to n n jobs) + counts jobs
   counted n jobs some =
       let short : jobs % n < n = mod-lt jobs some in
@@ -141,7 +142,7 @@ module _ (test : ℕ → Bool) where
   pub counted_none : (n : ℕ) → count_by test (up_to n n 0) ≡ 0
   counted_none n = ap (count_by test) (none_up n n (omega arith))
 
--- each job is there once
+-- Each job stands exactly once among the workers' jobs.
 pub each_once : (j n jobs : ℕ) → 0 < n → count_by (λ k. k == j) (up_to n n jobs) ≡ (if nat_lt j jobs then 1 else 0)
 each_once j n zero some = counted_none (λ k. k == j) n ∙ (let e : nat_lt j 0 ≡ false = grind (arith, nat_tests) in sym (ap (λ (t : Bool). if t then 1 else 0) e))
 each_once j n (suc jobs) some = counted (λ k. k == j) n jobs some ∙ ap (λ (k : ℕ). k + counts (λ k. k == j) jobs) (each_once j n jobs some) ∙ split (cases_eq jobs j)
@@ -157,7 +158,7 @@ each_once j n (suc jobs) some = counted (λ k. k == j) n jobs some ∙ ap (λ (k
         let c : nat_lt j (suc jobs) ≡ nat_lt j jobs = grind (arith, nat_tests, other) in
         rw (b, c) (omega arith)
 
--- and no other is
+-- There are no other jobs among them.
 pub as_many : (n jobs : ℕ) → 0 < n → count_by (λ k. true) (up_to n n jobs) ≡ jobs
 as_many n zero some = counted_none (λ k. true) n
 as_many n (suc jobs) some = counted (λ k. true) n jobs some ∙ ap (λ (k : ℕ). k + 1) (as_many n jobs some) ∙ omega arith

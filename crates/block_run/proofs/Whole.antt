@@ -1,4 +1,4 @@
--- What the workers of a block leave, put together.
+-- The results of a block's workers, put together.
 use Rattle.std.proofs.Common.{◌≡◌, ℕ, zero, suc, ◌+◌, ◌-◌, ◌<◌, ◌≤◌, Bool, true, cond, List, [], ◌∷◌, ◌++◌, map, reverse, length, get_or, take, Option, Some, None, refl, sym, ap, subst, ◌∙◌, arith, append-nil}
 use Rattle.std.specs.Prelude.{◌==◌, nat_lt, count_by, slice_get, if◌then◌else◌}
 use Rattle.std.specs.List.{flat_map}
@@ -13,7 +13,7 @@ use Rattle.block_run.specs.Seated.{IsSeated}
 use Rattle.block_run.specs.Done.{IsDone, EachOnce}
 use Rattle.block_run.proofs.Spread.{up_to, each_once, as_many, fewer}
 
--- a list and its reverse
+-- An item of the reverse of a list is the item of the list at the mirrored index.
 
 turned : {A : Type 0} (xs : List A) (k : ℕ) (x : A) → slice_get (reverse xs) k ≡ Some x → slice_get xs (length xs - 1 - k) ≡ Some x
 turned xs k x here =
@@ -28,7 +28,7 @@ turned_back xs k x here =
     slice_get-get_or (reverse xs) (length xs - 1 - k) x (subst (λ (n : ℕ). length xs - 1 - k < n) (sym (length-reverse xs)) within)
     ∙ ap Some (get_or-reverse xs (length xs - 1 - k) x within ∙ ap (λ (i : ℕ). get_or xs i x) same ∙ get_or_from_slice_get xs k x x here)
 
--- the item of which something is the image
+-- the item whose image under f is b
 record From {A B : Type 0} (f : A → B) (o : Option A) (b : B) : Type 0 where
   item : A
   there : o ≡ Some item
@@ -42,7 +42,7 @@ image_at : {A B : Type 0} (f : A → B) (xs : List A) (k : ℕ) (b : B) → slic
 image_at f xs k b h = image f (slice_get xs k) b (sym (slice_get-map f xs k) ∙ h)
 
 module _ {S P A : Type 0} (gives : ℕ → P → A → P → Type 0) (pass : S → P) (answers : S → List (ℕ × A)) (before : List P) (sat left : List S) (jobs : ℕ) where
-  -- the last worker sits in the first place, and each did its jobs
+  -- The last worker had the first seat, and each worker did its jobs.
   pub record DidAll : Type 0 where
     pub seated : map pass sat ≡ reverse before
     pub same : length left ≡ length sat
@@ -94,12 +94,12 @@ there (x ∷ xs) zero lt = (x, refl)
 there (x ∷ xs) (suc k) lt = there xs k (omega (arith, lt))
 
 module _ {P A : Type 0} (gives : ℕ → P → A → P → Type 0) where
-  -- a chain answers its jobs
+  -- A chain has an answer for each of its jobs, in order.
   firsts : (js : List ℕ) (p q : P) (got : List (ℕ × A)) → Chains gives js p got q → map (λ a. a.0) got ≡ js
   firsts [] p q got chain = ap (map (λ a. a.0)) chain.0
   firsts (j ∷ js) p q got chain = ap (map (λ a. a.0)) chain.4 ∙ ap (λ ks. j ∷ ks) (firsts js chain.1 q chain.2 chain.5)
 
-  -- all that is answered, worker by worker
+  -- The answers of the first k workers belong to the jobs of the first k workers, in order.
   all_firsts : (before after : List P) (answers : List (ℕ × A)) (jobs : ℕ) → (done : IsDone gives before jobs after answers) → (k : ℕ) → k ≤ length before →
       map (λ a. a.0) (flat_map (λ part. part) (take k done.parts)) ≡ up_to k (length before) jobs
   all_firsts before after answers jobs done zero few = refl
@@ -140,7 +140,7 @@ module _ {P A : Type 0} (gives : ℕ → P → A → P → Type 0) where
   as_many_answers before after answers jobs some done =
       sym (length-map answers (λ a. a.0)) ∙ ap length (answered before after answers jobs done) ∙ sym (all_count (up_to (length before) (length before) jobs)) ∙ as_many (length before) jobs some
 
--- a worker in its place before the first job
+-- a worker in its seat before the first job
 module _ {S P A : Type 0} (fits : P → List ℕ → Type 0) (pass : S → P) (answers : S → List A) (room : S → ℕ) (before : List P) (sat : List S) (jobs : ℕ) where
   pub seated : map pass sat ≡ reverse before → length before ≤ 32 → ((w : ℕ) (p : P) → slice_get before w ≡ Some p → fits p (jobs_of w (length before) jobs)) →
       ((k : ℕ) (d : S) → k < length sat → (answers (get_or sat k d) ≡ []) × (job_count 0 (length before) jobs ≤ room (get_or sat k d))) →
@@ -154,6 +154,6 @@ module _ {S P A : Type 0} (fits : P → List ℕ → Type 0) (pass : S → P) (a
       subst (λ (n : ℕ). IsSeated fits n jobs place (pass s) (answers s) (room s)) (sym long)
       (record { few = few; placed = omega (arith, lt, long); none = free.0; enough = omega (arith, less, free.1); ready = ready (length before - 1 - place) (pass s) (turned before place (pass s) there) })
 
--- what is written back of a slice is the slice
+-- The first n items of a list that begins with n given items are these items.
 pub written : {X : Type 0} (n : ℕ) (new old : List X) → length new ≡ n → take n (new ++ old) ≡ new
 written n new old e = ap (λ (m : ℕ). take m (new ++ old)) (sym e) ∙ take-append_seam new old

@@ -1,9 +1,9 @@
--- A worker before its first job. The last worker sits in the first place.
+-- A worker in its seat before its first job. The last worker has the first seat.
 use Rattle.std.specs.Prelude.{◌≡◌, ℕ, ◌-◌, ◌<◌, ◌≤◌, List, []}
 use Rattle.block_run.specs.Jobs.{job_count, jobs_of}
 
 module _ {P A : Type 0} (fits : P → List ℕ → Type 0) where
-  -- it has no answers yet and room for all of them, and its pass fits its jobs
+  -- The worker has no answers yet and room for all of them, and its pass fits its jobs.
   pub record IsSeated (workers jobs place : ℕ) (pass : P) (answers : List A) (room : ℕ) : Type 0 where
     pub few : workers ≤ 32
     pub placed : place < workers

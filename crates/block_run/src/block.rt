@@ -1,4 +1,3 @@
-// A block of jobs.
 ghost use Rattle.std.specs.Prelude.{◌≡◌, ◌<◌, ◌≤◌, ◌-◌, ℕ, [], All, Some, IfOk, IfErr, length, slice_get, vec_len, vec_capacity};
 ghost use Rattle.block_run.specs.Jobs.{job_count, jobs_of, Chains};
 ghost use Rattle.block_run.specs.Seated.{IsSeated};
@@ -14,13 +13,13 @@ use std::alloc::Global;
 use std::sync::Wait;
 use std::thread::{Threads, for_each_mut};
 
-/// What a block leaves: the passes of its workers, in their order, and each job with its answer, worker by worker.
+/// The result of a block: the workers' passes in their order, and each job with its answer, worker by worker.
 pub struct BlockEnd<T: Work> {
     pub passes: Vec<T::Pass>,
     pub answers: Vec<(u32, T::Answer)>,
 }
 
-// The worker in a place does its jobs.
+// Does the jobs of the worker in a seat.
 fn work_at<R: Wait, T: Work, G: Gate>(
     rt: &R,
     work: &T,
@@ -45,7 +44,7 @@ fn work_at<R: Wait, T: Work, G: Gate>(
     );
 }
 
-// Each worker does its jobs, all at the same time. The last worker sits in the first place.
+// Does the jobs of all workers at the same time. The last worker has the first seat.
 fn work_all<R: Threads + Wait + Sync, T: Work, G: Gate>(
     rt: &R,
     work: &T,
@@ -74,7 +73,7 @@ fn work_all<R: Threads + Wait + Sync, T: Work, G: Gate>(
     );
 }
 
-// Does the jobs over memory that was taken.
+// Does the jobs in memory that was allocated before.
 fn do_jobs<R: Threads + Wait + Sync, T: Work, G: Gate>(
     rt: &R,
     work: &T,
@@ -106,10 +105,10 @@ fn do_jobs<R: Threads + Wait + Sync, T: Work, G: Gate>(
     BlockEnd { passes, answers }
 }
 
-/// Does each job once: worker w of n the jobs w, w + n, w + 2n and so on, in this order, over its own pass. The workers do
-/// so at the same time, where threads can be had; where one can't be started its jobs are done by another. The gate is
-/// passed before each job, and once more after a worker's last one. All memory is taken before the first job; where it is
-/// wanting, the passes come back as they were.
+/// Does each job exactly once: worker w of n does the jobs w, w + n, w + 2n and so on, in this order, over its own pass. The
+/// workers run at the same time, each on a thread of its own. If a thread can't be started, another worker's thread does its
+/// jobs. Each worker passes the gate before each of its jobs and once more after its last one. All memory is allocated before
+/// the first job; if it runs out, the passes come back unchanged.
 pub fn run_block<R: Threads + Wait + Sync, T: Work, G: Gate>(
     rt: &R,
     alloc: Global,

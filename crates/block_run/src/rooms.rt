@@ -1,4 +1,3 @@
-// The memory of a block.
 ghost use Rattle.std.specs.Prelude.{◌≡◌, ◌<◌, ◌≤◌, [], All, IfOk, vec_len, vec_capacity};
 ghost use Rattle.block_run.specs.Jobs.{job_count};
 
@@ -8,7 +7,8 @@ use crate::worker::count_jobs;
 use qkd_base::Memory;
 use std::alloc::Global;
 
-/// The memory of a block, nothing of it used: a list for each worker's answers, the workers' seats, and all answers.
+/// The memory of a block before its first job: empty lists for each worker's answers, for the workers' seats, and for all
+/// answers.
 pub struct Rooms<T: Work> {
     pub lists: Vec<Vec<(u32, T::Answer)>>,
     pub seats: Vec<Seat<T>>,
@@ -16,7 +16,7 @@ pub struct Rooms<T: Work> {
 }
 
 impl<T: Work> Rooms<T> {
-    /// Memory for so many workers and jobs.
+    /// Allocates the memory for `workers` workers and `jobs` jobs.
     pub fn new(alloc: Global, workers: u32, jobs: u32) -> Result<Self, Memory>
         requires { 0 < workers }
         ensures lists { IfOk result (λ rooms. vec_len rooms.lists ≡ workers) }

@@ -1,4 +1,4 @@
-// The workers of a block with what they hold.
+// The workers of a block with their passes and answers.
 ghost use Rattle.std.specs.Prelude.{◌≡◌, ◌<◌, ◌≤◌, ◌+◌, ℕ, [], ◌++◌, All, IfOk, map, reverse, length, vec_len, vec_capacity};
 ghost use Rattle.std.specs.List.{flat_map};
 
@@ -6,13 +6,13 @@ use crate::Work;
 use qkd_base::Memory;
 use std::alloc::Global;
 
-/// A worker: its pass, and the answers of its jobs so far.
+/// One worker: its pass, and the answers of its jobs so far.
 pub struct Seat<T: Work> {
     pub pass: T::Pass,
     pub answers: Vec<(u32, T::Answer)>,
 }
 
-/// So many empty lists, each with room for so many answers.
+/// Allocates `count` empty lists, each with room for `each` answers.
 pub fn lists<A: Drop>(alloc: Global, count: u32, each: u32) -> Result<Vec<Vec<(u32, A)>>, Memory>
     ensures count { IfOk result (λ lists. vec_len lists ≡ count) }
     ensures empty { IfOk result (λ lists. All (λ list. (list.items ≡ []) × (each ≤ vec_capacity list)) lists.items) }
@@ -24,7 +24,7 @@ pub fn lists<A: Drop>(alloc: Global, count: u32, each: u32) -> Result<Vec<Vec<(u
     Ok(lists)
 }
 
-/// Gives each pass a list: the last one stands first then.
+/// Gives each pass a list for its answers. The last worker then has the first seat.
 pub fn sit<T: Work>(
     passes: &mut Vec<T::Pass>,
     lists: &mut Vec<Vec<(u32, T::Answer)>>,
@@ -45,7 +45,7 @@ pub fn sit<T: Work>(
     }
 }
 
-// Moves all that a list has to another one's end.
+// Moves all items of a list to the end of another.
 fn move_all<A: Drop>(from: Vec<A>, into: &mut Vec<A>)
     requires { vec_len into.old + vec_len from ≤ vec_capacity into.old }
     ensures items { into.new.items ≡ into.old.items ++ from.items }
@@ -56,7 +56,7 @@ fn move_all<A: Drop>(from: Vec<A>, into: &mut Vec<A>)
     }
 }
 
-/// Takes the passes and the answers back, the last seat's first.
+/// Takes the passes and the answers back, beginning with the last seat.
 pub fn leave<T: Work>(
     seats: &mut Vec<Seat<T>>,
     passes: &mut Vec<T::Pass>,

@@ -1,4 +1,4 @@
-// One worker of a block.
+// The jobs of one worker of a block.
 ghost use Rattle.std.specs.Prelude.{◌≡◌, ◌+◌, ◌<◌, ◌≤◌, [], vec_len, vec_capacity};
 ghost use Rattle.block_run.specs.Jobs.{job_count, jobs_of, Chains};
 
@@ -15,7 +15,7 @@ pub fn count_jobs(worker: u32, workers: u32, jobs: u32) -> u32
     (last / u64::from(workers)) as u32
 }
 
-/// Does the jobs of a worker in order over its pass, and passes the gate before each and after the last.
+/// Does a worker's jobs in order over its pass. It passes the gate before each job and once more after the last.
 pub fn work_through<R: Wait, T: Work, G: Gate>(
     rt: &R,
     work: &T,

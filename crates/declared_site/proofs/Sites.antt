@@ -1,4 +1,4 @@
--- A declared site is a site.
+-- A declared site is a site of a network.
 use Rattle.std.proofs.Common.{◌≡◌, ◌∙◌, ℕ, zero, suc, ◌<◌, true, List, [], ◌∷◌, length, Option, Some, None, refl, sym, ap, arith}
 use Rattle.std.specs.Prelude.{nat_lt, slice_get, is_some, unwrap_or}
 use Rattle.std.proofs.lemmas.Bool.Decides.{nat_tests}
@@ -9,7 +9,7 @@ use Rattle.sae_entitlements.specs.Grants.{Sae}
 use Rattle.declared_site.specs.declared.site.Site.{Site as Declared}
 use Rattle.declared_site.specs.SiteOf.{IsDeclared, IsDeclaredPair, site_of, links_in, home_or_none}
 
--- what is there
+-- an option that holds a value
 record There {A : Type 0} (o : Option A) : Type 0 where
   one : A
   is : o ≡ Some one

@@ -7,11 +7,9 @@ ghost use Rattle.net_model.specs.Premises.{IsSite};
 ghost use Rattle.declared_site.specs.declared.site.Site.{Site as Declared};
 ghost use Rattle.declared_site.specs.SiteOf.{IsDeclared, site_of};
 
-pub use route_table;
-pub use sae_entitlements;
 pub use site::Site;
 
-/// A site that is declared within its limits is one of a network.
+/// A declared site that keeps its limits is a site of a network.
 pub fn law_declared_site_is_site()
     ensures { (declared : Declared) → IsDeclared declared → IsSite (site_of declared) }
 {}

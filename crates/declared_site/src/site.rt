@@ -1,10 +1,10 @@
-// The declared site.
+// A site as a scenario declares it.
 use qkd_base::{Memory, Replica, Texts};
 use route_table::RouteTable;
 use sae_entitlements::Entitlements;
 
-/// The nodes by name, the links with their ends, and the applications with their homes and their allowed pairs. Nodes,
-/// links and applications are numbered from 0 in order of declaration.
+/// A declared site: its nodes by name, its links with their ends, and its applications with their homes and their
+/// allowed pairs. Nodes, links and applications are numbered from 0 in order of declaration.
 #[derive(Drop)]
 pub struct Site {
     pub nodes: Texts,

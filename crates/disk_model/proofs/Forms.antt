@@ -1,4 +1,4 @@
--- What the calls do to a disk in memory as a value.
+-- How the calls change a disk in memory, as a value.
 use Rattle.std.proofs.Common.{◌≡◌, ℕ, Bool, true, false, List, [], ◌∷◌, ◌++◌, length, drop, refl, sym, ◌∙◌, ap, subst, arith}
 use Rattle.disk_model.specs.Images.{Torn, Follows, Only, Passes, overlaid}
 use Rattle.disk_model.specs.Laws.{content_is_image, torn_overlaid}

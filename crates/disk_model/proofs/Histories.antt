@@ -1,4 +1,4 @@
--- How a record goes on.
+-- How the record of a disk in memory grows.
 use Rattle.std.proofs.Common.{◌≡◌, ◌≤◌, ◌<◌, ℕ, zero, suc, ◌+◌, List, [], ◌∷◌, ◌++◌, length, take, drop, map, get_or, set, refl, sym, ◌∙◌, ap, subst, arith, length-append, vec_capacity}
 use Rattle.std.proofs.lemmas.List.{take_all, take-append-le, drop-append-le, drop_all, length-drop, nil_from_length, length-map, take-append-drop, drop_more, get_or_default}
 use Rattle.std.proofs.lemmas.List.Edits.{map_over_more}
@@ -79,7 +79,7 @@ module _ (old new : History) (is : IsHistory old) (first : new.first ≡ old.fir
   first_fits : length new.first.items ≤ vec_capacity new.content
   first_fits = omega (arith, is.first, grows, ap (λ v. length v.items) first)
 
-  -- more memory and nothing else
+  -- more memory, and no other change
   pub grown : new.content.items ≡ old.content.items → new.log.items ≡ old.log.items → new.calls.items ≡ old.calls.items → new.synced ≡ old.synced → IsHistory new × (used_of new ≡ used_of old)
   grown content log calls synced =
       let same : used_of new ≡ used_of old = ap (λ (l : List ℕ). with_octets new.calls.items l) log ∙ ap (λ (k : List UsedCall). with_octets k old.log.items) calls in (
@@ -94,7 +94,7 @@ module _ (old new : History) (is : IsHistory old) (first : new.first ≡ old.fir
         same,
       )
 
-  -- a write
+  -- the record after a write
   pub wrote : (at : ℕ) (bytes : List ℕ) → new.content.items ≡ overlaid at bytes old.content.items → new.log.items ≡ old.log.items ++ bytes
       → new.calls.items ≡ old.calls.items ++ Write (record { at = at; len = length bytes; inside = length bytes; state = Kept }) ∷ [] → new.synced ≡ old.synced
       → at + length bytes ≤ vec_capacity old.content → IsHistory new × (used_of new ≡ used_of old ++ Wrote at bytes (length bytes) Kept ∷ [])
@@ -118,7 +118,7 @@ module _ (old new : History) (is : IsHistory old) (first : new.first ≡ old.fir
         more,
       )
 
-  -- a sync
+  -- the record after a sync
   pub synced_now : new.content.items ≡ old.content.items → new.log.items ≡ old.log.items → new.calls.items ≡ old.calls.items ++ Sync ∷ [] → new.synced ≡ length new.calls.items
       → IsHistory new × (used_of new ≡ used_of old ++ Synced ∷ [])
   synced_now content log calls synced =
@@ -138,7 +138,7 @@ module _ (old new : History) (is : IsHistory old) (first : new.first ≡ old.fir
         more,
       )
 
--- one call of a list
+-- the octets of a list of calls are those of the first call and those of the others
 pub octets_first : (u : UsedCall) (calls : List UsedCall) → octets_of (u ∷ calls) ≡ octets_in u + octets_of calls
 octets_first (Write r) calls = refl
 octets_first Sync calls = omega arith
@@ -151,7 +151,7 @@ pub ends_first : (end : ℕ) (u : UsedCall) (calls : List UsedCall) → EndWithi
 ends_first end (Write r) calls e = ((e.0, e.1, tt), e.2)
 ends_first end Sync calls e = (tt, e)
 
--- a front of a list
+-- a prefix of the calls has the same octets as it has in the whole list
 pub used_take : (n : ℕ) (calls : List UsedCall) (log : List ℕ) → with_octets (take n calls) log ≡ take n (with_octets calls log)
 used_take zero calls log = refl
 used_take (suc n) [] log = refl
@@ -170,7 +170,7 @@ ends_take end (suc n) [] e = tt
 ends_take end (suc n) (Write w ∷ calls) e = (e.0, e.1, ends_take end n calls e.2)
 ends_take end (suc n) (Sync ∷ calls) e = ends_take end n calls e
 
--- marked calls
+-- calls may be marked before or after they are given their octets
 used_marked : (mark : Image) (size : ℕ) (calls : List UsedCall) (log : List ℕ) → with_octets (map (marked_call mark size) calls) log ≡ map (marked mark size) (with_octets calls log)
 used_marked mark size [] log = refl
 used_marked Lost size (Write w ∷ calls) log = ap (λ (l : List Used). marked Lost size (Wrote w.at (take w.len log) w.inside w.state) ∷ l) (used_marked Lost size calls (drop w.len log))
@@ -231,7 +231,7 @@ unsynced_revived mark size zero used none = unsynced_marked mark size used none
 unsynced_revived mark size (suc n) [] none = tt
 unsynced_revived mark size (suc n) (u ∷ used) none = unsynced_revived mark size n used none
 
--- what was lost is as if it hadn't been written
+-- calls that are marked as lost leave the content unchanged
 lost_all : (content : List ℕ) (size : ℕ) (used : List Used) → replayed content (map (marked Lost size) used) ≡ content
 lost_all content size [] = refl
 lost_all content size (Wrote a b s t ∷ used) = lost_all content size used
@@ -250,7 +250,7 @@ kept_all size (Synced ∷ used) = ap (λ (l : List Used). Synced ∷ l) (kept_al
 pub kept_behind : (size n : ℕ) (used : List Used) → used ≡ revived Kept size n used
 kept_behind size n used = sym (take-append-drop n used) ∙ ap (λ (l : List Used). take n used ++ l) (sym (kept_all size (drop n used)))
 
--- what was torn is the same on a disk of any size
+-- the mark of a torn write doesn't depend on the disk's size
 torn_all : (one other : ℕ) (used : List Used) → map (marked Filled one) used ≡ map (marked Filled other) used
 torn_all one other [] = refl
 torn_all one other (Wrote a b s t ∷ used) = ap (λ (l : List Used). Wrote a b s Filled ∷ l) (torn_all one other used)
@@ -287,7 +287,7 @@ module _ (old new : History) (is : IsHistory old) (first : new.first ≡ old.fir
             ap length (take-append-drop old.synced (used_of old)),
           )
 
--- steps of loops over the calls
+-- one step of a loop over the calls
 pub mark_step : (f : UsedCall → UsedCall) (xs ys : List UsedCall) (i : ℕ) (d r : UsedCall) → i < length xs → length ys ≡ length xs → ys ≡ map f (take i xs) ++ drop i xs → r ≡ f (get_or ys i d) → set ys i r ≡ map f (take (i + 1) xs) ++ drop (i + 1) xs
 mark_step f xs ys i d r lt long is e =
     ap (λ (u : UsedCall). set ys i u) e ∙ map_over_more f xs ys i (get_or ys i d) lt is (get_or_default ys i d (get_or ys i d) (omega (arith, lt, long)))

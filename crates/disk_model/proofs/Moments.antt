@@ -1,10 +1,10 @@
--- How a run of a disk's calls goes on.
+-- How a sequence of disk calls is extended.
 use Rattle.std.proofs.Common.{◌≡◌, inl, inr, ℕ, List, subst, arith}
 use Rattle.std.proofs.lemmas.Bool.{cases_lt}
 use Rattle.disk_model.specs.Images.{Passes, StandsStill, AtEachMoment}
 
 module _ {D : Type 0} (moment : D → ℕ) (image : D → ℕ → List ℕ → Type 0) where
-  -- before the first call
+  -- no call yet: P must hold of the present images
   pub started : (old : D) (P : List ℕ → Type 0) → ((c : List ℕ) → image old (moment old) c → P c) → AtEachMoment moment image old old P
   started old P here = record {
     later = omega arith;
@@ -12,7 +12,7 @@ module _ {D : Type 0} (moment : D → ℕ) (image : D → ℕ → List ℕ → T
     each = λ t c from to i. let same : t ≡ moment old = omega arith in here c (subst (λ n. image old n c) same i);
   }
 
-  -- one call more, after which each image is one that P holds of
+  -- one more call, after which P holds of each image
   pub goes_on : (old mid new : D) (P : List ℕ → Type 0) → AtEachMoment moment image old mid P → Passes (moment mid) (moment new) (image mid) (image new)
       → ((c : List ℕ) → image new (moment new) c → P c) → AtEachMoment moment image old new P
   goes_on old mid new P so_far time here = record {
@@ -27,7 +27,7 @@ module _ {D : Type 0} (moment : D → ℕ) (image : D → ℕ → List ℕ → T
     ];
   }
 
-  -- a call in which no moment passes
+  -- a call during which no moment passes
   pub as_passes : (mid new : D) → StandsStill (moment mid) (moment new) (image mid) (image new) → Passes (moment mid) (moment new) (image mid) (image new)
   as_passes mid new still = record { later = omega (arith, still.same); one = omega (arith, still.same); stays = still.stays }
 
@@ -37,7 +37,7 @@ module _ {D : Type 0} (moment : D → ℕ) (image : D → ℕ → List ℕ → T
       let there : image new (moment mid) c = subst (λ n. image new n c) still.same i in
       so_far.each (moment mid) c so_far.later (omega arith) ((still.stays (moment mid) c (omega arith)).0 there))
 
-  -- a run after a run
+  -- two consecutive sequences of calls are one sequence
   pub joined : (old mid new : D) (P : List ℕ → Type 0) → AtEachMoment moment image old mid P → AtEachMoment moment image mid new P → AtEachMoment moment image old new P
   joined old mid new P first second = record {
     later = omega (arith, first.later, second.later);
@@ -51,6 +51,6 @@ module _ {D : Type 0} (moment : D → ℕ) (image : D → ℕ → List ℕ → T
     ];
   }
 
-  -- what P implies
+  -- if P holds at each moment and implies Q, Q holds at each moment
   pub weaker : (old new : D) (P Q : List ℕ → Type 0) → AtEachMoment moment image old new P → ((c : List ℕ) → P c → Q c) → AtEachMoment moment image old new Q
   weaker old new P Q run implies = record { later = run.later; stays = run.stays; each = λ t c from to i. implies c (run.each t c from to i) }

@@ -1,4 +1,4 @@
--- What one used call more does to the images that a record tells.
+-- How one more used call changes the images.
 use Rattle.std.proofs.Common.{◌≡◌, ◌≤◌, ◌↔◌, inl, inr, ℕ, zero, suc, ◌+◌, ◌-◌, List, [], ◌∷◌, ◌++◌, length, take, drop, map, refl, sym, ◌∙◌, ap, subst, arith, length-append}
 use Rattle.std.proofs.lemmas.Bool.{cases_lt}
 use Rattle.std.proofs.lemmas.List.{take_all, take-append-le, length-map, take-append-drop, take-map}
@@ -10,7 +10,7 @@ use Rattle.disk_model.specs.Record.Used.{Wrote, Synced}
 use Rattle.disk_model.specs.declared.arm.Image.{Image}
 use Rattle.disk_model.specs.declared.arm.Image.TheVariants.{Lost, Kept, Torn as Filled}
 
--- one call more
+-- the content after one more call
 pub replayed_more : (content : List ℕ) (used : List Used) (u : Used) → replayed content (used ++ u ∷ []) ≡ held (replayed content used) u
 replayed_more content [] u = refl
 replayed_more content (w ∷ used) u = replayed_more (held content w) used u
@@ -26,7 +26,7 @@ synced_more left content [] c i = i
 synced_more left content (Wrote a b s t ∷ used) c i = synced_more (λ new. (old : List ℕ) × left old × Torn a (length b) old new) (held content (Wrote a b s t)) used c i
 synced_more left content (Synced ∷ used) c i = synced_more (λ only. only ≡ content) content used c i
 
--- the images of earlier moments stay
+-- the images of earlier moments are unchanged
 module _ (first : List ℕ) (used : List Used) (u : Used) where
   more_long : length (used ++ u ∷ []) ≡ length used + 1
   more_long = length-append used (u ∷ [])
@@ -56,7 +56,7 @@ follows first used at bytes size state c i =
 pub only_synced : (first : List ℕ) (used : List Used) → Only (replayed first used) (image_of first (used ++ Synced ∷ []) (length (used ++ Synced ∷ [])))
 only_synced first used c i = synced_more (λ only. only ≡ first) first used c (newest first used Synced c i)
 
--- Marks on writes that aren't synced change no image.
+-- Marks on unsynced writes change no image.
 unmark : (mark : Image) (n : ℕ) (left : List ℕ → Type 0) (content other : List ℕ) (used : List Used) (c : List ℕ) → AreUnsynced used → images left content (map (marked mark n) used) c ↔ images left other used c
 unmark mark n left content other [] c none = (λ i. i, λ i. i)
 unmark Lost n left content other (Wrote a b s t ∷ used) c none =
@@ -120,7 +120,7 @@ module _ (first : List ℕ) (mark : Image) (n synced : ℕ) (used : List Used) (
         λ i. both.1 (subst (λ (l : List Used). images (λ only. only ≡ first) first l c) (sym e) i),
       )
 
-  -- the revived content is an image that a crash might have left
+  -- the content after a revival is an image that a crash might have left
   pub revived_content : image_of first used (length used) (replayed first (revived mark n synced used))
   revived_content =
       (revived_stays (length used) (replayed first (revived mark n synced used))).0

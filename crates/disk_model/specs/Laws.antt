@@ -1,4 +1,4 @@
--- What a disk in memory holds is one of its images.
+-- The content of a disk in memory is one of its images.
 use Rattle.std.proofs.Common.{◌≡◌, ◌≤◌, ◌<◌, inl, inr, ℕ, ◌+◌, ◌-◌, min, List, [], ◌∷◌, ◌++◌, length, take, drop, replicate, refl, sym, ◌∙◌, ap, subst, arith, append_assoc, length-append}
 use Rattle.std.proofs.lemmas.Bool.{cases_lt}
 use Rattle.std.proofs.lemmas.Bool.Decides.{nat_tests}
@@ -18,7 +18,7 @@ overlaid_in at bytes old le = grind (arith, nat_tests)
 overlaid_out : (at : ℕ) (bytes old : List ℕ) → length old < at → overlaid at bytes old ≡ old
 overlaid_out at bytes old lt = grind (arith, nat_tests)
 
--- octets laid over a range are among what it may hold
+-- laying octets over a range is one of the states that a torn write may leave
 pub torn_overlaid : (at n : ℕ) (bytes old : List ℕ) → length bytes ≤ n → Torn at n old (overlaid at bytes old)
 torn_overlaid at n bytes old few = elim (cases_lt (length old) at) [
   | inl out ↦ subst (λ (c : List ℕ). Torn at n old c) (sym (overlaid_out at bytes old out)) (torn_same at n old)
@@ -46,14 +46,14 @@ torn_overlaid at n bytes old few = elim (cases_lt (length old) at) [
           no_longer = omega (arith, long, back, head, few);
         }
 
--- and so is what a disk in memory holds of a write
+-- what a disk in memory holds of a write is one of the states that a torn write may leave
 held_torn : (content : List ℕ) (at : ℕ) (bytes : List ℕ) (size : ℕ) (state : Image) → Torn at (length bytes) content (held content (Wrote at bytes size state))
 held_torn content at bytes size Lost = torn_same at (length bytes) content
 held_torn content at bytes size Kept = torn_overlaid at (length bytes) bytes content (omega arith)
 held_torn content at bytes size Filled =
     torn_overlaid at (length bytes) (replicate (min size (length bytes)) 238) content (omega (arith, length-replicate {A = ℕ} (min size (length bytes)) 238))
 
--- the content is an image
+-- the content is one of the images
 content_left : (left : List ℕ → Type 0) (content : List ℕ) (used : List Used) → left content → images left content used (replayed content used)
 content_left left content [] i = i
 content_left left content (Wrote a b s t ∷ used) i =

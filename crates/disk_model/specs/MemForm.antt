@@ -15,8 +15,8 @@ use Rattle.disk_model.specs.declared.allowance.Allowance.{Allowance}
 use Rattle.disk_model.specs.declared.arm.Armings.{Armings}
 use Rattle.disk_model.specs.declared.history.History.{History}
 
--- The content that it was made with, its used calls, how many of them came up to the last sync, which calls fail, and
--- what each disk has.
+-- The content that the disk was made with, its used calls, how many of them the last sync made durable, which calls
+-- fail, and the allowance and the armings, which each disk has.
 pub record MemForm : Type 0 where
   pub first : List ℕ
   pub used : List Used
@@ -31,11 +31,11 @@ content_of d = replayed d.first d.used
 abbrev pub images_of : MemForm → ℕ → List ℕ → Type 0
 images_of d moment image = image_of d.first d.used moment image
 
--- after a call that only reads
+-- the disk after a call that only reads
 abbrev pub after_look : MemForm → MemForm
 after_look d = record d { plan = after_call d.plan }
 
--- A write is noted where it passes, and where the power goes in it. One that fails else has no effect.
+-- A write is recorded if it succeeds, or if the power is cut during it. Any other write that fails has no effect.
 abbrev pub noted_in : Passage → Used → List Used → List Used
 noted_in Passes u used = used ++ u ∷ []
 noted_in Fails u used = used
@@ -48,7 +48,7 @@ after_write_at at bytes d = record d {
   allowance = after_write (length bytes) d.allowance;
 }
 
--- After a sync. One that passes is noted where something was unsynced.
+-- The disk after a sync. A sync that succeeds is recorded if there was a write since the last one.
 abbrev pub synced_in : Passage → MemForm → MemForm
 synced_in Passes d = record d {
   used = after_settle d.allowance.unsynced d.used;
@@ -59,18 +59,18 @@ synced_in Passes d = record d {
 synced_in Fails d = after_look d
 synced_in Cuts d = after_look d
 
--- after room was given up to that end
+-- the disk after room was given up to this end
 abbrev pub with_room : ℕ → MemForm → MemForm
 with_room end d = record d { allowance = after_room end d.allowance }
 
--- armed with that fault, for which calls are counted anew
+-- the disk armed with this fault, with the calls counted from 1 again
 abbrev pub with_arm : Arm → MemForm → MemForm
 with_arm arm d = record d {
   plan = record d.plan { armed = Some arm; since = 0 };
   armings = record { count = d.armings.count + 1; last = Some arm };
 }
 
--- what a disk is after a cut that left this image, where there was one
+-- the disk after it is revived from a cut with this image, or unchanged if there was no cut
 abbrev pub left_by : Option Image → MemForm → MemForm
 left_by None d = d
 left_by (Some image) d = record d {
@@ -78,7 +78,7 @@ left_by (Some image) d = record d {
   plan = record d.plan { cut = None };
 }
 
--- what holds of the fields
+-- the invariant of the fields
 pub record IsMemory (h : History) (a : Allowance) : Type 0 where
   pub history : IsHistory h
   pub reach : a.reach ≤ vec_capacity h.content

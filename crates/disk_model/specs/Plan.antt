@@ -1,4 +1,4 @@
--- Which calls of a disk in memory fail.
+-- The plan of faults: which calls of a disk in memory fail.
 use Rattle.std.specs.Prelude.{ℕ, ◌+◌, ◌-◌, ◌^◌, min, ◌==◌, Bool, true, false, if◌then◌else◌, List, Option, None, Some}
 use Rattle.std.specs.List.{list_any}
 use Rattle.qkd_base.specs.Faults.{one_more}
@@ -8,8 +8,8 @@ use Rattle.disk_model.specs.declared.arm.Arm.TheVariants.{Cut, Fail}
 use Rattle.disk_model.specs.declared.passage.Passage.{Passage}
 use Rattle.disk_model.specs.declared.passage.Passage.TheVariants.{Passes, Fails, Cuts}
 
--- The numbers of the calls that are to fail, how many calls there were, the fault that was armed, how many calls there
--- were since, the image of a cut that has come, and how many calls have failed.
+-- The numbers of the calls that fail, how many calls there were, the armed fault, how many calls there were since it
+-- was armed, the image of a cut that has come, and how many calls have failed.
 pub record PlanForm : Type 0 where
   pub fails : List ℕ
   pub calls : ℕ
@@ -18,7 +18,7 @@ pub record PlanForm : Type 0 where
   pub cut : Option Image
   pub faults : ℕ
 
--- the number of a call of four octets, up to its last value
+-- the number of the next call, but at most 2^32 - 1
 abbrev pub next_call : ℕ → ℕ
 next_call n = min (n + 1) (2 ^ 32 - 1)
 
@@ -26,12 +26,13 @@ abbrev pub call_of : Arm → ℕ
 call_of (Cut call image) = call
 call_of (Fail call) = call
 
--- the fault that fires at the call of this number
+-- the armed fault, if it strikes the call of this number
 abbrev pub due_at : Option Arm → ℕ → Option Arm
 due_at None call = None
 due_at (Some arm) call = if call_of arm == call then Some arm else None
 
--- how a call goes: which fault fires, which cut has come, and whether the call is on the list
+-- how a call ends, from the fault that strikes it, the cut that has come, and whether the call is in the list of those
+-- that fail
 abbrev pub passage_of : Option Arm → Option Image → Bool → Passage
 passage_of (Some (Cut call image)) None listed = Cuts
 passage_of (Some (Cut call image)) (Some cut) listed = Fails
@@ -39,7 +40,7 @@ passage_of (Some (Fail call)) cut listed = Fails
 passage_of None (Some cut) listed = Fails
 passage_of None None listed = if listed then Fails else Passes
 
--- the first cut stays
+-- the image of the first cut, which later faults don't change
 abbrev pub cut_after : Option Arm → Option Image → Option Image
 cut_after (Some (Cut call image)) None = Some image
 cut_after (Some (Cut call image)) (Some cut) = Some cut
@@ -55,7 +56,7 @@ fails_in Passes = false
 fails_in Fails = true
 fails_in Cuts = true
 
--- the next call
+-- the armed fault, if it strikes the next call
 abbrev pub due : PlanForm → Option Arm
 due p = due_at p.armed (next_call p.since)
 

@@ -1,4 +1,4 @@
-// One disk, and what a crash may leave of it.
+// The trait of disks, with what a crash may leave of one.
 ghost use Rattle.std.specs.Prelude.{◌≡◌, ◌+◌, ◌^◌, ◌<◌, ◌≤◌, max, ℕ, Bool, List, length, take, drop, Some, IsTrue, IfOk, OnOk, OnErr};
 ghost use Rattle.qkd_base.specs.Faults.{HasCause};
 ghost use Rattle.disk_model.specs.Images.{Torn, Follows, Only, Passes, StandsStill, overlaid};
@@ -10,30 +10,31 @@ ghost use Rattle.disk_model.specs.declared.arm.Armings.{Armings as Armed};
 use crate::{Arm, DiskFailed};
 use qkd_base::Memory;
 
-/// One disk. An honest one keeps what is said of its content and its images. One that isn't tells nothing of them.
+/// A disk. If it is honest, its content and its images are as these contracts say. Of a disk that isn't, they say
+/// nothing about either.
 pub trait Disk {
-    /// No call changes it.
+    /// Whether the disk is honest. No call changes this.
     ghost is_honest: { Self → Bool };
 
-    /// What a read gives.
+    /// The octets that reads give.
     ghost content: { Self → List ℕ };
 
     /// How many moments have passed.
     ghost moment: { Self → ℕ };
 
-    /// What a crash at that moment, one up to now, may have left.
+    /// The contents that a crash may have left at a moment, from 0 up to the present one.
     ghost image: { Self → ℕ → List ℕ → Type 0 };
 
     /// How many calls have failed.
     ghost faults: { Self → ℕ };
 
-    /// What may still be asked before room is given again.
+    /// What may still be written before room is given again.
     ghost allowance: { Self → Left };
 
-    /// How often it was armed, and with what last.
+    /// How often the disk was armed, and the last fault that it was armed with.
     ghost armings: { Self → Armed };
 
-    /// The length.
+    /// The length in octets.
     fn len(&mut self) -> Result<u64, DiskFailed>
         ensures len { IsTrue (is_honest self.old) → IfOk result (λ n. n ≡ length (content self.old)) }
         ensures content { content self.new ≡ content self.old }
@@ -43,7 +44,7 @@ pub trait Disk {
         ensures allowance { allowance self.new ≡ allowance self.old }
         ensures armings { armings self.new ≡ armings self.old };
 
-    /// Fills the buffer with the octets from there on.
+    /// Fills the buffer with the octets from place `at` on.
     fn read(&mut self, at: u64, into: &mut [u8]) -> Result<(), DiskFailed>
         requires { IsTrue (is_honest self.old) → at + length into.old ≤ length (content self.old) }
         ensures bytes { IsTrue (is_honest self.old) → OnOk result (into.new ≡ take (length into.old) (drop at (content self.old))) }
@@ -54,8 +55,8 @@ pub trait Disk {
         ensures allowance { allowance self.new ≡ allowance self.old }
         ensures armings { armings self.new ≡ armings self.old };
 
-    /// Writes over what is there, and past the end. Until a sync, a crash may leave any octets in the range. After a
-    /// failure the range may have any of these states.
+    /// Writes octets at place `at`, over old octets and past the old end. Until a sync, a crash may leave any octets in
+    /// this range. So may a failure.
     fn write_at(&mut self, at: u64, bytes: &[u8]) -> Result<(), DiskFailed>
         requires { MayWrite (is_honest self.old) (content self.old) (allowance self.old) at (length bytes.now) }
         ensures written { IsTrue (is_honest self.old) → OnOk result (content self.new ≡ overlaid at bytes.now (content self.old)) }
@@ -67,7 +68,7 @@ pub trait Disk {
         ensures allowance { allowance self.new ≡ after_write (length bytes.now) (allowance self.old) }
         ensures armings { armings self.new ≡ armings self.old };
 
-    /// After it, what a read gives is the only image.
+    /// Makes the content durable: after a sync that succeeds it is the only image.
     fn sync(&mut self) -> Result<(), DiskFailed>
         requires { (allowance self.old).used < 16 }
         ensures durable { IsTrue (is_honest self.old) → OnOk result (Only (content self.old) (image self.new (moment self.new))) }
@@ -80,7 +81,7 @@ pub trait Disk {
         ensures err { OnErr result (allowance self.new ≡ allowance self.old) }
         ensures armings { armings self.new ≡ armings self.old };
 
-    /// Takes the memory for writes up to that end, and for what the disk keeps of its next 16 used calls.
+    /// Allocates the memory for writes up to this end, and for the record of the next 16 used calls.
     fn room(&mut self, end: u64) -> Result<(), Memory>
         ensures ok { OnOk result (allowance self.new ≡ after_room end (allowance self.old)) }
         ensures err { OnErr result (self.new ≡ self.old) }
@@ -90,7 +91,7 @@ pub trait Disk {
         ensures honest { is_honest self.new ≡ is_honest self.old }
         ensures armings { armings self.new ≡ armings self.old };
 
-    /// Sets one fault, in place of an older one.
+    /// Sets a fault. It replaces an older one.
     fn arm(&mut self, arm: Arm)
         requires { (armings self.old).count < 2 ^ 32 }
         ensures armings { armings self.new ≡ record { count = (armings self.old).count + 1; last = Some arm } }
@@ -100,7 +101,7 @@ pub trait Disk {
         ensures honest { is_honest self.new ≡ is_honest self.old }
         ensures allowance { allowance self.new ≡ allowance self.old };
 
-    /// After a cut the content is the image that the cut left. Else it changes nothing.
+    /// Revives the disk after a cut: its content is then the image that the cut left. Without a cut, nothing changes.
     fn revive(&mut self)
         ensures image { IsTrue (is_honest self.old) → image self.old (moment self.old) (content self.new) }
         ensures images { (c : List ℕ) → image self.new (moment self.new) c → image self.old (moment self.old) c }
@@ -110,6 +111,6 @@ pub trait Disk {
         ensures allowance { allowance self.new ≡ allowance self.old }
         ensures armings { armings self.new ≡ armings self.old };
 
-    /// What a read gives is one of the images.
+    /// The content is one of the images.
     ghost content_is_image: { (disk : Self) → IsTrue (is_honest disk) → image disk (moment disk) (content disk) };
 }

@@ -9,7 +9,7 @@ use std::fs;
 use std::marker::Model;
 use std::os::unix::fs::FileExt;
 
-/// A disk over a file of the standard library. It tells nothing of its content, and counts each error.
+/// A disk over a file, through the standard library. Contracts know nothing of its content. Each error is counted.
 #[derive(Drop)]
 pub struct FileDisk {
     file: fs::File,
@@ -27,7 +27,7 @@ impl Model for FileDisk {
 }
 
 impl FileDisk {
-    /// A disk over this file, that has not failed yet.
+    /// A disk over this file, with no failure so far.
     pub fn new(file: fs::File) -> Self
         ensures { result ≡ record { faults = 0; allowance = no_room; armings = record { count = 0; last = None } } }
     {
@@ -39,7 +39,7 @@ impl FileDisk {
         }
     }
 
-    // Counts a failure.
+    // Counts a failure, if there was one.
     fn answer(&mut self, done: bool) -> Result<(), DiskFailed>
         ensures cause { HasCause self.old.faults self.new.faults result }
         ensures same { (self.new.allowance ≡ self.old.allowance) × (self.new.armings ≡ self.old.armings) }
@@ -54,7 +54,7 @@ impl FileDisk {
     }
 }
 
-// Fills the buffer from there on. The answer is whether that was all.
+// Fills the buffer from place `at` on. The answer is whether the buffer was filled.
 fn read_whole(file: &fs::File, at: u64, into: &mut [u8]) -> bool {
     let mut done = 0;
     for _ in 0..u64::MAX {
@@ -70,7 +70,7 @@ fn read_whole(file: &fs::File, at: u64, into: &mut [u8]) -> bool {
     false
 }
 
-// Writes all of the bytes from there on. The answer is whether that was all.
+// Writes the bytes from place `at` on. The answer is whether all were written.
 fn write_whole(file: &fs::File, at: u64, bytes: &[u8]) -> bool {
     let mut done = 0;
     for _ in 0..u64::MAX {

@@ -1,4 +1,4 @@
-// What a disk in memory holds, and the record of its used calls.
+// The content of a disk in memory, and the record of its used calls.
 ghost use Rattle.std.specs.Prelude.{◌≡◌, ◌+◌, ◌-◌, ◌≤◌, ◌<◌, ◌++◌, ◌∷◌, [], ℕ, min, max, length, take, drop, map, IfOk, OnOk, OnErr, replicate, vec_len, vec_capacity};
 ghost use Rattle.disk_model.specs.Images.{overlaid};
 ghost use Rattle.disk_model.specs.Record.{Wrote, Synced, held, replayed, revived};
@@ -10,7 +10,7 @@ use crate::Image;
 use qkd_base::Memory;
 use std::alloc::Global;
 
-/// A range that was written, and what is held of it.
+/// A range that was written, and what the disk holds of it.
 #[derive(Clone, Copy, Debug, PartialEq, Eq)]
 pub struct Range {
     pub at: usize,
@@ -19,25 +19,25 @@ pub struct Range {
     pub state: Image,
 }
 
-/// A used call. The octets of a write stand in the log.
+/// A used call. The octets of a write are in the log.
 #[derive(Clone, Copy, Debug, PartialEq, Eq)]
 pub enum UsedCall {
     Wrote(Range),
     Synced,
 }
 
-/// The content, and the record that it is made of.
+/// The content, and the record from which it can be made again.
 #[derive(Debug, Drop)]
 pub struct History {
     pub first: Vec<u8>,
     pub content: Vec<u8>,
     pub log: Vec<u8>,
     pub calls: Vec<UsedCall>,
-    // How many of the calls came up to the last sync.
+    // How many of the calls the last sync made durable.
     pub synced: usize,
 }
 
-// Octets laid over a content that has the memory for them.
+// Lays octets over a content that has memory for them.
 fn lay(content: &mut Vec<u8>, at: usize, bytes: &[u8])
     requires room { at + length bytes.now ≤ vec_capacity content.old }
     ensures laid { content.new.items ≡ overlaid at bytes.now content.old.items }
@@ -55,7 +55,7 @@ fn lay(content: &mut Vec<u8>, at: usize, bytes: &[u8])
     }
 }
 
-// The same with so many times EE.
+// Lays this many octets EE over a content that has memory for them.
 fn fill(content: &mut Vec<u8>, at: usize, count: usize)
     requires room { at + count ≤ vec_capacity content.old }
     ensures laid { content.new.items ≡ overlaid at (replicate count 238) content.old.items }
@@ -74,7 +74,7 @@ fn fill(content: &mut Vec<u8>, at: usize, count: usize)
 }
 
 impl UsedCall {
-    // The call after a cut that left this image, on a disk that then has so many octets.
+    // The call as it is recorded after a cut with this image, on a disk that then has `size` octets.
     fn marked(self, image: Image, size: usize) -> UsedCall
         ensures { result ≡ marked_call image size self }
     {
@@ -93,7 +93,7 @@ impl UsedCall {
     }
 }
 
-// Marks each of the calls.
+// Marks each of the calls with the image of a cut.
 fn mark(calls: &mut [UsedCall], image: Image, size: usize)
     ensures { calls.new ≡ map (marked_call image size) calls.old }
 {
@@ -102,7 +102,7 @@ fn mark(calls: &mut [UsedCall], image: Image, size: usize)
     }
 }
 
-// Marks the calls after so many.
+// Marks each call after the first `synced` ones.
 fn mark_behind(calls: &mut Vec<UsedCall>, synced: usize, image: Image, size: usize)
     requires { synced ≤ length calls.old.items }
     ensures items { calls.new.items ≡ take synced calls.old.items ++ map (marked_call image size) (drop synced calls.old.items) }
@@ -112,7 +112,7 @@ fn mark_behind(calls: &mut Vec<UsedCall>, synced: usize, image: Image, size: usi
     mark(&mut calls[synced..], image, size);
 }
 
-// Lays what is held of a write over the content.
+// Lays over the content what the disk holds of a write.
 fn hold(content: &mut Vec<u8>, range: Range, bytes: &[u8])
     requires end { range.at + length bytes.now ≤ vec_capacity content.old }
     requires inside { range.inside ≤ length bytes.now }
@@ -126,7 +126,7 @@ fn hold(content: &mut Vec<u8>, range: Range, bytes: &[u8])
     }
 }
 
-// Replays one call, and answers the log after its octets.
+// Replays one call. The answer is the log after the octets of this call.
 fn step<'a>(content: &mut Vec<u8>, call: UsedCall, log: &'a [u8]) -> &'a [u8]
     requires log { octets_in call ≤ length log.now }
     requires ends { EndWithin (vec_capacity content.old) (call ∷ []) }
@@ -143,7 +143,7 @@ fn step<'a>(content: &mut Vec<u8>, call: UsedCall, log: &'a [u8]) -> &'a [u8]
     }
 }
 
-// Makes the content again from the first one and the calls.
+// Makes the content anew, from the first content and the calls.
 fn replay(content: &mut Vec<u8>, first: &[u8], calls: &[UsedCall], log: &[u8])
     requires first { length first.now ≤ vec_capacity content.old }
     requires ends { EndWithin (vec_capacity content.old) calls.now }
@@ -176,7 +176,7 @@ impl History {
         })
     }
 
-    /// Takes the memory for a content up to that end, for so many octets of writes, and for 16 calls.
+    /// Allocates the memory for a content up to this end, for this many octets of writes, and for 16 calls.
     pub fn room(&mut self, end: usize) -> Result<(), Memory>
         requires { IsHistory self.old }
         ensures sound { IsHistory self.new }
@@ -193,7 +193,7 @@ impl History {
         Ok(())
     }
 
-    /// Writes octets, in memory that is there.
+    /// Writes octets, in memory that is already allocated.
     pub fn write(&mut self, at: usize, bytes: &[u8])
         requires sound { IsHistory self.old }
         requires room { HasRoom self.old (at + length bytes.now) (length bytes.now) 1 }
@@ -213,7 +213,7 @@ impl History {
         }));
     }
 
-    /// Notes a sync, in memory that is there.
+    /// Records a sync, in memory that is already allocated.
     pub fn sync(&mut self)
         requires sound { IsHistory self.old }
         requires room { HasRoom self.old 0 0 1 }
@@ -227,7 +227,7 @@ impl History {
         self.synced = self.calls.len();
     }
 
-    /// Makes the content the image of a cut.
+    /// Makes the content the image that a cut left.
     pub fn revive(&mut self, image: Image)
         requires { IsHistory self.old }
         ensures sound { IsHistory self.new }

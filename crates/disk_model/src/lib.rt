@@ -1,5 +1,5 @@
-//! A disk as a journal sees it: what a read gives, and what a crash at each moment may leave; a form in memory with
-//! faults to arm, and an adapter over a file.
+//! A disk as a journal sees it: reads, writes, syncs, and what a crash may leave. Forms in memory with faults, and over
+//! a file.
 #![tactic(auto)]
 
 mod allowance;
@@ -19,4 +19,3 @@ pub use failed::DiskFailed;
 pub use file_disk::FileDisk;
 pub use laws::what_a_cut_leaves;
 pub use mem_disk::MemDisk;
-pub use qkd_base;

@@ -16,8 +16,9 @@ use qkd_base::Memory;
 use std::alloc::Global;
 use std::marker::Model;
 
-/// A disk in memory. Calls of `len`, `read`, `write_at` and `sync` are numbered from 1; those on a list fail. It keeps
-/// a record of its used calls, from which it tells the images of each past moment.
+/// A disk in memory. Its calls of `len`, `read`, `write_at` and `sync` are numbered from 1, and those whose numbers are
+/// in the list `fails` fail. The disk keeps a record of its used calls, from which the images at each past moment
+/// follow.
 #[derive(Debug, Drop)]
 pub struct MemDisk {
     history: History,
@@ -38,7 +39,7 @@ impl Model for MemDisk {
 }
 
 impl MemDisk {
-    /// A disk with this content, all of it synced, and the numbers of the calls that are to fail.
+    /// A disk with this content, all of it synced. The list has the numbers of the calls that fail.
     pub fn new(alloc: Global, content: &[u8], fails: Vec<u64>) -> Result<Self, Memory>
         ensures { IfOk result (λ d. d ≡ record {
           first = content.now;
@@ -65,7 +66,7 @@ impl MemDisk {
     }
 }
 
-// Notes a sync, which is a used call where something is unsynced.
+// Records a sync. It is a used call if something was unsynced.
 fn settle(history: &mut History, allowance: &mut Allowance)
     requires sound { IsHistory history.old }
     requires used { allowance.old.used < 16 }

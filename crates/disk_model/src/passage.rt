@@ -6,13 +6,13 @@ ghost use Rattle.disk_model.specs.Plan.{call_of, due_at, passage_of, cut_after, 
 use crate::{Arm, Image};
 use std::marker::Model;
 
-/// How a call goes.
+/// How a call ends.
 #[derive(Clone, Copy, Debug, PartialEq, Eq)]
 pub enum Passage {
     Passes,
-    /// It fails and does nothing.
+    /// The call fails and has no effect.
     Fails,
-    /// It fails, and the power goes.
+    /// The call fails, and the power is cut.
     Cuts,
 }
 
@@ -28,7 +28,7 @@ impl Passage {
     }
 }
 
-/// The calls that are to fail, and the fault that is armed.
+/// The numbers of the calls that fail, and the fault that is armed.
 #[derive(Debug, Drop)]
 pub struct FaultPlan {
     fails: Vec<u64>,
@@ -58,7 +58,7 @@ impl Arm {
     }
 }
 
-// The fault that fires at the call of this number.
+// The armed fault, if it strikes the call of this number.
 fn due(armed: Option<Arm>, call: u32) -> Option<Arm>
     ensures { result ≡ due_at armed call }
 {
@@ -85,7 +85,7 @@ fn way_of(fault: Option<Arm>, cut: Option<Image>, listed: bool) -> Passage
     }
 }
 
-// The image of the cut after a fault: the first cut stays.
+// The image of the first cut: a later fault doesn't change it.
 fn cut_by(fault: Option<Arm>, cut: Option<Image>) -> Option<Image>
     ensures { result ≡ cut_after fault cut }
 {
@@ -96,7 +96,7 @@ fn cut_by(fault: Option<Arm>, cut: Option<Image>) -> Option<Image>
 }
 
 impl FaultPlan {
-    /// With the numbers of the calls that are to fail, the first call being 1.
+    /// The plan in which the calls of these numbers fail. The first call is 1.
     pub fn new(fails: Vec<u64>) -> Self
         ensures { result ≡ record { fails = fails.items; calls = 0; armed = None; since = 0; cut = None; faults = 0 } }
     {
@@ -110,7 +110,7 @@ impl FaultPlan {
         }
     }
 
-    /// Arms one fault, in place of an older one. Calls are counted anew.
+    /// Arms a fault, in place of an older one. Calls are counted from 1 again.
     pub fn arm(&mut self, arm: Arm)
         ensures { self.new ≡ record self.old { armed = Some arm; since = 0 } }
     {
@@ -118,7 +118,7 @@ impl FaultPlan {
         self.since = 0;
     }
 
-    /// Counts a call, and says how it goes.
+    /// Counts a call, and answers how it ends.
     pub fn pass(&mut self) -> Passage
         ensures passage { result ≡ passage_at self.old }
         ensures plan { self.new ≡ after_call self.old }
@@ -140,7 +140,7 @@ impl FaultPlan {
         way
     }
 
-    /// The image of the cut, which is over.
+    /// Ends a cut. The answer is the image that it left.
     pub fn revive(&mut self) -> Option<Image>
         ensures cut { result ≡ self.old.cut }
         ensures plan { self.new ≡ record self.old { cut = None } }

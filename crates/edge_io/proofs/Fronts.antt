@@ -1,11 +1,12 @@
--- Bytes that were moved from the front of those that are left.
+-- Bytes that a read moved from the front of those that were left.
 use Rattle.std.proofs.Common.{◌≡◌, ℕ, ◌+◌, ◌≤◌, ◌<◌, min, List, [], ◌++◌, length, take, drop, refl, sym, ap, ◌∙◌, arith, take-append-drop, drop-drop, drop_of_length-le, length-drop}
 
--- what is left behind a place in the bytes
+-- the bytes after the first at + n are those after the first n of what was left
 behind : (bytes left : List ℕ) (at n : ℕ) → drop at bytes ≡ left → drop (at + n) bytes ≡ drop n left
 behind bytes left at n is = sym (drop-drop n at bytes) ∙ ap (drop n) is
 
--- the bytes that were moved stood in front of what is now left, and where none were moved into some room nothing is left
+-- What was left is the bytes that were moved, and then what is left now. If none were moved and the buffer isn't empty,
+-- nothing was left.
 pub moved : (bytes left slice into : List ℕ) (at n room : ℕ) → drop at bytes ≡ left → slice ≡ left → n ≡ min (length slice) room → length into ≡ room → take n into ≡ take n slice →
     (left ≡ take n into ++ drop (at + n) bytes) × (n ≡ 0 → 0 < length into → drop (at + n) bytes ≡ [])
 moved bytes left slice into at n room is same count size front =

@@ -1,4 +1,4 @@
--- Writing in pieces: what was taken is a front of the bytes.
+-- Writing in pieces: the bytes that were taken are a prefix of those that were to be written.
 use Rattle.std.proofs.Common.{◌≡◌, ℕ, ◌+◌, ◌≤◌, List, ◌++◌, length, take, drop, refl, sym, ap, subst, ◌∙◌, arith, length-append}
 use Rattle.std.specs.Prelude.{Option}
 use Rattle.std.specs.Io.KnownBytes.{Appends, Keeps}
@@ -6,7 +6,7 @@ use Rattle.std.proofs.KnownBytes.{Appends-nil, Appends-trans, Appends-kept}
 use Rattle.std.proofs.lemmas.List.{take-append-drop, length-take-le, take_at, append_assoc, take_all}
 use Rattle.edge_io.specs.Writes.{AppendsPrefix}
 
--- the rest is still to be written, and the bytes before it were taken
+-- `rest` is still to be written, and the bytes before it were taken
 pub record Wrote (old now : Option (List ℕ)) (bytes rest : List ℕ) : Type 0 where
   pub count : ℕ
   pub front : bytes ≡ take count bytes ++ rest
@@ -35,7 +35,7 @@ wrote_more old now next bytes rest k le more w =
 pub wrote_prefix : (old now : Option (List ℕ)) (bytes rest : List ℕ) → Wrote old now bytes rest → AppendsPrefix old now bytes
 wrote_prefix old now bytes rest w = (w.count, w.taken)
 
--- known bytes stay as they were
+-- a step that keeps the known bytes keeps what was written
 pub prefix_kept : (old now next : Option (List ℕ)) (bytes rest : List ℕ) → Wrote old now bytes rest → Keeps now next → Wrote old next bytes rest
 prefix_kept old now next bytes rest w k = record { count = w.count; front = w.front; taken = Appends-kept old now next _ w.taken k; short = w.short }
 

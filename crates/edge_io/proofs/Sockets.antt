@@ -34,6 +34,6 @@ module _ {X : Type 0} where
       let n = position_or_len p xs in
       ap₂ (λ (a b : List X). a ++ b) (take_all n xs past) (drop_of_length-le xs {i = suc n} (omega (arith, past))) ∙ append-nil xs
 
-  -- what was found passes the test
+  -- the item that was found passes the test
   pub found_passes : (p : X → Bool) (xs : List X) (i : ℕ) (x : X) → position p xs ≡ Some i → x ≡ slice_index_or xs i x → p x ≡ true
   found_passes p xs i x e at = ap p at ∙ (position-Some p xs i x e).1

@@ -1,30 +1,32 @@
--- Listeners and ports in memory as values. Calls are numbered from 0, and those on the list `fails` fail.
+-- Listeners and ports in memory as values. Calls are numbered from 0, and those whose numbers are in the list `fails`
+-- fail.
 use Rattle.std.specs.Prelude.{◌≡◌, ℕ, Bool, List, [], ◌∷◌, map, Option, Some, None, is_none, find, remove, ◌==◌, ◌||◌, length, nat_eq}
 use Rattle.std.specs.List.{position_or_len}
 use Rattle.edge_io.specs.declared.ended.Ended.{Ended}
 use Rattle.edge_io.specs.Forms.{SourceForm, SinkForm, is_listed}
 use Rattle.edge_io.specs.Connections.{Finished}
 
--- a connection that waits: what its peer sends, the room for what goes to the peer, and the calls at its ends that fail
+-- a waiting connection: what its peer sends, how many bytes its sink has room for, and the calls that fail at its
+-- source and at its sink
 pub record ConnectionForm : Type 0 where
   pub sent : List ℕ
   pub read_fails : List ℕ
   pub room : ℕ
   pub write_fails : List ℕ
 
--- the ends of such a connection as it is accepted
+-- the source and the sink of a connection when it is accepted
 abbrev pub source_of : ConnectionForm → SourceForm
 source_of c = record { left = c.sent; fails = c.read_fails; calls = 0; faults = 0 }
 
 abbrev pub sink_of : ConnectionForm → SinkForm
 sink_of c = record { taken = []; pieces = []; room = c.room; fails = c.write_fails; calls = 0; faults = 0 }
 
--- what waits for one listener
+-- the connections that wait for one listener
 pub record QueueForm : Type 0 where
   pub waiting : List ConnectionForm
   pub fails : List ℕ
 
--- a port that can be opened: what waits for its listener, and for each twin of it
+-- a port that can be opened: the queue of its listener, and a queue for each of that listener's twins
 pub record SocketForm : Type 0 where
   pub port : ℕ
   pub first : QueueForm
@@ -40,19 +42,19 @@ pub record ListenerForm : Type 0 where
   pub calls : ℕ
   pub faults : ℕ
 
--- a listener that nobody has asked anything
+-- a listener before its first call
 abbrev pub door_of : ℕ → QueueForm → List QueueForm → ListenerForm
 door_of port queue twins = record { port = port; waiting = queue.waiting; done = []; twins = twins; accepted = 0; fails = queue.fails; calls = 0; faults = 0 }
 
 abbrev pub listener_of : SocketForm → ListenerForm
 listener_of s = door_of s.port s.first s.twins
 
--- what the peers send
+-- what the peers of these connections send
 abbrev pub sent_of : List ConnectionForm → List (List ℕ)
 sent_of cs = map (λ (c : ConnectionForm). c.sent) cs
 
 pub record PortsForm : Type 0 where
-  -- those that were not opened yet
+  -- the sockets that were not opened yet
   pub sockets : List SocketForm
   pub asked : List ℕ
   pub back : List ListenerForm

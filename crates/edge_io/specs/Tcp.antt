@@ -1,4 +1,4 @@
--- A listener over TCP as a value: its numbers alone.
+-- A listener over TCP as a value. Contracts know its port and its counts, nothing else.
 use Rattle.std.specs.Prelude.{ℕ, List, Option, None}
 
 pub record TcpForm : Type 0 where
@@ -7,6 +7,6 @@ pub record TcpForm : Type 0 where
   pub finished : ℕ
   pub faults : ℕ
 
--- it tells nothing of what was asked for
+-- contracts don't know which ports were asked for
 abbrev pub untold_asked : Option (List ℕ)
 untold_asked = None

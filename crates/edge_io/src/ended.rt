@@ -1,14 +1,12 @@
-// How a connection ended.
-
 /// How a connection ended.
 #[derive(Clone, Copy, Debug, PartialEq, Eq)]
 pub enum Ended {
-    /// The input was at its end, or the last request or response closed it.
+    /// The input ended, or the last request or response closed the connection.
     Closed,
     /// The source failed.
     ReadFault,
     /// The sink failed.
     WriteFault,
-    /// Memory was wanting.
+    /// Memory ran out.
     Memory,
 }

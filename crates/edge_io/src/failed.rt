@@ -1,8 +1,8 @@
-// A call on the outside that failed.
+// An outside call that failed.
 use std::error::Error;
 use std::fmt;
 
-/// A read or a write that failed. The object's count of faults rose.
+/// The error of a read, a write, an accept or an opening that failed. The object's count of faults rose.
 #[derive(Clone, Copy, Debug, PartialEq, Eq)]
 pub struct Failed;
 

@@ -1,12 +1,10 @@
-// Where workers can be held.
-
-/// Where the workers of a block can be held, so that a test sees that several are at work at once. Neither call has a
-/// meaning for any answer.
+/// A gate can hold the workers of a block, so that a test sees several of them at work at once. Its calls have no
+/// effect on any result.
 pub trait Gate: Sync {
-    /// A worker is about to do its job of this number, counted from 0, or is past its last one.
+    /// A worker is about to do its job of this number, counted from 0, or has done its last one.
     fn pass(&self, worker: u32, turn: u32);
 
-    /// Bytes of a link's lane from this offset on are claimed, and are about to be sealed.
+    /// A worker has claimed bytes of a lane of this link, from this offset on, and is about to seal a frame with them.
     fn seal(&self, link: u8, offset: u64);
 }
 

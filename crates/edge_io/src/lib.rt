@@ -1,6 +1,6 @@
-//! The outside as traits: what a source has left, what a sink took, which connections wait and which were finished, and
-//! how often each failed; their forms in memory, and adapters over the standard library's readers, writers and TCP
-//! listeners.
+//! Sources, sinks, listeners and ports as traits, with forms in memory for tests, and adapters over the standard
+//! library. Contracts see what a source has left, what a sink took, which connections wait, which were finished, and
+//! how often each failed.
 #![tactic(auto)]
 
 mod ended;
@@ -34,7 +34,6 @@ pub use mem_sink::MemSink;
 pub use mem_socket::MemSocket;
 pub use mem_source::MemSource;
 pub use ports::Ports;
-pub use qkd_base;
 pub use read_source::ReadSource;
 pub use sink::Sink;
 pub use source::Source;

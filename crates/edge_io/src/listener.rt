@@ -1,4 +1,4 @@
-// Where connections come from.
+// Listeners, which accept connections.
 ghost use Rattle.std.specs.Prelude.{◌≡◌, ◌+◌, ◌<◌, ◌^◌, ◌∷◌, [], List, ℕ, Option, OnOk, IfOk, MatchResult, IsSome};
 ghost use Rattle.qkd_base.specs.Faults.{HasCause};
 ghost use Rattle.edge_io.specs.Writes.{Adds};
@@ -6,32 +6,34 @@ ghost use Rattle.edge_io.specs.Connections.{Finished, IsNext, IsNewDoor};
 
 use crate::{Ended, Failed, Sink, Source};
 
-/// Where the connections of one port come from. A connection has a source, which gives what its peer sends, and a sink,
-/// which takes what goes to the peer.
+/// A listener accepts the connections of one port. A connection has a source, which gives the bytes that its peer
+/// sends, and a sink, which takes the bytes that go to the peer.
 pub trait Listener {
     type In: Source;
 
     type Out: Sink;
 
-    /// The number of its port.
+    /// The number of the listener's port.
     ghost port: { Self → ℕ };
 
-    /// How many connections it accepted.
+    /// How many connections the listener accepted.
     ghost accepted: { Self → ℕ };
 
-    /// How many of them were finished.
+    /// How many of the accepted connections were finished.
     ghost finished: { Self → ℕ };
 
-    /// The connections that wait, each as the bytes that its peer sends, where they are told.
+    /// The connections that wait, in order, each as the bytes that its peer sends. `None` where contracts don't know
+    /// them.
     ghost waiting: { Self → Option (List (List ℕ)) };
 
-    /// The connections that were finished, in this order, where they are told.
+    /// The finished connections, in order. `None` where contracts don't know them.
     ghost done: { Self → Option (List Finished) };
 
-    /// How often an accept or a twin failed.
+    /// How often a call of `accept` or `twin` failed.
     ghost faults: { Self → ℕ };
 
-    /// Gives the ends of the next connection, which have not failed yet. A failure takes none.
+    /// Accepts the next connection and gives its source and its sink, neither of which has failed yet. A failure
+    /// accepts no connection.
     fn accept(&mut self) -> Result<(Self::In, Self::Out), Failed>
         requires few { accepted self.old < 2 ^ 32 }
         ensures next { MatchResult result
@@ -42,7 +44,7 @@ pub trait Listener {
         ensures calm { OnOk result (faults self.new ≡ faults self.old) }
         ensures same { (port self.new ≡ port self.old) × (finished self.new ≡ finished self.old) × (done self.new ≡ done self.old) };
 
-    /// Takes the ends of a connection back, with how it ended, and closes it.
+    /// Takes the source and the sink of a connection back, with the way it ended, and closes the connection.
     fn finish(&mut self, source: Self::In, sink: Self::Out, ended: Ended)
         requires open { finished self.old < accepted self.old }
         ensures finished { finished self.new ≡ finished self.old + 1 }
@@ -55,7 +57,7 @@ pub trait Listener {
         } ∷ []) }
         ensures same { (port self.new ≡ port self.old) × (accepted self.new ≡ accepted self.old) × (waiting self.new ≡ waiting self.old) × (faults self.new ≡ faults self.old) };
 
-    /// A second listener of the same port. What waits for this one stays with it.
+    /// A second listener of the same port. The connections that wait for the first one stay with it.
     fn twin(&mut self) -> Result<Self, Failed>
     where
         Self: Sized,

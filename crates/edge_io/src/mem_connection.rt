@@ -27,8 +27,8 @@ impl Model for MemConnection {
 }
 
 impl MemConnection {
-    /// A connection whose peer sends these bytes and has room for so many, with the numbers of the reads and of the
-    /// writes that are to fail.
+    /// A connection whose peer sends these bytes and whose sink has room for `room` bytes. The lists have the numbers
+    /// of the reads and of the writes that fail.
     pub fn new(
         alloc: Global,
         sent: Vec<u8>,
@@ -45,7 +45,7 @@ impl MemConnection {
         })
     }
 
-    // Its ends.
+    // The source and the sink of the connection.
     pub(crate) fn into_ends(self) -> (MemSource, MemSink)
         ensures source { result.0 ≡ source_of self }
         ensures sink { result.1 ≡ sink_of self }
@@ -55,7 +55,7 @@ impl MemConnection {
     }
 }
 
-/// A connection that was finished.
+/// A connection that was finished, with its source, its sink and the way it ended.
 #[derive(Debug, Drop)]
 pub struct MemFinished {
     pub source: MemSource,

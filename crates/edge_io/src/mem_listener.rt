@@ -12,9 +12,9 @@ use crate::{
 use std::collections::VecDeque;
 use std::marker::Model;
 
-/// A listener whose connections stand in memory. Its calls of `accept` and `twin` are numbered together from 0; those
-/// on a list fail, and so does an accept where no connection waits and a twin where no queue is left. A call that fails
-/// takes nothing. A twin has no twins of its own.
+/// A listener whose connections are in memory. Its calls of `accept` and `twin` are numbered together from 0. A call
+/// fails if its number is in the list `fails`. An accept also fails if no connection waits, and a twin if no queue is
+/// left for it. A call that fails changes only the counts of calls and faults. A twin has no twins of its own.
 #[derive(Debug, Drop)]
 pub struct MemListener {
     port: u16,
@@ -45,7 +45,7 @@ impl Model for MemListener {
 impl MemListener {
     ghost use Rattle.edge_io.specs.Done.{done_of};
 
-    // A listener that nobody has asked anything.
+    // A listener before its first call.
     fn of_queue(port: u16, queue: MemQueue, twins: VecDeque<MemQueue>) -> Self
         ensures { result ≡ door_of port queue twins.items }
     {
@@ -66,7 +66,7 @@ impl MemListener {
         }
     }
 
-    /// The listener of this port.
+    /// The listener of this socket's port.
     pub fn new(socket: MemSocket) -> Self
         ensures { result ≡ listener_of socket }
     {
@@ -74,7 +74,7 @@ impl MemListener {
         MemListener::of_queue(port, first, twins)
     }
 
-    /// The connections that were finished, in this order.
+    /// The finished connections, in order.
     pub fn done(&self) -> &[MemFinished]
         ensures { done_of result.now ≡ self.now.done }
     {

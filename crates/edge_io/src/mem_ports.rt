@@ -1,4 +1,4 @@
-// Ports in memory.
+// The ports of a machine, in memory.
 ghost use Rattle.std.specs.Prelude.{◌≡◌, ◌<◌, ◌||◌, ◌++◌, ◌∷◌, [], Some, length, is_err, is_none, OnOk, OnErr, IfOk, IsSome, IsNone, IfSome, option_map, position};
 ghost use Rattle.qkd_base.specs.Faults.{HasCause, one_more};
 ghost use Rattle.edge_io.specs.Writes.{Adds};
@@ -13,9 +13,9 @@ use std::marker::Model;
 
 const MOST: usize = 65536;
 
-/// Ports in memory. Openings are numbered from 0; those on a list fail, and so does one of a port that none of the
-/// sockets has, or none any more. It has room for the numbers of 65,536 ports that were asked for and for as many
-/// listeners that come back.
+/// The ports of a machine, in memory. Openings are numbered from 0. An opening fails if its number is in the list
+/// `fails`, or if no socket of its port is left. There is room for 65,536 ports that were asked for and for 65,536
+/// listeners that came back.
 #[derive(Debug, Drop)]
 pub struct MemPorts {
     sockets: Vec<MemSocket>,
@@ -38,7 +38,7 @@ impl Model for MemPorts {
 }
 
 impl MemPorts {
-    /// These ports, with the numbers of the openings that are to fail.
+    /// The ports of these sockets. The list has the numbers of the openings that fail.
     pub fn new(alloc: Global, sockets: Vec<MemSocket>, fails: Vec<u64>) -> Result<Self, Memory>
         ensures { IfOk result (λ p. p ≡ record { sockets = sockets.items; asked = []; back = []; fails = fails.items; calls = 0; faults = 0 }) }
     {
@@ -54,14 +54,14 @@ impl MemPorts {
         })
     }
 
-    /// The ports that were asked for, in this order.
+    /// The ports that were asked for, in order.
     pub fn asked(&self) -> &[u16]
         ensures { result.now ≡ self.now.asked }
     {
         self.asked.as_slice()
     }
 
-    /// The listeners that came back, in this order.
+    /// The listeners that came back, in order.
     pub fn back(&self) -> &[MemListener]
         ensures { result.now ≡ self.now.back }
     {
@@ -69,14 +69,14 @@ impl MemPorts {
     }
 }
 
-// The place of the first socket of a port.
+// The place of the first socket of this port.
 fn place_of(sockets: &[MemSocket], port: u16) -> Option<usize>
     ensures { result ≡ position (has_port port) sockets.now }
 {
     sockets.iter().position(|socket| socket.port() == port)
 }
 
-// Takes the first socket of a port out of a list.
+// Removes the first socket of this port from a list.
 #[tactic(auto, using(crate::proofs::Sockets::found, crate::proofs::Sockets::found_rest, crate::proofs::Sockets::found_passes, crate::proofs::Sockets::missed, crate::proofs::Sockets::missed_rest))]
 fn take_socket(sockets: &mut Vec<MemSocket>, port: u16) -> Option<MemSocket>
     ensures first { result ≡ socket_at port sockets.old.items }

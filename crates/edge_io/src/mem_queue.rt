@@ -1,4 +1,4 @@
-// What waits for a listener in memory.
+// The connections that wait for a listener in memory.
 ghost use Rattle.std.specs.Prelude.{◌≡◌, IfOk};
 
 use crate::{MemConnection, MemFinished};
@@ -7,8 +7,8 @@ use std::alloc::Global;
 use std::collections::VecDeque;
 use std::marker::Model;
 
-/// The connections that wait for one listener, with room for them where they will be finished, and the numbers of its
-/// calls that are to fail.
+/// The connections that wait for one listener, with room to keep them when they are finished. The list `fails` has the
+/// numbers of the listener's calls that fail.
 #[derive(Debug, Drop)]
 pub struct MemQueue {
     pub(crate) waiting: VecDeque<MemConnection>,
@@ -29,7 +29,7 @@ impl Model for MemQueue {
 }
 
 impl MemQueue {
-    /// These connections, in this order.
+    /// The queue of these connections, in order.
     pub fn new(alloc: Global, waiting: Vec<MemConnection>, fails: Vec<u64>) -> Result<Self, Memory>
         ensures { IfOk result (λ q. q ≡ record { waiting = waiting.items; fails = fails.items }) }
     {

@@ -9,8 +9,9 @@ use qkd_base::Memory;
 use std::alloc::Global;
 use std::marker::Model;
 
-/// A sink in memory, with room for so many bytes in as many pieces, which it takes when it is made. Calls are numbered
-/// from 0; those on a list fail, and so does one that passes the room. A call that fails takes nothing.
+/// A sink in memory, with room for a number of bytes and for as many pieces. Its memory is allocated when it is made.
+/// Calls are numbered from 0. A call fails if its number is in the list `fails`, or if the room doesn't suffice. A call
+/// that fails takes nothing.
 #[derive(Debug, Drop)]
 pub struct MemSink {
     bytes: Vec<u8>,
@@ -36,8 +37,7 @@ impl Model for MemSink {
 }
 
 impl MemSink {
-    /// An empty sink with room for so many bytes, and for as many pieces, and with the numbers of the calls that are
-    /// to fail.
+    /// An empty sink with room for `room` bytes and as many pieces. The list has the numbers of the calls that fail.
     pub fn new(alloc: Global, room: usize, fails: Vec<u64>) -> Result<Self, Memory>
         ensures { IfOk result (λ sink. sink ≡ record { taken = []; pieces = []; room = room; fails = fails.items; calls = 0; faults = 0 }) }
     {
@@ -60,7 +60,7 @@ impl MemSink {
         self.bytes.as_slice()
     }
 
-    // Whether a piece of so many bytes passes the room.
+    // Whether the room doesn't suffice for a piece of this many bytes.
     #[tactic(auto, using(crate::proofs::Cuts::length_cut))]
     fn passes_room(&self, more: usize) -> bool
         ensures passes { result ≡ (nat_lt self.now.room (length self.now.taken + more) || nat_le self.now.room (length self.now.pieces)) }

@@ -1,11 +1,11 @@
-// A port in memory.
+// A port in memory that can be opened.
 ghost use Rattle.std.specs.Prelude.{◌≡◌};
 
 use crate::MemQueue;
 use std::collections::VecDeque;
 use std::marker::Model;
 
-/// A port that can be opened: what waits for its listener, and for each twin of that listener.
+/// A port that can be opened. It has a queue for its listener, and one for each twin of that listener.
 #[derive(Debug, Drop)]
 pub struct MemSocket {
     pub(crate) port: u16,
@@ -22,7 +22,7 @@ impl Model for MemSocket {
 }
 
 impl MemSocket {
-    /// The port of this number. The first queue is its listener's, the others are for the twins, in this order.
+    /// The port of this number. The first queue is the listener's. The others are those of its twins, in order.
     pub fn new(port: u16, first: MemQueue, twins: Vec<MemQueue>) -> Self
         ensures { result ≡ record { port = port; first = first; twins = twins.items } }
     {
@@ -33,7 +33,7 @@ impl MemSocket {
         }
     }
 
-    // Its number.
+    // The number of the port.
     pub(crate) fn port(&self) -> u16
         ensures { result ≡ self.now.port }
     {

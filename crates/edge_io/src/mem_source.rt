@@ -8,7 +8,8 @@ ghost use Rattle.edge_io.specs.Forms.{is_listed};
 use crate::{Failed, Source};
 use std::marker::Model;
 
-/// A source over bytes in memory. Calls are numbered from 0; those on a list fail, and give nothing.
+/// A source over bytes in memory. Calls are numbered from 0. A call whose number is in the list `fails` fails, and
+/// gives nothing.
 #[derive(Debug, Drop)]
 pub struct MemSource {
     bytes: Vec<u8>,
@@ -30,7 +31,7 @@ impl Model for MemSource {
 }
 
 impl MemSource {
-    /// A source of these bytes, with the numbers of the calls that are to fail.
+    /// A source of these bytes. The list has the numbers of the calls that fail.
     pub fn new(bytes: Vec<u8>, fails: Vec<u64>) -> Self
         ensures { result ≡ record { left = bytes.items; fails = fails.items; calls = 0; faults = 0 } }
     {
@@ -51,7 +52,7 @@ impl MemSource {
     }
 }
 
-// Copies the front of one slice to the front of another, and answers how many bytes.
+// Copies as many bytes as fit from the front of one slice to the front of another. The answer is their number.
 fn fill(into: &mut [u8], from: &[u8]) -> usize
     ensures count { result ≡ min (length from.now) (length into.old) }
     ensures front { take result into.new ≡ take result from.now }
@@ -67,7 +68,7 @@ impl Source for MemSource {
 
     ghost faults = { λ s. s.faults };
 
-    /// The buffer behind what was read, and after a failure all of it, is as it was.
+    /// The part of the buffer after the bytes that were read is left as it was. So is the whole buffer after a failure.
     fn read(&mut self, into: &mut [u8]) -> Result<usize, Failed>
         ensures bound { ReadsAtMost result into.new }
         ensures bytes { ReadConsumes (Some self.old.left) (Some self.new.left) result into.new }

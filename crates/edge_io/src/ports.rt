@@ -1,4 +1,4 @@
-// Where listeners come from.
+// Ports, at which listeners are opened.
 ghost use Rattle.std.specs.Prelude.{◌≡◌, ◌<◌, ◌∷◌, [], List, ℕ, Option, OnOk, IfOk, IfSome, IsSome, length};
 ghost use Rattle.qkd_base.specs.Faults.{HasCause};
 ghost use Rattle.edge_io.specs.Writes.{Adds};
@@ -6,20 +6,20 @@ ghost use Rattle.edge_io.specs.Connections.{IsNewDoor};
 
 use crate::{Failed, Listener};
 
-/// The ports of a machine.
+/// The ports of a machine, at each of which a listener can be opened.
 pub trait Ports {
     type Door: Listener;
 
-    /// The ports that were asked for, in this order, where they are told.
+    /// The ports that were asked for, in order. `None` where contracts don't know them.
     ghost asked: { Self → Option (List ℕ) };
 
-    /// The listeners that came back, in this order, where they are told.
+    /// The listeners that came back, in order. `None` where contracts don't know them.
     ghost back: { Self → Option (List Self.Door) };
 
     /// How often an opening failed.
     ghost faults: { Self → ℕ };
 
-    /// Opens a port: a listener that nobody has asked anything.
+    /// Opens a port. The answer is its listener, before the listener's first call.
     fn open(&mut self, port: u16) -> Result<Self::Door, Failed>
         requires few { IfSome (asked self.old) (λ ports. length ports < 65536) }
         ensures asked { Adds (asked self.old) (asked self.new) (port ∷ []) }
@@ -28,7 +28,7 @@ pub trait Ports {
         ensures calm { OnOk result (faults self.new ≡ faults self.old) }
         ensures same { back self.new ≡ back self.old };
 
-    /// Takes a listener back, and closes it.
+    /// Takes a listener back and closes it.
     fn shut(&mut self, door: Self::Door)
         requires few { IfSome (back self.old) (λ doors. length doors < 65536) }
         ensures back { Adds (back self.old) (back self.new) (door ∷ []) }

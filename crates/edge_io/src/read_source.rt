@@ -8,8 +8,8 @@ use crate::{Failed, Source};
 use std::io::Read;
 use std::marker::Model;
 
-/// A source over any reader of the standard library. It tells what the reader tells, reads once for each call, and
-/// counts each error.
+/// A source over any reader of the standard library. It has the bytes that the reader has. Each call reads once, and
+/// each error is counted.
 #[derive(Drop)]
 pub struct ReadSource<R> {
     inner: R,
@@ -25,7 +25,7 @@ impl<R> Model for ReadSource<R> {
 }
 
 impl<R> ReadSource<R> {
-    /// A source over this reader, that has not failed yet.
+    /// A source over this reader, with no failure so far.
     pub fn new(inner: R) -> Self
         ensures { result ≡ (inner, 0) }
     {

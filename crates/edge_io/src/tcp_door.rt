@@ -9,8 +9,9 @@ use std::marker::Model;
 use std::net::{SocketAddr, TcpListener, TcpStream};
 use std::time::Duration;
 
-/// A listener over the system's TCP. It tells nothing of its connections, and counts each error. A read or a write at a
-/// connection that waits longer than its patience fails, so that a peer that does nothing ends its own connection alone.
+/// A listener over the system's TCP. Contracts know nothing of its connections. Each error is counted. A read or a
+/// write at a connection fails if it waits longer than `patience`, so a peer that does nothing ends only its own
+/// connection.
 #[derive(Drop)]
 pub struct TcpDoor {
     listener: TcpListener,
@@ -33,7 +34,7 @@ impl Model for TcpDoor {
 }
 
 impl TcpDoor {
-    /// A listener of this port that has accepted nothing yet.
+    /// A listener of this port before its first call.
     pub fn new(listener: TcpListener, port: u16, patience: Duration) -> Self
         ensures { result ≡ record { port = port; accepted = 0; finished = 0; faults = 0 } }
     {
@@ -47,14 +48,14 @@ impl TcpDoor {
         }
     }
 
-    /// The address that it listens on.
+    /// The address that the listener is bound to.
     pub fn address(&self) -> io::Result<SocketAddr> {
         self.listener.local_addr()
     }
 }
 
-// The next connection, twice: to read from and to write to. What is written goes out at once, since a peer that has asked
-// several times may wait for all answers before it says more.
+// The next connection as two streams: one to read from and one to write to. Each write is sent at once, since a peer
+// that sent several requests may wait for all responses before it sends more.
 fn next_stream(listener: &TcpListener, patience: Duration) -> io::Result<(TcpStream, TcpStream)> {
     let (stream, _) = listener.accept()?;
     stream.set_read_timeout(Some(patience))?;

@@ -11,7 +11,8 @@ use std::marker::Model;
 use std::net::{Ipv4Addr, Net, TcpListener, TcpStream};
 use std::time::Duration;
 
-/// The TCP ports of the loopback address 127.0.0.1. It tells nothing of what it was asked, and counts each error.
+/// The TCP ports of the loopback address 127.0.0.1. Contracts don't know which ports were asked for. Each error is
+/// counted.
 #[derive(Drop)]
 pub struct TcpPorts<'a, R> {
     net: &'a R,
@@ -28,8 +29,8 @@ impl<'a, R> Model for TcpPorts<'a, R> {
 }
 
 impl<'a, R> TcpPorts<'a, R> {
-    /// The ports of this machine, none of them opened yet. A read or a write at a connection fails where it waits longer than
-    /// the patience, which is more than nothing.
+    /// The ports of this machine, none of them opened yet. A read or a write at a connection fails if it waits longer
+    /// than `patience`, which must be more than zero.
     pub fn new(net: &'a R, patience: Duration) -> Self
         ensures { result ≡ 0 }
     {

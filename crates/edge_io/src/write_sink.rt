@@ -7,8 +7,9 @@ use crate::{Failed, Sink};
 use std::io::Write;
 use std::marker::Model;
 
-/// A sink over any writer of the standard library. It tells what the writer tells, hands each piece on at once and
-/// flushes behind it, and counts each piece that failed: by an error, or by a writer that takes no more.
+/// A sink over any writer of the standard library. It has taken the bytes that the writer has taken. It writes each
+/// piece at once and then flushes. It counts each piece that fails, by an error or because the writer takes no more
+/// bytes.
 #[derive(Drop)]
 pub struct WriteSink<W> {
     inner: W,
@@ -24,7 +25,7 @@ impl<W> Model for WriteSink<W> {
 }
 
 impl<W> WriteSink<W> {
-    /// A sink over this writer, that has not failed yet.
+    /// A sink over this writer, with no failure so far.
     pub fn new(inner: W) -> Self
         ensures { result ≡ (inner, 0) }
     {
@@ -39,7 +40,8 @@ impl<W> WriteSink<W> {
     }
 }
 
-// Writes all of the bytes, as far as it goes. The answer is whether that was all.
+// Writes all of the bytes and flushes. The answer is whether both succeeded. If a write fails, the bytes after it are
+// not written.
 fn write_whole<W: Write>(inner: &mut W, bytes: &[u8]) -> bool
     ensures { WritesUpTo (W.contents inner.old) (W.contents inner.new) result bytes.now }
 {

@@ -1,4 +1,4 @@
--- All keys of a pool that their masters haven't got, counted.
+-- The number of keys of a pool that their master hasn't got.
 use Rattle.std.proofs.Common.{◌≡◌, ℕ, zero, suc, ◌+◌, ◌%◌, ◌/◌, ◌<◌, ◌≤◌, min, Bool, true, false, cond, not, ◌&&◌, List, [], ◌∷◌, length, refl, sym, ◌∙◌, ap, arith, take, Option, Some, None}
 use Rattle.std.specs.Prelude.{slice_get, count_by, ◌==◌, if◌then◌else◌}
 use Rattle.std.proofs.lemmas.List.Sums.{sum_by-cons}
@@ -15,7 +15,7 @@ use Rattle.end_store.specs.Waiting.{is_free_key, is_free_key_at, IsNextWaiting, 
 use Rattle.end_store.specs.Pooled.{octets_pool}
 use Rattle.end_store.proofs.Gathered.{keyed, no_key}
 
--- how many pass, by recursion
+-- how many items of a list pass a test, by recursion
 abbrev pub number_of : {A : Type 0} → (A → Bool) → List A → ℕ
 number_of t [] = 0
 number_of t (x ∷ xs) = cond (t x) 1 0 + number_of t xs
@@ -32,7 +32,7 @@ none_of : (b : Bool) → b ≡ false → ◌≡◌ {A = ℕ} (cond b 1 0) 0
 none_of true h = cc
 none_of false h = refl
 
--- one more passes at a place, and none between
+-- if the item at a place passes and none before it does from `from` on, the number rises by one
 more : {A : Type 0} (t : A → Bool) (xs : List A) (from place : ℕ) (x : A) → from ≤ place → ((d : ℕ) (z : A) → from ≤ d → d < place → slice_get xs d ≡ Some z → t z ≡ false) →
     slice_get xs place ≡ Some x → t x ≡ true → number_of t (take (suc place) xs) ≡ number_of t (take from xs) + 1
 more t [] from place x le none g h = cc
@@ -46,7 +46,7 @@ more t (y ∷ ys) (suc f) (suc p) x le none g h =
     let r = more t ys f p x (omega arith) (λ d z low high k. none (suc d) z (omega arith) (omega arith) k) g h in
     omega arith
 
--- none passes from a place on
+-- if no item passes from a place on, the number up to this place is that of all
 rest : {A : Type 0} (t : A → Bool) (xs : List A) (from : ℕ) → ((d : ℕ) (z : A) → from ≤ d → slice_get xs d ≡ Some z → t z ≡ false) → number_of t (take from xs) ≡ number_of t xs
 rest t [] zero none = refl
 rest t [] (suc f) none = refl
@@ -68,7 +68,7 @@ same_count : {A : Type 0} (t s : A → Bool) (xs : List A) → ((x : A) → t x 
 same_count t s [] h = refl
 same_count t s (x ∷ xs) h = ap (λ (b : Bool). cond b 1 0 + number_of t xs) (h x) ∙ ap (λ (n : ℕ). cond (s x) 1 0 + n) (same_count t s xs h)
 
--- so many waiting keys of the stock were counted
+-- `count` waiting keys of the pool were found before the place `from`
 
 pub record HasStock (me : ℕ) (facts : List Fact) (handed : List (Name × ℕ)) (p : Pool) (number from count : ℕ) : Type 0 where
   pub is : count ≡ number_of (is_free_key handed p) (take from facts)
@@ -124,7 +124,7 @@ stock_enough me facts handed p number from count h enough =
     let k = count_is (is_free_key handed p) facts in
     omega arith
 
--- in the model's words
+-- the number of keys that wait in the pool is that of the model
 
 pub stock_unhanded : (v : View) (p : PoolNo) (keys : Pool) → Some keys ≡ octets_pool p → count_by (is_free_key v.handed keys) v.facts ≡ unhanded v p.master p.slave p.bits
 unfolding unhanded

@@ -1,4 +1,4 @@
--- What waits without its bytes waits where it waited.
+-- A key waits whether its bytes are overwritten or not.
 use Rattle.std.proofs.Common.{◌≡◌, ℕ, zero, suc, Bool, ◌&&◌, ◌||◌, List, [], ◌∷◌, length, refl, sym, ◌∙◌, ap, subst, arith, take, Some, ◌⊎◌, inl, inr}
 use Rattle.std.specs.Prelude.{slice_get, ◌==◌}
 use Rattle.std.specs.List.{list_any}
@@ -63,7 +63,7 @@ noted_stays me facts (Stock q) c p count = refl
 noted_stays me facts (Keys q) c p count = front_notes (own me c) facts p count
 noted_stays me facts (Parts q) c p count = refl
 
--- what stands at a place afterwards stood there, maybe with its bytes
+-- after bytes are overwritten, each place has the same fact as before, perhaps without its bytes
 record StoodAt (facts : List Fact) (i : ℕ) (f : Fact) : Type 0 where
   pub old : Fact
   pub there : slice_get facts i ≡ Some old

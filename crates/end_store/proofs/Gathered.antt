@@ -1,4 +1,4 @@
--- The ready keys of a pool, one after the other.
+-- The list of the ready keys of a pool, built one by one.
 use Rattle.std.proofs.Common.{subst, length-append, append_assoc, length-take, min, ◌≡◌, ℕ, zero, suc, ◌+◌, ◌*◌, ◌/◌, ◌%◌, ◌<◌, ◌≤◌, ◌^◌, Bool, true, false, cond, not, ◌&&◌, List, [], ◌∷◌, ◌++◌, length, refl, sym, ◌∙◌, ap, arith, take, Option, Some, None, ◌⊎◌, inl, inr}
 use Rattle.std.specs.Prelude.{filter, is_some, ◌==◌, nat_le, nat_lt, if◌then◌else◌}
 use Rattle.std.specs.List.{list_any}
@@ -33,7 +33,7 @@ module _ (P : Name → Bool) (me : ℕ) where
   append_nil [] = refl
   append_nil (x ∷ xs) = ap (λ (ys : List Name). x ∷ ys) (append_nil xs)
 
-  -- where none in between passes
+  -- counts that fail the test leave the list as it is
   pub skip : (a c : ℕ) → a ≤ c → ((d : ℕ) → a < d → d ≤ c → P (own me d) ≡ false) → F c ≡ F a
   skip a zero le none = let e : 0 ≡ a = omega arith in ap F e
   skip a (suc c) le none = elim (split_le a c le) [
@@ -48,7 +48,7 @@ module _ (P : Name → Bool) (me : ℕ) where
       split_le (suc a) zero le = inl (omega arith)
       split_le (suc a) (suc c) le = elim (split_le a c (omega arith)) [ inl e ↦ inl (omega arith) | inr h ↦ inr (omega arith) ]
 
-  -- the next one that may pass
+  -- if no count between two passes, the list grows by at most the key of the second count
   pub next_one : (a c : ℕ) → a < c → ((d : ℕ) → a < d → d < c → P (own me d) ≡ false) → F c ≡ F a ++ cond (P (own me c)) (own me c ∷ []) []
   next_one a zero lt none = absurd (omega arith)
   next_one a (suc c) lt none =
@@ -56,7 +56,7 @@ module _ (P : Name → Bool) (me : ℕ) where
       one_more c ∙ ap (λ (k : ℕ). F c ++ cond (P (own me k)) (own me k ∷ []) []) e
       ∙ ap (λ (xs : List Name). xs ++ cond (P (own me (suc c))) (own me (suc c) ∷ []) []) (skip a c (omega arith) (λ d x y. none d x (omega arith)))
 
-  -- what comes up to a count comes first
+  -- the first items of a concatenation are those of its first list
   take_more : (xs ys : List Name) → take (length xs) (xs ++ ys) ≡ xs
   take_more [] ys = refl
   take_more (x ∷ xs) ys = ap (λ (zs : List Name). x ∷ zs) (take_more xs ys)
@@ -82,7 +82,7 @@ module _ (P : Name → Bool) (me : ℕ) where
       let f = front a c le in
       sym (ap (λ (k : ℕ). take k (F c)) (sym e) ∙ ap (take (length (F a))) f.1 ∙ take_more (F a) f.0)
 
--- what is ready up to a count
+-- the names of the pool's ready keys up to a count
 abbrev pub ready_up_to : ℕ → List Fact → List (Name × ℕ) → Pool → ℕ → List Name
 ready_up_to me facts handed p c = filter (is_ready me facts handed p) (names_up_to me KeyKind c)
 
@@ -129,7 +129,7 @@ named_as me node count name e h = by_test (nat_le 1 count && nat_lt count (2 ^ 4
     by_test true g = let same : name ≡ record { node = node; kind = KeyKind; count = count } = cc in same ∙ ap (λ (k : ℕ). own k count) e
     by_test false g = absurd (let u : ⊥ = cc in u)
 
--- the same, counted without the names
+-- `ready` is the number of the pool's ready keys up to a count
 
 pub record HasCounted (me : ℕ) (facts : List Fact) (handed : List (Name × ℕ)) (p : Pool) (number after ready : ℕ) : Type 0 where
   pub names : HasFirst me facts handed p number after (ready_up_to me facts handed p after)
@@ -162,7 +162,7 @@ module _ (me : ℕ) (facts : List Fact) (handed : List (Name × ℕ)) (p : Pool)
 pub counted_none : (me : ℕ) (facts : List Fact) (handed : List (Name × ℕ)) (p : Pool) (number : ℕ) → HasCounted me facts handed p number 0 0
 counted_none me facts handed p number = record { names = found_none me facts handed p number; count = refl }
 
--- what is ready is in the pool
+-- two conjunctions are equal if their first tests are equal, and if their second tests are equal whenever the first ones hold
 
 both : (a b c d : Bool) → (a ≡ true → c ≡ true → b ≡ d) → a ≡ c → (a && b) ≡ (c && d)
 both true b true d f e = f refl refl
@@ -179,7 +179,7 @@ and_both : (a b : Bool) → a ≡ true → b ≡ true → (a && b) ≡ true
 and_both true b h k = k
 and_both false b h k = h
 
--- the size in octets and in bits
+-- comparing sizes in octets gives the same as comparing them in bits
 eights : (size bits : ℕ) → (bits % 8 == 0) ≡ true → (size == bits / 8) ≡ (8 * size == bits)
 eights size bits h =
     let whole : bits % 8 ≡ 0 = eq_from (bits % 8) 0 h in
@@ -197,7 +197,7 @@ no_eights size bits h = elim (8 * size == bits) as (λ b. (8 * size == bits) ≡
   | false ↦ λ g. refl
 ] refl
 
--- a key that waits, by its bits
+-- a key waits in the pool exactly if the model's pool has it and its master hasn't got it
 
 pub keyed : (handed : List (Name × ℕ)) (m s bits : ℕ) (n : Name) (f : Fact) → (bits % 8 == 0) ≡ true → name_of f ≡ n →
     is_free_key handed (record { master = m; slave = s; octets = bits / 8 }) f ≡ (is_key_of m s bits (Some f) && not (was_handed handed n m))

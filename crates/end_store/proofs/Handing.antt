@@ -1,4 +1,4 @@
--- What a handing makes of the numbers of pools, and of what waits.
+-- What handing out a key changes in the numbers of pools, and in what waits.
 use Rattle.std.proofs.Common.{◌≡◌, ℕ, ◌≤◌, Bool, true, false, ◌&&◌, ◌||◌, List, [], ◌∷◌, ◌++◌, length, refl, sym, ◌∙◌, ap, subst, Option, Some, None}
 use Rattle.std.specs.Prelude.{◌==◌, if◌then◌else◌, IfSome}
 use Rattle.std.specs.List.{list_any}
@@ -17,7 +17,7 @@ use Rattle.end_store.specs.Readied.{AreReady, ready_pool, ready_pool_of}
 use Rattle.end_store.proofs.Stocked.{handing_none, handing_absent, handing_some, handing_less}
 use Rattle.end_store.proofs.Readied.{unready_none, unready_absent, unready_some, unready_less}
 
--- a pair is new, if there are more of them
+-- if the set of pairs grows by adding a pair, the pair wasn't in it
 pub was_new : (hs after : List (Name × ℕ)) (n : Name) (x : ℕ) → after ≡ marked hs n x → (length after ≡ length hs → ⊥) → was_handed hs n x ≡ false
 was_new hs after n x is more = by (was_handed hs n x) refl
   where
@@ -25,7 +25,7 @@ was_new hs after n x is more = by (was_handed hs n x) refl
     by false e = e
     by true e = absurd (more (ap (λ (ps : List (Name × ℕ)). length ps) (is ∙ ap (λ (b : Bool). if b then hs else hs ++ (n, x) ∷ []) e)))
 
--- what waits in spite of one more handing waited without it
+-- if a disjunction is false, its first test is false
 
 left_false : (a b : Bool) → (a || b) ≡ false → a ≡ false
 left_false true b h = cc
@@ -50,7 +50,7 @@ waiting_marked me facts hs after n x es count is waiting = subst (λ (ps : List 
   complete = λ l c i f lt at stands free noted. waiting.complete l c i f lt at stands (untaken hs n x f free) noted;
 })
 
--- the key of another node has no entry by its count
+-- the key of another node brings no entry by count
 pub not_brought : (me : ℕ) (facts : List Fact) (handed : List (Name × ℕ)) (name : Name) (m s : ℕ) (route bytes : List ℕ) → is_own me name ≡ false →
     ◌≡◌ {A = Option (List ℕ)} None (brought_entry me facts handed (Key name m s route bytes))
 not_brought me facts handed name m s route bytes h = by (list_any (is_stored_about name) facts)
@@ -59,11 +59,11 @@ not_brought me facts handed name m s route bytes h = by (list_any (is_stored_abo
     by true = sym (ap (λ (b : Bool). if b then Some (line_entry (Keys (pool_of m s bytes)) name.count) else None) h)
     by false = refl
 
--- what isn't there isn't ready
+-- a name without a fact has no pool of ready keys
 pub none_ready : (me : ℕ) (facts : List Fact) (n : Name) → ◌≡◌ {A = Option Pool} None (ready_pool me facts n None)
 none_ready me facts n = elim (is_own me n && list_any (is_stored_about n) facts) as (λ b. ◌≡◌ {A = Option Pool} None (if b then None else None)) [ true ↦ refl | false ↦ refl ]
 
--- the number of a pool, where one of its keys is handed out
+-- when a key is handed out, the number of its pool is at least 1
 
 pub stock_some : (facts : List Fact) (handed : List (Name × ℕ)) (n : Name) (x : ℕ) → AreDistinct facts → was_handed handed n x ≡ false → (old : List (List ℕ × ℕ)) → AreStocks facts handed old →
     (o : Option Pool) → o ≡ key_pool x (fact_at facts n) → IfSome o (λ p. (k : ℕ) → stock_at old p ≡ Some k → 1 ≤ k)

@@ -1,4 +1,4 @@
--- What stands at a count of a line, and its entries.
+-- What a list has at a count, and its index entries.
 use Rattle.std.proofs.Common.{◌≡◌, ℕ, zero, suc, ◌+◌, ◌<◌, ◌≤◌, ◌^◌, max, Bool, true, false, ◌&&◌, ◌||◌, List, [], ◌∷◌, ◌++◌, length, refl, sym, ◌∙◌, ap, arith, take, Option, Some, None, ◌⊎◌, inl, inr}
 use Rattle.std.specs.Prelude.{slice_get, slice_index, ◌/◌, ◌%◌, is_some, not, nat_le, nat_lt, ◌==◌, if◌then◌else◌}
 use Rattle.std.specs.List.{list_any}
@@ -16,7 +16,7 @@ use Rattle.relay_core.specs.Index.{tagged}
 use Rattle.relay_core.specs.Knowledge.{AreDistinct}
 use Rattle.relay_core.specs.Firsts.{IsFirstFrom, IsNoneFrom}
 use Rattle.std.proofs.lemmas.Bool.Decides.{nat_tests}
-use Rattle.ordered_entries.specs.Entries.{has_entry, entry_at, IsNextIn, IsLastIn}
+use Rattle.ordered_set.specs.Entries.{has_entry, entry_at, IsNextIn, IsLastIn}
 use Rattle.relay_core.proofs.Firsts.{get_within, not_true, any_at, find_hits}
 use Rattle.relay_core.proofs.Names.{tag_back, number_back, name_eq_from, names_same, eq_same, eq_from, and_left, and_right}
 use Rattle.end_store.proofs.Pairs.{any_take}
@@ -31,7 +31,7 @@ bytes_same a b e = (bytes_eq-Decides a b).1 e
 bytes_from : (a b : List ℕ) → bytes_eq a b ≡ true → a ≡ b
 bytes_from a b h = (bytes_eq-Decides a b).0 h
 
--- a pool by its parts
+-- the parts of a pool
 
 pub record IsPool (p : Pool) (m s size : ℕ) : Type 0 where
   pub master : m ≡ p.master
@@ -59,7 +59,7 @@ own_is me c n h =
     let e = name_eq_from n (own me c) h in
     (ap (λ (m : Name). is_own me m) e ∙ ap (λ (b : Bool). b && kind_eq KeyKind KeyKind) (eq_same me), ap (λ (m : Name). m.count) e)
 
--- listing
+-- if the second test is true, the disjunction is true
 
 or_right : (a b : Bool) → b ≡ true → (a || b) ≡ true
 or_right true b h = refl
@@ -93,7 +93,7 @@ below p count lt = split p count (omega arith)
     split (suc p) zero le = absurd (omega arith)
     split (suc p) (suc c) le = elim (split p c (omega arith)) [ inl h ↦ inl (omega arith) | inr h ↦ inr (omega arith) ]
 
--- the fact of a name that stands at a place
+-- the fact of a name is the one that has this name at some place
 pub found_at : (facts : List Fact) (n : Name) (i : ℕ) (f : Fact) → AreDistinct facts → slice_get facts i ≡ Some f → name_of f ≡ n → fact_at facts n ≡ Some f
 found_at facts n i f d there named = same (somewhere (λ g. name_eq (name_of g) n) facts (find_hits (λ g. name_eq (name_of g) n) facts i f there (names_same (name_of f) n named)))
   where
@@ -102,7 +102,7 @@ found_at facts n i f d there named = same (somewhere (λ g. name_eq (name_of g) 
         let one : at.place ≡ i = d.apart at.place i n (record { fact = at.item; there = at.there; named = name_eq_from (name_of at.item) n at.passes }) (record { fact = f; there = there; named = named }) in
         at.found ∙ sym at.there ∙ ap (slice_get facts) one ∙ there
 
--- what is confirmed with one more fact
+-- if a disjunction is true, one of its tests is true
 
 or_cases : (a b : Bool) → (a || b) ≡ true → (a ≡ true) ⊎ (b ≡ true)
 or_cases true b h = inl refl
@@ -126,7 +126,7 @@ noted_one me facts (Stock p) c count f there h = inl refl
 noted_one me facts (Keys p) c count f there h = any_one (is_stored_about (own me c)) facts count f there h
 noted_one me facts (Parts p) c count f there h = inl refl
 
--- no master takes a note
+-- a note isn't handed out to a master
 not_taken : (handed : List (Name × ℕ)) (n : Name) (f : Fact) → is_taken handed f ≡ true → is_stored_about n f ≡ false
 not_taken handed n (Key name m s route bytes) h = refl
 not_taken handed n (Part name key m s route bytes) h = refl
@@ -135,7 +135,7 @@ not_taken handed n (Stored note about route) h = cc
 not_taken handed n (Open stream source peer size route) h = refl
 not_taken handed n (Joined note about route) h = refl
 
--- a key by its count
+-- a fact that stands at a count of a pool's ready keys has the name of this count
 stands_named : (me : ℕ) (p : Pool) (c i : ℕ) (f : Fact) → stands me (Keys p) c i f ≡ true → name_of f ≡ own me c
 stands_named me p c i (Key name m s route bytes) h = name_eq_from name (own me c) (and_right (is_in p m s bytes) (name_eq name (own me c)) h)
 stands_named me p c i (Part name key m s route bytes) h = cc
@@ -155,7 +155,7 @@ stands_key me p c i (Stored note about route) h = cc
 stands_key me p c i (Open stream source peer size route) h = cc
 stands_key me p c i (Joined note about route) h = cc
 
--- what stands there and is confirmed has its entry among its own two
+-- a fact that waits at a count of a list has its entry there, by place or by count
 own_entry : (me : ℕ) (facts : List Fact) (handed : List (Name × ℕ)) (l : Line) (c i : ℕ) (f : Fact) → stands me l c i f ≡ true → is_noted me facts l c ≡ true →
     (place_entry i f ≡ Some (line_entry l c)) ⊎ (brought_entry me facts handed f ≡ Some (line_entry l c))
 own_entry me facts handed (Stock p) c i (Key name m s route bytes) h noted =
@@ -184,7 +184,7 @@ own_entry me facts handed (Parts p) c i (Stored note about route) h noted = cc
 own_entry me facts handed (Parts p) c i (Open stream source peer size route) h noted = cc
 own_entry me facts handed (Parts p) c i (Joined note about route) h noted = cc
 
--- and the note that confirms a key brings the key's
+-- the note that confirms a key brings the entry of this key
 note_brings : (me : ℕ) (facts : List Fact) (handed : List (Name × ℕ)) (p : Pool) (c i : ℕ) (x f : Fact) → AreDistinct facts → slice_get facts i ≡ Some x → stands me (Keys p) c i x ≡ true →
     is_taken handed x ≡ false → is_stored_about (own me c) f ≡ true → brought_entry me facts handed f ≡ Some (line_entry (Keys p) c)
 note_brings me facts handed p c i x (Stored note about route) d there stood free h =
@@ -266,7 +266,7 @@ waiting_push me facts handed es count f waiting = record {
     front (x ∷ xs) zero h = refl
     front (x ∷ xs) (suc i) h = front xs i (omega arith)
 
--- what a key or part in a line is waited for by: its master, under one name
+-- the master for which a list is kept
 line_master : Line → ℕ
 line_master (Stock p) = p.master
 line_master (Keys p) = p.master
@@ -275,7 +275,7 @@ line_master (Parts p) = p.master
 pub some_list : (k l : List ℕ) → Some k ≡ Some l → k ≡ l
 some_list k l e = cc
 
--- an entry tells its line and its count
+-- equal entries have the same list and the same count
 
 pub record IsSameLine (l : Line) (c : ℕ) (m : Line) (d : ℕ) : Type 0 where
   pub line : l ≡ m
@@ -310,7 +310,7 @@ same_line l m c d e = record {
   count = sym (count_is l c) ∙ ap (λ (k : List ℕ). slice_index k 4) e ∙ count_is m d;
 }
 
--- the parts of a group key
+-- a fact that isn't a part of the group key isn't a part of it in the pool
 
 part_in : (p : Pool) (n : Name) (f : Fact) → is_part_of n f ≡ false → is_part_in p n f ≡ false
 part_in p n (Part name key m s route bytes) h = ap (λ (b : Bool). b && is_in p m s bytes) h
@@ -355,7 +355,7 @@ other_part pool key facts from place first miss before p x lt there = elim (side
   ]
 ]
 
--- a name that no key can have
+-- no key waits at a count that no name can have
 
 pub none_of : (handed : List (Name × ℕ)) (p : Pool) (facts : List Fact) (me c : ℕ) (o : Option Name) → ((n : Name) → has_fact facts n ≡ true → IsName n) → 1 ≤ c → o ≡ None →
     o ≡ (if nat_le 1 c && nat_lt c (2 ^ 48) then Some (own me c) else None) → false ≡ is_waiting me facts handed (Keys p) c
@@ -374,7 +374,7 @@ none_of handed p facts me c o named low none is = by (fact_at facts (own me c)) 
         let t : None ≡ Some (own me c) = sym none ∙ is ∙ ap (λ (b : Bool). if b then Some (own me c) else None) test in
         absurd (let u : ⊥ = cc in u)
 
--- what waits stands somewhere, and has its entry
+-- the entry of a list at a count, without the count
 
 front_of : Line → List ℕ
 front_of (Stock p) = tagged 0 p.master ∷ p.slave ∷ p.octets ∷ 0 ∷ []
@@ -482,7 +482,7 @@ waiting_stands me facts handed (Parts p) c h =
       noted = refl;
     }
 
--- no count past the names and the places
+-- the count of a known name is at most the last count
 
 named_bound : (me : ℕ) (facts : List Fact) (c : ℕ) → has_fact facts (own me c) ≡ true → c ≤ last_count me facts
 unfolding last_count
@@ -538,7 +538,7 @@ waiting_bound me facts handed (Parts p) size last end is_size is_last is_end d h
     let le = part_bound me p facts d (and_right (nat_le 1 d) (list_any (is_part_in p (own me d)) facts) (and_left (nat_le 1 d && list_any (is_part_in p (own me d)) facts) (not (was_handed handed (own me d) p.master)) h)) in
     omega arith
 
--- looking in the index
+-- at a count that the index doesn't have, nothing waits
 
 unlisted : (me : ℕ) (facts : List Fact) (handed : List (Name × ℕ)) (es : List (List ℕ)) (l : Line) (d : ℕ) → AreWaiting me facts handed es (length facts) → has_entry es (line_entry l d) ≡ false →
     is_waiting me facts handed l d ≡ false
@@ -566,7 +566,7 @@ passed_one me facts handed l from count before miss d low high = elim (below d c
   | inr e ↦ ap (is_waiting me facts handed l) e ∙ miss
 ]
 
--- none from a place on, where none waits before the end and none past it
+-- if nothing waits before the end and nothing from the end on, nothing waits from here on
 pub none_before : (me : ℕ) (facts : List Fact) (handed : List (Name × ℕ)) (l : Line) (from end : ℕ) → ((d : ℕ) → is_waiting me facts handed l d ≡ true → d < end) →
     ((d : ℕ) → from ≤ d → d < end → is_waiting me facts handed l d ≡ false) → IsLastWaiting me facts handed l from
 none_before me facts handed l from end bound none = record {

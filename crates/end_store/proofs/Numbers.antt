@@ -1,4 +1,4 @@
--- Numbers of a list's items that pass a test.
+-- The number of items of a list that pass a test.
 use Rattle.std.proofs.Common.{◌≡◌, ℕ, zero, suc, ◌+◌, ◌<◌, ◌≤◌, ◌≢◌, Bool, true, false, cond, not, ◌&&◌, List, [], ◌∷◌, ◌++◌, length, refl, ◌∙◌, ap, arith, take, Some}
 use Rattle.std.specs.Prelude.{slice_get}
 use Rattle.end_store.proofs.Counted.{number_of}
@@ -15,7 +15,7 @@ at_most_one : (b : Bool) → cond b 1 0 ≤ 1
 at_most_one true = omega arith
 at_most_one false = omega arith
 
--- one more item behind
+-- the number after one more item at the end
 pub number-push : {A : Type 0} (t : A → Bool) (xs : List A) (x : A) → number_of t (xs ++ x ∷ []) ≡ number_of t xs + cond (t x) 1 0
 number-push t [] x = omega arith
 number-push t (y ∷ ys) x = let r = number-push t ys x in omega arith
@@ -24,7 +24,7 @@ pub number_within : {A : Type 0} (t : A → Bool) (xs : List A) → number_of t 
 number_within t [] = omega arith
 number_within t (y ∷ ys) = let r = number_within t ys in let b = at_most_one (t y) in omega arith
 
--- up to a place behind which others have been passed
+-- the number up to a place, if no item before it passes from `from` on
 pub number_upto : {A : Type 0} (t : A → Bool) (xs : List A) (from place : ℕ) (x : A) → from ≤ place → ((d : ℕ) (z : A) → from ≤ d → d < place → slice_get xs d ≡ Some z → t z ≡ false) →
     slice_get xs place ≡ Some x → number_of t (take (suc place) xs) ≡ number_of t (take from xs) + cond (t x) 1 0
 number_upto t [] from place x le none g = cc
@@ -38,7 +38,7 @@ number_upto t (y ∷ ys) (suc f) (suc p) x le none g =
     let r = number_upto t ys f p x (omega arith) (λ d z low high k. none (suc d) z (omega arith) (omega arith) k) g in
     omega arith
 
--- none passes from a place on
+-- if no item passes from a place on, the number up to this place is that of all
 pub number_rest : {A : Type 0} (t : A → Bool) (xs : List A) (from : ℕ) → ((d : ℕ) (z : A) → from ≤ d → slice_get xs d ≡ Some z → t z ≡ false) → number_of t (take from xs) ≡ number_of t xs
 number_rest t [] zero none = refl
 number_rest t [] (suc f) none = refl
@@ -50,7 +50,7 @@ number_rest t (y ∷ ys) (suc f) none =
     let r = number_rest t ys f (λ d z low k. none (suc d) z (omega arith) k) in
     omega arith
 
--- two tests that agree on the items
+-- two tests that agree on all items have the same number
 pub number_same : {A : Type 0} (t s : A → Bool) (xs : List A) → ((i : ℕ) (x : A) → slice_get xs i ≡ Some x → t x ≡ s x) → number_of t xs ≡ number_of s xs
 number_same t s [] h = refl
 number_same t s (x ∷ xs) h =
@@ -58,7 +58,7 @@ number_same t s (x ∷ xs) h =
     let r = number_same t s xs (λ i y g. h (suc i) y g) in
     omega arith
 
--- and that agree on all items but one
+-- if two tests agree on all items but one, the numbers of items that pass them differ by one
 pub number_one : {A : Type 0} (t s : A → Bool) (xs : List A) (i : ℕ) (x : A) → slice_get xs i ≡ Some x → t x ≡ false → s x ≡ true →
     ((j : ℕ) (y : A) → slice_get xs j ≡ Some y → j ≢ i → s y ≡ t y) → number_of s xs ≡ number_of t xs + 1
 number_one t s [] i x g miss hit others = cc
@@ -73,7 +73,7 @@ number_one t s (y ∷ ys) (suc i) x g miss hit others =
     let r = number_one t s ys i x g miss hit (λ j z k apart. others (suc j) z k (omega arith)) in
     omega arith
 
--- those that pass a second test, and those that don't
+-- the number of items that pass a test is the sum of those that also pass a second one and those that don't
 both : (a b : Bool) → cond (a && not b) 1 0 + cond (a && b) 1 0 ≡ cond a 1 0
 both true true = refl
 both true false = refl
@@ -83,7 +83,7 @@ pub number_split : {A : Type 0} (t s : A → Bool) (xs : List A) → number_of (
 number_split t s [] = refl
 number_split t s (x ∷ xs) = let b = both (t x) (s x) in let r = number_split t s xs in omega arith
 
--- all items but the last one, and that one
+-- a list is all its items but the last one, followed by the last one
 pub last_at : {A : Type 0} (xs : List A) (x : A) (k : ℕ) → suc k ≡ length xs → slice_get xs k ≡ Some x → xs ≡ take k xs ++ x ∷ []
 last_at [] x k e h = cc
 last_at (y ∷ []) x zero e h = let same : y ≡ x = cc in ap (λ (z : _). z ∷ []) same

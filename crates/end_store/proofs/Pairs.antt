@@ -1,4 +1,4 @@
--- Pairs and their entries.
+-- Pairs of a name and an application, and their index entries.
 use Rattle.std.proofs.Common.{◌-◌, ◌≡◌, ℕ, zero, suc, ◌+◌, Bool, true, false, ◌&&◌, ◌||◌, List, [], ◌∷◌, ◌++◌, length, take, drop, refl, sym, ◌∙◌, ap, subst, arith, Some, ◌⊎◌, inl, inr, add-one, length-append}
 use Rattle.std.specs.Prelude.{slice_get, slice_index, ◌/◌, ◌%◌, ◌==◌}
 use Rattle.std.specs.List.{list_any}
@@ -8,7 +8,7 @@ use Rattle.std.proofs.lemmas.List.{take-append-le, take-append-drop, take_all, l
 use Rattle.std.proofs.lemmas.List.Folds.{list_any-append}
 use Rattle.qkd_base.specs.Name.{Name, name_eq}
 use Rattle.net_model.specs.Table.{was_handed}
-use Rattle.ordered_entries.specs.Entries.{has_entry}
+use Rattle.ordered_set.specs.Entries.{has_entry}
 use Rattle.relay_core.proofs.Firsts.{get_within, not_true, any_at}
 use Rattle.relay_core.proofs.Names.{origin_kind, origin_node, same_name, names_same, name_eq_from, eq_same, eq_from}
 use Rattle.end_store.specs.Marked.{AreMarked, mark_entry}
@@ -19,7 +19,7 @@ bytes_same a b e = (bytes_eq-Decides a b).1 e
 bytes_from : (a b : List ℕ) → bytes_eq a b ≡ true → a ≡ b
 bytes_from a b h = (bytes_eq-Decides a b).0 h
 
--- an entry tells its pair
+-- equal entries are those of the same pair
 pub same_pair : (n m : Name) (s t : ℕ) → mark_entry n s ≡ mark_entry m t → (n ≡ m) × (s ≡ t)
 same_pair n m s t e = (
   same_name n m
@@ -63,7 +63,7 @@ any_take p xs i x h = ap (λ (n : ℕ). list_any p (take n xs)) (add-one i) ∙ 
     upto p (y ∷ ys) (suc i) x h =
         elim (p y) as (λ b. (b || list_any p (take (suc i) ys)) ≡ ((b || list_any p (take i ys)) || p x)) [ true ↦ refl | false ↦ upto p ys i x h ]
 
--- one more pair is listed
+-- the index stays right if one more pair is listed
 pub marked_more : (pairs : List (Name × ℕ)) (old new : List (List ℕ)) (place : ℕ) (n : Name) (s : ℕ) → AreMarked pairs old place → slice_get pairs place ≡ Some (n, s) →
     ((e : List ℕ) → has_entry new e ≡ (bytes_eq (mark_entry n s) e || has_entry old e)) → AreMarked pairs new (place + 1)
 marked_more pairs old new place n s marked there grows = record {
@@ -82,7 +82,7 @@ marked_more pairs old new place n s marked there grows = record {
   ];
 }
 
--- one more pair at the end
+-- the index stays right if one more pair is added at the end
 pub marked_push : (pairs after : List (Name × ℕ)) (es : List (List ℕ)) (count : ℕ) (p : Name × ℕ) → AreMarked pairs es count → after ≡ pairs ++ p ∷ [] → AreMarked after es count
 marked_push pairs after es count p marked e = subst (λ (ps : List (Name × ℕ)). AreMarked ps es count) (sym e) (record {
   within = let w = marked.within in let l = length-append pairs (p ∷ []) in omega arith;
@@ -96,7 +96,7 @@ nothing_marked pairs es p e = subst (λ (ps : List (Name × ℕ)). AreMarked ps 
     nothing : AreMarked [] [] 0
     nothing = record { within = omega arith; sound = λ n s h. h; complete = λ n s h. h }
 
--- whether a pair is there
+-- an entry in the index is that of a pair of the set
 
 pub found_pair : (pairs : List (Name × ℕ)) (es : List (List ℕ)) (count : ℕ) (n : Name) (s : ℕ) → AreMarked pairs es count → has_entry es (mark_entry n s) ≡ true → true ≡ was_handed pairs n s
 found_pair pairs es count n s marked h = sym (marked.sound n s h)

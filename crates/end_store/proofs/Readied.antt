@@ -1,4 +1,4 @@
--- Numbers of ready keys, kept by what is learned and handed.
+-- The cached numbers of ready keys stay right when a fact is learned or a key is handed out.
 use Rattle.std.proofs.Common.{◌≡◌, ◌≢◌, ℕ, zero, suc, ◌+◌, ◌-◌, ◌<◌, ◌≤◌, min, Bool, true, false, cond, not, ◌&&◌, ◌||◌, List, [], ◌∷◌, ◌++◌, length, length-append, take, refl, sym, ◌∙◌, ap, subst, arith, Option, Some, None, ◌⊎◌, inl, inr}
 use Rattle.std.specs.Prelude.{slice_get, filter, find, is_some, nat_le, ◌==◌, if◌then◌else◌}
 use Rattle.std.specs.List.{list_any}
@@ -30,7 +30,7 @@ use Rattle.end_store.proofs.Gathered.{found_as}
 use Rattle.end_store.proofs.Numbers.{one_of, none_of, last_at}
 use Rattle.end_store.proofs.Stocked.{fits, and_none, or_none, or_all, free_is, pool_from, pool_same, no_last, is_marked, was_more, other_name, other_pool, was_free, bare_free}
 
--- counts that pass, up to one
+-- how many counts pass a test, from 1 up to a given one
 
 abbrev number : (ℕ → Bool) → ℕ → ℕ
 number t zero = 0
@@ -83,7 +83,7 @@ number_one t s (suc c) at low high miss hit others = elim (below at c high) [
       omega arith
 ]
 
--- none passes from a count on
+-- if no count passes after a given one, the number no longer grows
 number_past : (t : ℕ → Bool) (k j : ℕ) → k ≤ j → ((d : ℕ) → k < d → t d ≡ false) → number t j ≡ number t k
 number_past t k zero le none = let e : 0 ≡ k = omega arith in ap (number t) e
 number_past t k (suc j) le none = elim (below k j le) [
@@ -91,7 +91,7 @@ number_past t k (suc j) le none = elim (below k j le) [
   | inr h ↦ let r = number_past t k j h none in let z = none_of (t (j + 1)) (none (j + 1) (omega arith)) in omega arith
 ]
 
--- the ready keys of a pool by their counts
+-- whether the key of a count is ready and waits in the pool
 
 abbrev waits : ℕ → List Fact → List (Name × ℕ) → Pool → ℕ → Bool
 waits me facts handed p d = is_waiting me facts handed (Keys p) d
@@ -117,7 +117,7 @@ module _ (me : ℕ) (facts after : List Fact) (handed marks : List (Name × ℕ)
   ready_same h =
       from_after ∙ number_same (waits me after marks p) (waits me facts handed p) (last_count me after + last_count me facts) (λ d low high. h d) ∙ sym (ready_up me facts handed p (last_count me after))
 
-  -- one key became ready
+  -- exactly one key became ready
   record BecameReady : Type 0 where
     pub count : ℕ
     pub low : 1 ≤ count
@@ -133,7 +133,7 @@ module _ (me : ℕ) (facts after : List Fact) (handed marks : List (Name × ℕ)
       let b = ready_up me facts handed p (last_count me after) in
       omega arith
 
--- tests of a count
+-- a conjunction of three tests keeps its value if two of its tests are replaced by equal ones
 
 and_same : (a b c d e : Bool) → b ≡ d → c ≡ e → (a && b && c) ≡ (a && d && e)
 and_same a b c d e h k = λ i. a && h i && k i
@@ -156,7 +156,7 @@ own_name me n h = same_name n (own me n.count) (eq_from n.node me (and_left (n.n
 not_own : (me c d : ℕ) → c ≢ d → name_eq (own me c) (own me d) ≡ false
 not_own me c d apart = not_true (name_eq (own me c) (own me d)) (λ h. apart (ap (λ (n : Name). n.count) (name_eq_from (own me c) (own me d) h)))
 
--- what is learned
+-- learning a fact
 
 module _ (facts : List Fact) (handed : List (Name × ℕ)) (p : Pool) where
   free_push : (f : Fact) (n : Name) → (is_free_key handed p f ≡ false) ⊎ (name_eq (name_of f) n ≡ false) →
@@ -208,7 +208,7 @@ waits_push me facts handed p f d free note =
     (is_free_key_at handed p (fact_at facts (own me d))) (list_any (is_stored_about (own me d)) facts)
     (free_push facts handed p f (own me d) free) (note_push facts f (own me d) note)
 
--- pools in which no key becomes ready
+-- in pools other than the fact's, the same keys are ready
 learned_same : (me : ℕ) (facts : List Fact) (handed : List (Name × ℕ)) (p : Pool) (d : ℕ) (f : Fact) → fits (readied_pool me facts handed (Some f)) p ≡ false →
     waits me (facts ++ f ∷ []) handed p d ≡ waits me facts handed p d
 learned_same me facts handed p d (Chunk name stream index route bytes) miss = waits_push me facts handed p (Chunk name stream index route bytes) d (inl refl) refl
@@ -254,7 +254,7 @@ learned_same me facts handed p d (Stored note about route) miss = by (name_eq ab
     by false e = waits_push me facts handed p (Stored note about route) d (inl refl) e
     by true e = noted (name_eq_from about (own me d) e) (list_any (is_stored_about (own me d)) facts) refl
 
--- and the one in which a key does
+-- in the fact's pool, exactly one more key is ready
 learned_one : (me : ℕ) (facts : List Fact) (handed : List (Name × ℕ)) (q : Pool) (f : Fact) → AreDistinct (facts ++ f ∷ []) → has_fact facts (name_of f) ≡ false → IsName (name_of f) →
     Some q ≡ readied_pool me facts handed (Some f) → BecameReady me facts (facts ++ f ∷ []) handed handed q
 learned_one me facts handed q (Chunk name stream index route bytes) d fresh named is = cc
@@ -316,7 +316,7 @@ learned_one me facts handed q (Stored note about route) d fresh named is = by (i
           others = λ k apart. waits_push me facts handed q (Stored note about route) k (inl refl) (ap (λ (n : Name). name_eq n (own me k)) mine ∙ not_own me about.count k (λ e. apart (sym e)));
         }
 
--- numbers that are put
+-- putting the right number for one pool keeps all cached numbers right
 
 put_ready : (me : ℕ) (facts : List Fact) (handed : List (Name × ℕ)) (old new : List (List ℕ × ℕ)) (q : Pool) (n : ℕ) → IsPut old new q n → n ≡ length (ready_names me facts handed q) →
     ((p : Pool) (m : ℕ) → pool_eq q p ≡ false → stock_at old p ≡ Some m → m ≡ length (ready_names me facts handed p)) → AreReady me facts handed new
@@ -387,7 +387,7 @@ module _ (me : ℕ) (facts : List Fact) (handed : List (Name × ℕ)) (some : 0 
       readied_all n last new whole counted put =
           put_ready me facts handed old new q n put (let w = ready_within me facts handed q in omega arith) (others_ready (last_of_facts facts) refl is)
 
--- what is handed
+-- handing out a key
 
 module _ (me : ℕ) (facts : List Fact) (handed : List (Name × ℕ)) (n : Name) (x : ℕ) (d : AreDistinct facts) (fresh : was_handed handed n x ≡ false) where
   abbrev after : List (Name × ℕ)
@@ -487,12 +487,12 @@ module _ (me : ℕ) (facts : List Fact) (handed : List (Name × ℕ)) (n : Name)
       unready_less k new at put =
           to_marked new (put_ready me facts after old new q (k - 1) put (let r = right.right q k (sym at) in let c = less_ready q is in omega arith) others_kept)
 
--- where it was handed out already, nothing changes
+-- handing out a pair that is recorded already changes nothing
 pub unready_twice : (me : ℕ) (facts : List Fact) (handed : List (Name × ℕ)) (n : Name) (x : ℕ) (readies : List (List ℕ × ℕ)) → was_handed handed n x ≡ true → AreReady me facts handed readies → AreReady me facts (marked handed n x) readies
 unready_twice me facts handed n x readies was right =
     subst (λ (hs : List (Name × ℕ)). AreReady me facts hs readies) (sym (ap (λ (b : Bool). if b then handed else handed ++ (n, x) ∷ []) was)) right
 
--- and where bytes are let go
+-- overwriting the bytes of a fact keeps its name
 
 bare_named : (f : Fact) → name_of (without_bytes f) ≡ name_of f
 bare_named (Key name m s route bytes) = refl

@@ -1,4 +1,4 @@
--- What its master has got leaves the index, and nothing that waits does.
+-- A key that is handed to its master leaves the index, and nothing that still waits does.
 use Rattle.std.proofs.Common.{◌≡◌, ℕ, Bool, true, false, List, refl, sym, ◌∙◌, ap, Option, Some, None}
 use Rattle.std.specs.Prelude.{slice_get, ◌==◌, if◌then◌else◌}
 use Rattle.std.specs.Str.{bytes_eq}
@@ -7,7 +7,7 @@ use Rattle.qkd_base.specs.Name.{Name, name_eq}
 use Rattle.net_model.specs.declared.fact.Fact.{Fact}
 use Rattle.net_model.specs.declared.fact.Fact.TheVariants.{Key, Chunk, Stored, Open, Joined, Part}
 use Rattle.net_model.specs.Table.{was_handed}
-use Rattle.ordered_entries.specs.Entries.{has_entry}
+use Rattle.ordered_set.specs.Entries.{has_entry}
 use Rattle.relay_core.proofs.Firsts.{not_true}
 use Rattle.relay_core.proofs.Names.{name_eq_from, eq_from, and_left, and_right}
 use Rattle.end_store.specs.declared.pool.Pool.{Pool}
@@ -22,7 +22,7 @@ left_kept old new None e shrinks other h = ap (λ (es : List (List ℕ)). has_en
 left_kept old new (Some x) e shrinks other h =
     shrinks.has e ∙ ap (λ (b : Bool). if b then false else has_entry old e) (not_true (bytes_eq x e) (λ same. other (ap Some ((bytes_eq-Decides x e).0 same)))) ∙ h
 
--- what stands at a count of a line, and whether its master has got it
+-- a fact in the stock of a pool at a count is at the place of this count
 
 stock_place : (me : ℕ) (p : Pool) (c i : ℕ) (x : Fact) → stands me (Stock p) c i x ≡ true → i ≡ c
 stock_place me p c i (Key name m s route bytes) h = eq_from i c (and_right (is_in p m s bytes) (i == c) h)
@@ -55,7 +55,7 @@ part_taken me handed p c i (Joined note about route) h = cc
 both_ways : (b : Bool) → b ≡ true → b ≡ false → ⊥
 both_ways b h k = let t : true ≡ false = sym h ∙ k in let u : ⊥ = cc in u
 
--- what waits has no entry of a fact that its master has got
+-- the entry of a fact that its master has got isn't the entry of anything that waits
 
 place_other : (me : ℕ) (facts : List Fact) (handed : List (Name × ℕ)) (l : Line) (c i place : ℕ) (x f : Fact) → slice_get facts i ≡ Some x → slice_get facts place ≡ Some f →
     stands me l c i x ≡ true → is_taken handed x ≡ false → is_taken handed f ≡ true → place_entry place f ≡ Some (line_entry l c) → ⊥

@@ -1,4 +1,4 @@
--- Numbers of waiting keys, kept by what is learned and handed.
+-- The cached numbers of waiting keys stay right when a fact is learned or a key is handed out.
 use Rattle.std.proofs.Common.{◌≡◌, ℕ, zero, suc, ◌+◌, ◌-◌, ◌<◌, ◌≤◌, min, Bool, true, false, cond, not, ◌&&◌, ◌||◌, List, [], ◌∷◌, ◌++◌, length, refl, sym, ◌∙◌, ap, subst, arith, Option, Some, None}
 use Rattle.std.specs.Prelude.{slice_get, slice_index, count_by, is_some, ◌==◌, if◌then◌else◌}
 use Rattle.std.specs.Ordering.{nat_cmp, is_eq}
@@ -25,7 +25,7 @@ use Rattle.end_store.proofs.Forgotten.{in_stays}
 use Rattle.end_store.proofs.Lines.{found_at}
 use Rattle.end_store.proofs.Numbers.{one_of, none_of, number-push, number_same, number_one, last_at}
 
--- pools by their keys
+-- pools with equal keys are equal
 
 pub pool_from : (p q : Pool) → pool_eq p q ≡ true → p ≡ q
 pool_from p q h =
@@ -75,7 +75,7 @@ was_not_put m n p t absent same = record {
   others = λ q miss. ap (λ (es : List (List ℕ × ℕ)). stock_at es q) same;
 }
 
--- a key waits in one pool
+-- the optional pool is this pool
 
 abbrev pub fits : Option Pool → Pool → Bool
 fits None p = false
@@ -98,7 +98,7 @@ free_is handed p (Open stream source peer size route) = refl
 free_is handed p (Joined note about route) = refl
 free_is handed p (Part name key m s route bytes) = refl
 
--- numbers that are put
+-- putting the right number for one pool keeps all cached numbers right
 
 put_right : (facts : List Fact) (handed : List (Name × ℕ)) (old new : List (List ℕ × ℕ)) (q : Pool) (n : ℕ) → IsPut old new q n → n ≡ count_by (is_free_key handed q) facts →
     ((p : Pool) (m : ℕ) → pool_eq q p ≡ false → stock_at old p ≡ Some m → m ≡ count_by (is_free_key handed p) facts) → AreStocks facts handed new
@@ -110,7 +110,7 @@ put_right facts handed old new q n put own others = record { right = λ p m h. b
         put.own m (ap (stock_at new) same ∙ h) ∙ own ∙ ap (λ (r : Pool). count_by (is_free_key handed r) facts) same
     by p m h false e = others p m e (sym (put.others p e) ∙ h)
 
--- what is learned
+-- learning a fact
 
 module _ (facts : List Fact) (handed : List (Name × ℕ)) (some : 0 < length facts) where
   module _ (f : Fact) (last : last_of_facts facts ≡ Some f) where
@@ -166,7 +166,7 @@ module _ (facts : List Fact) (handed : List (Name × ℕ)) (some : 0 < length fa
       learned_all n size new whole counted put =
           put_right facts handed old new q n put (let w = count_by-le-length (is_free_key handed q) facts in omega arith) (others_right (last_of_facts facts) refl is)
 
--- what is handed
+-- a disjunction with two false tests equals its first test
 
 pub or_none : (a : Bool) → (a || (false || false)) ≡ a
 or_none true = refl
@@ -189,7 +189,7 @@ module _ (facts : List Fact) (handed : List (Name × ℕ)) (n : Name) (x : ℕ) 
   was_same : (m : Name) (y : ℕ) → (name_eq n m && (x == y)) ≡ false → was_handed (handed ++ (n, x) ∷ []) m y ≡ was_handed handed m y
   was_same m y miss = was_more m y ∙ ap (λ (b : Bool). was_handed handed m y || (b || false)) miss ∙ or_none (was_handed handed m y)
 
-  -- a key of another name
+  -- a key of another name waits as before
   pub other_name : (p : Pool) (f : Fact) → name_eq n (name_of f) ≡ false → is_free_key (handed ++ (n, x) ∷ []) p f ≡ is_free_key handed p f
   other_name p (Key name m s route bytes) miss = ap (λ (b : Bool). is_in p m s bytes && not b) (was_same name m (ap (λ (b : Bool). b && (x == m)) miss))
   other_name p (Chunk name stream index route bytes) miss = refl
@@ -198,7 +198,7 @@ module _ (facts : List Fact) (handed : List (Name × ℕ)) (n : Name) (x : ℕ) 
   other_name p (Joined note about route) miss = refl
   other_name p (Part name key m s route bytes) miss = refl
 
-  -- one of another master or pool
+  -- a key of another master or pool waits as before
   pub other_pool : (p : Pool) (f : Fact) → fits (key_pool x (Some f)) p ≡ false → is_free_key (handed ++ (n, x) ∷ []) p f ≡ is_free_key handed p f
   other_pool p (Key name m s route bytes) miss = by (m == x) refl miss
     where
@@ -212,7 +212,7 @@ module _ (facts : List Fact) (handed : List (Name × ℕ)) (n : Name) (x : ℕ) 
   other_pool p (Joined note about route) miss = refl
   other_pool p (Part name key m s route bytes) miss = refl
 
-  -- pools in which nothing of this name waited for this master
+  -- the number of any other pool stays the same
   others_same : (p : Pool) → fits (key_pool x (fact_at facts n)) p ≡ false → count_by (is_free_key handed p) facts ≡ count_by (is_free_key (handed ++ (n, x) ∷ []) p) facts
   others_same p miss =
       count_is (is_free_key handed p) facts
@@ -223,7 +223,7 @@ module _ (facts : List Fact) (handed : List (Name × ℕ)) (n : Name) (x : ℕ) 
       by i f there true e = other_pool p f (sym (ap (λ (o : Option Fact). fits (key_pool x o) p) (found_at facts n i f d there (sym (name_eq_from n (name_of f) e)))) ∙ miss)
       by i f there false e = other_name p f e
 
-  -- the key of this name and master, which waited
+  -- the place of the key of this name, which waited for this master
   pub record WaitedAt (q : Pool) : Type 0 where
     pub place : ℕ
     pub fact : Fact
@@ -307,7 +307,7 @@ module _ (facts : List Fact) (handed : List (Name × ℕ)) (n : Name) (x : ℕ) 
       handing_less k new at put = subst (λ (hs : List (Name × ℕ)). AreStocks facts hs new) (sym is_marked)
           (put_right facts (handed ++ (n, x) ∷ []) old new q (k - 1) put (let r = right.right q k (sym at) in let c = count_less q (waited q is) in omega arith) others_kept)
 
--- where it was handed out already, or its bytes are let go, nothing changes
+-- handing out a pair that is recorded already, and overwriting a fact's bytes, changes nothing
 
 pub handing_twice : (facts : List Fact) (handed : List (Name × ℕ)) (n : Name) (x : ℕ) (stocks : List (List ℕ × ℕ)) → was_handed handed n x ≡ true → AreStocks facts handed stocks → AreStocks facts (marked handed n x) stocks
 handing_twice facts handed n x stocks was right =

@@ -1,4 +1,4 @@
--- Pools as a manager's view has them.
+-- The pools of a manager's view, found in its store.
 use Rattle.std.specs.Prelude.{◌≡◌, ℕ, ◌/◌, ◌%◌, ◌==◌, Bool, List, [], filter, Option, Some, None, if◌then◌else◌}
 use Rattle.qkd_base.specs.Name.{Name}
 use Rattle.qkd_base.specs.declared.key_name.NameKind.TheVariants.{Key as KeyKind}
@@ -12,7 +12,7 @@ use Rattle.end_store.specs.declared.pool.Pool.{Pool}
 use Rattle.end_store.specs.declared.pool.Line.TheVariants.{Keys}
 use Rattle.end_store.specs.Waiting.{Ends, is_waiting}
 
--- what is kept, as a view without lanes and without what one life keeps
+-- the view of a store: it has no lanes, and nothing of the state that a crash loses
 abbrev pub ends_view : Ends → View
 ends_view e =
     record {
@@ -25,18 +25,18 @@ ends_view e =
       volatile = no_volatile;
     }
 
--- a view has what is kept here
+-- a view agrees with a store in what the store keeps
 pub record Sees (v : View) (e : Ends) : Type 0 where
   pub me : v.me ≡ e.known.me
   pub facts : v.facts ≡ e.known.facts
   pub acked : v.acked ≡ e.known.acked
   pub handed : v.handed ≡ e.handed
 
--- the pool by its size in octets, if it has whole ones
+-- the pool with its size in octets, or none if the size isn't a multiple of 8 bits
 abbrev pub octets_pool : PoolNo → Option Pool
 octets_pool p = if p.bits % 8 == 0 then Some (record { master = p.master; slave = p.slave; octets = p.bits / 8 }) else None
 
--- the key of a count waits, and is confirmed
+-- the key of this name waits in the pool and is confirmed
 abbrev pub is_ready : ℕ → List Fact → List (Name × ℕ) → Pool → Name → Bool
 is_ready me facts handed p n = is_waiting me facts handed (Keys p) n.count
 

@@ -1,4 +1,4 @@
--- How many keys of pools wait for their masters.
+-- The cached numbers of keys that wait for their masters.
 use Rattle.std.specs.Prelude.{◌≡◌, ℕ, ◌-◌, ◌==◌, ◌&&◌, Bool, false, List, [], ◌∷◌, length, take, slice_get, count_by, Option, Some, None, if◌then◌else◌}
 use Rattle.std.specs.Ordering.{nat_cmp, is_eq}
 use Rattle.std.specs.Cmp.Lexicographic.{slice_cmp}
@@ -16,11 +16,11 @@ pool_key p = p.master ∷ p.slave ∷ p.octets ∷ []
 abbrev pub pool_eq : Pool → Pool → Bool
 pool_eq p q = (p.master == q.master) && (p.slave == q.slave) && (p.octets == q.octets)
 
--- the number of a pool
+-- the cached number of a pool
 abbrev pub stock_at : List (List ℕ × ℕ) → Pool → Option ℕ
 stock_at stocks p = lookup (λ key. is_eq (slice_cmp nat_cmp (pool_key p) key)) stocks
 
--- the pool has this number or none, and all others have what they had
+-- the pool now has this number or none, and all other pools keep theirs
 pub record IsPut (old new : List (List ℕ × ℕ)) (p : Pool) (n : ℕ) : Type 0 where
   pub own : (m : ℕ) → stock_at new p ≡ Some m → m ≡ n
   pub others : (q : Pool) → pool_eq p q ≡ false → stock_at new q ≡ stock_at old q
@@ -34,7 +34,7 @@ abbrev pub LowersBy : List (List ℕ × ℕ) → List (List ℕ × ℕ) → Opti
 LowersBy old new None = new ≡ old
 LowersBy old new (Some p) = IsLowered old new p
 
--- each number that is there is that of the pool's keys that their master hasn't got
+-- each cached number is that of the pool's keys that their master hasn't got
 pub record AreStocks (facts : List Fact) (handed : List (Name × ℕ)) (stocks : List (List ℕ × ℕ)) : Type 0 where
   pub right : (p : Pool) (n : ℕ) → stock_at stocks p ≡ Some n → n ≡ count_by (is_free_key handed p) facts
 
@@ -42,12 +42,12 @@ pub record AreStocks (facts : List Fact) (handed : List (Name × ℕ)) (stocks :
 abbrev pub all_but_last : List Fact → List Fact
 all_but_last facts = take (length facts - 1) facts
 
--- the pool of a key of this master
+-- the pool of a fact, if the fact is a key of this master
 abbrev pub key_pool : ℕ → Option Fact → Option Pool
 key_pool sae (Some (Key name master slave route bytes)) = if master == sae then Some (pool_of master slave bytes) else None
 key_pool sae _ = None
 
--- the pool of the fact that was learned last, if it is a key that its master hasn't got
+-- the pool of a fact, if the fact is a key that its master hasn't got
 abbrev pub free_pool : List (Name × ℕ) → Option Fact → Option Pool
 free_pool handed (Some (Key name master slave route bytes)) = if was_handed handed name master then None else Some (pool_of master slave bytes)
 free_pool handed _ = None

@@ -1,4 +1,4 @@
-//! Keys that wait for their applications, and which application has got which.
+//! The keys at a key manager that wait for their applications, and the record of which application has got which key.
 #![tactic(auto)]
 
 mod listing;

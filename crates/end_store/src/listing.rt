@@ -1,4 +1,5 @@
-// How what waits is put into an index and taken out of it. The index may lag behind the facts where memory was wanting.
+// Functions that add waiting facts to the index and remove them. When memory runs out, the index lags behind the
+// facts.
 ghost use Rattle.std.specs.Prelude.{◌≡◌, ◌+◌, IsTrue, IfSome, true, false};
 ghost use Rattle.std.specs.Option.{option_copied};
 ghost use Rattle.net_model.specs.Table.{fact_at, was_handed};
@@ -6,11 +7,11 @@ ghost use Rattle.end_store.specs.Waiting.{is_own, is_taken, pool_of, place_entry
 
 use crate::{Line, Marks, Pool};
 use net_model::Fact;
-use ordered_entries::{Entries, Entry};
+use ordered_set::{Entries, Entry};
 use qkd_base::{KeyName, NameKind, NodeNo, Octets, SaeNo};
 use relay_core::Known;
 
-// Whether the master of a key or a group key has got it.
+// Whether the master has got this key, or the group key of this part.
 fn is_taken(fact: &Fact, handed: &Marks) -> bool
     ensures { result ≡ is_taken handed.now.pairs fact.now }
 {
@@ -21,7 +22,7 @@ fn is_taken(fact: &Fact, handed: &Marks) -> bool
     }
 }
 
-/// The pool of a key or part of these bytes.
+/// The pool of a key or part with these bytes.
 pub fn pool_of(master: SaeNo, slave: SaeNo, bytes: &Octets) -> Pool
     ensures { result ≡ pool_of master slave bytes.now }
 {
@@ -32,14 +33,14 @@ pub fn pool_of(master: SaeNo, slave: SaeNo, bytes: &Octets) -> Pool
     }
 }
 
-/// Whether this node gave the name of a key.
+/// Whether this node gave the key its name.
 pub fn is_own(name: KeyName, me: NodeNo) -> bool
     ensures { result ≡ is_own me name }
 {
     name.node() == me && name.kind() == NameKind::Key
 }
 
-// The entry of a fact by its place.
+// The index entry of a fact. Its count is the fact's place in the list of facts.
 fn place_entry(fact: &Fact, place: usize) -> Option<Entry>
     ensures { result ≡ place_entry place fact.now }
 {
@@ -54,7 +55,7 @@ fn place_entry(fact: &Fact, place: usize) -> Option<Entry>
     }
 }
 
-// The entry of a fact by the count of the name under which it is handed out.
+// The index entry of a fact. Its count is that of the name under which the master gets the key.
 fn count_entry(fact: &Fact, me: NodeNo) -> Option<Entry>
     ensures { result ≡ count_entry me fact.now }
 {
@@ -89,7 +90,7 @@ fn count_entry(fact: &Fact, me: NodeNo) -> Option<Entry>
     }
 }
 
-// The entry by a count of the fact of a name, unless its master has got it.
+// The index entry, by count, of the fact of this name. `None` if its master has got it.
 fn free_entry(known: &Known, handed: &Marks, name: KeyName) -> Option<Entry>
     ensures { result ≡ free_entry known.now.me handed.now.pairs (fact_at known.now.facts name) }
 {
@@ -108,7 +109,8 @@ fn free_entry(known: &Known, handed: &Marks, name: KeyName) -> Option<Entry>
     }
 }
 
-// The entry by a count that is listed with a fact: of a key and the note that confirms it, the later one brings it.
+// The index entry, by count, that is added when this fact is learned. A key needs both itself and a note that
+// confirms it: the later of the two brings the entry.
 fn brought_entry(known: &Known, handed: &Marks, fact: &Fact) -> Option<Entry>
     ensures { result ≡ brought_entry known.now.me known.now.facts handed.now.pairs fact.now }
 {
@@ -125,7 +127,7 @@ fn brought_entry(known: &Known, handed: &Marks, fact: &Fact) -> Option<Entry>
     }
 }
 
-// Puts an entry into the index, if there is one. False where memory is wanting.
+// Adds an entry to the index, if there is one. False if memory runs out.
 fn add(index: &mut Entries, entry: Option<Entry>) -> bool
     ensures done { IsTrue result → GrowsBy index.old index.new entry }
     ensures not_done { result ≡ false → index.new ≡ index.old }
@@ -139,7 +141,7 @@ fn add(index: &mut Entries, entry: Option<Entry>) -> bool
     }
 }
 
-// Takes an entry out of the index, if there is one.
+// Removes an entry from the index, if there is one.
 fn drop_entry(index: &mut Entries, entry: Option<Entry>)
     ensures { ShrinksBy index.old index.new entry }
 {
@@ -149,18 +151,18 @@ fn drop_entry(index: &mut Entries, entry: Option<Entry>)
     }
 }
 
-// Puts the fact at a place into the index, unless its master has got it. False where memory is wanting.
+// Adds the fact at a place to the index, unless its master has got it. False if memory runs out.
 fn list_one(index: &mut Entries, known: &Known, handed: &Marks, place: usize) -> bool
     requires waiting { AreWaiting known.now.me known.now.facts handed.now.pairs index.old place }
     ensures done { IsTrue result → AreWaiting known.now.me known.now.facts handed.now.pairs index.new (place + 1) }
     ensures not_done { result ≡ false → AreWaiting known.now.me known.now.facts handed.now.pairs index.new place }
 {
-    // That names differ is what it says, too.
+    // The contract of `len` also says that all names differ.
     let count = known.len();
     match known.at(place) {
         None => false,
         Some(fact) => {
-            // What was learned last wasn't handed out before.
+            // The fact that was learned last can't have been handed out yet, so it isn't tested.
             if place + 1 < count && is_taken(fact, handed) {
                 return true;
             }
@@ -172,7 +174,8 @@ fn list_one(index: &mut Entries, known: &Known, handed: &Marks, place: usize) ->
     }
 }
 
-/// Puts the facts from a place on into the index, as far as memory reaches, and answers how many are listed then.
+/// Adds the facts from a place on to the index, until memory runs out. Returns the number of leading facts that are
+/// listed then.
 pub fn list_more(index: &mut Entries, known: &Known, handed: &Marks, from: usize) -> usize
     requires { AreWaiting known.now.me known.now.facts handed.now.pairs index.old from }
     ensures { AreWaiting known.now.me known.now.facts handed.now.pairs index.new result }
@@ -187,14 +190,14 @@ pub fn list_more(index: &mut Entries, known: &Known, handed: &Marks, from: usize
     place
 }
 
-// The last handing.
+// The last pair of a key and the application that got it.
 fn last_of(pairs: &[(KeyName, SaeNo)]) -> Option<&(KeyName, SaeNo)>
     ensures { IfSome (option_copied result) (λ pair. was_handed pairs.now pair.0 pair.1 ≡ true) }
 {
     pairs.last()
 }
 
-// Whether the last handing is that of a key or a group key to its master.
+// Whether the last pair hands this key, or the group key of this part, to its master.
 fn is_taken_last(fact: &Fact, handed: &Marks) -> bool
     ensures { IsTrue result → is_taken handed.now.pairs fact.now ≡ true }
 {
@@ -208,7 +211,7 @@ fn is_taken_last(fact: &Fact, handed: &Marks) -> bool
     }
 }
 
-/// Takes the fact at a place out of the index, if the last handing gave it to its master.
+/// Removes the fact at a place from the index, if the last pair handed it to its master.
 pub fn release(index: &mut Entries, known: &Known, handed: &Marks, count: usize, place: usize)
     requires { AreWaiting known.now.me known.now.facts handed.now.pairs index.old count }
     ensures { AreWaiting known.now.me known.now.facts handed.now.pairs index.new count }
@@ -224,7 +227,7 @@ pub fn release(index: &mut Entries, known: &Known, handed: &Marks, count: usize,
     }
 }
 
-/// Takes the parts of a group key out of the index, if the last handing gave it to their master.
+/// Removes the parts of a group key from the index, if the last pair handed this key to its master.
 pub fn release_parts(index: &mut Entries, known: &Known, handed: &Marks, count: usize, key: KeyName)
     requires { AreWaiting known.now.me known.now.facts handed.now.pairs index.old count }
     ensures { AreWaiting known.now.me known.now.facts handed.now.pairs index.new count }

@@ -1,23 +1,23 @@
-// Which application has got what.
+// The set of pairs of a key and an application that has got it.
 ghost use Rattle.std.specs.Prelude.{◌≡◌, ◌+◌, ◌<◌, ◌≤◌, ◌==◌, ◌&&◌, ◌∷◌, ◌++◌, [], false, IsTrue, OnOk, OnErr, length, slice_get, Some};
 ghost use Rattle.qkd_base.specs.Name.{name_eq};
 ghost use Rattle.net_model.specs.Table.{was_handed};
 ghost use Rattle.net_model.specs.Fold.{marked};
 ghost use Rattle.end_store.specs.Marked.{AreMarked, mark_entry};
 
-use ordered_entries::{Entries, Entry};
+use ordered_set::{Entries, Entry};
 use qkd_base::{KeyName, Memory, SaeNo};
 use relay_core::origin_number;
 use std::alloc::Global;
 use std::marker::Model;
 
-/// Pairs of a name and an application, in order, each once: which application has got which key, or has closed which
-/// stream.
+/// Pairs of a name and an application, in the order in which they were added, each once. A pair says that the
+/// application has got the key of this name, or has closed the stream of this name.
 #[derive(Drop)]
 pub struct Marks {
     pairs: Vec<(KeyName, SaeNo)>,
     index: Entries,
-    // So many of the first pairs are in the index. It lags where memory was wanting.
+    // The number of leading pairs that are in the index. It lags behind when memory runs out.
     listed: usize,
 }
 
@@ -32,7 +32,7 @@ impl Model for Marks {
     ghost invariant = { λ m. AreMarked m.pairs.items m.index m.listed };
 }
 
-// The entry of a pair. The count, which differs most, stands first: there comparisons end.
+// The index entry of a pair. The count stands first, since it differs most and comparisons then end early.
 fn mark_entry(name: KeyName, sae: SaeNo) -> Entry
     ensures { result ≡ mark_entry name sae }
 {
@@ -45,14 +45,14 @@ fn mark_entry(name: KeyName, sae: SaeNo) -> Entry
     ]
 }
 
-// Whether a pair is among these.
+// Whether a pair is in this slice.
 fn is_among(pairs: &[(KeyName, SaeNo)], name: KeyName, sae: SaeNo) -> bool
     ensures { result ≡ was_handed pairs.now name sae }
 {
     pairs.iter().any(|pair| pair.0 == name && pair.1 == sae)
 }
 
-// Puts the pair at a place into the index. False where memory is wanting.
+// Adds the pair at a place to the index. False if memory runs out.
 fn list_pair(index: &mut Entries, pairs: &[(KeyName, SaeNo)], place: usize) -> bool
     requires within { place < length pairs.now }
     requires marked { AreMarked pairs.now index.old place }
@@ -66,7 +66,8 @@ fn list_pair(index: &mut Entries, pairs: &[(KeyName, SaeNo)], place: usize) -> b
     }
 }
 
-// Puts the pairs from a place on into the index, as far as memory reaches, and answers how many are listed then.
+// Adds the pairs from a place on to the index, until memory runs out. Returns the number of leading pairs that are
+// listed then.
 fn list_pairs(index: &mut Entries, pairs: &[(KeyName, SaeNo)], count: usize) -> usize
     requires { AreMarked pairs.now index.old count }
     ensures { AreMarked pairs.now index.new result }
@@ -82,7 +83,7 @@ fn list_pairs(index: &mut Entries, pairs: &[(KeyName, SaeNo)], count: usize) -> 
 }
 
 impl Marks {
-    /// No pairs. It takes no memory.
+    /// The empty set of pairs. It allocates nothing.
     pub fn new(alloc: Global) -> Self
         ensures { result.pairs ≡ [] }
     {
@@ -93,21 +94,21 @@ impl Marks {
         }
     }
 
-    /// The pairs in order.
+    /// All pairs, in the order in which they were added.
     pub fn as_slice(&self) -> &[(KeyName, SaeNo)]
         ensures { result.now ≡ self.now.pairs }
     {
         &self.pairs
     }
 
-    /// Whether a pair is there.
+    /// Whether a pair is in the set.
     pub fn has(&self, name: KeyName, sae: SaeNo) -> bool
         ensures { result ≡ was_handed self.now.pairs name sae }
     {
         self.index.has(mark_entry(name, sae)) || is_among(&self.pairs[self.listed..], name, sae)
     }
 
-    /// Makes room for so many more pairs. An `Err` changes nothing.
+    /// Reserves memory for `more` further pairs. An `Err` changes nothing.
     pub fn room(&mut self, more: u32) -> Result<(), Memory>
         ensures pairs { self.new.pairs ≡ self.old.pairs }
         ensures ok { OnOk result (more ≤ self.new.spare) }
@@ -117,7 +118,7 @@ impl Marks {
         Ok(())
     }
 
-    /// Adds a pair, unless it is there. It takes no memory.
+    /// Adds a pair, unless it is in the set already. It needs no more memory than was reserved.
     pub fn mark(&mut self, name: KeyName, sae: SaeNo)
         requires room { 0 < self.old.spare }
         ensures pairs { self.new.pairs ≡ marked self.old.pairs name sae }

@@ -1,11 +1,11 @@
-// Pools of keys.
+// Pools of keys, and the three orders in which waiting keys are listed.
 ghost use Rattle.std.specs.Prelude.{◌≡◌};
 ghost use Rattle.end_store.specs.Waiting.{line_entry, pool_entry};
 
-use ordered_entries::Entry;
+use ordered_set::Entry;
 use qkd_base::SaeNo;
 
-/// The keys of one master for one slave of one size in octets.
+/// The pool of the keys that have this master, this slave and this size in octets.
 #[derive(Clone, Copy, Debug, PartialEq, Eq)]
 pub struct Pool {
     pub master: SaeNo,
@@ -13,18 +13,18 @@ pub struct Pool {
     pub octets: u64,
 }
 
-/// What waits for its master, in order.
+/// A list of what waits for its master. Each item has a count, and the list is ordered by it.
 #[derive(Clone, Copy, Debug)]
 pub enum Line {
-    /// All keys of a pool, by place.
+    /// All keys of a pool. The count is the place in the list of facts.
     Stock(Pool),
-    /// The ready keys of a pool that this node named, by the counts of their names.
+    /// The ready keys of a pool that this node named. The count is that of the key's name.
     Keys(Pool),
-    /// The parts of group keys that this node named, by the counts of these names.
+    /// The parts, in a pool, of the group keys that this node named. The count is that of the group key's name.
     Parts(Pool),
 }
 
-// The entry of a pool at a count. The tag and the master share a number.
+// The index entry of a pool at a count. Its first number holds both the tag and the master.
 fn pool_entry(tag: u8, pool: Pool, count: u64) -> Entry
     ensures { result ≡ pool_entry tag pool count }
 {
@@ -38,7 +38,7 @@ fn pool_entry(tag: u8, pool: Pool, count: u64) -> Entry
 }
 
 impl Line {
-    /// The entry at a count.
+    /// The index entry of this list at a count.
     pub fn entry(&self, count: u64) -> Entry
         ensures { result ≡ line_entry self.now count }
     {

@@ -1,4 +1,4 @@
-// The keys of pools in order of name (ETSI GS QKD 014, Get key and Get status).
+// The ready keys of a pool, in order of name (ETSI GS QKD 014, Get key and Get status).
 ghost use Rattle.std.specs.Prelude.{◌≡◌, ◌*◌, ◌/◌, ◌%◌, ◌==◌, IfOk, length, take, min};
 ghost use Rattle.net_model.specs.Pools.{pool as pool_names, unhanded};
 ghost use Rattle.end_store.specs.Pooled.{ends_view, octets_pool, ready_names};
@@ -7,7 +7,7 @@ use crate::{EndStore, Line, Pool};
 use qkd_base::{KeyName, Memory, NameKind, PoolNo};
 use std::alloc::Global;
 
-// The pool by its size in octets, if it has whole ones.
+// The pool with its size in octets. `None` if the size isn't a multiple of 8 bits.
 fn octets_pool(pool: &PoolNo) -> Option<Pool>
     ensures { result ≡ octets_pool pool.now }
 {
@@ -22,7 +22,7 @@ fn octets_pool(pool: &PoolNo) -> Option<Pool>
     }
 }
 
-// The first ready keys of a pool in order of name, at most so many.
+// The first ready keys of a pool in order of name, at most `number` of them.
 fn first_ready(
     alloc: Global,
     store: &EndStore,
@@ -32,7 +32,7 @@ fn first_ready(
     ensures { IfOk result (λ names. names.items ≡ take number (ready_names store.now.known.me store.now.known.facts store.now.handed pool.now)) }
 {
     let me = store.known().me();
-    // That no name of this node has a greater count is what it says.
+    // The contract of `last_count` also says that no name of this node has a greater count.
     let _holds = store.known().last_count();
     let mut names = Vec::new(alloc);
     let mut after = 0;
@@ -51,7 +51,8 @@ fn first_ready(
 }
 
 impl EndStore {
-    /// How many keys of a pool their master hasn't got, ready or not, counted up to a number. It takes no memory.
+    /// The number of keys of a pool that their master hasn't got, whether they are ready or not, but at most
+    /// `number`. It allocates nothing.
     pub fn unhanded_count(&self, pool: &PoolNo, number: usize) -> usize
         ensures { result ≡ min number (unhanded (ends_view self.now) pool.now.master pool.now.slave pool.now.bits) }
     {
@@ -61,7 +62,8 @@ impl EndStore {
         }
     }
 
-    /// How many keys of a pool are ready and not handed to their master, counted up to a number. It takes no memory.
+    /// The number of keys of a pool that are ready and that their master hasn't got, but at most `number`. It
+    /// allocates nothing.
     pub fn ready_count(&self, pool: &PoolNo, number: usize) -> usize
         ensures { result ≡ length (take number (pool_names (ends_view self.now) pool.now.master pool.now.slave pool.now.bits)) }
     {
@@ -71,7 +73,8 @@ impl EndStore {
         }
     }
 
-    /// The first ready keys of a pool that are not handed to their master, in order of name, at most so many.
+    /// The first keys of a pool that are ready and that their master hasn't got, in order of name, at most `number`
+    /// of them.
     pub fn ready_keys(
         &self,
         alloc: Global,

@@ -1,4 +1,4 @@
-// How the numbers of ready keys keep up with what is learned and handed.
+// The cached numbers of ready keys, updated when a fact is learned or a key is handed out.
 ghost use Rattle.std.specs.Prelude.{◌≡◌, ◌<◌, ◌&&◌, min, length, Some};
 ghost use Rattle.end_store.specs.Waiting.{AreWaiting};
 ghost use Rattle.end_store.specs.Pooled.{ready_names};
@@ -11,11 +11,11 @@ use crate::stocks::Stocks;
 use crate::waiting::next;
 use crate::{Line, Marks, Pool};
 use net_model::Fact;
-use ordered_entries::Entries;
+use ordered_set::Entries;
 use qkd_base::KeyName;
 use relay_core::Known;
 
-/// How many keys of a pool are ready, counted one by one up to a number.
+/// The number of ready keys of a pool, but at most `number`. It counts them one by one.
 pub fn count_ready(
     index: &Entries,
     listed: usize,
@@ -27,7 +27,7 @@ pub fn count_ready(
     requires { AreWaiting known.now.me known.now.facts handed.now.pairs index.now listed }
     ensures { result ≡ min number (length (ready_names known.now.me known.now.facts handed.now.pairs pool.now)) }
 {
-    // That no name of this node has a greater count is what it says.
+    // The contract of `last_count` also says that no name of this node has a greater count.
     let _holds = known.last_count();
     let mut ready = 0;
     let mut after = 0;
@@ -43,7 +43,7 @@ pub fn count_ready(
     ready
 }
 
-/// The pool in which a key becomes ready when a fact is learned whose name isn't known.
+/// The pool in which a key becomes ready when this fact is learned. The fact's name must be unknown so far.
 pub fn readied_pool(known: &Known, handed: &Marks, fact: &Fact) -> Option<Pool>
     ensures { result ≡ readied_pool known.now.me known.now.facts handed.now.pairs (Some fact.now) }
 {
@@ -75,7 +75,7 @@ pub fn readied_pool(known: &Known, handed: &Marks, fact: &Fact) -> Option<Pool>
     }
 }
 
-/// The pool of a key of a name, if it is ready.
+/// This pool, if the key of this name is ready.
 pub fn ready_pool(known: &Known, name: KeyName, pool: &Option<Pool>) -> Option<Pool>
     ensures { result ≡ ready_pool known.now.me known.now.facts name pool.now }
 {
@@ -91,7 +91,7 @@ pub fn ready_pool(known: &Known, name: KeyName, pool: &Option<Pool>) -> Option<P
     }
 }
 
-/// Counts what became ready by the fact that was learned last.
+/// Updates the numbers of ready keys for the fact that was learned last.
 pub fn ready_last(
     readies: &mut Stocks,
     index: &Entries,
@@ -106,7 +106,7 @@ pub fn ready_last(
     requires readies { AreReady known.now.me (all_but_last known.now.facts) handed.now.pairs readies.old }
     ensures { AreReady known.now.me known.now.facts handed.now.pairs readies.new }
 {
-    // How many names this node may have given, and that names differ, is what they say.
+    // These contracts bound the counts of this node's names and say that all names differ.
     let last = known.last_count();
     let _holds = known.len();
     match readied {

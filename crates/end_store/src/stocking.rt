@@ -1,4 +1,4 @@
-// How the numbers of waiting keys keep up with what is learned and handed.
+// The cached numbers of waiting keys, updated when a fact is learned or a key is handed out.
 ghost use Rattle.std.specs.Prelude.{ℕ, ◌≡◌, ◌<◌, ◌≤◌, ◌==◌, min, count_by, length, slice_get, Some, IfSome};
 ghost use Rattle.net_model.specs.Table.{fact_at};
 ghost use Rattle.relay_core.specs.Knowledge.{AreDistinct};
@@ -10,11 +10,11 @@ use crate::stocks::Stocks;
 use crate::waiting::next;
 use crate::{Line, Marks, Pool};
 use net_model::Fact;
-use ordered_entries::Entries;
+use ordered_set::Entries;
 use qkd_base::{KeyName, SaeNo};
 use relay_core::Known;
 
-/// How many keys of a pool their master hasn't got, counted one by one up to a number.
+/// The number of keys of a pool that their master hasn't got, but at most `number`. It counts them one by one.
 pub fn count_stock(
     index: &Entries,
     listed: usize,
@@ -26,7 +26,7 @@ pub fn count_stock(
     requires { AreWaiting known.now.me known.now.facts handed.now.pairs index.now listed }
     ensures { result ≡ min number (count_by (is_free_key handed.now.pairs pool.now) known.now.facts) }
 {
-    // How many places there are is what it says.
+    // The contract of `len` also bounds the number of places.
     let _holds = known.len();
     let mut count = 0;
     let mut from = 0;
@@ -42,7 +42,7 @@ pub fn count_stock(
     count
 }
 
-// The pool of a fact, if it is a key of this master.
+// The pool of a fact, if the fact is a key of this master.
 fn key_pool(fact: &Fact, sae: SaeNo) -> Option<Pool>
     ensures { result ≡ key_pool sae (Some fact.now) }
 {
@@ -116,7 +116,7 @@ fn last_pool(known: &Known, handed: &Marks) -> Option<Pool>
     }
 }
 
-/// Counts what was learned last.
+/// Updates the numbers of waiting keys for the fact that was learned last.
 pub fn stock_last(
     stocks: &mut Stocks,
     index: &Entries,
@@ -133,7 +133,7 @@ pub fn stock_last(
         None => {}
         Some(pool) => match stocks.find(&pool) {
             Some(number) => {
-                // How many facts there are at most is what it says.
+                // The contract of `len` also bounds the number of facts.
                 let _holds = known.len();
                 stocks.put(&pool, number + 1);
             }
@@ -146,7 +146,7 @@ pub fn stock_last(
     }
 }
 
-/// One key less in a pool, if there is one.
+/// Lowers the cached number of a pool by one, if there is one.
 pub fn lower(stocks: &mut Stocks, pool: &Option<Pool>)
     requires { IfSome pool.now (λ p. (n : ℕ) → stock_at stocks.old p ≡ Some n → 1 ≤ n) }
     ensures { LowersBy stocks.old stocks.new pool.now }

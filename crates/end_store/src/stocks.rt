@@ -1,4 +1,4 @@
-// How many keys of pools wait for their masters, or are ready.
+// Cached numbers of keys by pool.
 ghost use Rattle.std.specs.Prelude.{◌≡◌, None};
 ghost use Rattle.end_store.specs.declared.pool.Pool.{Pool as PoolValue};
 ghost use Rattle.end_store.specs.Stocked.{pool_key, stock_at, IsPut};
@@ -8,7 +8,8 @@ use std::alloc::Global;
 use std::collections::BTreeMap;
 use std::marker::Model;
 
-/// Numbers of keys of pools, of all that their masters haven't got or of the ready ones. One may be missing where memory was wanting.
+/// For some pools, a number of keys: either all keys that their masters haven't got, or only the ready ones. A pool
+/// has no number if memory ran out when it was put.
 #[derive(Drop)]
 pub struct Stocks {
     numbers: BTreeMap<[u64; 3], u64>,
@@ -22,7 +23,7 @@ impl Model for Stocks {
     ghost view = { λ s. s.numbers.entries };
 }
 
-// The key of a pool.
+// The map key of a pool.
 fn pool_key(pool: &Pool) -> [u64; 3]
     ensures { result ≡ pool_key pool.now }
 {
@@ -34,7 +35,7 @@ fn pool_key(pool: &Pool) -> [u64; 3]
 }
 
 impl Stocks {
-    /// No numbers. It takes no memory.
+    /// A map without numbers. It allocates nothing.
     pub fn new(alloc: Global) -> Self
         ensures { (pool : PoolValue) → stock_at result pool ≡ None }
     {
@@ -43,14 +44,14 @@ impl Stocks {
         }
     }
 
-    /// The number of a pool.
+    /// The number of a pool, if the map has one.
     pub fn find(&self, pool: &Pool) -> Option<u64>
         ensures { result ≡ stock_at self.now pool.now }
     {
         self.numbers.get(&pool_key(pool)).copied()
     }
 
-    /// Puts the number of a pool in the place of its former one. Where there is none and memory is wanting, none is put.
+    /// Sets the number of a pool. If the pool has none and memory runs out, it still has none afterwards.
     pub fn put(&mut self, pool: &Pool, number: u64)
         ensures { IsPut self.old self.new pool.now number }
     {

@@ -1,4 +1,4 @@
-// What an end of keys keeps.
+// The store of a node that is an end of keys.
 ghost use Rattle.std.specs.Prelude.{◌≡◌, ◌+◌, ◌<◌, ◌≤◌, [], IfSome, IfNone, IfOk, IsOk, OnOk, OnErr, not, min, count_by, length};
 ghost use Rattle.net_model.specs.Table.{name_of, has_fact, learned, was_handed};
 ghost use Rattle.net_model.specs.Fold.{marked};
@@ -13,24 +13,24 @@ use crate::stocks::Stocks;
 use crate::waiting::next;
 use crate::{Line, Marks, Pool};
 use net_model::Fact;
-use ordered_entries::Entries;
+use ordered_set::Entries;
 use qkd_base::{KeyName, Memory, NodeNo, SaeNo};
 use relay_core::{Group, Known};
 use std::alloc::Global;
 use std::marker::Model;
 
-/// What a node knows, and which application has got which key: an end of the keys of which it is the first or the last node
-/// (ETSI GS QKD 014).
+/// What a node knows, and which application has got which key. The node is an end of a key if it is the first or the
+/// last node of its route (ETSI GS QKD 014).
 #[derive(Drop)]
 pub struct EndStore {
     known: Known,
     handed: Marks,
     waiting: Entries,
-    // So many of the first facts are in `waiting`, where they wait for their masters.
+    // The number of leading facts that are listed in `waiting`.
     listed: usize,
-    // So many keys of a pool their master hasn't got.
+    // For some pools, the number of keys that their master hasn't got.
     stocks: Stocks,
-    // So many of these are ready.
+    // For some pools, the number of ready keys that their master hasn't got.
     readies: Stocks,
 }
 
@@ -46,7 +46,7 @@ impl Model for EndStore {
 }
 
 impl EndStore {
-    /// A node that knows nothing. It takes no memory.
+    /// The store of a node that knows nothing. It allocates nothing.
     pub fn new(alloc: Global, me: NodeNo) -> Self
         ensures known { (result.known.me ≡ me) × (result.known.facts ≡ []) × (result.known.acked ≡ []) }
         ensures handed { result.handed ≡ [] }
@@ -61,14 +61,14 @@ impl EndStore {
         }
     }
 
-    /// What is known.
+    /// The facts that this node knows, with their acknowledgements.
     pub fn known(&self) -> &Known
         ensures { result.now ≡ self.now.known }
     {
         &self.known
     }
 
-    /// The pairs of a key and an application that has got it, in order of handing.
+    /// The pairs of a key and an application that has got it, in the order in which the keys were handed out.
     pub fn handed(&self) -> &[(KeyName, SaeNo)]
         ensures { result.now ≡ self.now.handed }
     {
@@ -82,7 +82,7 @@ impl EndStore {
         self.handed.has(name, sae)
     }
 
-    /// The first count of a line from a count on at which something waits for its master.
+    /// The first count of a list, not below `from`, at which something waits for its master.
     pub fn next(&self, line: &Line, from: u64) -> Option<u64>
         ensures next { IfSome result (λ count. IsNextWaiting self.now.known.me self.now.known.facts self.now.handed line.now from count) }
         ensures last { IfNone result (IsLastWaiting self.now.known.me self.now.known.facts self.now.handed line.now from) }
@@ -97,7 +97,7 @@ impl EndStore {
         )
     }
 
-    // How many keys of a pool their master hasn't got, counted up to a number.
+    // The number of keys of a pool that their master hasn't got, but at most `number`.
     pub(crate) fn stock(&self, pool: &Pool, number: usize) -> usize
         ensures { result ≡ min number (count_by (is_free_key self.now.handed pool.now) self.now.known.facts) }
     {
@@ -120,7 +120,7 @@ impl EndStore {
         }
     }
 
-    // How many keys of a pool are ready, counted up to a number.
+    // The number of ready keys of a pool that their master hasn't got, but at most `number`.
     pub(crate) fn ready(&self, pool: &Pool, number: usize) -> usize
         ensures { result ≡ min number (length (ready_names self.now.known.me self.now.known.facts self.now.handed pool.now)) }
     {
@@ -143,7 +143,7 @@ impl EndStore {
         }
     }
 
-    /// Makes room for so many more facts. An `Err` changes nothing.
+    /// Reserves memory for `more` further facts. An `Err` changes nothing.
     pub fn room(&mut self, more: u32) -> Result<(), Memory>
         ensures kept { (self.new.known.me ≡ self.old.known.me) × (self.new.known.facts ≡ self.old.known.facts) × (self.new.known.acked ≡ self.old.known.acked)
             × (self.new.known.acked_spare ≡ self.old.known.acked_spare) × (self.new.handed ≡ self.old.handed) × (self.new.handed_spare ≡ self.old.handed_spare) }
@@ -154,7 +154,7 @@ impl EndStore {
         Ok(())
     }
 
-    /// Makes room for so many more acknowledgements. An `Err` changes nothing.
+    /// Reserves memory for `more` further acknowledgements. An `Err` changes nothing.
     pub fn room_acked(&mut self, more: u32) -> Result<(), Memory>
         ensures kept { (self.new.known.me ≡ self.old.known.me) × (self.new.known.facts ≡ self.old.known.facts) × (self.new.known.acked ≡ self.old.known.acked)
             × (self.new.known.facts_spare ≡ self.old.known.facts_spare) × (self.new.handed ≡ self.old.handed) × (self.new.handed_spare ≡ self.old.handed_spare) }
@@ -165,7 +165,7 @@ impl EndStore {
         Ok(())
     }
 
-    /// Makes room for so many more handings. An `Err` changes nothing.
+    /// Reserves memory for `more` further pairs of a key and an application. An `Err` changes nothing.
     pub fn room_handed(&mut self, more: u32) -> Result<(), Memory>
         ensures kept { (self.new.known ≡ self.old.known) × (self.new.handed ≡ self.old.handed) }
         ensures ok { OnOk result (more ≤ self.new.handed_spare) }
@@ -175,8 +175,8 @@ impl EndStore {
         Ok(())
     }
 
-    /// Learns a fact, unless its name is known, and answers whether it was new. Where there is room for it, it takes no
-    /// memory. An `Err` changes nothing.
+    /// Learns a fact, unless its name is known, and returns whether it was new. If room was reserved for it, it can't
+    /// fail. An `Err` changes nothing.
     pub fn learn(&mut self, fact: Fact) -> Result<bool, Memory>
         ensures new { IfOk result (λ new. new ≡ not (has_fact self.old.known.facts (name_of fact))) }
         ensures facts { OnOk result (self.new.known.facts ≡ learned self.old.known.facts fact) }
@@ -209,8 +209,8 @@ impl EndStore {
         Ok(new)
     }
 
-    /// Notes that the next node on its route has acknowledged the fact of a name, where it is owed to it. It takes no
-    /// memory.
+    /// Records that the next node of its route has acknowledged the fact of this name, if the fact is owed to that
+    /// node. It needs only the room that was reserved.
     pub fn acknowledge(&mut self, name: KeyName)
         requires room { 0 < self.old.known.acked_spare }
         ensures acked { self.new.known.acked ≡ acked_with self.old.known.me self.old.known.acked self.old.known.facts name }
@@ -221,7 +221,8 @@ impl EndStore {
         self.known.acknowledge(name);
     }
 
-    /// Notes that an application has got a key, unless that is noted. It takes no memory.
+    /// Records that an application has got a key, unless that is recorded already. It needs only the room that was
+    /// reserved.
     pub fn mark(&mut self, name: KeyName, sae: SaeNo)
         requires room { 0 < self.old.handed_spare }
         ensures handed { self.new.handed ≡ marked self.old.handed name sae }
@@ -233,9 +234,9 @@ impl EndStore {
         if self.handed.as_slice().len() == before {
             return;
         }
-        // That names differ is what it says.
+        // The contract of `len` also says that all names differ.
         let _holds = self.known.len();
-        // A name is that of a fact or of a group key.
+        // The name is that of a fact, or else that of a group key.
         match self.known.next(&Group::Named(name), 0) {
             None => release_parts(
                 &mut self.waiting,
@@ -260,7 +261,7 @@ impl EndStore {
         }
     }
 
-    /// Overwrites the bytes of the fact at a place with zeros, if it has some. It takes no memory.
+    /// Overwrites the bytes of the fact at a place with zeros, if it has bytes. It allocates nothing.
     pub fn forget(&mut self, place: usize)
         ensures facts { self.new.known.facts ≡ forgotten self.old.known.facts place }
         ensures kept { (self.new.known.me ≡ self.old.known.me) × (self.new.known.acked ≡ self.old.known.acked) × (self.new.known.facts_spare ≡ self.old.known.facts_spare)

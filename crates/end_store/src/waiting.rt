@@ -1,4 +1,5 @@
-// What waits for its master at a count of a line. What the index has is looked at again, and what it lacks is looked for in the lists.
+// Finds what waits for its master. Each hit of the index is checked against the facts, and facts that aren't listed
+// are scanned.
 ghost use Rattle.std.specs.Prelude.{ℕ, ◌≡◌, ◌+◌, ◌<◌, ◌≤◌, ◌==◌, ◌&&◌, ◌^◌, true, false, Some, IsTrue, IfSome, IfNone, max, length, slice_get};
 ghost use Rattle.std.specs.List.{list_any};
 ghost use Rattle.net_model.specs.Table.{was_handed};
@@ -8,11 +9,11 @@ ghost use Rattle.end_store.specs.Waiting.{is_in, is_free_key, is_part_in, is_par
 
 use crate::{Line, Marks, Pool};
 use net_model::Fact;
-use ordered_entries::Entries;
+use ordered_set::Entries;
 use qkd_base::{KeyName, NameKind, SaeNo};
 use relay_core::Known;
 
-// Whether a key of these octets is in a pool.
+// Whether a key with this master, slave and number of octets belongs to a pool.
 fn is_in(pool: &Pool, master: SaeNo, slave: SaeNo, octets: usize) -> bool
     ensures { result ≡ ((master == pool.now.master) && (slave == pool.now.slave) && (octets == pool.now.octets)) }
 {
@@ -35,7 +36,7 @@ fn is_free_key(fact: &Fact, handed: &Marks, pool: &Pool) -> bool
     }
 }
 
-// Whether a fact is a part, in a pool, of a group key.
+// Whether a fact is a part of this group key, in this pool.
 fn is_part_in(fact: &Fact, of: KeyName, pool: &Pool) -> bool
     ensures { result ≡ is_part_in pool.now of fact.now }
 {
@@ -51,7 +52,7 @@ fn is_part_in(fact: &Fact, of: KeyName, pool: &Pool) -> bool
     }
 }
 
-// Whether the fact at a place is a part, in a pool, of a group key.
+// Whether the fact at a place is a part of this group key, in this pool.
 fn is_part_at(known: &Known, place: usize, key: KeyName, pool: &Pool) -> bool
     ensures { result ≡ is_part_in_at pool.now key (slice_get known.now.facts place) }
 {
@@ -61,7 +62,7 @@ fn is_part_at(known: &Known, place: usize, key: KeyName, pool: &Pool) -> bool
     }
 }
 
-// Whether a group key has a part in a pool.
+// Whether this group key has a part in a pool.
 fn has_part(known: &Known, key: KeyName, pool: &Pool) -> bool
     ensures { result ≡ list_any (is_part_in pool.now key) known.now.facts }
 {
@@ -80,7 +81,7 @@ fn has_part(known: &Known, key: KeyName, pool: &Pool) -> bool
     false
 }
 
-// Whether the key at a place is in a pool and waits.
+// Whether the fact at a place is a key of a pool that its master hasn't got.
 fn is_stock_waiting(known: &Known, handed: &Marks, pool: &Pool, place: u64) -> bool
     ensures { result ≡ is_waiting known.now.me known.now.facts handed.now.pairs (Stock pool.now) place }
 {
@@ -90,12 +91,12 @@ fn is_stock_waiting(known: &Known, handed: &Marks, pool: &Pool, place: u64) -> b
     }
 }
 
-// Whether the key of a name is in a pool, is confirmed and waits.
+// Whether the key that this node named with this count is in a pool, is confirmed, and waits for its master.
 fn is_key_waiting(known: &Known, handed: &Marks, pool: &Pool, count: u64) -> bool
     requires { 1 ≤ count }
     ensures { result ≡ is_waiting known.now.me known.now.facts handed.now.pairs (Keys pool.now) count }
 {
-    // That known names are names is what it says.
+    // The contract of `last_count` also says that the names of known facts are valid.
     let _holds = known.last_count();
     match KeyName::new(known.me(), NameKind::Key, count) {
         None => false,
@@ -106,12 +107,12 @@ fn is_key_waiting(known: &Known, handed: &Marks, pool: &Pool, count: u64) -> boo
     }
 }
 
-// Whether the group key of a name has a part in a pool and waits.
+// Whether the group key that this node named with this count has a part in a pool, and waits for its master.
 fn is_group_waiting(known: &Known, handed: &Marks, pool: &Pool, count: u64) -> bool
     requires { 1 ≤ count }
     ensures { result ≡ is_waiting known.now.me known.now.facts handed.now.pairs (Parts pool.now) count }
 {
-    // That no name of this node has a greater count is what it says.
+    // The contract of `last_count` also says that no name of this node has a greater count.
     let _holds = known.last_count();
     match KeyName::new(known.me(), NameKind::Key, count) {
         None => false,
@@ -119,7 +120,7 @@ fn is_group_waiting(known: &Known, handed: &Marks, pool: &Pool, count: u64) -> b
     }
 }
 
-// Whether something waits at a count of a line.
+// Whether something waits at a count of a list.
 fn is_waiting(known: &Known, handed: &Marks, line: &Line, count: u64) -> bool
     ensures { result ≡ is_waiting known.now.me known.now.facts handed.now.pairs line.now count }
 {
@@ -130,7 +131,7 @@ fn is_waiting(known: &Known, handed: &Marks, line: &Line, count: u64) -> bool
     }
 }
 
-// The first count of a line at which something waits, by the lists alone.
+// The first count of a list at which something waits, found by a scan of the facts.
 fn walk(known: &Known, handed: &Marks, line: &Line, from: u64, end: u64) -> Option<u64>
     requires { (d : ℕ) → is_waiting known.now.me known.now.facts handed.now.pairs line.now d ≡ true → d < end }
     ensures next { IfSome result (λ count. IsNextWaiting known.now.me known.now.facts handed.now.pairs line.now from count) }
@@ -144,7 +145,7 @@ fn walk(known: &Known, handed: &Marks, line: &Line, from: u64, end: u64) -> Opti
     None
 }
 
-// The same by the index, where all facts are listed.
+// The first count of a list at which something waits, found in the index. All facts must be listed.
 fn next_listed(
     index: &Entries,
     known: &Known,
@@ -176,14 +177,14 @@ fn next_listed(
     None
 }
 
-// The later of two counts.
+// The greater of two counts.
 fn later(a: u64, b: u64) -> u64
     ensures { result ≡ max a b }
 {
     if a < b { b } else { a }
 }
 
-/// The first count of a line from a count on at which something waits, where so many of the first facts are listed.
+/// The first count of a list, not below `from`, at which something waits. The first `listed` facts are in the index.
 pub fn next(
     index: &Entries,
     listed: usize,

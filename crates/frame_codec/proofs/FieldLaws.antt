@@ -1,4 +1,4 @@
--- A field that is read is the one that was spelled, and what was spelled is read again.
+-- The spelling of a field is read as that field, and octets that are read as a field are its spelling.
 use Rattle.std.proofs.Common.{◌≡◌, ℕ, suc, ◌+◌, ◌-◌, ◌/◌, ◌%◌, ◌^◌, ◌<◌, ◌≤◌, Bool, true, false, cond, ltb, leb, ◌&&◌, List, [], ◌∷◌, ◌++◌, length, take, drop, replicate, Option, Some, None, Result, Ok, Err, refl, sym, ap, subst, ◌∙◌, arith, inl, inr}
 use Rattle.std.specs.Int.{w16, w32, w64, from_be_bytes, to_be_bytes}
 use Rattle.std.specs.Str.{bytes_eq}
@@ -15,13 +15,13 @@ use Rattle.net_model.specs.Facts.{IsSize}
 use Rattle.frame_codec.specs.Payload.{IsNameOf, IsSae, AreRouteNodes, AreOctets, short, long, spelled_route}
 use Rattle.frame_codec.specs.Reading.{◌>>=◌, passing, before, prefix, named, of_kind, any_kind, number_at, sae, size, index, route, last}
 
--- ---- answers
+-- ---- results of readers
 
 pub bind_ok : {A B : Type 0} (r : Result A ℕ) (f : A → Result B ℕ) (y : B) → (r >>= f) ≡ Ok y → (x : A) × (r ≡ Ok x) × (f x ≡ Ok y)
 bind_ok (Ok x) f y e = (x, refl, e)
 bind_ok (Err d) f y e = absurd cc
 
--- a test that went on, and one that was passed
+-- A reader goes on only if its test for a refusal is false.
 pub guard_ok : {A : Type 0} (b : Bool) (d : ℕ) (r : Result A ℕ) (y : A) → cond b (Err d) r ≡ Ok y → (b ≡ false) × (r ≡ Ok y)
 guard_ok true d r y e = absurd cc
 guard_ok false d r y e = (refl, e)
@@ -57,12 +57,12 @@ AreOctets-take n octets h i =
       | inr le ↦ rw (get_or_past (take n octets) i 0 (omega (arith, length-take n octets))) (omega arith)
     ]
 
--- what a reader took from the front
+-- A reader took a field's spelling from the front of the octets, and left the rest.
 pub record Takes (octets text rest : List ℕ) : Type 0 where
   pub parts : octets ≡ text ++ rest
   pub rest_fits : AreOctets rest
 
--- ---- a value of so many octets
+-- ---- values of a fixed number of octets
 
 pub prefix_takes : {A : Type 0} (n : ℕ) (value : List ℕ → Option A) (test : A → Bool) (text : A → List ℕ) (Fits : A → Type 0) (octets : List ℕ) (x : A × List ℕ)
     → ((os : List ℕ) (a : A) → length os ≡ n → AreOctets os → value os ≡ Some a → test a ≡ true → (os ≡ text a) × Fits a)
@@ -89,7 +89,7 @@ prefix_again n value test text rest a len is passes =
 
 -- ---- names
 
--- the candidate, if it has these octets
+-- the name n, if its numbers are in range and these octets are its spelling
 abbrev checked : List ℕ → Name → Option Name
 checked os n = cond (is_name n && bytes_eq os (octets_of n)) (Some n) None
 
@@ -198,7 +198,7 @@ pub index_again : (n : ℕ) (rest : List ℕ) → n < 2 ^ 32 → index (long n +
 unfolding index
 index_again n rest h = prefix_again 4 (number_at w32) (λ m. true) (long n) rest n refl (ap Some (from_be_bytes-to_be_bytes_4 n h)) refl
 
--- ---- routes and last fields
+-- ---- routes, and the last field of a payload
 
 and_parts : (a b : Bool) → (a && b) ≡ true → (a ≡ true) × (b ≡ true)
 and_parts true true e = (refl, refl)

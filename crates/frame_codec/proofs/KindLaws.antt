@@ -1,4 +1,4 @@
--- A payload that is read is the one that was spelled, and what was spelled is read again, kind by kind.
+-- Kind by kind: the spelling of a payload is read as that payload, and octets that are read as a payload are its spelling.
 use Rattle.std.proofs.Common.{◌≡◌, ℕ, suc, ◌+◌, ◌^◌, ◌<◌, Bool, true, false, cond, eqb, List, [], ◌∷◌, ◌++◌, length, Result, Ok, Err, refl, sym, ap, subst, ◌∙◌, ◌⊎◌, inl, inr}
 use Rattle.std.proofs.lemmas.Bool.{eqb-true}
 use Rattle.std.proofs.lemmas.List.{append-nil, nil_from_length}
@@ -20,7 +20,7 @@ size_of {n} {m} h e = subst IsSize (sym e) h
 octets_are : {xs ys : List ℕ} → xs ≡ ys → AreOctets xs → AreOctets ys
 octets_are {xs} {ys} e h = subst AreOctets e h
 
--- The fields of a key, and of a part after its name: what was read, and that the rest goes on from them.
+-- The fields of a key, which a part of a group key has behind its own name. The octets are their spelling, and the fact is made of them.
 record KeyParts (octets : List ℕ) (g : Name → ℕ → ℕ → List ℕ → List ℕ → Result Fact ℕ) (f : Fact) : Type 0 where
   name : Name
   master : ℕ
@@ -194,7 +194,7 @@ pub chosen : {A : Type 0} (b : Bool) (x y z : A) → cond b x y ≡ z → ((b �
 chosen true x y z e = inl (refl, e)
 chosen false x y z e = inr (refl, e)
 
--- of a payload after its kind
+-- The octets behind the kind's octet spell this payload.
 abbrev Spelled_by : ℕ → List ℕ → Payload → Type 0
 Spelled_by kind octets p = IsPayload p × (kind ∷ octets ≡ payload_octets p)
 

@@ -1,4 +1,4 @@
--- What a reader answers, in the grammar's terms.
+-- What a reader's result says about payloads and their spelling.
 use Rattle.std.proofs.Common.{◌≡◌, ℕ, List, Result, Ok, Err}
 use Rattle.std.specs.Prelude.{IfOk}
 use Rattle.net_model.specs.declared.payload.Payload.{Payload}

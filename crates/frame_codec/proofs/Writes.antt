@@ -1,4 +1,4 @@
--- Octets written one after another, and how many they are.
+-- Octets that are written in order, and the length of a spelling.
 use Rattle.std.proofs.Common.{◌≡◌, ℕ, ◌≤◌, true, List, ◌++◌, length, take, ap, ◌∙◌, append_assoc, length-append, arith, refl}
 use Rattle.qkd_base.specs.Route.{is_route}
 use Rattle.qkd_base.proofs.Routes.{nine_of}

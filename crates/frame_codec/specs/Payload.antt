@@ -1,4 +1,4 @@
--- Payloads and their one spelling. All numbers are big-endian.
+-- Payloads and their spelling. Each payload has exactly one, and all numbers are big-endian.
 use Rattle.std.specs.Prelude.{◌≡◌, ℕ, ◌<◌, ◌^◌, true, List, [], ◌∷◌, ◌++◌, length, slice_index}
 use Rattle.std.specs.Int.{w16, w32, to_be_bytes}
 use Rattle.qkd_base.specs.Name.{Name, IsName, octets_of}
@@ -11,7 +11,7 @@ use Rattle.net_model.specs.declared.payload.Payload.{Payload}
 use Rattle.net_model.specs.declared.payload.Payload.TheVariants.{Data, Ack}
 use Rattle.net_model.specs.Facts.{IsSize}
 
--- ---- what has a spelling
+-- ---- which payloads have a spelling
 
 -- a name of this kind
 abbrev pub IsNameOf : NameKind → Name → Type 0
@@ -20,14 +20,14 @@ IsNameOf kind n = IsName n × (n.kind ≡ kind)
 abbrev pub IsSae : ℕ → Type 0
 IsSae n = n < 256
 
--- 2 to 9 different nodes
+-- A route has 2 to 9 different nodes.
 abbrev pub AreRouteNodes : List ℕ → Type 0
 AreRouteNodes nodes = (is_route nodes ≡ true) × (are_nodes nodes ≡ true)
 
 abbrev pub AreOctets : List ℕ → Type 0
 AreOctets octets = (i : ℕ) → slice_index octets i < 256
 
--- the octets of a key, a chunk or a part: 8 to 512
+-- the octets of a key, of a chunk or of a part of a group key: 8 to 512
 abbrev pub IsSecret : List ℕ → Type 0
 IsSecret octets = IsSize (length octets) × AreOctets octets
 
@@ -43,9 +43,9 @@ abbrev pub IsPayload : Payload → Type 0
 IsPayload (Data fact) = IsFact fact
 IsPayload (Ack name) = IsName name
 
--- ---- its spelling
+-- ---- the spelling of a payload
 
--- fields one after another
+-- fields in order
 abbrev pub fields : List (List ℕ) → List ℕ
 fields [] = []
 fields (f ∷ []) = f
@@ -57,7 +57,7 @@ short n = to_be_bytes w16 n
 abbrev pub long : ℕ → List ℕ
 long n = to_be_bytes w32 n
 
--- how many nodes, and an octet for each
+-- a route: the number of its nodes, and an octet for each
 abbrev pub spelled_route : List ℕ → List ℕ
 spelled_route nodes = length nodes ∷ nodes
 

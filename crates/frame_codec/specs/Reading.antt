@@ -1,5 +1,5 @@
--- Reading a payload field by field. A field that doesn't fit or is cut off is refused where it begins, and octets after the
--- last field are refused at the first of them. A refusal says how many octets are left there.
+-- How a payload is read, field by field. A field that doesn't fit or is cut off is refused at its first octet. Octets behind the
+-- last field are refused at the first of them. A refusal gives the number of octets from that place on.
 use Rattle.std.specs.Prelude.{◌≡◌, ℕ, ◌+◌, ◌-◌, List, [], ◌∷◌, length, take, drop, Option, Some, None, Result, Ok, Err, IsOk, Bool, true, nat_lt, nat_le, ◌==◌, ◌&&◌, if◌then◌else◌}
 use Rattle.std.specs.Int.{Width, w16, w32, from_be_bytes}
 use Rattle.qkd_base.specs.Name.{Name, name_at, kind_eq}
@@ -20,9 +20,9 @@ abbrev pub ◌>>=◌ : {A B : Type 0} → Result A ℕ → (A → Result B ℕ) 
 (Ok x) >>= f = f x
 (Err e) >>= f = Err e
 
--- ---- fields: a value, and the octets after it
+-- ---- fields: each reader gives a value, and the octets behind it
 
--- the value that passes a test
+-- the value, if there is one that passes the test
 abbrev pub passing : {A : Type 0} → (A → Bool) → ℕ → Option A → Result A ℕ
 passing test left None = Err left
 passing test left (Some a) = if test a then Ok a else Err left
@@ -30,7 +30,7 @@ passing test left (Some a) = if test a then Ok a else Err left
 abbrev pub before : {A : Type 0} → List ℕ → Result A ℕ → Result (A × List ℕ) ℕ
 before rest read = read >>= λ a. Ok (a, rest)
 
--- a value of so many octets that passes a test
+-- the value of the first n octets, if it passes the test
 abbrev pub prefix : {A : Type 0} → ℕ → (List ℕ → Option A) → (A → Bool) → List ℕ → Result (A × List ℕ) ℕ
 prefix n value test octets = if nat_lt (length octets) n then Err (length octets) else before (drop n octets) (passing test (length octets) (value (take n octets)))
 
@@ -56,16 +56,16 @@ size octets = prefix 2 (number_at w16) (λ n. nat_le 8 n && nat_le n 512) octets
 unfoldable pub index : List ℕ → Result (ℕ × List ℕ) ℕ
 index octets = prefix 4 (number_at w32) (λ n. true) octets
 
--- how many nodes, and then they
+-- a route: the number of its nodes, and an octet for each
 unfoldable pub route : List ℕ → Result (List ℕ × List ℕ) ℕ
 route [] = Err 0
 route (n ∷ octets) = if nat_lt (length octets) n then Err (1 + length octets) else before (drop n octets) (passing (λ nodes. is_route nodes && are_nodes nodes) (1 + length octets) (Some (take n octets)))
 
--- the last field: so many octets, with nothing after them
+-- the last field: n octets, and nothing behind them
 unfoldable pub last : ℕ → List ℕ → Result (List ℕ) ℕ
 last n octets = if nat_lt (length octets) n then Err (length octets) else if nat_lt n (length octets) then Err (length octets - n) else Ok octets
 
--- ---- facts, after the octet of their kind
+-- ---- facts, behind the octet of their kind
 
 unfoldable pub key_of : List ℕ → Result Fact ℕ
 key_of octets = do
@@ -77,7 +77,7 @@ key_of octets = do
   bytes ← last n.0 nodes.1
   Ok (Key name.0 master.0 slave.0 nodes.0 bytes)
 
--- a note about a name of this kind
+-- a note about a name of the given kind
 unfoldable pub note_of : NameKind → List ℕ → Result (Name × Name × List ℕ) ℕ
 note_of kind octets = do
   note ← named (of_kind NoteKind) octets
@@ -145,7 +145,7 @@ acked read = do
   name ← read
   Ok (Ack name)
 
--- after the octet of its kind, of which so many octets are left
+-- the payload behind the octet of its kind. `left` octets are left from that octet on.
 abbrev pub of_kind_octet : ℕ → ℕ → List ℕ → Result Payload ℕ
 of_kind_octet kind left octets =
     if kind == 1 then as_data (key_of octets) else
@@ -160,7 +160,7 @@ unfoldable pub payload_left : List ℕ → Result Payload ℕ
 payload_left [] = Err 0
 payload_left (kind ∷ octets) = of_kind_octet kind (1 + length octets) octets
 
--- with the place in place of what is left
+-- the same result, but a refusal gives its place and not the number of octets left
 abbrev pub place_in : {A : Type 0} → ℕ → Result A ℕ → Result A ℕ
 place_in total (Ok x) = Ok x
 place_in total (Err left) = Err (total - left)
@@ -169,9 +169,9 @@ place_in total (Err left) = Err (total - left)
 unfoldable pub payload_of : List ℕ → Result Payload ℕ
 payload_of octets = place_in (length octets) (payload_left octets)
 
--- ---- what a call answers
+-- ---- results of calls
 
--- A field's reader, which never wants memory.
+-- The error of a field's reader is that of the definition. Such a reader never runs out of memory.
 abbrev pub Misses : {Y : Type 0} → Fault → Result Y ℕ → Type 0
 Misses faults.Memory read = ⊥
 Misses (faults.Left n) read = read ≡ Err n
@@ -180,7 +180,7 @@ abbrev pub Finds : {X Y : Type 0} → (X → Y) → Result X Fault → Result Y 
 Finds view (Ok x) read = read ≡ Ok (view x)
 Finds view (Err e) read = Misses e read
 
--- A payload's reader, which may want memory once all octets are read.
+-- The error of a payload's reader is that of the definition; or memory ran out, and then the octets are a payload.
 
 abbrev pub Fails : {Y : Type 0} → Fault → Result Y ℕ → Type 0
 Fails faults.Memory read = IsOk read

@@ -1,7 +1,7 @@
--- Writing octets into room.
+-- Writing octets into a buffer.
 use Rattle.std.specs.Prelude.{◌≡◌, ℕ, ◌+◌, List, ◌++◌, length, take}
 
--- from a place to an end the room has these octets now, and in front of them what it had
+-- The octets now stand in the buffer from place `at` to `end`. The octets before them stayed.
 pub record Puts (old new : List ℕ) (at end : ℕ) (octets : List ℕ) : Type 0 where
   pub end_is : end ≡ at + length octets
   pub prefix : take end new ≡ take at old ++ octets

@@ -1,4 +1,4 @@
-// The fields of payloads, read at the front of octets.
+// The fields of payloads, each read from the front of octets.
 ghost use Rattle.std.specs.Prelude.{◌≡◌, ◌+◌, ◌≤◌, ◌&&◌, length, take, drop, Some, None, OnOk, IfOk, if◌then◌else◌};
 ghost use Rattle.std.specs.Int.{w16, from_be_bytes};
 ghost use Rattle.qkd_base.specs.Name.{name_at};
@@ -8,7 +8,7 @@ ghost use Rattle.frame_codec.specs.Reading.{Finds, named, of_kind, any_kind, sae
 use crate::fault::Fault;
 use qkd_base::{KeyName, NameKind, NodeNo, Route, SaeNo};
 
-// The name whose octets these are.
+// The name that the first 16 octets encode, if they encode one.
 fn name_at(octets: &[u8]) -> Option<KeyName>
     requires { 16 ≤ length octets.now }
     ensures { result ≡ name_at (take 16 octets.now) }
@@ -33,7 +33,7 @@ pub fn name_of(octets: &[u8]) -> Result<KeyName, Fault>
     }
 }
 
-/// A name of this kind.
+/// A name of the given kind.
 #[tactic(auto, unfolding(crate::specs::Reading::named))]
 pub fn name_of_kind(octets: &[u8], kind: NameKind) -> Result<KeyName, Fault>
     ensures found { Finds (λ x. (x, drop 16 octets.now)) result (named (of_kind kind) octets.now) }
@@ -48,7 +48,7 @@ pub fn name_of_kind(octets: &[u8], kind: NameKind) -> Result<KeyName, Fault>
     }
 }
 
-// The number of the first two octets.
+// The first two octets as a number, big-endian.
 fn short_at(octets: &[u8]) -> u16
     requires { 2 ≤ length octets.now }
     ensures { result ≡ from_be_bytes w16 (take 2 octets.now) }
@@ -56,7 +56,7 @@ fn short_at(octets: &[u8]) -> u16
     u16::from_be_bytes([octets[0], octets[1]])
 }
 
-/// An application.
+/// The number of an application.
 #[tactic(auto, unfolding(crate::specs::Reading::sae))]
 pub fn sae_of(octets: &[u8]) -> Result<SaeNo, Fault>
     ensures found { Finds (λ x. (x, drop 2 octets.now)) result (sae octets.now) }
@@ -71,7 +71,7 @@ pub fn sae_of(octets: &[u8]) -> Result<SaeNo, Fault>
     }
 }
 
-/// How many octets a key, a chunk or a part has.
+/// The number of octets of a key, of a chunk or of a part of a group key: 8 to 512.
 #[tactic(auto, unfolding(crate::specs::Reading::size))]
 pub fn size_of(octets: &[u8]) -> Result<u16, Fault>
     ensures found { Finds (λ x. (x, drop 2 octets.now)) result (size octets.now) }
@@ -100,7 +100,7 @@ pub fn index_of(octets: &[u8]) -> Result<u32, Fault>
     Ok(u32::from_be_bytes([octets[0], octets[1], octets[2], octets[3]]))
 }
 
-// The route through the nodes of these numbers.
+// The route through the nodes with these numbers, if it has 2 to 9 different nodes.
 fn way_of(numbers: &[u8]) -> Option<Route>
     ensures { result ≡ (if is_route numbers.now && are_nodes numbers.now then Some numbers.now else None) }
 {
@@ -114,7 +114,7 @@ fn way_of(numbers: &[u8]) -> Option<Route>
     Route::new(&room[..numbers.len()])
 }
 
-/// How many nodes a route has, and then they.
+/// A route: the number of its nodes, and an octet for each.
 #[tactic(auto, unfolding(crate::specs::Reading::route))]
 pub fn route_of(octets: &[u8]) -> Result<Route, Fault>
     ensures found { Finds (λ x. (x, drop (1 + length x) octets.now)) result (route octets.now) }
@@ -133,7 +133,7 @@ pub fn route_of(octets: &[u8]) -> Result<Route, Fault>
     }
 }
 
-/// The last field: so many octets, and nothing after them.
+/// The last field: `size` octets, and nothing behind them.
 #[tactic(auto, unfolding(crate::specs::Reading::last))]
 pub fn last_of(octets: &[u8], size: u16) -> Result<(), Fault>
     ensures { Finds (λ x. octets.now) result (last size octets.now) }

@@ -1,4 +1,4 @@
-//! The spelling of payloads, both ways.
+//! Encodes and decodes the payloads of frames: facts and acknowledgements. Each payload has exactly one spelling in octets.
 #![tactic(auto)]
 
 pub mod fault;
@@ -9,7 +9,6 @@ mod reading;
 pub mod spelling;
 
 pub use laws::{read_is_spelled, spelled_is_read};
-pub use net_model;
 pub use payload_refusal::PayloadRefusal;
 pub use reading::read;
 pub use spelling::spell;

@@ -1,14 +1,14 @@
-// Why octets are no payload.
+// Errors of reading a payload.
 use std::error::Error;
 use std::fmt;
 
-/// Why no payload was read.
+/// Why no payload was read from octets.
 #[derive(Clone, Copy, Debug, PartialEq, Eq)]
 pub enum PayloadRefusal {
-    /// The octets aren't the spelling of a payload. The place, counted from 0, is that of the first octet of the field
-    /// that doesn't fit or is cut off, or of the first octet after the last field.
+    /// The octets aren't the spelling of a payload. The place, counted from 0, is the first octet of the field that doesn't
+    /// fit or is cut off, or the first octet behind the last field.
     NotAPayload(usize),
-    /// Want of memory, for octets that are a payload.
+    /// Memory ran out. The octets are a payload.
     Memory,
 }
 

@@ -1,4 +1,4 @@
-// Reading payloads.
+// How payloads are read from octets.
 ghost use Rattle.std.specs.Prelude.{◌≡◌, ◌+◌, ◌≤◌, length, drop, IfOk, Ok};
 ghost use Rattle.net_model.specs.declared.payload.Payload.{Payload as PayloadValue};
 ghost use Rattle.frame_codec.specs.Payload.{IsPayload, payload_octets};
@@ -11,7 +11,7 @@ use net_model::{Fact, Payload};
 use qkd_base::{KeyName, NameKind, Octets, Route};
 use std::alloc::Global;
 
-// What stands after so many octets.
+// The octets behind the first `size` ones.
 fn after(octets: &[u8], size: usize) -> &[u8]
     requires { size ≤ length octets.now }
     ensures { result.now ≡ drop size octets.now }
@@ -19,7 +19,7 @@ fn after(octets: &[u8], size: usize) -> &[u8]
     &octets[size..]
 }
 
-// A key, after its kind.
+// A key, behind the octet of its kind.
 #[tactic(auto, unfolding(crate::specs::Reading::key_of))]
 fn key_of(alloc: Global, octets: &[u8]) -> Result<Fact, Fault>
     ensures { Gives (λ x. x) result (key_of octets.now) }
@@ -45,7 +45,7 @@ fn key_of(alloc: Global, octets: &[u8]) -> Result<Fact, Fault>
     })
 }
 
-// A note about a name of this kind, after the note's kind.
+// A note about a name of the given kind, behind the octet of the note's kind.
 #[tactic(auto, unfolding(crate::specs::Reading::note_of))]
 fn note_of(octets: &[u8], kind: NameKind) -> Result<(KeyName, KeyName, Route), Fault>
     ensures { Gives (λ x. x) result (note_of kind octets.now) }
@@ -60,7 +60,7 @@ fn note_of(octets: &[u8], kind: NameKind) -> Result<(KeyName, KeyName, Route), F
     Ok((note, about, route))
 }
 
-// The beginning of a stream, after its kind.
+// The beginning of a stream, behind the octet of its kind.
 #[tactic(auto, unfolding(crate::specs::Reading::open_of))]
 fn open_of(octets: &[u8]) -> Result<Fact, Fault>
     ensures { Gives (λ x. x) result (open_of octets.now) }
@@ -85,7 +85,7 @@ fn open_of(octets: &[u8]) -> Result<Fact, Fault>
     })
 }
 
-// A chunk, after its kind.
+// A chunk, behind the octet of its kind.
 #[tactic(auto, unfolding(crate::specs::Reading::chunk_of))]
 fn chunk_of(alloc: Global, octets: &[u8]) -> Result<Fact, Fault>
     ensures { Gives (λ x. x) result (chunk_of octets.now) }
@@ -111,7 +111,7 @@ fn chunk_of(alloc: Global, octets: &[u8]) -> Result<Fact, Fault>
     })
 }
 
-// A part of a group key, after its kind.
+// A part of a group key, behind the octet of its kind.
 #[tactic(auto, unfolding(crate::specs::Reading::part_of))]
 fn part_of(alloc: Global, octets: &[u8]) -> Result<Fact, Fault>
     ensures { Gives (λ x. x) result (part_of octets.now) }
@@ -140,7 +140,7 @@ fn part_of(alloc: Global, octets: &[u8]) -> Result<Fact, Fault>
     })
 }
 
-// An acknowledgement, after its kind.
+// An acknowledgement, behind the octet of its kind.
 #[tactic(auto, unfolding(crate::specs::Reading::ack_of))]
 fn ack_of(octets: &[u8]) -> Result<KeyName, Fault>
     ensures { Gives (λ x. x) result (ack_of octets.now) }
@@ -151,7 +151,7 @@ fn ack_of(octets: &[u8]) -> Result<KeyName, Fault>
     Ok(name)
 }
 
-// A payload, by its kind.
+// A payload, which begins with the octet of its kind.
 #[tactic(auto, unfolding(crate::specs::Reading::payload_left))]
 fn payload_of_kind(alloc: Global, octets: &[u8]) -> Result<Payload, Fault>
     ensures { Gives (λ x. x) result (payload_left octets.now) }
@@ -182,7 +182,7 @@ fn payload_at(alloc: Global, octets: &[u8]) -> Result<Payload, PayloadRefusal>
 {
     match payload_of_kind(alloc, octets) {
         Ok(payload) => Ok(payload),
-        // no more is left than there was
+        // No more octets are left than there were.
         Err(Fault::Left(left)) => Err(PayloadRefusal::NotAPayload(
             octets.len().saturating_sub(left),
         )),
@@ -190,14 +190,14 @@ fn payload_at(alloc: Global, octets: &[u8]) -> Result<Payload, PayloadRefusal>
     }
 }
 
-/// The payload that these octets spell, all of them. Its kind is the first octet: 1 a key, 2 a stored note, 3 an
-/// acknowledgement, 4 the beginning of a stream, 5 a joined note, 6 a chunk, 7 a part of a group key.
+/// Reads a payload that is spelled by exactly these octets. The first octet is its kind: 1 a key, 2 a Stored note, 3 an
+/// acknowledgement, 4 the beginning of a stream, 5 a Joined note, 6 a chunk, 7 a part of a group key.
 pub fn read(alloc: Global, octets: &[u8]) -> Result<Payload, PayloadRefusal>
-    // What is read is in the grammar, and is spelled so.
+    // A payload that is read is in the grammar, and the octets are its spelling.
     ensures found { IfOk result (λ payload. IsPayload payload × (octets.now ≡ payload_octets payload)) }
-    // What is in the grammar is read, unless memory runs out.
+    // If the octets are the spelling of a payload, that payload is read, unless memory runs out.
     ensures only { (payload : PayloadValue) → IsPayload payload → octets.now ≡ payload_octets payload → Reads result (Ok payload) }
-    // Which payload it is, and what a refusal says. Want of memory is answered only for octets that are a payload.
+    // The result is that of the definition. Memory can only run out if the octets are a payload.
     ensures exact { Reads result (payload_of octets.now) }
 {
     payload_at(alloc, octets)

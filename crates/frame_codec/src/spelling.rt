@@ -1,4 +1,4 @@
-// Spelling payloads.
+// How payloads are written as octets.
 ghost use Rattle.std.specs.Prelude.{◌≡◌, ◌+◌, ◌≤◌, ◌<◌, [], ◌∷◌, ◌++◌, length, take, drop};
 ghost use Rattle.qkd_base.specs.Name.{IsName, octets_of};
 ghost use Rattle.net_model.specs.Facts.{fact_len, payload_len, IsWellFormed, IsWellFormedFact};
@@ -8,7 +8,7 @@ ghost use Rattle.frame_codec.specs.Writing.{Puts};
 use net_model::{Fact, Payload, spelled_len};
 use qkd_base::{FrameOctets, KeyName, Octets, Route, SaeNo};
 
-/// Writes octets at a place, and says the place after them.
+/// Writes octets at a place, and returns the place behind them.
 pub fn put(into: &mut [u8], at: usize, octets: &[u8]) -> usize
     requires { at + length octets.now ≤ length into.old }
     ensures octets { Puts into.old into.new at result octets.now }
@@ -19,7 +19,7 @@ pub fn put(into: &mut [u8], at: usize, octets: &[u8]) -> usize
     end
 }
 
-/// Writes the 16 octets of a name.
+/// Writes the 16 octets of a name, and returns the place behind them.
 pub fn put_name(into: &mut [u8], at: usize, name: KeyName) -> usize
     requires { at + 16 ≤ length into.old }
     ensures octets { Puts into.old into.new at result (octets_of name) }
@@ -28,7 +28,7 @@ pub fn put_name(into: &mut [u8], at: usize, name: KeyName) -> usize
     put(into, at, &name.to_octets())
 }
 
-/// Writes a number of two octets.
+/// Writes a number of two octets, big-endian, and returns the place behind it.
 pub fn put_short(into: &mut [u8], at: usize, number: u16) -> usize
     requires { at + 2 ≤ length into.old }
     ensures { Puts into.old into.new at result (short number) }
@@ -36,7 +36,7 @@ pub fn put_short(into: &mut [u8], at: usize, number: u16) -> usize
     put(into, at, &number.to_be_bytes())
 }
 
-/// Writes a number of four octets.
+/// Writes a number of four octets, big-endian, and returns the place behind it.
 pub fn put_long(into: &mut [u8], at: usize, number: u32) -> usize
     requires { at + 4 ≤ length into.old }
     ensures { Puts into.old into.new at result (long number) }
@@ -44,7 +44,7 @@ pub fn put_long(into: &mut [u8], at: usize, number: u32) -> usize
     put(into, at, &number.to_be_bytes())
 }
 
-/// Writes the two octets of an application.
+/// Writes the two octets of an application, and returns the place behind them.
 pub fn put_sae(into: &mut [u8], at: usize, sae: SaeNo) -> usize
     requires { at + 2 ≤ length into.old }
     ensures octets { Puts into.old into.new at result (short sae) }
@@ -53,7 +53,7 @@ pub fn put_sae(into: &mut [u8], at: usize, sae: SaeNo) -> usize
     put_short(into, at, sae.get())
 }
 
-// Writes how many nodes a route has, and then they.
+// Writes the number of a route's nodes, and an octet for each.
 fn put_route(into: &mut [u8], at: usize, route: &Route) -> usize
     requires { at + 1 + length route.now ≤ length into.old }
     ensures octets { Puts into.old into.new at result (spelled_route route.now) }
@@ -67,7 +67,7 @@ fn put_route(into: &mut [u8], at: usize, route: &Route) -> usize
     begin + nodes.len()
 }
 
-// Writes how many bytes there are, a route, and the bytes.
+// Writes the number of the bytes, then a route, then the bytes.
 fn put_secret(into: &mut [u8], at: usize, route: &Route, bytes: &Octets) -> usize
     requires size { length bytes.now ≤ 512 }
     requires fits { at + 3 + length route.now + length bytes.now ≤ length into.old }
@@ -80,7 +80,7 @@ fn put_secret(into: &mut [u8], at: usize, route: &Route, bytes: &Octets) -> usiz
     put(into, at, bytes.as_slice())
 }
 
-// Writes a key, after its kind.
+// Writes a key, without the octet of its kind.
 fn put_key(
     into: &mut [u8],
     at: usize,
@@ -103,7 +103,7 @@ fn put_key(
     put_secret(into, at, route, bytes)
 }
 
-// Writes a note about a name, after its kind.
+// Writes a note about a name, without the octet of its kind.
 fn put_note(into: &mut [u8], at: usize, note: KeyName, about: KeyName, route: &Route) -> usize
     requires { at + 33 + length route.now ≤ length into.old }
     ensures octets { Puts into.old into.new at result (fields (octets_of note ∷ octets_of about ∷ spelled_route route.now ∷ [])) }
@@ -115,7 +115,7 @@ fn put_note(into: &mut [u8], at: usize, note: KeyName, about: KeyName, route: &R
     put_route(into, at, route)
 }
 
-// Writes the beginning of a stream, after its kind.
+// Writes the beginning of a stream, without the octet of its kind.
 fn put_open(
     into: &mut [u8],
     at: usize,
@@ -137,7 +137,7 @@ fn put_open(
     put_route(into, at, route)
 }
 
-// Writes a chunk, after its kind.
+// Writes a chunk, without the octet of its kind.
 fn put_chunk(
     into: &mut [u8],
     at: usize,
@@ -159,7 +159,7 @@ fn put_chunk(
     put_secret(into, at, route, bytes)
 }
 
-/// Writes a fact as the payload that tells it.
+/// Writes the payload of a fact, and returns the place behind it.
 pub fn put_fact(into: &mut [u8], at: usize, fact: &Fact) -> usize
     requires formed { IsWellFormedFact fact.now }
     requires fits { at + fact_len fact.now ≤ length into.old }
@@ -220,7 +220,7 @@ pub fn put_fact(into: &mut [u8], at: usize, fact: &Fact) -> usize
     }
 }
 
-// Writes a payload.
+// Writes a payload, and returns the place behind it.
 fn put_payload(into: &mut [u8], at: usize, payload: &Payload) -> usize
     requires formed { IsWellFormed payload.now }
     requires fits { at + payload_len payload.now ≤ length into.old }
@@ -236,8 +236,8 @@ fn put_payload(into: &mut [u8], at: usize, payload: &Payload) -> usize
     }
 }
 
-/// Writes the one spelling of a payload at a place, and says how many octets it has: 17 to 561. What stands before and
-/// after it stays.
+/// Writes the spelling of a payload at a place, and returns its length: 17 to 561 octets. The octets before and behind it
+/// stay.
 pub fn spell(payload: &Payload, into: &mut FrameOctets, at: usize) -> usize
     requires formed { IsWellFormed payload.now }
     requires fits { at + payload_len payload.now ≤ 600 }

@@ -17,7 +17,7 @@ shifted_bit p n k =
       | inr from_here ↦ ap (λ (m : ℕ). bit_at m k) whole ∙ bit_at_cat_high p n 0 k (pow_pos n) from_here ∙ ap (λ (b : Bool). if b then bit_at p (k - n) else 0) (sym (le-leb n k from_here))
     ]
 
--- a coefficient of q, times p * x ^ n
+-- a coefficient of p * x ^ n, multiplied by a coefficient of q
 part_bit : (c m k r : ℕ) → c < 2 → bit_at m k ≡ r → bit_at (part (eqb c 1) m) k ≡ c * r
 part_bit zero m k r lt e = bit_at-zero k ∙ omega arith
 part_bit (suc zero) m k r lt e = e ∙ omega arith

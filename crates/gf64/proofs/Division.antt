@@ -21,7 +21,7 @@ remainder_xor (suc n) p q =
 pub remainder_zero : (n : ℕ) → remainder n 0 ≡ 0
 remainder_zero n = sym (ap (remainder n) (xor_self 0)) ∙ remainder_xor n 0 0 ∙ xor_self (remainder n 0)
 
--- a polynomial without the highest term
+-- a step of the division changes nothing if there is no highest term
 pub remainder_top : (n p : ℕ) → p < 2 ^ (64 + n) → remainder (suc n) p ≡ remainder n p
 unfolding remainder
 remainder_top n p lt = rw (none_at (64 + n) p lt) (ap (remainder n) (xor_zero_r p))
@@ -35,7 +35,7 @@ remainder_small (suc n) p lt =
     let room : 2 ^ 64 ≤ 2 ^ (64 + n) = pow-le-pow_right {n = 2} (lit< tt) {i = 64} {j = 64 + n} le in
     remainder_top n p (omega (arith, lt, room)) ∙ remainder_small n p lt
 
--- ---- multiples of the modulus leave nothing
+-- ---- multiples of the modulus have the remainder 0
 
 modulus_below : (i n : ℕ) → i < n → modulus * 2 ^ i < 2 ^ (64 + n)
 modulus_below i n lt =
@@ -67,13 +67,13 @@ multiple n (suc m) q le =
     let part_is : remainder n (part (coefficient m q) (modulus * 2 ^ m)) ≡ 0 = part_modulus (coefficient m q) n m (omega (arith, le)) in
     remainder_xor n (poly_times m modulus q) (part (coefficient m q) (modulus * 2 ^ m)) ∙ rw (multiple n m q (omega (arith, le)), part_is) refl
 
--- two polynomials that differ by a multiple of the modulus have one remainder
+-- polynomials that differ by a multiple of the modulus have the same remainder
 pub same_remainder : (n m p q : ℕ) → m ≤ n → remainder n (bit_xor p (poly_times m modulus q)) ≡ remainder n p
 same_remainder n m p q le = remainder_xor n p (poly_times m modulus q) ∙ ap (bit_xor (remainder n p)) (multiple n m q le) ∙ xor_zero_r (remainder n p)
 
--- ---- what is left is below x ^ 64
+-- ---- the remainder is below x ^ 64
 
--- a polynomial below x ^ (t + 1) without a term x ^ t
+-- a polynomial below x ^ (t + 1) without a term x ^ t is below x ^ t
 pub below_top : (t p : ℕ) → p < 2 ^ suc t → coefficient t p ≡ false → p < 2 ^ t
 below_top t p lt none =
     let twice : 2 ^ suc t ≡ 2 * 2 ^ t = pow-succ' 2 t in

@@ -9,7 +9,7 @@ use Rattle.gf64.proofs.Sums.{swap_middle, part_differ, coefficient_xor}
 use Rattle.gf64.proofs.Maps.{all_below, passes, KeepsSums, same_map}
 use Rattle.gf64.proofs.Squares.{square_xor}
 
--- the square of an element, and the element
+-- the sum of an element and its square
 gap : ℕ → ℕ
 gap a = bit_xor (product a a) a
 
@@ -17,7 +17,7 @@ gap_xor : KeepsSums gap
 unfolding gap
 gap_xor a b la lb = ap (λ (x : ℕ). bit_xor x (bit_xor a b)) (square_xor a b la lb) ∙ swap_middle (product a a) (product b b) a b
 
--- the sum of the numbers of a list at whose place the element has a term
+-- the sum of those numbers of the list at whose index the element has a term
 combined : List ℕ → ℕ → ℕ
 combined [] a = 0
 combined (t ∷ ts) a = bit_xor (part (coefficient 0 a) t) (combined ts (a / 2))
@@ -32,7 +32,7 @@ combined_xor (t ∷ ts) a b =
     ∙ ap (λ (n : ℕ). bit_xor n (bit_xor (combined ts (a / 2)) (combined ts (b / 2)))) (ap (λ (c : Bool). part c t) (coefficient_xor 0 a b) ∙ part_differ (coefficient 0 a) (coefficient 0 b) t)
     ∙ swap_middle (part (coefficient 0 a) t) (part (coefficient 0 b) t) (combined ts (a / 2)) (combined ts (b / 2))
 
--- a map that takes the gap of an element back to the element without its lowest term, solved as 64 linear equations
+-- a map from the gap of an element to the element without its lowest term, found by solving 64 linear equations
 table : List ℕ
 table =
     0x19c9369f278adc02 ∷ 0x84b2b22ab2383ee4 ∷ 0x84b2b22ab2383ee6 ∷ 0x9d7b84b495b3e3f6 ∷

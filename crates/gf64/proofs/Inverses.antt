@@ -10,7 +10,7 @@ use Rattle.gf64.proofs.Powers.{power_below, power_one, power_more, power_add}
 use Rattle.gf64.proofs.Squares.{squared, squared_none, squared_more, returns_itself}
 use Rattle.gf64.proofs.Idempotents.{two_idempotents}
 
--- ---- squares are powers
+-- ---- the powers that repeated squaring gives
 
 power_twice : (a n : ℕ) → a < 2 ^ 64 → product (power a (2 ^ n)) (power a (2 ^ n)) ≡ power a (2 ^ suc n)
 power_twice a n lt =
@@ -24,7 +24,7 @@ squared_is (suc n) a lt = squared_more n a ∙ ap (λ (x : ℕ). product x x) (s
 pub squares_return : SquaresReturn
 squares_return a lt = sym (squared_is 64 a lt) ∙ returns_itself a lt
 
--- for e = 2 ^ 64 - 2, which stays a variable so that nobody counts to it
+-- the exponent e is 2 ^ 64 - 2; it stays a variable, so that the checker doesn't count up to it
 power_returns : (a e : ℕ) → a < 2 ^ 64 → e + 2 ≡ 2 ^ 64 → power a (e + 2) ≡ a
 power_returns a e lt whole = ap (power a) whole ∙ squares_return a lt
 
@@ -50,7 +50,7 @@ inverse_is a e lt some whole =
       | inr one ↦ next a e lt ∙ one
     ]
 
--- ---- no zero divisors
+-- ---- there are no zero divisors
 
 other_zero : (a b y : ℕ) → a < 2 ^ 64 → b < 2 ^ 64 → y < 2 ^ 64 → product a y ≡ 1 → product a b ≡ 0 → b ≡ 0
 other_zero a b y la lb ly one none =
@@ -65,7 +65,7 @@ no_zero_divisors a b la lb none = elim (cases_eq a 0) [
       inr (other_zero a b (power a e) la lb (power_below a e la) (inverse_is a e la some refl) none)
 ]
 
--- ---- the loop over squares
+-- ---- the loop that squares and multiplies
 
 pub next_square : (a i before after : ℕ) → a < 2 ^ 64 → before ≡ power a (2 ^ i) → after ≡ product before before → after ≡ power a (2 ^ (i + 1))
 next_square a i before after lt b e =

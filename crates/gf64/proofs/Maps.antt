@@ -1,4 +1,4 @@
--- A map that keeps sums is known by what it does to the powers of x.
+-- A map that preserves sums is determined by its values at the powers of x.
 use Rattle.std.proofs.Common.{◌≡◌, ℕ, zero, suc, ◌*◌, ◌/◌, ◌%◌, ◌^◌, ◌<◌, ◌≤◌, Bool, true, false, eqb, refl, sym, ap, ◌∙◌, arith, lit<, inl, inr}
 use Rattle.std.specs.Prelude.{bit_xor, if◌then◌else◌}
 use Rattle.std.proofs.Math.Nat.{pow-succ', pow-le-pow_right}
@@ -8,7 +8,7 @@ use Rattle.std.specs.Int.Bits.{xor_self, xor_shifted}
 use Rattle.gf64.specs.Field.{coefficient, part}
 use Rattle.gf64.proofs.Sums.{part_below}
 
--- ---- a test of each number below n, which the check computes
+-- ---- a test of each number below n, which the checker computes
 
 unfoldable pub all_below : ℕ → (ℕ → Bool) → Bool
 all_below zero test = true
@@ -28,7 +28,7 @@ passes (suc n) i test e lt = elim (cases_lt i n) [
       ap test here ∙ (both (test n) (all_below n test) e).0
 ]
 
--- ---- the highest term apart
+-- ---- a polynomial as its highest term and the rest
 
 top_part : (h n : ℕ) → h < 2 → h * 2 ^ n ≡ part (eqb (h % 2) 1) (2 ^ n)
 top_part zero n lt = omega arith
@@ -41,9 +41,9 @@ split_top n a lt =
     let two : a / 2 ^ n < 2 = div_below a (2 ^ n) 2 (pow_pos n) (omega (arith, lt, twice)) in
     ap (λ (t : ℕ). bit_xor t (a % 2 ^ n)) (sym (top_part (a / 2 ^ n) n two)) ∙ xor_shifted (a / 2 ^ n) n (a % 2 ^ n) (mod_below a (2 ^ n) (pow_pos n)) ∙ shr_split a n
 
--- ---- maps of elements
+-- ---- maps of elements that preserve sums
 
--- the map takes a sum to the sum
+-- the map of a sum is the sum of the maps
 abbrev pub KeepsSums : (ℕ → ℕ) → Type 0
 KeepsSums f = (a b : ℕ) → a < 2 ^ 64 → b < 2 ^ 64 → f (bit_xor a b) ≡ bit_xor (f a) (f b)
 

@@ -7,7 +7,7 @@ use Rattle.std.specs.Int.Bits.{xor_assoc, xor_zero_l, xor_zero_r, xor_shifted}
 use Rattle.gf64.specs.Field.{coefficient, part, poly_times}
 use Rattle.gf64.proofs.Sums.{swap_middle, part_xor, part_below, part_times, coefficient_half, xor_shl, xor_double}
 
--- ---- by halves: p * (q0 + x * q') is p * q0 + x * (p * q')
+-- ---- recursion on the second factor: p * (q0 + x * q') is p * q0 + x * (p * q')
 
 pub double_part : (c : Bool) (p k : ℕ) → part c (p * 2 ^ suc k) ≡ 2 * part c (p * 2 ^ k)
 double_part true p k = ap (λ (n : ℕ). p * n) (pow-succ' 2 k) ∙ omega arith
@@ -25,7 +25,7 @@ times_half (suc n) p q =
     (ap (λ (c : Bool). part c (p * 2 ^ suc n)) (coefficient_half n q) ∙ double_part (coefficient n (q / 2)) p n)
     ∙ ap (bit_xor (part (coefficient 0 q) p)) (xor_double (poly_times n p (q / 2)) (part (coefficient n (q / 2)) (p * 2 ^ n)))
 
--- ---- linear in the first factor
+-- ---- the product is linear in the first factor
 
 pub times_xor : (n p q r : ℕ) → poly_times n (bit_xor p q) r ≡ bit_xor (poly_times n p r) (poly_times n q r)
 unfolding poly_times
@@ -35,7 +35,7 @@ times_xor (suc n) p q r =
     ∙ ap (λ (x : ℕ). bit_xor x (bit_xor (part (coefficient n r) (p * 2 ^ n)) (part (coefficient n r) (q * 2 ^ n)))) (times_xor n p q r)
     ∙ swap_middle (poly_times n p r) (poly_times n q r) (part (coefficient n r) (p * 2 ^ n)) (part (coefficient n r) (q * 2 ^ n))
 
--- ---- a power of x as the first factor
+-- ---- products whose first factor is a power of x
 
 add_low : (b rest : ℕ) → rest ≡ b / 2 → bit_xor (part (coefficient 0 b) 1) (2 * rest) ≡ b
 add_low b rest e =
@@ -58,7 +58,7 @@ one_times (suc n) q lt =
     let e : 2 ^ suc n ≡ 2 * 2 ^ n = pow-succ' 2 n in
     times_half n 1 q ∙ add_low q (poly_times n 1 (q / 2)) (one_times n (q / 2) (omega (arith, lt, e)))
 
--- the first factor times x ^ k
+-- if the first factor is multiplied by x ^ k, so is the product
 pub times_shl : (n k p q : ℕ) → poly_times n (p * 2 ^ k) q ≡ poly_times n p q * 2 ^ k
 unfolding poly_times
 times_shl zero k p q = omega arith
@@ -73,7 +73,7 @@ power_times n k q lt =
     let one : 1 * 2 ^ k ≡ 2 ^ k = omega arith in
     ap (λ (p : ℕ). poly_times n p q) (sym one) ∙ times_shl n k 1 q ∙ ap (λ (m : ℕ). m * 2 ^ k) (one_times n q lt)
 
--- ---- degrees
+-- ---- the degree of a product
 
 pub times_below : (n m p q : ℕ) → p < 2 ^ suc m → poly_times n p q < 2 ^ (m + n)
 unfolding poly_times
@@ -85,7 +85,7 @@ times_below (suc n) m p q lt =
     let top : p * 2 ^ n < 2 ^ (m + suc n) = rw e (shl_below p (suc m) n lt) in
     xor_lt (m + suc n) (poly_times n p q) (part (coefficient n q) (p * 2 ^ n)) (omega (arith, times_below n m p q lt, room)) (part_below (coefficient n q) (p * 2 ^ n) (2 ^ (m + suc n)) top)
 
--- ---- some terms, and then more
+-- ---- the product by the lowest terms of a factor, and then by further terms
 
 pub times_none : (p q : ℕ) → 0 ≡ poly_times 0 p q
 unfolding poly_times

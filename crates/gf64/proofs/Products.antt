@@ -1,4 +1,4 @@
--- Products of a polynomial by those below x ^ 4.
+-- Products of a polynomial by the polynomials below x ^ 4.
 use Rattle.std.proofs.Common.{◌≡◌, ℕ, zero, suc, ◌+◌, ◌*◌, ◌/◌, ◌%◌, ◌^◌, ◌<◌, Bool, refl, sym, ap, subst, ◌∙◌, arith, lit≤, List, ◌∷◌, length, set, inl, inr}
 use Rattle.std.specs.Prelude.{bit_xor}
 use Rattle.std.proofs.lemmas.Nat.{xor_comm, shl_whole}
@@ -11,7 +11,7 @@ use Rattle.gf64.specs.Multiples.{AreMultiples}
 use Rattle.gf64.proofs.Sums.{none_at}
 use Rattle.gf64.proofs.Multiplication.{times_half, times_add, times_below}
 
--- ---- the table, in pairs
+-- ---- the table of products, filled in pairs
 
 -- a factor below x ^ 3 has no fourth term
 short : (p q : ℕ) → q < 8 → poly_times 4 p q ≡ poly_times 3 p q
@@ -36,7 +36,7 @@ first_two p =
     let one : p * 2 ^ 0 ≡ p = omega arith in
     (refl, rw one (xor_zero_r _ ∙ xor_zero_r _ ∙ xor_zero_r _ ∙ xor_zero_l p))
 
--- ---- four terms of another factor
+-- ---- the product by four terms of another factor
 
 low_terms : (p q : ℕ) → poly_times 4 p q ≡ poly_times 4 p (q % 16)
 unfolding poly_times
@@ -55,14 +55,14 @@ four_more p q i sum multiple lp li s m =
     ∙ ap (λ (x : ℕ). bit_xor x (poly_times 4 p (q / 2 ^ (4 * i)) * 2 ^ (4 * i))) s
     ∙ sym (ap (λ (n : ℕ). poly_times n p q) next ∙ times_add (4 * i) 4 p q)
 
--- ---- the loops
+-- ---- the loops that fill and use the table
 
 pub first_pair : (p first : ℕ) (rest : List ℕ) → first ≡ p → AreMultiples p 2 (0 ∷ first ∷ rest)
 first_pair p first rest e zero lt = sym (first_two p).0
 first_pair p first rest e (suc zero) lt = e ∙ sym (first_two p).1
 first_pair p first rest e (suc (suc q)) lt = absurd (omega (arith, lt))
 
--- a pair is written after those that are there
+-- writing a further pair keeps the earlier products
 pub pair_more : (p i even_one odd_one : ℕ) (products : List ℕ) → length products ≡ 16 → i < 8 → even_one ≡ poly_times 4 p (2 * i) → odd_one ≡ poly_times 4 p (2 * i + 1)
     → AreMultiples p (2 * i) products → AreMultiples p (2 * (i + 1)) (set (set products (2 * i) even_one) (2 * i + 1) odd_one)
 pair_more p i even_one odd_one products room li e o filled q lt =
@@ -81,7 +81,7 @@ pair_more p i even_one odd_one products room li e o filled q lt =
       ]
     ]
 
--- the pair as the code computes it
+-- the pair of products that the code computes is right
 pub even_is : (p i at_i : ℕ) → p < 2 ^ 64 → i < 8 → at_i ≡ poly_times 4 p i → at_i * 2 % 2 ^ 128 ≡ poly_times 4 p (2 * i)
 even_is p i at_i lp li e =
     let small : at_i < 2 ^ 67 = subst (λ (n : ℕ). n < 2 ^ 67) (sym e) (times_below 4 63 p i lp) in

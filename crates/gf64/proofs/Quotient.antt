@@ -1,4 +1,5 @@
--- What long division takes away is a multiple of the modulus, and what it leaves is the only element that differs by one.
+-- Long division subtracts a multiple of the modulus. Its remainder is the only element that differs from the polynomial
+-- by such a multiple.
 use Rattle.std.proofs.Common.{◌≡◌, ℕ, zero, suc, ◌+◌, ◌*◌, ◌^◌, ◌<◌, ◌≤◌, Bool, true, false, eqb, refl, sym, ap, subst, ◌∙◌, arith, lit<}
 use Rattle.std.specs.Prelude.{bit_xor}
 use Rattle.std.proofs.Math.Nat.{pow-succ'}
@@ -11,7 +12,7 @@ use Rattle.gf64.proofs.Sums.{swap_middle, differ, part_differ, part_below, coeff
 use Rattle.gf64.proofs.Multiplication.{times_below}
 use Rattle.gf64.proofs.Division.{remainder_xor, remainder_small, remainder_below, multiple}
 
--- ---- linear in the second factor
+-- ---- the product is linear in the second factor
 
 pub second_xor : (n p q r : ℕ) → poly_times n p (bit_xor q r) ≡ bit_xor (poly_times n p q) (poly_times n p r)
 unfolding poly_times
@@ -21,7 +22,7 @@ second_xor (suc n) p q r =
     ∙ ap (λ (x : ℕ). bit_xor x (bit_xor (part (coefficient n q) (p * 2 ^ n)) (part (coefficient n r) (p * 2 ^ n)))) (second_xor n p q r)
     ∙ swap_middle (poly_times n p q) (poly_times n p r) (part (coefficient n q) (p * 2 ^ n)) (part (coefficient n r) (p * 2 ^ n))
 
--- ---- a power of x as the second factor
+-- ---- products whose second factor is a power of x
 
 pub second_zero : (n p : ℕ) → poly_times n p 0 ≡ 0
 second_zero n p = ap (poly_times n p) (sym (xor_self 0)) ∙ second_xor n p 0 0 ∙ xor_self (poly_times n p 0)
@@ -49,7 +50,7 @@ differ_false : (c : Bool) → differ false c ≡ c
 differ_false true = refl
 differ_false false = refl
 
--- ---- the quotient, a term at each step of the division
+-- ---- the quotient, which gets one term at each step of the division
 
 with_term : (n p q : ℕ) (c : Bool) → q < 2 ^ n → poly_times (suc n) p (bit_xor q (part c (2 ^ n))) ≡ bit_xor (poly_times n p q) (part c (p * 2 ^ n))
 unfolding poly_times
@@ -79,7 +80,7 @@ quotient (suc n) p =
       ),
     )
 
--- ---- the law
+-- ---- the remainder is unique
 
 one_remainder : (p q r : ℕ) → r < 2 ^ 64 → p ≡ bit_xor (poly_times 63 modulus q) r → remainder 63 p ≡ r
 one_remainder p q r lt e =

@@ -45,7 +45,7 @@ remainder_folded p lt =
     let high : p / 2 ^ 64 < 2 ^ 63 = shr_below p 63 64 lt in
     ap (remainder 63) (folded_is 63 p high) ∙ same_remainder 63 63 p (p / 2 ^ 64) (omega arith)
 
--- the code's words do not lose a term
+-- the code's words are wide enough to lose no term
 pub code_folds : (p : ℕ) → p < 2 ^ 127 → bit_xor (bit_xor (bit_xor (bit_xor (bit_and p (2 ^ 64 - 1)) (p / 2 ^ 64 * 2 ^ 4 % 2 ^ 128)) (p / 2 ^ 64 * 2 ^ 3 % 2 ^ 128)) (p / 2 ^ 64 * 2 ^ 1 % 2 ^ 128)) (p / 2 ^ 64) ≡ folded p
 unfolding folded
 code_folds p lt =
@@ -57,13 +57,13 @@ code_folds p lt =
 pub code_same : (p : ℕ) → p < 2 ^ 127 → remainder 63 (bit_xor (bit_xor (bit_xor (bit_xor (bit_and p (2 ^ 64 - 1)) (p / 2 ^ 64 * 2 ^ 4 % 2 ^ 128)) (p / 2 ^ 64 * 2 ^ 3 % 2 ^ 128)) (p / 2 ^ 64 * 2 ^ 1 % 2 ^ 128)) (p / 2 ^ 64)) ≡ remainder 63 p
 code_same p lt = ap (remainder 63) (code_folds p lt) ∙ remainder_folded p lt
 
--- folded once more, a polynomial below x ^ 68 is an element
+-- a polynomial below x ^ 68 that is folded is an element
 pub folded_small : (p : ℕ) → p < 2 ^ 68 → folded p < 2 ^ 64
 unfolding folded
 folded_small p lt =
     let high : p / 2 ^ 64 < 2 ^ 4 = shr_below p 4 64 lt in
     xor_lt 64 _ _ (xor_lt 64 _ _ (xor_lt 64 _ _ (xor_lt 64 _ _ (mod_below p (2 ^ 64) (pow_pos 64)) (omega (arith, high))) (omega (arith, high))) (omega (arith, high))) (omega (arith, high))
 
--- an element that is left over is the remainder
+-- an element with the same remainder as p is the remainder of p
 pub left_over : (rest p : ℕ) → rest < 2 ^ 64 → remainder 63 rest ≡ remainder 63 p → rest ≡ remainder 63 p
 left_over rest p lt e = sym (remainder_small 63 rest lt) ∙ e

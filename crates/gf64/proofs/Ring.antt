@@ -1,4 +1,4 @@
--- The product of elements is that of a commutative ring.
+-- The elements with their sum and product are a commutative ring.
 use Rattle.std.proofs.Common.{◌≡◌, ℕ, ◌^◌, ◌<◌, sym, ap, ◌∙◌, arith, lit<}
 use Rattle.std.specs.Prelude.{bit_xor}
 use Rattle.std.specs.Int.Bits.{xor_self}
@@ -43,7 +43,7 @@ pub associates : Associates
 associates a b c la lb lc =
     ap (λ (p : ℕ). product p c) (commutes a b la lb) ∙ product_exchanges b a c lb ∙ commutes (product b c) a (product_below b c lb) la
 
--- ---- zero
+-- ---- products with 0
 
 pub zero_times : (b : ℕ) → product 0 b ≡ 0
 zero_times b = ap (λ (p : ℕ). product p b) (sym (xor_self 0)) ∙ product_xor 0 0 b ∙ xor_self (product 0 b)

@@ -1,4 +1,4 @@
--- A product may be reduced after each shift: what is left is the same, and each of its laws is then an induction.
+-- Reducing a product after each shift gives the same remainder. The laws of the product then follow by induction.
 use Rattle.std.proofs.Common.{◌≡◌, ℕ, zero, suc, ◌+◌, ◌*◌, ◌/◌, ◌^◌, ◌<◌, ◌≤◌, Bool, true, false, refl, sym, ap, ◌∙◌, arith, lit<}
 use Rattle.std.specs.Prelude.{bit_xor}
 use Rattle.std.proofs.Math.Nat.{pow-le-pow_right}
@@ -8,16 +8,16 @@ use Rattle.gf64.proofs.Sums.{swap_middle, part_differ, part_xor, part_zero, part
 use Rattle.gf64.proofs.Multiplication.{double_part, times_half, times_below}
 use Rattle.gf64.proofs.Division.{remainder_xor, remainder_small, remainder_top}
 
--- an element times x
+-- the product of an element and x
 pub times_x : ℕ → ℕ
 times_x a = bit_xor (2 * a) (part (coefficient 63 a) modulus)
 
--- a times the n lowest terms of b, from the highest of them down
+-- the product of a by the n lowest terms of b, begun at the highest of these terms
 pub by_shifts : ℕ → ℕ → ℕ → ℕ
 by_shifts zero a b = 0
 by_shifts (suc n) a b = bit_xor (part (coefficient 0 b) a) (times_x (by_shifts n a (b / 2)))
 
--- ---- a shift is a remainder
+-- ---- multiplying by x and then reducing is times_x
 
 pub remainder_shift : (n p : ℕ) → remainder (suc n) (2 * p) ≡ times_x (remainder n p)
 unfolding remainder times_x
@@ -42,7 +42,7 @@ shifts_are (suc n) a b lt le =
     ∙ ap (λ (x : ℕ). bit_xor x (remainder 63 (2 * poly_times n a (b / 2)))) (remainder_small 63 (part (coefficient 0 b) a) (part_below (coefficient 0 b) a (2 ^ 64) lt))
     ∙ ap (bit_xor (part (coefficient 0 b) a)) (remainder_shift 62 (poly_times n a (b / 2)) ∙ ap times_x (sym (remainder_top 62 (poly_times n a (b / 2)) below) ∙ shifts_are n a (b / 2) lt (omega (arith, le))))
 
--- ---- a shift is linear
+-- ---- times_x is linear
 
 times_x_xor : (p q : ℕ) → times_x (bit_xor p q) ≡ bit_xor (times_x p) (times_x q)
 unfolding times_x
@@ -59,7 +59,7 @@ part_times_x : (c : Bool) (p : ℕ) → part c (times_x p) ≡ times_x (part c p
 part_times_x true p = refl
 part_times_x false p = sym times_x_zero
 
--- ---- linear in the first factor
+-- ---- by_shifts is linear in the first factor
 
 first_xor : (n p q b : ℕ) → by_shifts n (bit_xor p q) b ≡ bit_xor (by_shifts n p b) (by_shifts n q b)
 unfolding by_shifts

@@ -1,4 +1,4 @@
--- Squares of elements: a square of a sum is the sum of the squares, and 64 squares give the element back.
+-- Squares of elements. The square of a sum is the sum of the squares, and 64 squares give an element back.
 use Rattle.std.proofs.Common.{◌≡◌, ℕ, zero, suc, ◌*◌, ◌^◌, ◌<◌, refl, sym, ap, ◌∙◌, arith, lit<, lit≤}
 use Rattle.std.specs.Prelude.{bit_xor}
 use Rattle.std.proofs.Math.Nat.{pow-succ'}
@@ -28,7 +28,7 @@ unfolding squared
 squared_below zero a lt = lt
 squared_below (suc n) a lt = product_below (squared n a) (squared n a) (squared_below n a lt)
 
--- ---- squares keep sums and products
+-- ---- squaring preserves sums and products
 
 cross : (aa ab bb : ℕ) → bit_xor (bit_xor aa ab) (bit_xor ab bb) ≡ bit_xor aa bb
 cross aa ab bb = xor_assoc aa ab (bit_xor ab bb) ∙ ap (bit_xor aa) (sym (xor_assoc ab ab bb) ∙ ap (λ (x : ℕ). bit_xor x bb) (xor_self ab) ∙ xor_zero_l bb)
@@ -64,7 +64,7 @@ squared_product (suc n) a b la lb =
     ap (λ (x : ℕ). product x x) (squared_product n a b la lb)
     ∙ product_swap (squared n a) (squared n b) (squared n a) (squared n b) (squared_below n a la) (squared_below n b lb) (squared_below n a la) (squared_below n b lb)
 
--- ---- 64 squares give each power of x back
+-- ---- squaring x 64 times gives x back
 
 x_returns : squared 64 2 ≡ 2
 unfolding squared product remainder poly_times

@@ -9,7 +9,7 @@ pub swap_middle : (a b c d : ℕ) → bit_xor (bit_xor a b) (bit_xor c d) ≡ bi
 swap_middle a b c d =
     xor_assoc a b (bit_xor c d) ∙ ap (bit_xor a) (sym (xor_assoc b c d) ∙ ap (λ (x : ℕ). bit_xor x d) (xor_comm b c) ∙ xor_assoc c b d) ∙ sym (xor_assoc a c (bit_xor b d))
 
--- the sum of two coefficients
+-- the sum of two coefficients modulo 2
 abbrev pub differ : Bool → Bool → Bool
 differ true true = false
 differ true false = true
@@ -34,12 +34,12 @@ pub part_below : (c : Bool) (p m : ℕ) → p < m → part c p < m
 part_below true p m lt = lt
 part_below false p m lt = omega (arith, lt)
 
--- a part, shifted, is a part of what is shifted
+-- (c * p) * k is c * (p * k), for a coefficient c
 pub part_times : (c : Bool) (p k : ℕ) → part c p * k ≡ part c (p * k)
 part_times true p k = refl
 part_times false p k = omega arith
 
--- ---- coefficients
+-- ---- the coefficients of a sum
 
 low_bits : (a b : ℕ) → a < 2 → b < 2 → (eqb (bit_xor a b % 2) 1) ≡ differ (eqb (a % 2) 1) (eqb (b % 2) 1)
 low_bits zero zero _ _ = refl
@@ -75,7 +75,7 @@ coefficient_shifted t i p =
     let k : t + i ≡ i + t = omega arith in
     ap (λ (n : ℕ). eqb (n % 2) 1) (ap (λ (n : ℕ). p * 2 ^ i / 2 ^ n) k ∙ sym (shr-shr (p * 2 ^ i) i t) ∙ ap (λ (n : ℕ). n / 2 ^ t) (shl-shr p i))
 
--- a polynomial below x ^ t has no term from there on
+-- a polynomial below x ^ t has no term x ^ t
 pub none_at : (t p : ℕ) → p < 2 ^ t → coefficient t p ≡ false
 none_at t p lt =
     let below : p / 2 ^ t < 1 = div_below p (2 ^ t) 1 (pow_pos t) (omega (arith, lt)) in

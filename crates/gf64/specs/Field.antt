@@ -6,7 +6,7 @@ use Rattle.std.specs.Prelude.{ℕ, zero, suc, ◌+◌, ◌*◌, ◌/◌, ◌%◌
 abbrev pub coefficient : ℕ → ℕ → Bool
 coefficient i p = (p / 2 ^ i) % 2 == 1
 
--- a polynomial times a coefficient
+-- the polynomial p if the coefficient c is 1, and 0 otherwise
 abbrev pub part : Bool → ℕ → ℕ
 part c p = if c then p else 0
 
@@ -19,7 +19,8 @@ poly_times (suc n) p q = bit_xor (poly_times n p q) (part (coefficient n q) (p *
 abbrev pub modulus : ℕ
 modulus = 2 ^ 64 + 2 ^ 4 + 2 ^ 3 + 2 + 1
 
--- what long division by the modulus leaves of a polynomial below x ^ (64 + n): it takes the highest term away, and goes on below
+-- The remainder of long division by the modulus, for a polynomial below x ^ (64 + n). Each step removes the highest
+-- term.
 unfoldable pub remainder : ℕ → ℕ → ℕ
 remainder zero p = p
 remainder (suc n) p = remainder n (bit_xor p (part (coefficient (64 + n) p) (modulus * 2 ^ n)))

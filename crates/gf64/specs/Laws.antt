@@ -12,7 +12,8 @@ convolution (suc n) p q k = convolution n p q k + bit_at q n * (if nat_le n k th
 abbrev pub IsConvolution : Type 0
 IsConvolution = (p q k : ℕ) → bit_at (poly_times 64 p q) k ≡ convolution 64 p q k % 2
 
--- The product is the remainder of the polynomials' product p: the one r below x ^ 64 that differs from p by a multiple of the modulus.
+-- The product is the remainder of the polynomials' product p: the only r below x ^ 64 that differs from p by a multiple
+-- of the modulus.
 abbrev pub IsRemainder : Type 0
 IsRemainder = (a b r : ℕ) → a < 2 ^ 64 → b < 2 ^ 64 → (product a b ≡ r) ↔ ((r < 2 ^ 64) × ((q : ℕ) × (poly_times 64 a b ≡ bit_xor (poly_times 63 modulus q) r)))
 
@@ -31,7 +32,7 @@ OneIsNeutral = (a : ℕ) → a < 2 ^ 64 → product 1 a ≡ a
 abbrev pub HasNoZeroDivisors : Type 0
 HasNoZeroDivisors = (a b : ℕ) → a < 2 ^ 64 → b < 2 ^ 64 → product a b ≡ 0 → (a ≡ 0) ⊎ (b ≡ 0)
 
--- 64 squares in a row give each element back
+-- squaring an element 64 times gives the element back
 abbrev pub SquaresReturn : Type 0
 SquaresReturn = (a : ℕ) → a < 2 ^ 64 → power a (2 ^ 64) ≡ a
 

@@ -16,7 +16,7 @@ fn power_of_the_inverse(a: u64) -> u64
     inverse
 }
 
-/// The element whose product with `a` is 1, which every element but 0 has.
+/// The element whose product with `a` is 1. Each element but 0 has one.
 pub fn inverse(a: u64) -> Option<u64>
     ensures none { IsNone result ↔ (a ≡ 0) }
     ensures product { IfSome result (λ b. product a b ≡ 1) }

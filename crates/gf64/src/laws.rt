@@ -1,42 +1,42 @@
-// Each law is the contract of a function that does nothing.
+// The laws of the field. Each is the contract of a function that does nothing.
 ghost use Rattle.gf64.specs.Laws.{IsConvolution, IsRemainder, Commutes, Associates, Distributes, OneIsNeutral, HasNoZeroDivisors, SquaresReturn, HasTwoIdempotents};
 
-/// The polynomials' product has the coefficients of the product of two coefficient lists.
+/// The product of two polynomials has the coefficients that the product of their coefficient lists has, modulo 2.
 pub fn polynomials_are_multiplied()
     ensures { IsConvolution }
 {}
 
-/// The product is what long division by the modulus leaves of the polynomials' product.
+/// The product of two elements is the remainder of their polynomials' product by the modulus.
 pub fn product_is_a_remainder()
     ensures { IsRemainder }
 {}
 
-/// The order of two factors is free.
+/// The product is commutative.
 pub fn product_commutes()
     ensures { Commutes }
 {}
 
-/// Of three factors any two may be multiplied first.
+/// The product is associative.
 pub fn product_associates()
     ensures { Associates }
 {}
 
-/// A factor of a sum is one of each of its parts.
+/// The product distributes over the sum.
 pub fn product_distributes()
     ensures { Distributes }
 {}
 
-/// A product with 1 is the other factor.
+/// 1 is neutral: a product with 1 is the other factor.
 pub fn one_is_neutral()
     ensures { OneIsNeutral }
 {}
 
-/// A product is 0 only where a factor is.
+/// There are no zero divisors: a product is 0 only if a factor is.
 pub fn no_zero_divisors()
     ensures { HasNoZeroDivisors }
 {}
 
-/// Squared 64 times, each element comes back.
+/// Squaring an element 64 times gives the element back.
 pub fn squares_return()
     ensures { SquaresReturn }
 {}

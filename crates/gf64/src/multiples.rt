@@ -5,8 +5,8 @@ ghost use Rattle.gf64.specs.Multiples.{AreMultiples};
 use crate::remainder::reduce;
 use std::marker::Model;
 
-/// An element with its products by the 16 polynomials below x^4, which make many products with it
-/// quick: each takes 16 steps.
+/// An element with its products by the 16 polynomials below x^4. They make further products with the element fast: each
+/// takes 16 steps.
 #[derive(Drop)]
 pub struct Multiples {
     factor: u64,
@@ -22,7 +22,7 @@ impl Model for Multiples {
 }
 
 impl Multiples {
-    /// The multiples of an element.
+    /// The element with its products.
     pub fn of(factor: u64) -> Self
         ensures { result ≡ factor }
     {
@@ -45,7 +45,7 @@ impl Multiples {
     }
 }
 
-// Each number stands for a polynomial below x^4.
+// The products of an element by the 16 polynomials below x^4, each at the index that stands for its polynomial.
 fn products_of(factor: u64) -> [u128; 16]
     ensures { AreMultiples factor 16 result }
 {

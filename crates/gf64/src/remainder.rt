@@ -14,7 +14,7 @@ fn fold(p: u128) -> u128
     (p & LOW_HALF) ^ (high << 4) ^ (high << 3) ^ (high << 1) ^ high
 }
 
-/// What long division by the modulus leaves of a product.
+/// The remainder of a polynomial product by the modulus.
 pub fn reduce(p: u128) -> u64
     requires { p < 2 ^ 127 }
     ensures { result ≡ remainder 63 p }

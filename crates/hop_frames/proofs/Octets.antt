@@ -1,4 +1,4 @@
--- Spellings are octets.
+-- Spellings and frames are octets: each number in them is below 256.
 use Rattle.std.proofs.Common.{◌≡◌, ℕ, zero, suc, ◌/◌, ◌^◌, ◌<◌, ◌≤◌, true, false, List, [], ◌∷◌, ◌++◌, length, drop, replicate, refl, ◌∙◌, arith}
 use Rattle.std.specs.Prelude.{nat_lt, nat_le, ◌&&◌, bit_xor, Bool}
 use Rattle.std.specs.Int.{w64, to_be_bytes, bytes_high_first, byte_at}
@@ -37,7 +37,7 @@ right false b h = cc
 below : (n : ℕ) → n < 256 → nat_lt n 256 ≡ true
 below n h = grind (arith, nat_tests)
 
--- so that a list is told by its proof
+-- The record names its list, so that a proof of it determines the list.
 record Below (xs : List ℕ) : Type 0 where
   octets : IsOctets xs
 
@@ -119,7 +119,7 @@ unfolding payload_octets
 payload_below (Data f) h = fact_below f h
 payload_below (Ack n) h = cons 3 (omega arith) (name_below n h)
 
--- ---- what is well formed and in its ranges has a spelling
+-- ---- a well-formed payload with all numbers in range has a spelling
 
 are_octets : (xs : List ℕ) → IsOctets xs → AreOctets xs
 are_octets [] h zero = omega arith

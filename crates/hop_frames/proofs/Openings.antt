@@ -1,4 +1,4 @@
--- A sealed frame, opened.
+-- A sealed frame opens as its payload.
 use Rattle.std.proofs.Common.{◌≡◌, ℕ, ◌+◌, ◌-◌, ◌^◌, ◌<◌, ◌≤◌, true, false, eqb, ltb, List, ◌++◌, length, drop, length-append, Ok, Err, refl, sym, ap, ◌∙◌, arith}
 use Rattle.std.specs.Int.{w16, w64, to_be_bytes, from_be_bytes}
 use Rattle.std.proofs.lemmas.Bool.{le-ltb}
@@ -14,11 +14,11 @@ use Rattle.hop_frames.specs.Frame.{header, masked, number_of, hash_key, text_of,
 use Rattle.hop_frames.specs.Opening.{◌>>=◌, fields_of, tested, header_of, on_lane, given_tag, computed_tag, tagged, unmasked, checked, opened_at, open_of}
 use Rattle.hop_frames.proofs.Masks.{length-masked, masked_twice}
 
--- the header of a frame on a lane
+-- the header of a frame on the lane
 abbrev head : Lane → ℕ → ℕ → Header
 head lane offset size = record { link = lane.link; way = way_number lane.way; size = size; offset = offset }
 
--- a frame by its masked payload and the octets of its tag
+-- a frame, from its masked payload and the octets of its tag
 abbrev parts : Lane → ℕ → ℕ → List ℕ → List ℕ → List ℕ
 parts lane offset size middle end = (header lane offset size ++ middle) ++ end
 
@@ -57,7 +57,7 @@ lane_again lane offset size = rw (same_number lane.link, same_number (way_number
 text_length : (lane : Lane) (offset size : ℕ) (middle : List ℕ) → length middle ≡ size → length (header lane offset size ++ middle) ≡ 16 + size
 text_length lane offset size middle m = omega (arith, m)
 
--- the tag of a frame by its parts
+-- The tag in a sealed frame is the one that the lane's bytes give.
 tag_again : (lane : Lane) (bytes : List ℕ) (offset size : ℕ) (middle : List ℕ) → length middle ≡ size → offset + size + 8 ≤ length bytes
     → tagged bytes (parts lane offset size middle (tag_octets (hash_key bytes) (header lane offset size ++ middle) (number_of (drop (offset + size) bytes)))) (head lane offset size) ≡ Ok (head lane offset size)
 unfolding tagged
@@ -80,7 +80,7 @@ few_again lane bytes frame offset size lt =
 
 -- ---- frames
 
--- a sealed frame by its parts
+-- A sealed frame is its header, its masked payload and its tag.
 spell_parts : (lane : Lane) (offset : ℕ) (bytes payload : List ℕ) → spell lane offset bytes payload ≡ parts lane offset (length payload) (masked payload (drop offset bytes)) (tag_octets (hash_key bytes) (text_of lane offset (drop offset bytes) payload) (number_of (drop (length payload) (drop offset bytes))))
 unfolding framed
 spell_parts lane offset bytes payload = refl
@@ -88,7 +88,7 @@ spell_parts lane offset bytes payload = refl
 drops : (a b : ℕ) (bytes : List ℕ) → drop b (drop a bytes) ≡ drop (a + b) bytes
 drops a b bytes = drop-drop b a bytes
 
--- what the tests make of a sealed frame
+-- A sealed frame passes all tests but the payload's.
 checked_again : (lane : Lane) (bytes : List ℕ) (offset : ℕ) (payload : List ℕ) → 0 < length payload → length payload < 2 ^ 16 → 8 ≤ offset → offset + length payload + 8 ≤ length bytes → length bytes < 2 ^ 63
     → checked lane bytes (spell lane offset bytes payload) ≡ Ok (head lane offset (length payload))
 unfolding checked

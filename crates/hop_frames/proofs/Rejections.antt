@@ -1,4 +1,4 @@
--- What opening refuses, it refuses as a frame: want of memory is no answer of the definition.
+-- The definition of opening never refuses a frame for lack of memory.
 use Rattle.std.proofs.Common.{◌≡◌, ℕ, ◌+◌, ◌-◌, ◌^◌, Bool, true, false, not, ◌&&◌, ◌||◌, List, length, refl, sym, ap}
 use Rattle.std.specs.Prelude.{Result, Ok, Err, ◌==◌, nat_lt, slice_index, if◌then◌else◌}
 use Rattle.qkd_base.specs.Lane.{way_number}
@@ -32,7 +32,7 @@ bound (Err (BadTag given computed)) f h k = refl
 bound (Err (NotAPayload place)) f h k = refl
 bound (Err Memory) f h k = h
 
--- the six tests of a header
+-- The six tests of a header, in order, refuse it only as a frame of the wrong form.
 six : (a b c d e f : Bool) (n : ℕ) (h : Header) →
     is_of_the_frame (not_a_frame a n (not_a_frame b 0 (not_a_frame c 3 (not_a_frame d 4 (not_a_frame e 6 (not_a_frame f 8 (Ok h))))))) ≡ true
 six true b c d e f n h = refl

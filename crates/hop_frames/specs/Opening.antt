@@ -1,4 +1,4 @@
--- What octets are as a frame on a lane.
+-- How octets are opened as a frame of a lane, or refused.
 use Rattle.std.specs.Prelude.{◌≡◌, ℕ, ◌+◌, ◌-◌, ◌^◌, List, length, take, drop, slice_index, Result, Ok, Err, IsOk, Bool, nat_lt, ◌==◌, ◌&&◌, ◌||◌, not, ◌⊎◌, if◌then◌else◌}
 use Rattle.std.specs.Int.{w16, from_be_bytes}
 use Rattle.qkd_base.specs.Lane.{way_number}
@@ -28,8 +28,8 @@ fields_of frame = record {
 abbrev pub not_a_frame : Bool → ℕ → Result Header OpenRefusal → Result Header OpenRefusal
 not_a_frame fails place read = if fails then Err (NotAFrame place) else read
 
--- The tests of a frame in their order, each with the place that it is refused at: of the number of its octets, of those
--- that are always the same, and of its fields.
+-- The tests of a frame in their order, each with the place at which it refuses. They test the number of octets, the octets with a fixed
+-- value, and the fields.
 abbrev pub tested : ℕ → ℕ → ℕ → ℕ → ℕ → Header → Result Header OpenRefusal
 tested len version third sixth seventh h =
     not_a_frame (nat_lt len 24) len
@@ -42,24 +42,24 @@ tested len version third sixth seventh h =
 unfoldable pub header_of : List ℕ → Result Header OpenRefusal
 header_of frame = tested (length frame) (slice_index frame 0) (slice_index frame 3) (slice_index frame 6) (slice_index frame 7) (fields_of frame)
 
--- link and way are the lane's
+-- The frame's link and way are those of the lane.
 unfoldable pub on_lane : Lane → Header → Result Header OpenRefusal
 on_lane lane h = if h.link == lane.link && h.way == way_number lane.way then Ok h else Err (WrongLane h.link h.way)
 
--- the tag that came, and the one that the lane's bytes give
+-- the tag in the frame
 abbrev pub given_tag : List ℕ → Header → ℕ
 given_tag frame h = number_of (drop (16 + h.size) frame)
 
 abbrev pub computed_tag : List ℕ → List ℕ → Header → ℕ
 computed_tag bytes frame h = number_of (tag_octets (hash_key bytes) (take (16 + h.size) frame) (number_of (drop (h.offset + h.size) bytes)))
 
--- the lane's bytes reach, and the tags are one
+-- Enough lane bytes were received, and the frame's tag is the one that they give.
 unfoldable pub tagged : List ℕ → List ℕ → Header → Result Header OpenRefusal
 tagged bytes frame h =
     if nat_lt (length bytes) (h.offset + h.size + 8) then Err (NoBits (length bytes)) else
     if given_tag frame h == computed_tag bytes frame h then Ok h else Err (BadTag (given_tag frame h) (computed_tag bytes frame h))
 
--- the payload's octets
+-- the payload's octets, with the mask taken off
 abbrev pub unmasked : List ℕ → List ℕ → Header → List ℕ
 unmasked bytes frame h = masked (take h.size (drop 16 frame)) (drop h.offset bytes)
 
@@ -67,19 +67,19 @@ abbrev pub opened_at : ℕ → Result Payload ℕ → Result Opened OpenRefusal
 opened_at offset (Ok payload) = Ok (record { offset = offset; payload = payload })
 opened_at offset (Err place) = Err (NotAPayload place)
 
--- all tests but that of the payload
+-- all tests of a frame but the payload's
 unfoldable pub checked : Lane → List ℕ → List ℕ → Result Header OpenRefusal
 checked lane bytes frame = do
   h ← header_of frame
   here ← on_lane lane h
   tagged bytes frame here
 
--- what a frame is on a lane of which these bytes were received
+-- The frame, opened with the lane bytes received so far, or the reason why it is refused.
 unfoldable pub open_of : Lane → List ℕ → List ℕ → Result Opened OpenRefusal
 open_of lane bytes frame = do
   h ← checked lane bytes frame
   opened_at h.offset (payload_of (unmasked bytes frame h))
 
--- What a call answers: that, or want of memory where a payload is there.
+-- A call returns this result. If a frame can be opened, it may instead run out of memory.
 abbrev pub Opens : Result Opened OpenRefusal → Result Opened OpenRefusal → Type 0
 Opens result read = (result ≡ read) ⊎ ((result ≡ Err Memory) × IsOk read)

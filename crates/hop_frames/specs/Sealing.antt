@@ -1,4 +1,4 @@
--- Frames as the network looks at them: how a payload becomes one on a lane, and what octets are.
+-- Frames in the terms of the network's model: how a payload becomes a frame, and how octets are opened as one.
 use Rattle.std.specs.Prelude.{Result, Ok, Err}
 use Rattle.net_model.specs.declared.reply.Reply.TheVariants as replies
 use Rattle.net_model.specs.Sealing.{Sealing, Opened, Opens, Rejected, Forged}
@@ -9,7 +9,7 @@ use Rattle.hop_frames.specs.declared.open_refusal.OpenRefusal.TheVariants.{NotAF
 use Rattle.hop_frames.specs.Frame.{spell}
 use Rattle.hop_frames.specs.Opening.{open_of}
 
--- a manager's answer to a frame that it refuses
+-- how a manager answers a frame that is opened or refused
 abbrev pub answer_of : Result OpenedFrame OpenRefusal → Opened
 answer_of (Ok opened) = Opens opened.offset opened.payload
 answer_of (Err (NotAFrame place)) = Rejected (replies.BadFrame place)

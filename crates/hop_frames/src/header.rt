@@ -10,14 +10,14 @@ use crate::mask::put;
 use crate::parts::after;
 use qkd_base::{Lane, Way};
 
-/// The fields of a header that its grammar leaves open.
+/// The fields of a header whose values are not fixed.
 #[derive(Clone, Copy, Debug, PartialEq, Eq)]
 pub struct Header {
     pub link: u8,
     pub way: u8,
-    /// The payload's length.
+    /// The payload's length in octets.
     pub size: u16,
-    /// The place in the lane of the first byte that masks the payload.
+    /// The offset in the lane of the first byte that masks the payload.
     pub offset: u64,
 }
 
@@ -31,7 +31,7 @@ fn way_octet(way: Way) -> u8
     }
 }
 
-// Writes the header at the front.
+// Writes a header to the front of a buffer.
 pub fn put_header(octets: &mut [u8], lane: &Lane, offset: u64, size: u16)
     requires { 16 ≤ length octets.old }
     ensures { take 16 octets.new ≡ header lane.now offset size }
@@ -42,7 +42,7 @@ pub fn put_header(octets: &mut [u8], lane: &Lane, offset: u64, size: u16)
     put(octets, 8, &offset.to_be_bytes());
 }
 
-// The first 8 octets as a number.
+// The first 8 octets as a number, big-endian.
 pub fn number_at(octets: &[u8]) -> u64
     requires { 8 ≤ length octets.now }
     ensures { result ≡ number_of octets.now }
@@ -52,7 +52,7 @@ pub fn number_at(octets: &[u8]) -> u64
     u64::from_be_bytes(first)
 }
 
-// The first two octets as a number.
+// The first two octets as a number, big-endian.
 fn short_at(octets: &[u8]) -> u16
     requires { 2 ≤ length octets.now }
     ensures { result ≡ from_be_bytes w16 (take 2 octets.now) }
@@ -60,7 +60,7 @@ fn short_at(octets: &[u8]) -> u16
     u16::from_be_bytes([octets[0], octets[1]])
 }
 
-// The header of octets, if they have the form of a frame.
+// The header of octets that have the form of a frame, or the place at which they don't.
 #[tactic(auto, unfolding(crate::specs::Opening::header_of))]
 pub fn header_of(frame: &[u8]) -> Result<Header, OpenRefusal>
     ensures header { result ≡ header_of frame.now }
@@ -94,7 +94,7 @@ pub fn header_of(frame: &[u8]) -> Result<Header, OpenRefusal>
     Ok(header)
 }
 
-// The header, if it is of this lane.
+// The header, if it is that of a frame on this lane.
 #[tactic(auto, unfolding(crate::specs::Opening::on_lane))]
 pub fn on_lane(header: Header, lane: &Lane) -> Result<Header, OpenRefusal>
     ensures lane { result ≡ on_lane lane.now header }

@@ -1,4 +1,4 @@
-// Laws of frames, for lanes and payloads that no code holds.
+// The laws of frames, stated for lanes and payloads as values.
 ghost use Rattle.std.specs.Prelude.{◌≡◌, ℕ, ◌+◌, ◌≤◌, ◌<◌, ◌^◌, ◌++◌, List, length, Ok, Err};
 ghost use Rattle.qkd_base.specs.declared.lane.Lane.{Lane as LaneValue};
 ghost use Rattle.net_model.specs.declared.payload.Payload.{Payload as PayloadValue};
@@ -12,14 +12,14 @@ ghost use Rattle.hop_frames.specs.Sealing.{hop_sealing};
 
 use frame_codec::spelled_is_read;
 
-/// A frame over the prefix of a lane that was received is the frame over the whole lane.
+/// A frame depends only on the lane bytes up to its end: more bytes behind them don't change it.
 pub fn prefix_of_a_lane()
     ensures { (lane : LaneValue) (offset : ℕ) (bytes more payload : List ℕ) → offset + length payload + 8 ≤ length bytes
         → spell lane offset (bytes ++ more) payload ≡ spell lane offset bytes payload }
 {}
 
-/// A frame that was sealed is opened over equal lane bytes as its payload at its offset, and refused as long as too few
-/// of them have come.
+/// A sealed frame, opened with the same lane bytes, gives its payload and its offset. It is refused as long as too few of
+/// these bytes have come.
 pub fn sealed_is_opened()
     ensures opened { (lane : LaneValue) (bytes : List ℕ) (offset : ℕ) (p : PayloadValue) → IsPayload p → 8 ≤ offset → offset + payload_len p + 8 ≤ length bytes → length bytes < 2 ^ 63
         → open_of lane bytes (spell lane offset bytes (payload_octets p)) ≡ Ok (record { offset = offset; payload = p }) }
@@ -30,8 +30,8 @@ pub fn sealed_is_opened()
     spelled_is_read();
 }
 
-/// These frames are what the abstract network asks of frames: octets, 24 more than the payload, the same with more lane
-/// bytes, opened where they were sealed, and refused while too few lane bytes have come.
+/// This crate's frames are as the network's model asks. They are octets, 24 more than the payload's. More lane bytes don't
+/// change them. They open where they were sealed, and are refused while too few lane bytes have come.
 pub fn frames_of_a_network()
     ensures { IsSealing hop_sealing }
 {

@@ -1,4 +1,4 @@
-//! Frames of one hop: payloads masked by lane bytes, and tagged.
+//! Seals payloads as frames of one hop and opens them: a one-time pad masks the payload, a Wegman-Carter tag protects the frame.
 #![tactic(auto)]
 
 mod header;
@@ -11,12 +11,8 @@ mod opening;
 mod parts;
 mod sealing;
 
-pub use frame_codec;
 pub use laws::{frames_of_a_network, prefix_of_a_lane, sealed_is_opened};
-pub use link_segments;
 pub use open_refusal::OpenRefusal;
 pub use opened::Opened;
 pub use opening::open;
-pub use pad_ledger;
 pub use sealing::seal;
-pub use wc_tags;

@@ -1,4 +1,4 @@
-// Writing octets, in the clear and masked.
+// How octets are written, in the clear and masked.
 ghost use Rattle.std.specs.Prelude.{◌≡◌, ◌+◌, ◌≤◌, ◌++◌, length, take};
 ghost use Rattle.hop_frames.specs.Frame.{masked};
 
@@ -10,7 +10,7 @@ pub fn put(into: &mut [u8], at: usize, octets: &[u8])
     into[at..at + octets.len()].copy_from_slice(octets);
 }
 
-// Writes octets at a place, each with a lane byte.
+// Writes octets at a place, each masked by one pad.
 pub fn put_masked(into: &mut [u8], at: usize, octets: &[u8], pads: &[u8])
     requires room { at + length octets.now ≤ length into.old }
     requires pads { length octets.now ≤ length pads.now }

@@ -1,22 +1,22 @@
-// Why octets aren't opened.
+// Errors of opening a frame.
 use std::error::Error;
 use std::fmt;
 
-/// Why octets aren't opened as a frame of a lane. The first that holds is answered.
+/// Why octets were not opened as a frame of a lane. The first reason that applies is returned.
 #[derive(Clone, Copy, Debug, PartialEq, Eq)]
 pub enum OpenRefusal {
-    /// Not a frame: the octet at which its grammar refuses them, or their number where they are too few for a header
-    /// and a tag.
+    /// The octets don't have the form of a frame. The place is the octet at which they are refused, or their number if they
+    /// are too few for a header and a tag.
     NotAFrame(usize),
-    /// The frame's link and way octets are another lane's.
+    /// The frame's link and way octets are those of another lane.
     WrongLane { link: u8, way: u8 },
-    /// The frame needs lane bytes past the number that was received.
+    /// The frame needs lane bytes that have not come. The number says how many have.
     NoBits(u64),
-    /// The tag that came, and the tag that the lane's bytes give.
+    /// The tag is wrong: the tag in the frame, and the tag that the lane's bytes give.
     BadTag { given: u64, computed: u64 },
-    /// The tag is right, but the payload isn't in the grammar: the octet of the payload at which it is refused.
+    /// The tag is right, but the payload is not in its grammar. The place is the octet of the payload at which it is refused.
     NotAPayload(usize),
-    /// Want of memory, for a frame that can be opened.
+    /// Memory ran out. The frame can be opened.
     Memory,
 }
 

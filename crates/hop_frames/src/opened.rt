@@ -1,10 +1,10 @@
-// What a frame says.
+// Opened frames.
 use net_model::Payload;
 
-/// A frame that was opened.
+/// What an opened frame carries.
 #[derive(Debug, Drop)]
 pub struct Opened {
-    /// The place in the lane of the first byte that masks the payload.
+    /// The offset in the lane of the first byte that masks the payload.
     pub offset: u64,
     pub payload: Payload,
 }

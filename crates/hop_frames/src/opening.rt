@@ -1,4 +1,4 @@
-// Opening frames.
+// How frames are opened.
 ghost use Rattle.std.specs.Prelude.{◌≡◌, ℕ, ◌+◌, ◌≤◌, ◌<◌, ◌^◌, length, take, drop, Result, Ok, IfOk};
 ghost use Rattle.net_model.specs.declared.payload.Payload.{Payload as PayloadValue};
 ghost use Rattle.frame_codec.specs.Reading.{Reads, payload_of};
@@ -18,7 +18,7 @@ use qkd_base::{Lane, Way};
 use std::alloc::Global;
 use wc_tags::tag;
 
-// Whether the lane's bytes reach and give the frame's tag.
+// Whether enough lane bytes were received, and whether they give the frame's tag.
 #[tactic(auto, unfolding(crate::specs::Opening::tagged))]
 fn tagged(frame: &[u8], header: Header, held: &Segments, way: Way) -> Result<Header, OpenRefusal>
     requires size { length frame.now ≡ 24 + header.size }
@@ -55,7 +55,7 @@ fn checked(lane: &Lane, frame: &[u8], held: &Segments) -> Result<Header, OpenRef
     tagged(frame, header, held, lane.way)
 }
 
-// Reads the payload that these octets mask.
+// Reads the payload that these octets mask. `clear` is room for its octets.
 fn read_masked(
     alloc: Global,
     octets: &[u8],
@@ -70,7 +70,7 @@ fn read_masked(
     read(alloc, prefix(clear, octets.len()))
 }
 
-// Reads the payload that octets mask at an offset of a lane, in the room given.
+// Reads the payload that the octets mask at an offset of the lane. `pads` and `clear` are room for its octets.
 fn read_in(
     alloc: Global,
     octets: &[u8],
@@ -90,7 +90,7 @@ fn read_in(
     read_masked(alloc, octets, pads, clear)
 }
 
-// Reads it where the octets may be of any number that a frame can have.
+// Reads the payload that at most 65,535 octets mask, in buffers of its own.
 fn read_long(
     alloc: Global,
     octets: &[u8],
@@ -107,7 +107,7 @@ fn read_long(
     read_in(alloc, octets, held, way, offset, &mut pads, &mut clear)
 }
 
-// Reads it where they may be a payload. These two are apart so that only long frames need the large room.
+// Reads the payload that at most 600 octets mask. As a function of its own it lets only long frames need large buffers.
 fn read_short(
     alloc: Global,
     octets: &[u8],
@@ -124,7 +124,7 @@ fn read_short(
     read_in(alloc, octets, held, way, offset, &mut pads, &mut clear)
 }
 
-// The payload at its offset, or why there is none.
+// The payload with its offset, or the reason why there is none.
 fn opened(offset: u64, payload: Result<Payload, PayloadRefusal>) -> Result<Opened, OpenRefusal>
     ensures { (read : Result PayloadValue ℕ) → Reads payload read → Opens result (opened_at offset read) }
 {
@@ -135,17 +135,17 @@ fn opened(offset: u64, payload: Result<Payload, PayloadRefusal>) -> Result<Opene
     }
 }
 
-/// Opens a frame that came on a lane, with the lane bytes received. The first refusal that holds is answered:
+/// Opens a frame that came on a lane, with the lane bytes received so far. The first error that applies is returned:
 ///
-/// - `NotAFrame`, where the octets are fewer than 24 (their number), the version isn't 1 (0), octet 3 isn't 0 (3), the
-///   length is 0 or not that of the octets (4), octets 6 and 7 aren't 0 (6), or the offset is below 8 or with length and
-///   tag above 2^64 - 1 (8);
-/// - `WrongLane`, where link and way are others than the lane's;
-/// - `NoBits`, where offset, length and tag pass the bytes received;
-/// - `BadTag`, where the tag isn't the one that the lane's bytes give: of octets that nobody sealed with them, this is
-///   what Wegman and Carter 1981, section 4, bound;
-/// - `NotAPayload`, where the payload isn't in its grammar;
-/// - `Memory`, where all is right.
+/// - `NotAFrame`: there are fewer than 24 octets (place: their number); the version isn't 1 (place 0); octet 3 isn't 0 (place
+///   3); the length is 0 or not that of the octets (place 4); octets 6 and 7 aren't 0 (place 6); or the offset is below 8, or
+///   more than 2^64 - 1 together with length and tag (place 8).
+/// - `WrongLane`: the link and the way are not the lane's.
+/// - `NoBits`: the frame ends behind the bytes received.
+/// - `BadTag`: the tag isn't the one that the lane's bytes give. Wegman and Carter 1981, section 4, bound how often octets
+///   that nobody sealed with these bytes pass.
+/// - `NotAPayload`: the payload is not in its grammar.
+/// - `Memory`: memory ran out. The frame can be opened.
 #[tactic(auto, unfolding(crate::specs::Opening::open_of))]
 pub fn open(alloc: Global, lane: Lane, frame: &[u8], held: &Segments) -> Result<Opened, OpenRefusal>
     ensures { Opens result (open_of lane (lane_octets lane.way held.now.blocks) frame.now) }

@@ -1,7 +1,7 @@
 // Parts of octets.
 ghost use Rattle.std.specs.Prelude.{◌≡◌, ◌≤◌, length, take, drop};
 
-// The first so many octets.
+// The first `size` octets.
 pub fn prefix(octets: &[u8], size: usize) -> &[u8]
     requires { size ≤ length octets.now }
     ensures { result.now ≡ take size octets.now }
@@ -9,7 +9,7 @@ pub fn prefix(octets: &[u8], size: usize) -> &[u8]
     &octets[..size]
 }
 
-// What stands after so many octets.
+// The octets behind the first `size` ones.
 pub fn after(octets: &[u8], size: usize) -> &[u8]
     requires { size ≤ length octets.now }
     ensures { result.now ≡ drop size octets.now }

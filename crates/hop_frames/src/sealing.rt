@@ -1,4 +1,4 @@
-// Sealing frames.
+// How frames are sealed.
 ghost use Rattle.std.specs.Prelude.{◌≡◌, ℕ, ◌+◌, ◌≤◌, ◌<◌, ◌^◌, List, length, take, drop};
 ghost use Rattle.net_model.specs.Facts.{payload_len, IsWellFormed};
 ghost use Rattle.frame_codec.specs.Payload.{IsPayload, payload_octets};
@@ -13,7 +13,7 @@ use pad_ledger::PadRange;
 use qkd_base::{FrameOctets, Lane};
 use wc_tags::tag;
 
-// Writes the frame of a payload's octets at the front.
+// Writes the frame of a payload's octets to the front of a buffer.
 #[tactic(auto, unfolding(crate::specs::Frame::framed))]
 fn put_frame(into: &mut [u8], lane: &Lane, offset: u64, key: u64, pads: &[u8], payload: &[u8])
     requires size { length payload.now ≤ 561 }
@@ -29,10 +29,10 @@ fn put_frame(into: &mut [u8], lane: &Lane, offset: u64, key: u64, pads: &[u8], p
     put(into, 16 + size, &tag.to_be_bytes());
 }
 
-/// Writes the frame of a payload on a lane and says its length, 41 to 585. It uses up the range: `pads` are the lane's
-/// bytes from the range's start on, which mask the payload and then its tag, and no other frame gets them (one-time
-/// pad). `key` is the number of the lane's first 8 bytes. The room after the frame stays as it was, so no octet of the
-/// clear payload is left there.
+/// Writes the frame of a payload on a lane to the front of a buffer, and returns its length, 41 to 585 octets. The call uses
+/// up the range. `pads` are the lane's bytes of the range: they mask the payload and then its tag, and no other frame gets
+/// them (one-time pad). `key` is the lane's first 8 bytes as a number. The buffer behind the frame stays as it was, so no
+/// octet of the clear payload is left there.
 pub fn seal(
     range: PadRange,
     lane: Lane,
@@ -45,7 +45,7 @@ pub fn seal(
     requires size { range.len ≡ payload_len payload.now + 8 }
     requires pads { length pads.now ≡ range.len }
     ensures len { result ≡ 24 + payload_len payload.now }
-    // whatever the lane's other bytes are
+    // The frame is the same whatever the lane's other bytes are.
     ensures frame { (bytes : List ℕ) → key ≡ hash_key bytes → pads.now ≡ take range.len (drop range.start bytes)
         → take result into.new.octets ≡ spell lane range.start bytes (payload_octets payload.now) }
     ensures rest { drop result into.new.octets ≡ drop result into.old.octets }

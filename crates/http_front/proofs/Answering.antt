@@ -1,4 +1,4 @@
--- The answer to what came.
+-- What the answer says of the octets that came.
 use Rattle.std.proofs.Common.{◌≡◌, ℕ, ◌+◌, ◌-◌, ◌≤◌, ◌<◌, Bool, true, false, List, [], ◌∷◌, ◌++◌, length, take, drop, max, leb, Option, Some, None, Result, Ok, Err, refl, sym, ap, ◌∙◌, subst, arith, append_assoc, length-append, length-drop, inr}
 use Rattle.std.specs.Prelude.{if◌then◌else◌, nat_le, nat_lt, slice_range, codes}
 use Rattle.std.specs.Str.{bytes_eq}
@@ -85,17 +85,17 @@ read-answer l0 l2 o0 o2 kept r came few still answer =
       answer = subst (λ (t : List ℕ). IsAnswer t kept l2 r) came.behind answer;
     }
 
--- no head was read
+-- If no head was read, the answer is the refusal.
 pub read-none : (l0 l1 : Option (List ℕ)) (o0 o1 : List ℕ) (e : FrontRefusal) → Came l0 l1 o0 o1 → length o1 ≤ max (length o0) 8193 → (IsEnough o0 → o1 ≡ o0)
     → IsRefused o1 e → IsEnd e l1 → IsRead l0 l1 o0 o1 (Err e)
 read-none l0 l1 o0 o1 e came limit still refused end = read-answer l0 l1 o0 o1 o1 (Err e) came (omega arith) still (refl, refused, end)
 
--- the framing of the parts is the head's
+-- The framing of the parts is the framing of the head.
 framing-same : (octets : List ℕ) (parts : Head) (is : IsHeadOf octets parts) → framing_of parts.method parts.fields ≡ framing_of is.head.method (fields_of is.head)
 framing-same octets parts is =
     ap (λ (m : List ℕ). framing_of m parts.fields) is.method ∙ ap (framing_of is.head.method) is.fields
 
--- a bound on what a body adds
+-- A body has at most 65,536 octets.
 framing-bound : (method : List ℕ) (fields : List Pair) (n : ℕ) → framing_of method fields ≡ Ok n → n ≤ 65536
 unfolding Framed
 framing-bound method fields n is = subst Framed is (framed-of method fields)
@@ -111,7 +111,7 @@ read-framed l0 l1 o0 o1 parts e came limit still is told =
     let refused = framed-refused o1 l1 e (subst Framed told (framed-of parts.method parts.fields)) (is.head, _, is.has, framing) in
     read-answer l0 l1 o0 o1 o1 (Err e) came (omega arith) still (refl, refused.0, refused.1)
 
--- octets that are enough have the body of their head
+-- If the octets are enough, they contain the body of their head.
 pub enough-fits : (o0 o1 : List ℕ) (parts : Head) (n : ℕ) → IsEnough o0 → o1 ≡ o0 → IsHeadOf o1 parts → framing_of parts.method parts.fields ≡ Ok n
     → parts.len + n ≤ length o1
 enough-fits o0 o1 parts n enough same is told =
@@ -126,7 +126,7 @@ enough-fits o0 o1 parts n enough same is told =
     let len : parts.len ≡ length (print_request is.head) = is.len in
     omega arith
 
--- so nothing comes
+-- So no more octets are read.
 enough-still : (o0 o1 o2 : List ℕ) (parts : Head) (n : ℕ) → (IsEnough o0 → o1 ≡ o0) → IsHeadOf o1 parts → framing_of parts.method parts.fields ≡ Ok n
     → (parts.len + n ≤ length o1 → o2 ≡ o1) → IsEnough o0 → o2 ≡ o0
 enough-still o0 o1 o2 parts n first is told second enough =
@@ -165,7 +165,7 @@ read-short l0 l1 l2 o0 o1 o2 parts n e first limit still is told second limit2 s
     read-answer l0 l2 o0 o2 o2 (Err e) (came-trans l0 l1 l2 o0 o1 o2 first second) (omega arith)
     (enough-still o0 o1 o2 parts n still is told still2) (refl, refused.0, refused.1)
 
--- a body was read, but not kept for want of memory
+-- A body was read, but memory ran out before it was kept.
 pub read-memory : (l0 l1 l2 : Option (List ℕ)) (o0 o1 o2 : List ℕ) (parts : Head) (n : ℕ) → Came l0 l1 o0 o1 → length o1 ≤ max (length o0) 8193
     → (IsEnough o0 → o1 ≡ o0) → IsHeadOf o1 parts → framing_of parts.method parts.fields ≡ Ok n → Came l1 l2 o1 o2
     → length o2 ≤ max (length o1) (parts.len + n) → (parts.len + n ≤ length o1 → o2 ≡ o1) → IsRead l0 l2 o0 o2 (Err refusals.Memory)
@@ -206,7 +206,7 @@ read-whole l0 l1 l2 o0 o1 o2 kept parts n q first limit still is told second lim
       close = ap (λ (r : HttpRequest). r.close) made ∙ ap (λ (m : ℕ). closes m parts.fields) is.minor ∙ ap (closes is.head.minor) is.fields;
     })
 
--- ---- what all the octets mean
+-- ---- what all octets mean
 
 pub read-meant : (l0 l1 : Option (List ℕ)) (k0 k1 : List ℕ) (r : Result HttpRequest FrontRefusal) → IsRead l0 l1 k0 k1 r
     → Reads (prepend_known k0 l0) (prepend_known k1 l1) r
@@ -221,7 +221,7 @@ read-meant (Some x) (Some y) k0 k1 (Err e) is =
       subst (λ (t : List ℕ). IsRefused t e) all (refused-append (k0 ++ is.taken) y e (Some y) refl is.answer.2 is.answer.1),
     )
 
--- ---- from the answers of calls
+-- ---- steps from the results of calls
 
 pub framing-told : (m n : List ℕ) (f g : List Pair) (r x : Result ℕ FrontRefusal) → n ≡ m → g ≡ f → r ≡ framing_of n g → r ≡ x → framing_of m f ≡ x
 framing-told m n f g r x method fields told is =

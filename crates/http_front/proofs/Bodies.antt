@@ -1,4 +1,4 @@
--- The length of a body where there is no one value of Content-Length.
+-- The length of a body where there isn't exactly one value of Content-Length.
 use Rattle.std.proofs.Common.{◌≡◌, ℕ, ◌≤◌, Bool, true, false, List, [], ◌∷◌, length, None, refl, sym, ◌∙◌, ltb, rules, codes}
 use Rattle.std.specs.Str.{bytes_eq}
 use Rattle.http_front.specs.Fields.{Pair, values_of, only_of}

@@ -39,7 +39,7 @@ never-overflows text over = record {
       omega arith;
 }
 
--- the fields of a head that was found are as many as were written
+-- A head that was found has as many fields as the parser wrote.
 fields-count : (text : List ℕ) (headers : List HeaderSpan) (r : RequestSpans) (h : RequestHead) → IsRequestWithin text headers r
     → IsRequestAt text headers r h → length h.fields ≡ r.headers
 fields-count text headers r h within at =
@@ -98,7 +98,7 @@ open-long text headers r h room long most within at =
       );
     }
 
--- a clause on the parser's answer, where the answer is known
+-- what a contract of the parser says if the answer is known
 pub at-partial : {P : Type 0} (r : Result (Status RequestSpans) Error) → r ≡ Ok Partial → OnPartial r P → P
 at-partial {P} r is h = let F : Result (Status RequestSpans) Error → Type 0 = λ r. OnPartial r P in subst F is h
 

@@ -1,4 +1,4 @@
--- A part of a head has at most 32 fields to come or none, by the number of its lines.
+-- The number of lines in a part of a head decides whether the head can still have at most 32 fields.
 use Rattle.std.proofs.Common.{◌≡◌, ◌≢◌, ℕ, ◌+◌, ◌-◌, ◌≤◌, ◌<◌, ◌⊎◌, Bool, true, false, ◌&&◌, ◌||◌, not, eqb, ltb, List, [], ◌∷◌, ◌++◌, length, take, drop, get_or, All, refl, sym, ap, ◌∙◌, subst, arith, append_assoc, append-nil, length-append, inl, inr, cond}
 use Rattle.std.proofs.lemmas.List.{get_or_at, get_or-append-add, take_at, take-append-drop, length-take-le}
 use Rattle.std.proofs.lemmas.List.Concat.{flat_map-append}
@@ -98,7 +98,7 @@ lines-start h is =
     let e = lines-append (print_version h.minor) (print_end h.line_end) in
     omega (arith, a, b, c, d, e)
 
--- ---- behind the line ends at the front
+-- ---- without the line ends at the front
 
 after_blank-newlines : (xs w : List ℕ) → All (λ b. is_newline b ≡ true) xs → after_blank (xs ++ w) ≡ after_blank w
 after_blank-newlines [] w all = refl
@@ -122,7 +122,8 @@ front_newlines xs ys zs same all =
     let e : take (length xs) zs ≡ xs = ap (take (length xs)) same ∙ take_at xs ys (length xs) refl in
     All-same P xs (take (length xs) zs) (sym e) (All-take P (length xs) zs all)
 
--- Where a text is part of a head, it is blank, or the rest of its line ends and a part of what stands behind them.
+-- A text that is part of a head either has line ends only, or it has all line ends of the head's front and a part of what
+-- follows them.
 pub behind_blank : (es : List LineEnd) (w text more : List ℕ) → Stops is_newline w → text ++ more ≡ print_blank es ++ w
     → (after_blank text ≡ []) ⊎ ((v : List ℕ) × (text ≡ print_blank es ++ v) × (after_blank text ≡ v) × (w ≡ v ++ more))
 behind_blank es w text more stops same =
@@ -137,7 +138,7 @@ behind_blank es w text more stops same =
           inr (cut.0, cut.1, ap after_blank cut.1 ∙ after_blank-newlines (print_blank es) cut.0 (newlines_blank es) ∙ after_blank-stops cut.0 more stops_here, cut.2)
     ]
 
--- a text has at least as many octets as lines
+-- A text has at least as many octets as lines.
 pub lines-short : (text : List ℕ) → lines (after_blank text) ≤ length text
 lines-short [] = omega arith
 lines-short (x ∷ text) = step x text (lines-short text) (is_newline x)
@@ -148,7 +149,7 @@ lines-short (x ∷ text) = step x text (lines-short text) (is_newline x)
 
 -- ---- ends of lines
 
--- the last octet is a LF
+-- The last octet is an LF.
 abbrev pub EndsInLf : List ℕ → Type 0
 EndsInLf xs = (front : List ℕ) × (xs ≡ front ++ 10 ∷ [])
 
@@ -169,7 +170,7 @@ ends-start : (h : RequestHead) → EndsInLf (start_line h)
 ends-start h =
     ends-after h.method _ (ends-after (32 ∷ []) _ (ends-after h.target _ (ends-after (32 ∷ []) _ (ends-after (print_version h.minor) _ (ends-end h.line_end)))))
 
--- what ends such a text has a line
+-- If a text ends with an LF, each nonempty suffix of it contains a line end.
 last-line : (a b xs : List ℕ) → a ++ b ≡ xs → EndsInLf xs → 0 < length b → 1 ≤ lines b
 last-line a b xs same end some =
     let whole : a ++ b ≡ end.0 ++ 10 ∷ [] = same ∙ end.1 in
@@ -203,7 +204,7 @@ ends-line-cr a =
     ap (λ (n : ℕ). get_or (a ++ 10 ∷ 13 ∷ []) n 0) (omega arith) ∙ get_or-append-add a (10 ∷ 13 ∷ []) 0 0 in
     rw (last, before) refl
 
--- behind whole lines there is a part of one that counts as an end: a CR
+-- After complete lines, the only part of a line that counts as a line end is a CR.
 tail-is-cr : (a r : List ℕ) → 0 < length r → lines r ≡ 0 → ends_line (a ++ r) ≡ true → r ≡ 13 ∷ []
 tail-is-cr a [] some none ends = absurd (omega arith)
 tail-is-cr a (x ∷ []) some none ends =
@@ -230,7 +231,7 @@ tail-is-cr a (x ∷ y ∷ r) some none ends =
 
 -- ---- heads
 
--- a head's lines behind those at its front, but the last
+-- a head's lines after those at its front, without the last one
 abbrev pub field_lines : RequestHead → List ℕ
 field_lines h = start_line h ++ flat_map print_field h.fields
 
@@ -252,7 +253,8 @@ pub print_request-lines : (h : RequestHead) → print_request h ≡ print_blank 
 print_request-lines h =
     print_request-parts h ∙ ap (λ (t : List ℕ). print_blank h.blank ++ t) (sym (append_assoc (start_line h) (flat_map print_field h.fields) (print_end h.last)))
 
--- what is missing at the end of a head is its last line end, or a part of it, only behind a whole line, but for a CR
+-- If only the last line end of a head is missing, or a part of it, the text ends right after a line, or after a line end and a
+-- CR.
 at-last-line : (b v : List ℕ) (e : LineEnd) (r more : List ℕ) → EndsInLf v → print_end e ≡ r ++ more → 0 < length more
     → ends_line (b ++ (v ++ r)) ≡ true
 at-last-line b v lf [] more end same some =
@@ -271,7 +273,7 @@ at-last-line b v crlf (x ∷ y ∷ r) more end same some =
     let sizes : 2 ≡ length r + length more + 2 = ap length same ∙ (let e = length-append r more in omega (arith, e)) in
     absurd (omega arith)
 
--- A part of a head with at most 32 fields has no begun field behind the 32nd.
+-- A part of a head with at most 32 fields doesn't begin a 33rd field.
 pub begins-none : (text more : List ℕ) (h : RequestHead) → Becomes text more h → HasNoRequest text → begins_field_33 text ≡ false
 begins-none text [] h becomes none =
     absurd (none h [] (becomes.reads.0, sym (append-nil text) ∙ becomes.reads.1))
@@ -310,7 +312,7 @@ begins-none text (m ∷ more) h becomes none =
     decide : (n : ℕ) (b : Bool) → n ≤ 33 → (n ≡ 33 → b ≡ true) → (ltb 33 n || (eqb n 33 && not b)) ≡ false
     decide n b le ends = grind (arith, nat_tests)
 
--- A head cut behind its 32nd field.
+-- a head cut off after its 32nd field
 abbrev pub cut_head : RequestHead → RequestHead
 cut_head h = record h { fields = take 32 h.fields; last = crlf }
 
@@ -328,11 +330,11 @@ cut-lines h many is =
     let size : length (take 32 h.fields) ≡ 32 = length-take-le 32 h.fields (omega arith) in
     lines-field_lines (cut_head h) (cut-is h is) ∙ omega arith
 
--- what the head has behind its 32nd field
+-- what the head has after its 32nd field
 abbrev beyond : RequestHead → List ℕ
 beyond h = flat_map print_field (drop 32 h.fields) ++ print_end h.last
 
--- both begin with the same lines
+-- A head and its cut-off version begin with the same lines.
 whole-head : (h : RequestHead)
     → print_request h ≡ (print_blank h.blank ++ field_lines (cut_head h)) ++ beyond h
 whole-head h =
@@ -354,7 +356,7 @@ part-of-cut text more h many is same =
     let size : length (take 32 h.fields) ≡ 32 = length-take-le 32 h.fields (omega arith) in
     (more, cut_head h, record { reads = (cut-is h is, same ∙ sym (append-nil (print_request (cut_head h)))); few = omega arith })
 
--- A part of a head that has no begun field behind the 32nd is one of a head with at most 32 fields.
+-- A part of a head that doesn't begin a 33rd field is a part of a head with at most 32 fields.
 pub part-of-few : (text more : List ℕ) (h : RequestHead) → ReadsRequest (text ++ more) h [] → begins_field_33 text ≡ false → MayBecomeHead text
 part-of-few text more h reads within =
     elim (cases_lt 32 (length h.fields)) [

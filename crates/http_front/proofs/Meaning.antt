@@ -1,4 +1,4 @@
--- What came of a connection's octets says what all of them mean.
+-- What was read of a connection's octets is what all of its octets mean.
 use Rattle.std.proofs.Common.{◌≡◌, ℕ, ◌+◌, ◌≤◌, ◌<◌, ◌⊎◌, List, [], ◌∷◌, ◌++◌, length, take, drop, min, Option, Some, None, Result, Ok, Err, refl, sym, ap, ◌∙◌, subst, arith, rules, append_assoc, append-nil, length-append, length-take, inl, inr}
 use Rattle.std.proofs.lemmas.List.{take-append-drop, take-append-le, take_all, drop_at}
 use Rattle.std.proofs.lemmas.Bool.{cases_lt}
@@ -13,7 +13,7 @@ use Rattle.http_front.specs.declared.refusal.FrontRefusal.TheVariants as refusal
 use Rattle.http_front.specs.declared.request.HttpRequest.{HttpRequest}
 use Rattle.http_front.proofs.Lines.{split_front}
 
--- ---- heads, with more octets behind them
+-- ---- heads, when more octets follow
 
 pub head-append : (octets : List ℕ) (h : RequestHead) (rest later : List ℕ) → HasHead octets h rest → HasHead (octets ++ later) h (rest ++ later)
 head-append octets h rest later has = record {
@@ -22,21 +22,21 @@ head-append octets h rest later has = record {
   short = has.short;
 }
 
--- the head of all octets stands in those that are at least as many as its own
+-- If the octets are at least as many as those of the head, they begin with the head too.
 head-within : (octets later : List ℕ) (h : RequestHead) (rest : List ℕ) → length (print_request h) ≤ length octets → HasHead (octets ++ later) h rest
     → (front : List ℕ) × HasHead octets h front
 head-within octets later h rest le has =
     let cut = split_front (print_request h) rest octets later (sym has.reads.1) le in
     (cut.0, record { reads = (has.reads.0, cut.1); few = has.few; short = has.short })
 
--- ..; else they are a part of it
+-- If they are fewer, they are a part of the head.
 head-beyond : (octets later : List ℕ) (h : RequestHead) (rest : List ℕ) → length octets ≤ length (print_request h) → HasHead (octets ++ later) h rest
     → MayBecomeHead octets
 head-beyond octets later h rest le has =
     let cut = split_front octets later (print_request h) rest has.reads.1 le in
     (cut.0, h, record { reads = (has.reads.0, sym cut.1 ∙ sym (append-nil (print_request h))); few = has.few })
 
--- what a text may become, a part of it may
+-- A prefix of a text may become whatever the text may become.
 becomes-front : (a b : List ℕ) → MayBecomeHead (a ++ b) → MayBecomeHead a
 becomes-front a b may =
     (b ++ may.0, may.1, record { reads = subst (λ (t : List ℕ). ReadsRequest t may.1 []) (append_assoc a b may.0) may.2.reads; few = may.2.few })
@@ -49,7 +49,7 @@ front-size octets = length-take 8193 octets
 front-whole : (octets : List ℕ) → take 8193 octets ++ drop 8193 octets ≡ octets
 front-whole octets = take-append-drop 8193 octets
 
--- those of more octets begin with those of these
+-- The first 8,193 octets are a prefix of those that more octets have.
 front-grows : (octets later : List ℕ) → (more : List ℕ) × (take 8193 (octets ++ later) ≡ take 8193 octets ++ more)
 front-grows octets later =
     elim (cases_lt 8193 (length octets)) [
@@ -62,7 +62,7 @@ front-grows octets later =
           (cut.0, cut.1 ∙ ap (λ (t : List ℕ). t ++ cut.0) (sym (take_all 8193 octets short)))
     ]
 
--- a head of all is one of the first
+-- A head at the front of all octets is one at the front of the first 8,193.
 head-in-front : (octets : List ℕ) (h : RequestHead) (rest : List ℕ) → HasHead octets h rest → (front : List ℕ) × HasHead (take 8193 octets) h front
 head-in-front octets h rest has =
     let size : length (take 8193 octets) ≡ min 8193 (length octets) = front-size octets in
@@ -74,7 +74,7 @@ head-in-front octets h rest has =
 none-in-all : (octets : List ℕ) → HasNoHead (take 8193 octets) → HasNoHead octets
 none-in-all octets none h rest has = let front = head-in-front octets h rest has in none h front.0 front.1
 
--- ---- from what was asked of the first octets
+-- ---- from the parser's answer for the first octets
 
 pub never-refused : (octets : List ℕ) (e : FrontRefusal) → IsNeverFor (take 8193 octets) e → IsRefused octets e
 never-refused octets refusals.BadHead never = record { none = none-in-all octets never.none; never = never.never }
@@ -115,7 +115,7 @@ head-of-all octets parts is =
       fields = is.fields;
     }
 
--- ---- with more octets behind them
+-- ---- when more octets follow
 
 pub request-append : (octets : List ℕ) (q : HttpRequest) (rest later : List ℕ) → IsRequest octets q rest → IsRequest (octets ++ later) q (rest ++ later)
 request-append octets q rest later is = record {
@@ -159,7 +159,7 @@ too-long-append octets later is =
 framed-append : (octets later : List ℕ) (e : FrontRefusal) → IsFramedAs octets e → IsFramedAs (octets ++ later) e
 framed-append octets later e is = (is.0, is.1 ++ later, head-append octets is.0 is.1 later is.2, is.3)
 
--- what is refused for another cause than the end of the input stays so
+-- A refusal stays the same when more octets follow, unless its cause is the end of the input.
 pub refused-append : (octets later : List ℕ) (e : FrontRefusal) (left : Option (List ℕ)) → left ≡ Some later → IsEnd e left → IsRefused octets e
     → IsRefused (octets ++ later) e
 refused-append octets later refusals.NoRequest left told end is = ended octets later left told end is
@@ -179,7 +179,7 @@ refused-append octets later refusals.EndOfInput left told end is =
 refused-append octets later refusals.ReadFault left told end is = tt
 refused-append octets later refusals.Memory left told end is = tt
 
--- ---- from an answer that is known
+-- ---- from a known answer
 
 pub look-head : (octets text : List ℕ) (r : Result (Option Head) FrontRefusal) (parts : Head) → text ≡ take 8193 octets → r ≡ Ok (Some parts)
     → IsLook text r → IsHeadOf octets parts
@@ -212,7 +212,7 @@ no-more-end (x ∷ octets) left end =
     let same : no_more (x ∷ octets) ≡ refusals.EndOfInput = search rules in
     subst (λ (e : FrontRefusal). IsEnd e left) (sym same) end
 
--- ---- what comes
+-- ---- octets that come
 
 consumes-trans : (a b c : Option (List ℕ)) (s t : List ℕ) → Consumes a b s → Consumes b c t → Consumes a c (s ++ t)
 consumes-trans None b c s t first second = tt
@@ -227,9 +227,9 @@ came-trans a b c x y z first second = record {
   behind = second.behind ∙ ap (λ (u : List ℕ). u ++ second.taken) first.behind ∙ append_assoc x first.taken second.taken;
 }
 
--- ---- what needs nothing more
+-- ---- when no more octets are needed
 
--- where no head is there yet, the octets at first had none
+-- If no head is there now, none was there at first.
 pub open-none : (a b : Option (List ℕ)) (before octets : List ℕ) → Came a b before octets → IsOpen (take 8193 octets) → HasSome before → ⊥
 open-none a b before octets came seen some =
     let more : HasHead (before ++ came.taken) some.0 (some.1 ++ came.taken) = head-append before some.0 some.1 came.taken some.2 in

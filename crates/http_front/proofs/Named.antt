@@ -1,9 +1,9 @@
--- Fields by name, from the front.
+-- Fields by name, from the first one on.
 use Rattle.std.proofs.Common.{◌≡◌, ℕ, ◌+◌, ◌<◌, true, false, List, ◌∷◌, length, get_or, drop, refl, sym, ap, ◌∙◌}
 use Rattle.std.proofs.lemmas.List.{drop_more}
 use Rattle.http_front.specs.Fields.{Pair, is_named, values_of}
 
--- the values from the front on, where the first field has the name and where it has not
+-- the values of the fields from an index on, by whether the field there has the name
 pub values-here : (name : List ℕ) (fields : List Pair) (i : ℕ) (f : Pair) → i < length fields → f ≡ get_or fields i f → is_named name f ≡ true
     → values_of name (drop i fields) ≡ f.1 ∷ values_of name (drop (i + 1) fields)
 values-here name fields i f lt here named =

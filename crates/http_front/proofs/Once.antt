@@ -1,4 +1,4 @@
--- Octets have one answer.
+-- Octets have at most one answer.
 use Rattle.std.proofs.Common.{◌≡◌, ℕ, ◌+◌, ◌≤◌, ◌<◌, ◌⊎◌, true, false, ltb, List, [], ◌∷◌, ◌++◌, length, take, get_or, zero, suc, Option, Some, None, Result, Ok, Err, refl, sym, ap, ◌∙◌, subst, arith, rules, append-nil, length-append, inl, inr}
 use Rattle.std.specs.Prelude.{if◌then◌else◌, nat_lt}
 use Rattle.std.proofs.lemmas.List.{take_at, take_all}
@@ -16,7 +16,7 @@ use Rattle.http_front.specs.declared.request.HttpRequest.{HttpRequest}
 use Rattle.http_front.proofs.Lines.{field_lines, print_request-lines}
 use Rattle.http_front.proofs.Answering.{read-meant}
 
--- ---- the answer to a head and what stands behind it
+-- ---- the answer for a head and the octets after it
 
 outcome-at : RequestHead → List ℕ → ℕ → Result HttpRequest FrontRefusal
 outcome-at h rest n =
@@ -58,7 +58,7 @@ ltb-no a b less = search rules
 
 -- ---- three kinds of octets
 
--- A head was found; none is there, though one may begin; or none will come.
+-- A head is found, or none is there yet though one may begin, or none will ever be there.
 data Kind (octets : List ℕ) (r : Result HttpRequest FrontRefusal) : Type 0 where
   found : (h : RequestHead) (rest : List ℕ) → HasHead octets h rest → r ≡ outcome h rest → Kind octets r
   begun : (e : FrontRefusal) → HasNoHead octets → IsFront (take 8193 octets) → r ≡ Err e → (e ≡ (if nat_lt 8192 (length octets) then refusals.HeadTooLong else no_more octets)) → Kind octets r

@@ -1,4 +1,4 @@
--- What reading at the front of a source does.
+-- What reading a request from a source does.
 use Rattle.std.specs.Prelude.{◌≡◌, ℕ, ◌-◌, ◌≤◌, ◌<◌, ◌⊎◌, ◌==◌, if◌then◌else◌, List, [], ◌++◌, length, take, drop, Option, Some, None, Result, Ok, Err}
 use Rattle.std.specs.Io.KnownBytes.{Consumes, IsAtEnd}
 use Rattle.qkd_base.specs.Faults.{Rose}
@@ -9,9 +9,9 @@ use Rattle.http_front.specs.declared.refusal.FrontRefusal.TheVariants.{NoRequest
 use Rattle.http_front.specs.declared.request.HttpRequest.{HttpRequest}
 use Rattle.http_front.specs.declared.head.Head.{Head}
 
--- ---- what is asked of a text
+-- ---- what parsing a text finds
 
--- the text begins with the head that these parts are of
+-- The text begins with the head that has these parts.
 pub record IsHeadOf (text : List ℕ) (parts : Head) : Type 0 where
   pub head : RequestHead
   pub has : HasHead text head (drop parts.len text)
@@ -21,7 +21,7 @@ pub record IsHeadOf (text : List ℕ) (parts : Head) : Type 0 where
   pub minor : parts.minor ≡ head.minor
   pub fields : parts.fields ≡ fields_of head
 
--- nothing that can follow makes the text begin with a head
+-- The text doesn't begin with a head, whatever may follow it.
 pub record IsNever (text : List ℕ) : Type 0 where
   pub none : HasNoHead text
   pub never : ¬ (MayBecomeHead text)
@@ -32,67 +32,67 @@ IsNeverFor text TooManyHeaders = IsNever text
 IsNeverFor text Memory = Unit {0}
 IsNeverFor text _ = ⊥
 
--- no head is there yet
+-- The text has no complete head yet.
 pub record IsOpen (text : List ℕ) : Type 0 where
   pub none : HasNoHead text
   pub front : IsFront text
 
--- why there is no head where no more octets come
+-- why there is no head when no more octets come
 abbrev pub no_more : List ℕ → FrontRefusal
 no_more octets = if length octets == 0 then NoRequest else EndOfInput
 
--- a head was found, none is there yet, or none will be
+-- The text has a head, has none yet, or will never have one.
 abbrev pub IsLook : List ℕ → Result (Option Head) FrontRefusal → Type 0
 IsLook text (Ok (Some parts)) = IsHeadOf text parts
 IsLook text (Ok None) = IsOpen text
 IsLook text (Err e) = IsNeverFor text e
 
--- ---- what needs no more octets
+-- ---- when no more octets are needed
 
--- the octets begin with a head
+-- The octets begin with a head.
 abbrev pub HasSome : List ℕ → Type 0
 HasSome octets = (head : RequestHead) × (rest : List ℕ) × HasHead octets head rest
 
--- So many octets after a head are enough: the whole body is among them, or the head is refused for what it says of its body.
+-- This number of octets after a head is enough: they contain the whole body, or the head is refused for its framing.
 abbrev pub Suffices : Result ℕ FrontRefusal → ℕ → Type 0
 Suffices (Ok n) count = n ≤ count
 Suffices (Err e) count = Unit {0}
 
--- the octets begin with a whole request, or with a head that is refused for what it says of its body
+-- The octets begin with a complete request, or with a head that is refused for its framing.
 pub record IsEnough (octets : List ℕ) : Type 0 where
   pub head : RequestHead
   pub rest : List ℕ
   pub has : HasHead octets head rest
   pub suffices : Suffices (framing_of head.method (fields_of head)) (length rest)
 
--- ---- what came
+-- ---- which octets came
 
--- the next octets of a source stand behind those that were there
+-- The next octets of a source were appended to those that were there.
 pub record Came (left_before left_after : Option (List ℕ)) (before after : List ℕ) : Type 0 where
   pub taken : List ℕ
   pub consumed : Consumes left_before left_after taken
   pub behind : after ≡ before ++ taken
 
--- a cause that says that the input is at its end comes only there
+-- A cause that says that the input has ended comes only at the end of the input.
 abbrev pub IsEnd : FrontRefusal → Option (List ℕ) → Type 0
 IsEnd NoRequest left = IsAtEnd left
 IsEnd EndOfInput left = IsAtEnd left
 IsEnd _ left = Unit {0}
 
--- the reading was disturbed
+-- The source failed, or memory ran out.
 abbrev pub IsDisturbed : FrontRefusal → Type 0
 IsDisturbed ReadFault = Unit {0}
 IsDisturbed Memory = Unit {0}
 IsDisturbed _ = ⊥
 
--- fewer octets came than count: the input is at its end, or the reading was disturbed
+-- Fewer than `count` octets came: the input has ended, the source failed, or memory ran out.
 abbrev pub IsShort : FrontRefusal → (had count : ℕ) → Option (List ℕ) → Type 0
 IsShort EndOfInput had count left = (had < count) × IsAtEnd left
 IsShort ReadFault had count left = Unit {0}
 IsShort Memory had count left = Unit {0}
 IsShort _ had count left = ⊥
 
--- a source's count of faults rose where its failing is the cause, and else stands
+-- If the source failed, its count of faults rose. Otherwise the count is unchanged.
 abbrev pub FaultsFor : FrontRefusal → (before after : ℕ) → Type 0
 FaultsFor ReadFault before after = (before ≤ after) × Rose before after
 FaultsFor _ before after = after ≡ before
@@ -103,12 +103,14 @@ FaultsAre (Err e) before after = FaultsFor e before after
 
 -- ---- what was read
 
--- The octets begin with the request, and those behind it are kept; or all are kept, and they begin with none for this cause.
+-- Either the octets begin with the request, and the octets after it are kept; or they begin with no request for this cause, and
+-- all are kept.
 abbrev pub IsAnswer : List ℕ → (kept : List ℕ) → Option (List ℕ) → Result HttpRequest FrontRefusal → Type 0
 IsAnswer octets kept left (Ok request) = IsRequest octets request kept
 IsAnswer octets kept left (Err e) = (kept ≡ octets) × IsRefused octets e × IsEnd e left
 
--- Octets were taken from a source, at most 73,729 with those that were kept, and none where those were enough; and answered.
+-- One call of `read_request`. It takes octets from a source: at most 73,729 together with the kept ones, and none if the kept
+-- ones are enough. The answer is what these octets mean.
 pub record IsRead (left_before left_after : Option (List ℕ)) (kept_before kept_after : List ℕ) (r : Result HttpRequest FrontRefusal) : Type 0 where
   pub taken : List ℕ
   pub consumed : Consumes left_before left_after taken
@@ -116,42 +118,44 @@ pub record IsRead (left_before left_after : Option (List ℕ)) (kept_before kept
   pub spare : IsEnough kept_before → taken ≡ []
   pub answer : IsAnswer (kept_before ++ taken) kept_after left_after r
 
--- ---- what all the octets of a connection mean
+-- ---- what all octets of a connection mean
 
--- the octets begin with this request, and then rest; or all stays, and they begin with none for this cause
+-- Either the octets begin with this request, and `rest` follows; or they begin with no request for this cause, and all of them
+-- stay.
 abbrev pub IsMeant : List ℕ → (rest : List ℕ) → Result HttpRequest FrontRefusal → Type 0
 IsMeant octets rest (Ok request) = IsRequest octets request rest
 IsMeant octets rest (Err e) = (rest ≡ octets) × IsRefused octets e
 
--- where the octets of a connection, and those that are left of it, are told
+-- what the octets of a connection mean, if these octets and the rest are known
 abbrev pub Reads : Option (List ℕ) → Option (List ℕ) → Result HttpRequest FrontRefusal → Type 0
 Reads None rest r = Unit {0}
 Reads (Some octets) None r = ⊥
 Reads (Some octets) (Some rest) r = IsMeant octets rest r
 
--- an answer that the octets decide alone
+-- The octets alone decide this answer.
 abbrev pub IsDecided : Result HttpRequest FrontRefusal → Type 0
 IsDecided (Err ReadFault) = ⊥
 IsDecided (Err Memory) = ⊥
 IsDecided _ = Unit {0}
 
--- they may be answered so
+-- This answer is possible for the octets.
 abbrev pub MayBe : List ℕ → Result HttpRequest FrontRefusal → Type 0
 MayBe octets (Ok request) = (rest : List ℕ) × IsRequest octets request rest
 MayBe octets (Err e) = IsRefused octets e
 
--- a head is refused
+-- The head is refused.
 abbrev pub IsBad : Result HttpRequest FrontRefusal → Type 0
 IsBad (Err BadHead) = Unit {0}
 IsBad (Err TooManyHeaders) = Unit {0}
 IsBad _ = ⊥
 
--- the octets of a head end inside a target that nothing completes
+-- The first 8,193 octets end within a request target, and no further octets make them a head.
 pub record IsUnsettled (octets : List ℕ) : Type 0 where
   pub target : EndsInTarget (take 8193 octets)
   pub never : ¬ (MayBecomeHead (take 8193 octets))
 
--- Octets have one answer, but for which of its two names a bad head has, and but for those that end inside a target that nothing completes.
+-- Octets have at most one answer, with two exceptions: a bad head has two possible names, and octets may end within a target
+-- that nothing completes.
 abbrev pub OneAnswer : Option (List ℕ) → Result HttpRequest FrontRefusal → Type 0
 OneAnswer None r = Unit {0}
 OneAnswer (Some octets) r =

@@ -3,11 +3,11 @@ use Rattle.std.specs.Prelude.{ℕ, ◌==◌, ◌||◌, Bool, if◌then◌else◌
 use Rattle.std.specs.Fmt.{decimal}
 use Rattle.http_front.specs.declared.response.HttpResponse.{HttpResponse}
 
--- this server gives these statuses alone
+-- the only statuses that this server sends
 abbrev pub has_reason : ℕ → Bool
 has_reason status = status == 200 || status == 400 || status == 401 || status == 500 || status == 503
 
--- their reason phrases (RFC 9110, section 15)
+-- the reason phrases of these statuses (RFC 9110, section 15)
 abbrev pub reason_text : ℕ → List ℕ
 reason_text status =
     if status == 200 then codes "OK"
@@ -19,7 +19,7 @@ reason_text status =
 abbrev pub connection_text : Bool → List ℕ
 connection_text close = if close then codes "close" else codes "keep-alive"
 
--- the status line, ended by CR LF
+-- the status line, which ends with CR LF
 unfoldable pub status_text : ℕ → List ℕ
 status_text status = codes "HTTP/1.1 " ++ decimal status ++ codes " " ++ reason_text status ++ codes "\r\n"
 

@@ -1,4 +1,4 @@
-// Header fields by name, and the number that a value is.
+// Header fields by name, and decimal numbers in their values.
 ghost use Rattle.std.specs.Prelude.{◌≡◌, ◌≤◌, length, slice_get, if◌then◌else◌, Some, None};
 ghost use Rattle.std.specs.Option.{option_copied};
 ghost use Rattle.std.specs.Str.{str_eq_ignore_ascii_case};
@@ -6,14 +6,14 @@ ghost use Rattle.http_front.specs.Fields.{values_of, only_of, has_value, decimal
 
 use qkd_base::Octets;
 
-// Whether two texts are one without regard to ASCII case.
+// Whether two texts are equal up to ASCII case.
 fn is_same(text: &[u8], other: &[u8]) -> bool
     ensures { result ≡ str_eq_ignore_ascii_case text.now other.now }
 {
     text.eq_ignore_ascii_case(other)
 }
 
-// How many fields have this name.
+// How many fields have this name, up to ASCII case.
 pub(crate) fn count_named(fields: &[(Octets, Octets)], name: &[u8]) -> usize
     ensures { result ≡ length (values_of name.now fields.now) }
 {
@@ -38,8 +38,8 @@ fn first_named<'a>(fields: &'a [(Octets, Octets)], name: &[u8]) -> Option<&'a [u
     None
 }
 
-/// The value of the only field of this name, where there is one field of it. Names are compared without regard to ASCII
-/// case (RFC 9110, section 5.1).
+/// The value of the field of this name, if exactly one field has it. Names are compared without regard to ASCII case (RFC 9110,
+/// section 5.1).
 pub fn only_value<'a>(fields: &'a [(Octets, Octets)], name: &[u8]) -> Option<&'a [u8]>
     ensures { option_copied result ≡ only_of (values_of name.now fields.now) }
 {
@@ -50,14 +50,14 @@ pub fn only_value<'a>(fields: &'a [(Octets, Octets)], name: &[u8]) -> Option<&'a
     }
 }
 
-// Whether a field of this name has this value, without regard to ASCII case in both.
+// Whether some field of this name has this value. Name and value are compared without regard to ASCII case.
 pub(crate) fn has_value(fields: &[(Octets, Octets)], name: &[u8], value: &[u8]) -> bool
     ensures { result ≡ has_value name.now value.now fields.now }
 {
     fields.iter().any(|f| { is_same(f.0.as_slice(), name) && is_same(f.1.as_slice(), value) })
 }
 
-/// The number that 1 to 10 digits are; leading zeros are accepted.
+/// The number that 1 to 10 decimal digits spell, or `None`. Leading zeros are accepted.
 #[tactic(auto, unfolding(crate::specs::Fields::decimal_of))]
 pub fn decimal(octets: &[u8]) -> Option<u64>
     ensures { result ≡ decimal_of octets.now }
@@ -68,7 +68,7 @@ pub fn decimal(octets: &[u8]) -> Option<u64>
     digits(octets)
 }
 
-// The number that at most 10 digits are.
+// The number that at most 10 digits spell.
 fn digits(octets: &[u8]) -> Option<u64>
     requires { length octets.now ≤ 10 }
     ensures { result ≡ digits_of octets.now }

@@ -1,4 +1,4 @@
-// How many octets of body a request has.
+// The length of a request's body, and whether the connection closes.
 ghost use Rattle.std.specs.Prelude.{◌≡◌, codes};
 ghost use Rattle.std.specs.Str.{bytes_eq};
 ghost use Rattle.http_front.specs.Front.{framing_of, length_of_none, closes};
@@ -7,10 +7,10 @@ use crate::FrontRefusal;
 use crate::fields::{count_named, decimal, has_value, only_value};
 use qkd_base::Octets;
 
-/// The most octets that a body has.
+/// The most octets that a body may have.
 pub const BODY_LIMIT: u64 = 65536;
 
-/// How many octets of body stand behind a head (RFC 9112, section 6).
+/// How many octets the body after a head has (RFC 9112, section 6).
 pub fn framing(method: &[u8], fields: &[(Octets, Octets)]) -> Result<usize, FrontRefusal>
     ensures { result ≡ framing_of method.now fields.now }
 {
@@ -27,7 +27,7 @@ pub fn framing(method: &[u8], fields: &[(Octets, Octets)]) -> Result<usize, Fron
     }
 }
 
-// The same without one Content-Length: there are none, or several.
+// The length of the body where no field or several fields Content-Length are there: 0, or a refusal.
 fn unsized_body(method: &[u8], count: usize) -> Result<usize, FrontRefusal>
     ensures { result ≡ length_of_none (bytes_eq method.now (codes "POST")) count }
 {
@@ -40,7 +40,7 @@ fn unsized_body(method: &[u8], count: usize) -> Result<usize, FrontRefusal>
     }
 }
 
-/// Whether the connection closes behind the response (RFC 9112, section 9.3).
+/// Whether the connection closes after the response (RFC 9112, section 9.3).
 pub fn closes(minor: u8, fields: &[(Octets, Octets)]) -> bool
     ensures { result ≡ closes minor fields.now }
 {

@@ -1,4 +1,4 @@
-// The head of a request.
+// Parsing the head of a request.
 ghost use Rattle.std.specs.Prelude.{◌≡◌, ◌≤◌, length, map, All, IfOk, count_by, ◌==◌};
 ghost use Rattle.httparse.specs.Spans.{IsWithin, IsHeaderWithin, header_bytes, span_bytes};
 ghost use Rattle.http_front.specs.Lines.{after_blank, lines, ends_line, begins_field_33};
@@ -10,7 +10,7 @@ use httparse::{Error, Status};
 use qkd_base::{Fields, Memory, Octets};
 use std::alloc::Global;
 
-/// The most octets that a head has.
+/// The most octets that a head may have.
 pub const HEAD_LIMIT: usize = 8192;
 
 /// The parts of a head, and its length in octets.
@@ -23,7 +23,7 @@ pub struct Head {
     pub len: usize,
 }
 
-/// The head at the front of a text, where it is whole.
+/// Parses the head at the front of a text. `None` means that the head isn't complete yet.
 pub fn head_of(alloc: Global, text: &[u8]) -> Result<Option<Head>, FrontRefusal>
     requires { length text.now ≤ 8193 }
     ensures { IsLook text.now result }
@@ -48,7 +48,7 @@ pub fn head_of(alloc: Global, text: &[u8]) -> Result<Option<Head>, FrontRefusal>
     }
 }
 
-// The parts that spans cover.
+// Copies the parts that the spans cover.
 fn parts(
     alloc: Global,
     text: &[u8],
@@ -78,7 +78,7 @@ fn parts(
     })
 }
 
-// The fields that spans cover.
+// Copies the fields that the spans cover.
 fn fields(alloc: Global, text: &[u8], headers: &[HeaderSpan]) -> Result<Fields, Memory>
     requires { All (IsHeaderWithin (length text.now)) headers.now }
     ensures { IfOk result (λ fs. fs ≡ map (header_bytes text.now) headers.now) }
@@ -92,7 +92,7 @@ fn fields(alloc: Global, text: &[u8], headers: &[HeaderSpan]) -> Result<Fields, 
     Ok(fields)
 }
 
-// What stands behind the line ends at the front.
+// The text without the line ends at its front.
 fn after_blank(text: &[u8]) -> &[u8]
     ensures { result.now ≡ after_blank text.now }
 {
@@ -111,7 +111,7 @@ fn lines(text: &[u8]) -> usize
     text.iter().filter(|b| **b == b'\n').count()
 }
 
-// Whether a text ends behind a line, but maybe for a CR.
+// Whether a text ends right after a line end, or after a line end and a CR.
 fn ends_line(text: &[u8]) -> bool
     requires { 2 ≤ length text.now }
     ensures { result ≡ ends_line text.now }

@@ -1,5 +1,4 @@
-//! The front of an HTTP connection (RFC 9112): requests read from a source, with what belongs to the next one kept, and
-//! responses spelled.
+//! The HTTP/1.1 front of a server (RFC 9112): it reads requests from a byte source, one after another, and encodes responses.
 #![tactic(auto)]
 
 mod fields;
@@ -10,7 +9,6 @@ mod refusal;
 mod request;
 mod response;
 
-pub use edge_io;
 pub use fields::{decimal, only_value};
 pub use reading::read_request;
 pub use refusal::FrontRefusal;

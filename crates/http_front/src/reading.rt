@@ -1,4 +1,4 @@
-// Requests read from a source.
+// Reading requests from a source.
 ghost use Rattle.std.specs.Prelude.{◌≡◌, ◌≤◌, ◌<◌, max, length, take, drop, true, false, IfOk, IfErr, OnOk, OnErr};
 ghost use Rattle.std.specs.Io.KnownBytes.{IsAtEnd, prepend_known};
 ghost use Rattle.http_front.specs.Front.{IsRefused, closes};
@@ -12,14 +12,14 @@ use qkd_base::{Memory, Octets};
 use std::alloc::Global;
 use std::mem;
 
-// The most octets that are read before a head is whole.
+// How many octets are read at most before a head is complete.
 const FRONT: usize = 8193;
 
 // The most octets of one read.
 const PIECE: usize = 4096;
 
-/// Reads one request, from the octets that were kept and then from the source. What belongs to the next request is kept.
-/// After an `Err` all that was read is kept. Nothing is read where what was kept is enough.
+/// Reads one request, first from the kept octets and then from the source. Octets of the next request are kept. After an `Err`
+/// all octets read so far are kept. If the kept octets suffice, nothing is read from the source.
 pub fn read_request<S: Source>(
     alloc: Global,
     source: &mut S,
@@ -37,7 +37,7 @@ pub fn read_request<S: Source>(
     result
 }
 
-// The same from a `Vec`, which keeps what belongs to the next request.
+// `read_request`, with the kept octets in a `Vec`.
 fn read_from<S: Source>(
     alloc: Global,
     source: &mut S,
@@ -68,7 +68,7 @@ fn read_from<S: Source>(
     }
 }
 
-// Reads until a head is whole.
+// Reads until a head is complete.
 fn read_head<S: Source>(
     alloc: Global,
     source: &mut S,
@@ -98,7 +98,7 @@ fn read_head<S: Source>(
     }
 }
 
-// The octets in which a head ends, or is too long.
+// The first 8,193 octets: a head ends among them or is too long.
 fn front(octets: &[u8]) -> &[u8]
     ensures front { result.now ≡ take 8193 octets.now }
     ensures short { length result.now ≤ 8193 }
@@ -106,7 +106,7 @@ fn front(octets: &[u8]) -> &[u8]
     &octets[..octets.len().min(FRONT)]
 }
 
-// Why there is no head where the input is at its end.
+// Why there is no head when the input has ended.
 fn ended(octets: &[u8]) -> FrontRefusal
     ensures { result ≡ no_more octets.now }
 {
@@ -117,7 +117,7 @@ fn ended(octets: &[u8]) -> FrontRefusal
     }
 }
 
-// Reads until there are so many octets.
+// Reads until there are `count` octets.
 fn read_to<S: Source>(
     source: &mut S,
     octets: &mut Vec<u8>,
@@ -139,7 +139,7 @@ fn read_to<S: Source>(
     Ok(())
 }
 
-// Reads once, up to so many octets in all, and answers whether something came.
+// Reads once, up to `limit` octets in all, and returns whether octets came.
 fn fetch<S: Source>(
     source: &mut S,
     octets: &mut Vec<u8>,
@@ -164,7 +164,7 @@ fn fetch<S: Source>(
     Ok(count > 0)
 }
 
-// Cuts so many octets off the front. Where none is left the room stays.
+// Removes the first `count` octets. If no octet is left, the memory stays allocated.
 fn drop_front(alloc: Global, octets: &mut Vec<u8>, count: usize) -> Result<(), Memory>
     requires { count ≤ length octets.old.items }
     ensures ok { OnOk result (octets.new.items ≡ drop count octets.old.items) }
@@ -178,7 +178,7 @@ fn drop_front(alloc: Global, octets: &mut Vec<u8>, count: usize) -> Result<(), M
     Ok(())
 }
 
-// The request of a head and a body.
+// Makes the request from its head and body.
 fn request_of(head: Head, body: Octets) -> HttpRequest
     ensures { result ≡ record {
       method = head.method;

@@ -1,33 +1,32 @@
-// Why no request is read.
 use qkd_base::Memory;
 use std::alloc::AllocError;
 use std::error::Error;
 use std::fmt;
 
-/// Why no request is read. The cases are tried in this order; the last two come at any time.
+/// Why no request was read. The cases are tried in this order, except that the last two may come at any time.
 #[derive(Clone, Copy, Debug, PartialEq, Eq)]
 pub enum FrontRefusal {
-    /// The input ended before a first octet.
+    /// The input ended before its first octet.
     NoRequest,
-    /// The octets begin no request head (RFC 9112, sections 2 to 5).
+    /// No request's head can begin with these octets (RFC 9112, sections 2 to 5).
     BadHead,
-    /// They begin no head with at most 32 fields.
+    /// No head with at most 32 fields can begin with these octets.
     TooManyHeaders,
-    /// No head ends within 8,192 octets.
+    /// No head ends within the first 8,192 octets.
     HeadTooLong,
-    /// A field Transfer-Encoding is there (RFC 9112, section 6.1).
+    /// The request has a field Transfer-Encoding (RFC 9112, section 6.1).
     Chunked,
-    /// A POST has no Content-Length (RFC 9112, section 6.3).
+    /// A POST has no field Content-Length (RFC 9112, section 6.3).
     NoLength,
-    /// There is more than one Content-Length, or it isn't 1 to 10 digits.
+    /// The request has several fields Content-Length, or the value isn't 1 to 10 digits.
     BadLength,
     /// The body would have more than 65,536 octets.
     BodyTooLong,
-    /// The input ended inside a request.
+    /// The input ended within a request.
     EndOfInput,
     /// The source failed.
     ReadFault,
-    /// Memory is wanting.
+    /// Out of memory.
     Memory,
 }
 

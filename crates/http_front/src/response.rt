@@ -1,4 +1,4 @@
-// A response.
+// Encoding responses.
 ghost use Rattle.std.specs.Prelude.{◌≡◌, ◌++◌, [], IfOk, OnOk, IsTrue};
 ghost use Rattle.std.specs.Fmt.{decimal};
 ghost use Rattle.http_front.specs.Response.{has_reason, reason_text, status_text, response_text, connection_text};
@@ -7,10 +7,10 @@ use itoa::Buffer;
 use qkd_base::{Memory, Octets};
 use std::alloc::Global;
 
-// The most octets that stand before a body: 34 of a status line, 76 of the fields, and the 20 digits of a length.
+// The most octets before a body: 34 of the status line, 76 of the fields, and the 20 digits of a length.
 const HEAD_ROOM: usize = 130;
 
-/// A response: its status, a JSON text, and whether the connection closes behind it.
+/// A response: its status, a JSON text as its body, and whether the connection closes after it.
 #[derive(Debug, Drop)]
 pub struct HttpResponse {
     pub status: u16,
@@ -18,7 +18,7 @@ pub struct HttpResponse {
     pub close: bool,
 }
 
-/// The octets of a response (RFC 9112, section 4).
+/// Encodes a response (RFC 9112, section 4). The status must be one that this server sends.
 pub fn response_bytes(alloc: Global, response: &HttpResponse) -> Result<Octets, Memory>
     requires { IsTrue (has_reason response.now.status) }
     ensures { IfOk result (λ octets. octets ≡ response_text response.now) }
@@ -35,7 +35,7 @@ pub fn response_bytes(alloc: Global, response: &HttpResponse) -> Result<Octets, 
     Ok(octets)
 }
 
-// The status line.
+// Writes the status line.
 #[tactic(auto, unfolding(crate::specs::Response::status_text))]
 fn status_line(status: u16, octets: &mut Octets) -> Result<(), Memory>
     requires { octets.old ≡ [] }
@@ -49,7 +49,7 @@ fn status_line(status: u16, octets: &mut Octets) -> Result<(), Memory>
     Ok(())
 }
 
-// A number in decimal digits.
+// Appends a number in decimal digits.
 fn number(value: u64, octets: &mut Octets) -> Result<(), Memory>
     ensures { OnOk result (octets.new ≡ octets.old ++ decimal value) }
 {
@@ -57,7 +57,7 @@ fn number(value: u64, octets: &mut Octets) -> Result<(), Memory>
     octets.extend(digits.format(value).as_bytes())
 }
 
-// What the field Connection says.
+// The value of the field Connection.
 fn connection(close: bool) -> &'static str
     ensures { result.now ≡ connection_text close }
 {

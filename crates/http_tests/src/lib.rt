@@ -1,7 +1,24 @@
-//! Tests of HTTP: what a connection's octets mean, which event a request asks for, and what answers it.
+//! Tests of HTTP: what a connection's octets mean, which event a request asks for and what answers it, what is written to each
+//! connection that is served, how it ends, and the listeners of the workers that serve.
 #![tactic(auto)]
 
 #[cfg(test)]
+mod doors;
+#[cfg(test)]
 mod front;
 #[cfg(test)]
+mod giving;
+#[cfg(test)]
+mod http_lines;
+#[cfg(test)]
+mod listeners;
+#[cfg(test)]
 mod requests_and_replies;
+#[cfg(test)]
+mod rows;
+#[cfg(test)]
+mod site;
+#[cfg(test)]
+mod telling;
+#[cfg(test)]
+mod workers;

@@ -1,4 +1,4 @@
--- Bodies, read and spelled.
+-- Laws of bodies: what decoding and encoding give.
 use Rattle.std.proofs.Common.{◌≡◌, ℕ, ◌+◌, ◌-◌, ◌<◌, ◌≤◌, Bool, true, false, List, [], ◌∷◌, ◌++◌, length, map, Option, None, Result, Ok, Err, refl, sym, ap, subst, ◌∙◌, arith, length-append}
 use Rattle.std.specs.Prelude.{IfOk, sum_by}
 use Rattle.std.specs.List.{All, flat_map}
@@ -62,7 +62,7 @@ items_again : (v : Version) (is : List Item) → AreItems v None is → items v 
 items_again First is fits = ones_again None is fits
 items_again Second is fits = regrouped None is fits
 
--- each record of a run is one
+-- Each handing of a well-formed run is a well-formed record.
 run_records : (to : ℕ) (names : List Name) → IsSae to → All IsName names → All IsRecord (to_one to names)
 run_records to [] a ns = All-nil IsRecord
 run_records to (n ∷ names) a ns = All-cons IsRecord (Handed n to) (to_one to names) (All-head IsName n names ns, a) (run_records to names a (All-tail IsName n names ns))
@@ -149,7 +149,7 @@ second_batch rs some few each = record { some = omega (arith, grouped_count rs, 
 pub second_short : (rs : List Record) → length rs ≤ 65535 → begun 0 0 rs ≤ 65535
 second_short rs few = omega (arith, begun_few 0 0 rs)
 
--- what is known of an answer
+-- If an answer has a property, it also has each weaker property.
 pub if_ok : {T E : Type 0} (r : Result T E) (P Q : T → Type 0) → ((x : T) → P x → Q x) → IfOk r P → IfOk r Q
 if_ok (Ok x) P Q f p = f x p
 if_ok (Err e) P Q f p = p
@@ -177,7 +177,7 @@ second_whole rs size e = ap (λ (k : ℕ). 2 + k) e ∙ sym (body_long Second rs
 pub second_count : (rs : List Record) (count : ℕ) → count ≡ begun 0 0 rs → count ≡ length (items Second rs)
 second_count rs count e = e ∙ sym (grouped_count rs)
 
--- what has a spelling is well formed
+-- A fact that has an encoding is well formed.
 fact_formed : (f : Fact) → IsFact f → IsWellFormedFact f
 fact_formed f h = is_formed (Data f) h
 

@@ -1,4 +1,4 @@
--- Facts in records, read and spelled.
+-- Laws of the facts in records: what decoding and encoding give.
 use Rattle.std.proofs.Common.{◌≡◌, ℕ, zero, suc, ◌+◌, ◌-◌, ◌^◌, ◌<◌, ◌≤◌, Bool, true, false, cond, eqb, ltb, List, [], ◌∷◌, ◌++◌, length, get_or, take, drop, replicate, Result, Ok, Err, refl, sym, ap, subst, ◌∙◌, arith, inl, inr, length-append}
 use Rattle.std.proofs.lemmas.Bool.{eqb-true, ltb-false, le-ltb}
 use Rattle.std.proofs.lemmas.List.{take_at, drop_at, take-append-drop, length-take, length-replicate, append-nil}
@@ -99,7 +99,7 @@ zeros n = replicate n 0
 same_zeros : (n : ℕ) → zeros n ≡ zeros (length (zeros n))
 same_zeros n = ap zeros (sym (length-replicate n 0))
 
--- what was read of a fact without its n bytes, behind its kind
+-- what was read of a fact without its n bytes, after its kind
 pub record BareFits (n : ℕ) (f : Fact) : Type 0 where
   pub fact : IsFact f
   pub bare : IsBareFact f
@@ -220,7 +220,7 @@ bare_takes n size octets x fits e =
     let k = kind_takes n (length octets) b.0.0 size b.0.1 x t.0.rest_fits b.2 in
     (record { parts = t.0.parts ∙ k.is; rest_fits = k.rest_fits }, k.fits)
 
--- ---- and back
+-- ---- encoding, then decoding
 
 size_fits : (n : ℕ) → IsSize n → n < 65536
 size_fits n size = omega (arith, size.1)
@@ -272,7 +272,7 @@ bare_again (Stored note about nodes) rest h b = no_secret b.secret
 bare_again (Open stream source peer n nodes) rest h b = no_secret b.secret
 bare_again (Joined note about nodes) rest h b = no_secret b.secret
 
--- how many octets they have
+-- The encoding of a fact without its bytes is shorter by the number of these bytes.
 pub bare_length : (f : Fact) → length (bare_octets f) ≡ fact_len f - length (bytes_of f)
 bare_length (Key name master slave nodes bytes) = omega arith
 bare_length (Chunk name stream at nodes bytes) = omega arith
@@ -281,7 +281,7 @@ bare_length (Stored note about nodes) = omega (arith, fact_length (Stored note a
 bare_length (Open stream source peer n nodes) = omega (arith, fact_length (Open stream source peer n nodes))
 bare_length (Joined note about nodes) = omega (arith, fact_length (Joined note about nodes))
 
--- and that the bytes are what is left out
+-- The octets of a fact are its octets without the bytes, and then the bytes.
 pub whole_is_bare : (f : Fact) → fact_octets f ≡ bare_octets f ++ bytes_of f
 whole_is_bare (Key name master slave nodes bytes) = ap (λ (l : List ℕ). 1 ∷ l) (sym (fields_then (octets_of name ∷ short master ∷ short slave ∷ short (length bytes) ∷ spelled_route nodes ∷ []) bytes))
 whole_is_bare (Chunk name stream at nodes bytes) = ap (λ (l : List ℕ). 6 ∷ l) (sym (fields_then (octets_of name ∷ octets_of stream ∷ long at ∷ short (length bytes) ∷ spelled_route nodes ∷ []) bytes))

@@ -1,4 +1,4 @@
--- Fields of records, read and spelled.
+-- Laws of the fields of records: what decoding and encoding give.
 use Rattle.std.proofs.Common.{◌≡◌, ℕ, zero, suc, ◌+◌, ◌*◌, ◌/◌, ◌%◌, ◌^◌, ◌<◌, ◌≤◌, Bool, true, false, cond, eqb, ltb, leb, ◌&&◌, List, [], ◌∷◌, ◌++◌, length, get_or, take, drop, replicate, Option, Some, None, Result, Ok, Err, refl, sym, ap, subst, ◌∙◌, arith, inl, inr, append_assoc}
 use Rattle.std.specs.Int.{w16, w64, from_be_bytes, to_be_bytes}
 use Rattle.std.proofs.lemmas.Bool.{eqb-true}
@@ -18,7 +18,7 @@ use Rattle.journal_records.specs.declared.version.Version.TheVariants.{First, Se
 use Rattle.journal_records.specs.Grammar.{short_name, name_octets, way_number}
 use Rattle.journal_records.specs.Layout.{octet_at, octet, link_no, way_at, direction, lane_end, within, as_they_are, plain, count_in, short_name_at, short_named, name_in}
 
--- fields, and what stands behind them
+-- the octets of fields, and what follows them
 abbrev pub ahead : List (List ℕ) → List ℕ → List ℕ
 ahead [] rest = rest
 ahead (f ∷ fs) rest = f ++ ahead fs rest
@@ -124,14 +124,14 @@ pub within_again : (least most n : ℕ) (rest : List ℕ) → n < 65536 → leas
 unfolding within
 within_again least most n rest small a b = prefix_again 2 (number_at w16) (λ m. leb least m && leb m most) (short n) rest n refl (ap Some (short_back n small)) (within_test least most n a b)
 
--- the number n alone
+-- Reading exactly the number n takes its two octets.
 pub exact_takes : (n : ℕ) (octets : List ℕ) (x : ℕ × List ℕ) → AreOctets octets → within n n octets ≡ Ok x → Takes octets (short n) x.1 × Unit {0}
 exact_takes n octets x fits e =
     let t = within_takes n n octets x fits e in
     let same : x.0 ≡ n = omega (arith, t.1.0, t.1.1) in
     (subst (λ (k : ℕ). Takes octets (short k) x.1) same t.0, tt)
 
--- ---- octets as they are
+-- ---- octets that are read unchanged
 
 pub plain_takes : (n : ℕ) (octets : List ℕ) (x : List ℕ × List ℕ) → AreOctets octets → plain n octets ≡ Ok x → Takes octets x.0 x.1 × ((length x.0 ≡ n) × AreOctets x.0)
 unfolding plain

@@ -1,4 +1,4 @@
--- Handings to one application, in runs.
+-- Consecutive handings to one application form runs.
 use Rattle.std.proofs.Common.{◌≡◌, ℕ, zero, suc, ◌+◌, ◌-◌, ◌*◌, ◌<◌, ◌≤◌, ◌⊎◌, inl, inr, Bool, true, false, cond, eqb, ltb, ◌&&◌, List, [], ◌∷◌, ◌++◌, length, map, Option, Some, None, refl, sym, ap, subst, ◌∙◌, arith, append_assoc, length-append}
 use Rattle.std.specs.List.{All, flat_map}
 use Rattle.std.proofs.lemmas.Bool.{cases_Bool, eqb-true}
@@ -105,7 +105,7 @@ pub grouped_end : (sae : ℕ) (names : List Name) → grouped sae names [] ≡ c
 unfolding grouped
 grouped_end sae names = refl
 
--- a handing goes on with a run of these names
+-- A handing continues a run of these names.
 pub record GoesOn (sae names to : ℕ) : Type 0 where
   pub same : to ≡ sae
   pub some : 0 < names
@@ -135,7 +135,7 @@ on_again sae names some few =
     let c : eqb sae sae ≡ true = grind arith in
     rw (a, b, c) refl
 
--- where a run is shut a handing doesn't go on with it, and the other way round
+-- If a handing can't continue a run, then a new run to the handing's application may follow that run.
 shut_fits : (sae to names : ℕ) → 0 < names → goes_on sae names to ≡ false → is_shut (shut_after sae names) to ≡ false
 shut_fits sae to names some e = elim (cases_Bool (ltb names 128)) [
   | inl few ↦ ap (λ b. is_shut (cond b (Some sae) None) to) few ∙ differ few
@@ -247,7 +247,7 @@ fitting (r ∷ rs) each = elim (cases_handing r) [
 pub grouped_fits : (rs : List Record) → All IsRecord rs → AreItems Second None (grouped 0 [] rs)
 grouped_fits rs each = (fitting rs each).none
 
--- ---- runs that were read are those of their records
+-- ---- runs that were read are the runs of their records
 
 absorbed : (sae : ℕ) (n : Name) (names more : List Name) (rs : List Record) → length (n ∷ names) + length more ≤ 128 → grouped sae (n ∷ names) (to_one sae more ++ rs) ≡ grouped sae ((n ∷ names) ++ more) rs
 absorbed sae n names [] rs few = ap (λ (l : List Name). grouped sae l rs) (sym (append-nil (n ∷ names)))
@@ -277,7 +277,7 @@ regrouped shut (Run to (m ∷ more) ∷ is) fits =
     ∙ shut_run to m more is fits.1
     ∙ ap (λ (l : List Item). Run to (m ∷ more) ∷ l) (regrouped (shut_after to (length (m ∷ more))) is fits.1)
 
--- ---- how many, and how long
+-- ---- how many spelled records, and how many octets
 
 open_run : List Name → ℕ
 open_run [] = 0
@@ -352,7 +352,7 @@ begun_few sae k (r ∷ rs) = elim (cases_handing r) [
   | inr plain ↦ omega (arith, begun_other sae k r rs plain, begun_few 0 0 rs)
 ]
 
--- how long
+-- the octets of spelled records
 
 text-append : (xs ys : List Item) → texts Second (xs ++ ys) ≡ texts Second xs ++ texts Second ys
 text-append [] ys = refl

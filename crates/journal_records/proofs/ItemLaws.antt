@@ -1,4 +1,4 @@
--- Spelled records one behind another.
+-- Laws of consecutive spelled records: what decoding and encoding give.
 use Rattle.std.proofs.Common.{◌≡◌, ℕ, zero, suc, ◌+◌, ◌<◌, ◌≤◌, Bool, true, false, cond, eqb, List, [], ◌∷◌, ◌++◌, length, map, Option, Some, None, Result, Ok, Err, refl, sym, ap, subst, ◌∙◌, arith, append_assoc, length-append}
 use Rattle.std.specs.List.{All, flat_map}
 use Rattle.std.proofs.lemmas.Bool.{cases_Bool, eqb-true}
@@ -18,7 +18,7 @@ use Rattle.journal_records.specs.Layout.{octet, within, short_named, one_of, is_
 use Rattle.journal_records.proofs.FieldLaws.{fields_then, octet_takes, octet_again, within_takes, within_again, short_takes, short_again}
 use Rattle.journal_records.proofs.RecordLaws.{Tells, one_takes, one_again}
 
--- ---- what may stand where
+-- ---- which spelled record may follow which
 
 abbrev pub to_one : ℕ → List Name → List Record
 to_one to names = map (λ n. Handed n to) names
@@ -27,7 +27,7 @@ abbrev pub IsItem : Version → Option ℕ → Item → Type 0
 IsItem v shut (One r) = IsRecord r × (is_run v (record_kind r) ≡ false)
 IsItem v shut (Run to names) = (v ≡ Second) × IsSae to × All IsName names × (1 ≤ length names) × (length names ≤ 128) × (is_shut shut to ≡ false)
 
--- what the next run may not begin with
+-- the application to which the next run may not be
 abbrev pub next_shut : Item → Option ℕ
 next_shut (One r) = None
 next_shut (Run to names) = shut_after to (length names)
@@ -124,7 +124,7 @@ run_again left shut rs to names rest h =
 abbrev kind_is : ℕ → List ℕ → List ℕ
 kind_is kind octets = kind ∷ octets
 
--- a record that stands alone
+-- a record that is no part of a run
 alone_takes : (v : Version) (shut : Option ℕ) (rs : List Record) (left kind : ℕ) (octets : List ℕ) (x : (Option ℕ × List Record) × List ℕ) → is_run v kind ≡ false → AreOctets octets → alone rs (one_of v left kind octets) ≡ Ok x → Reads v shut rs (kind ∷ octets) x
 alone_takes v shut rs left kind octets x plain fits e =
     let b = bind_ok (one_of v left kind octets) (λ r. Ok ((None, rs ++ r.0 ∷ []), r.1)) x e in
@@ -174,7 +174,7 @@ item_again Second shut rs (Run to names) rest h =
     let body = fields (short to ∷ short (length names) ∷ flat_map short_name names ∷ []) in
     rw (octet_again 5 (body ++ rest)) (run_again (length (5 ∷ (body ++ rest))) shut rs to names rest h)
 
--- ---- many
+-- ---- n spelled records
 
 pub record ReadsAll (v : Version) (n : ℕ) (shut : Option ℕ) (rs : List Record) (octets : List ℕ) (x : List Record × List ℕ) : Type 0 where
   pub items : List Item

@@ -1,4 +1,4 @@
--- Steps of loops.
+-- One step of each loop that reads, counts or writes.
 use Rattle.std.proofs.Common.{◌≡◌, ℕ, zero, suc, ◌+◌, ◌-◌, ◌<◌, ◌≤◌, Bool, true, false, cond, eqb, List, [], ◌∷◌, ◌++◌, length, get_or, take, drop, Option, None, Some, Result, Ok, Err, refl, sym, ap, subst, ◌∙◌, arith, inl, inr, append_assoc, length-append}
 use Rattle.std.specs.List.{All, flat_map}
 use Rattle.std.proofs.lemmas.Bool.{cases_lt, cases_Bool, eqb-true}
@@ -91,7 +91,7 @@ pub tally_other : (octets items size sae names : ℕ) (change : Record) → is_h
 tally_other octets items size sae names change plain is rs =
     (omega (arith, is, spelled_other sae names change rs plain), omega (arith, begun_other sae names change rs plain))
 
--- ---- runs ahead
+-- ---- the length of a run, counted in advance
 
 pub run_on : (sae count i : ℕ) (rs : List Record) (d : Record) (n : Name) → i < length rs → get_or rs i d ≡ Handed n sae → count < 128
     → count + run_len sae (128 - count) (drop i rs) ≡ count + 1 + run_len sae (128 - (count + 1)) (drop (i + 1) rs)
@@ -162,11 +162,11 @@ other_left records r left is plain = ap (λ l. octets_left left l) is ∙ left_o
 pub plain_left : (records : List Record) (r : Record) → records ≡ r ∷ drop 1 records → flat_map (record_octets First) records ≡ record_octets First r ++ flat_map (record_octets First) (drop 1 records)
 plain_left records r is = ap (λ l. flat_map (record_octets First) l) is
 
--- the room for a record alone
+-- A record that is no part of a run fits into the room for all.
 pub record_fits : (v : Version) (r : Record) (rest whole : List ℕ) (at size : ℕ) → whole ≡ record_octets v r ++ rest → at + length whole ≤ size → at + record_len (name_size v) r ≤ size
 record_fits v r rest whole at size is fits = omega (arith, fits, ap length is, length-append (record_octets v r) rest, record_length v r)
 
--- what is left fits behind what was written
+-- The octets that are left fit after those that were written.
 pub rest_fits : (old now before left : List ℕ) (at end : ℕ) → take end now ++ left ≡ take at old ++ before → end ≤ length now → at + length before ≤ length old → length now ≡ length old → end + length left ≤ length now
 rest_fits old now before left at end is within fits same =
     omega (arith, ap length is, length-append (take end now) left, length-append (take at old) before, length-take-le end now within, length-take at old, fits, same)

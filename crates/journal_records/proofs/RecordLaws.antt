@@ -1,4 +1,4 @@
--- Records, read and spelled.
+-- Laws of records: what decoding and encoding give.
 use Rattle.std.proofs.Common.{◌≡◌, ℕ, zero, suc, ◌+◌, ◌-◌, ◌^◌, ◌<◌, ◌≤◌, Bool, true, false, cond, eqb, List, [], ◌∷◌, ◌++◌, length, Result, Ok, Err, refl, sym, ap, subst, ◌∙◌, arith, inl, inr, length-append}
 use Rattle.std.specs.Int.{w64, to_be_bytes}
 use Rattle.std.proofs.lemmas.Bool.{eqb-true}
@@ -25,7 +25,7 @@ use Rattle.journal_records.specs.Layout.{link_no, direction, lane_end, within, p
 use Rattle.journal_records.proofs.FieldLaws.{ahead, fields_then, link_takes, link_again, way_takes, way_again, end_takes, end_again, within_takes, within_again, plain_takes, plain_again, name_takes, name_again, stream_takes, stream_again}
 use Rattle.journal_records.proofs.FactLaws.{not_ok, whole_takes, whole_again, bare_takes, bare_again, bare_length}
 
--- what was read behind the octet of a kind
+-- what was read after the octet of a kind
 pub record Tells (v : Version) (kind : ℕ) (octets : List ℕ) (r : Record) (rest : List ℕ) : Type 0 where
   pub is : kind ∷ octets ≡ record_octets v r ++ rest
   pub fits : IsRecord r
@@ -176,7 +176,7 @@ one_takes v left kind octets x fits e =
       ]
     ]
 
--- ---- and back
+-- ---- encoding, then decoding
 
 fact_small : (f : Fact) → IsFact f → fact_len f ≤ 561
 fact_small (Key name master slave nodes bytes) h = let n = nine_of nodes h.3.0 in omega (arith, n, h.4.0.1)

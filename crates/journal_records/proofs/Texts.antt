@@ -1,4 +1,4 @@
--- The octets of records in version 2, where a run tells ahead how many names it has.
+-- The octets of records in version 2, where the head of a run tells in advance how many names it has.
 use Rattle.std.proofs.Common.{◌≡◌, ℕ, zero, suc, ◌+◌, ◌-◌, ◌*◌, ◌<◌, ◌≤◌, ◌⊎◌, inl, inr, Bool, true, false, cond, eqb, ltb, ◌&&◌, List, [], ◌∷◌, ◌++◌, length, map, refl, sym, ap, subst, ◌∙◌, arith, append_assoc, length-append}
 use Rattle.std.specs.List.{All, flat_map}
 use Rattle.std.proofs.lemmas.Bool.{cases_Bool, eqb-true}
@@ -19,7 +19,7 @@ use Rattle.journal_records.proofs.Bodies.{first_texts}
 no_handing : {A : Type 0} → true ≡ false → A
 no_handing e = absurd cc
 
--- ---- runs ahead
+-- ---- the length of a run, counted in advance
 
 pub run_end : (sae most : ℕ) → run_len sae most [] ≡ 0
 unfolding run_len
@@ -51,7 +51,7 @@ same_test a b h = grind arith
 pub run_more : (sae most : ℕ) (n : Name) (rs : List Record) → run_len sae (suc most) (Handed n sae ∷ rs) ≡ 1 + run_len sae most rs
 run_more sae most n rs = run_first sae most n sae rs ∙ ap (λ b. cond b (1 + run_len sae most rs) 0) (same_test sae sae refl)
 
--- the handing doesn't go on with a run of k names
+-- If the handing doesn't continue a run of k names, the run ends with k names.
 run_stops : (sae k : ℕ) (n : Name) (to : ℕ) (rs : List Record) → 0 < k → k ≤ 128 → goes_on sae k to ≡ false → run_len sae (128 - k) (Handed n to ∷ rs) ≡ 0
 run_stops sae k n to rs some few off = by_left (128 - k) refl
   where
@@ -74,7 +74,7 @@ run_stops sae k n to rs some few off = by_left (128 - k) refl
             below : (m : ℕ) → m < 128 → ltb m 128 ≡ true
             below m h = grind arith
 
--- ---- what is left
+-- ---- the names of a run that are left
 
 pub left_end : (left : ℕ) → octets_left left [] ≡ []
 unfolding octets_left
@@ -113,7 +113,7 @@ names_more : (names : List Name) (n : Name) → names_octets (names ++ n ∷ [])
 names_more [] n = refl
 names_more (m ∷ names) n = ap (λ (l : List ℕ). short_name m ++ l) (names_more names n) ∙ sym (append_assoc (short_name m) (names_octets names) (short_name n))
 
--- a run so far, which comes to so many names, and what is left behind it
+-- the head of a run of `all` names, its names so far, and the octets that follow
 abbrev run_then : ℕ → ℕ → List Name → List ℕ → List ℕ
 run_then sae all names rest = run_head sae all ++ (names_octets names ++ rest)
 
@@ -187,12 +187,12 @@ written (r ∷ rs) = elim (cases_handing r) [
       }
 ]
 
--- the spelled records are written so, in both versions
+-- The octets of all spelled records are those that the writer writes, in both versions.
 pub texts_are : (v : Version) (rs : List Record) → texts v (items v rs) ≡ rest_octets v 0 rs
 texts_are First rs = first_texts rs
 texts_are Second rs = (written rs).none
 
--- ---- what is known alike in both
+-- ---- what holds in both versions
 
 learned_left : (rs : List Record) → All IsLearned rs → octets_left 0 rs ≡ flat_map (record_octets First) rs
 learned_left [] each = left_end 0

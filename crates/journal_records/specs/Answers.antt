@@ -1,4 +1,4 @@
--- What the calls of a reader answer. Want of memory says nothing of the octets.
+-- What the calls of a reader return. If memory runs out, the answer says nothing of the octets.
 use Rattle.std.specs.Prelude.{◌≡◌, ℕ, List, Option, Result, Ok, Err}
 use Rattle.net_model.specs.declared.record.Record.{Record}
 use Rattle.frame_codec.specs.declared.fault.Fault.{Fault}
@@ -10,12 +10,12 @@ abbrev pub Stops : {Y : Type 0} → Fault → Result Y ℕ → Type 0
 Stops faults.Memory read = Unit {0}
 Stops (faults.Left n) read = read ≡ Err n
 
--- a value was read, and these octets are left
+-- A value was read, and these octets are left.
 abbrev pub Moves : {X : Type 0} → Result X Fault → List ℕ → Result (X × List ℕ) ℕ → Type 0
 Moves (Ok x) rest read = read ≡ Ok (x, rest)
 Moves (Err e) rest read = Stops e read
 
--- records were added, and these octets are left
+-- Records were appended, and these octets are left.
 abbrev pub Adds : Result (Option ℕ) Fault → List Record → List ℕ → Result ((Option ℕ × List Record) × List ℕ) ℕ → Type 0
 Adds (Ok shut) rs rest read = read ≡ Ok ((shut, rs), rest)
 Adds (Err e) rs rest read = Stops e read
@@ -28,7 +28,7 @@ abbrev pub Ends : {X : Type 0} → Result X Fault → Result X ℕ → Type 0
 Ends (Ok x) read = read ≡ Ok x
 Ends (Err e) read = Stops e read
 
--- what a call answers: the place of a refusal is that of the first octet of what is refused
+-- What a call returns: a refusal tells the place of the first octet that is refused.
 abbrev pub Reads : Result (List Record) RecordRefusal → Result (List Record) ℕ → Type 0
 Reads (Ok rs) read = read ≡ Ok rs
 Reads (Err (refusals.NotARecord place)) read = read ≡ Err place

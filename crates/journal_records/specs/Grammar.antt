@@ -1,4 +1,4 @@
--- Record bodies and their one spelling in each version. All numbers are big-endian.
+-- The grammar of record bodies, and the one encoding that each has in each version. All numbers are big-endian.
 use Rattle.std.specs.Prelude.{◌≡◌, ℕ, zero, suc, ◌+◌, ◌-◌, ◌*◌, ◌<◌, ◌≤◌, ◌^◌, ◌==◌, ◌&&◌, nat_lt, Bool, true, false, List, [], ◌∷◌, ◌++◌, length, map, drop, if◌then◌else◌}
 use Rattle.std.specs.List.{All, flat_map}
 use Rattle.std.specs.Int.{w64, to_be_bytes}
@@ -16,7 +16,7 @@ use Rattle.frame_codec.specs.Payload.{IsNameOf, IsSae, IsFact, AreOctets, fields
 use Rattle.journal_records.specs.declared.version.Version.{Version}
 use Rattle.journal_records.specs.declared.version.Version.TheVariants.{First, Second}
 
--- ---- what has a spelling
+-- ---- which records have an encoding
 
 abbrev pub IsRecord : Record → Type 0
 IsRecord (Block link number bytes) = (link < 32) × (number < 2 ^ 32) × (length bytes ≡ 1024) × AreOctets bytes
@@ -36,9 +36,9 @@ IsLearned (Handed n sae) = ⊥
 IsLearned (Closed n sae) = ⊥
 IsLearned (Bare f) = ⊥
 
--- ---- the spelling of a record
+-- ---- the encoding of a record
 
--- a name of 7 octets: 16 times its kind plus its node, and its count
+-- a name of 7 octets: 16 times its kind plus its node, and then its count
 abbrev pub short_name : Name → List ℕ
 short_name n = (16 * kind_number n.kind + n.node) ∷ drop 2 (to_be_bytes w64 n.count)
 
@@ -46,7 +46,7 @@ abbrev pub name_octets : Version → Name → List ℕ
 name_octets First n = octets_of n
 name_octets Second n = short_name n
 
--- how many octets that are
+-- how many octets a name has
 abbrev pub name_size : Version → ℕ
 name_size First = 16
 name_size Second = 7
@@ -55,7 +55,7 @@ abbrev pub way_number : Way → ℕ
 way_number Up = 0
 way_number Down = 1
 
--- a fact without its bytes, which are its last octets
+-- the encoding of a fact up to its bytes, which would be its last octets
 abbrev pub bare_octets : Fact → List ℕ
 bare_octets (Key name master slave route bytes) = 1 ∷ fields (octets_of name ∷ short master ∷ short slave ∷ short (length bytes) ∷ spelled_route route ∷ [])
 bare_octets (Chunk name stream index route bytes) = 6 ∷ fields (octets_of name ∷ octets_of stream ∷ long index ∷ short (length bytes) ∷ spelled_route route ∷ [])
@@ -85,9 +85,9 @@ record_fields v (Bare f) = short (length (bytes_of f)) ∷ bare_octets f ∷ []
 abbrev pub record_octets : Version → Record → List ℕ
 record_octets v r = record_kind r ∷ fields (record_fields v r)
 
--- ---- spelled records
+-- ---- spelled records: records alone, and runs
 
--- A record alone, or in version 2 a run of neighbouring handings to one application.
+-- A spelled record: a record alone, or in version 2 a run of consecutive handings to one application.
 pub data Item : Type 0 where
   One : (alone : Record) → Item
   Run : (sae : ℕ) (names : List Name) → Item
@@ -96,49 +96,49 @@ abbrev pub item_octets : Version → Item → List ℕ
 item_octets v (One r) = record_octets v r
 item_octets v (Run sae names) = 5 ∷ fields (short sae ∷ short (length names) ∷ flat_map short_name names ∷ [])
 
--- the records that it stands for
+-- the records of a spelled record
 abbrev pub records_in : Item → List Record
 records_in (One r) = r ∷ []
 records_in (Run sae names) = map (λ n. Handed n sae) names
 
--- a run that has some names, fewer than 128 of them, goes on with a handing to the same application
+-- A run of 1 to 127 names goes on with a handing to the same application.
 abbrev pub goes_on : ℕ → ℕ → ℕ → Bool
 goes_on sae names other = nat_lt 0 names && nat_lt names 128 && (other == sae)
 
--- the run so far
+-- the run so far as a spelled record, if it has names
 abbrev pub closing : ℕ → List Name → List Item
 closing sae [] = []
 closing sae (n ∷ names) = Run sae (n ∷ names) ∷ []
 
--- the spelled records of these, behind a run so far
+-- the spelled records of these records, after a run so far
 unfoldable pub grouped : ℕ → List Name → List Record → List Item
 grouped sae names [] = closing sae names
 grouped sae names (Handed n other ∷ rs) = if goes_on sae (length names) other then grouped sae (names ++ n ∷ []) rs else closing sae names ++ grouped other (n ∷ []) rs
 grouped sae names (r ∷ rs) = closing sae names ++ One r ∷ grouped 0 [] rs
 
--- how many spelled records begin behind a run of so many names
+-- how many spelled records begin in these records, after a run so far
 unfoldable pub begun : ℕ → ℕ → List Record → ℕ
 begun sae names [] = 0
 begun sae names (Handed n other ∷ rs) = if goes_on sae names other then begun sae (names + 1) rs else 1 + begun other 1 rs
 begun sae names (r ∷ rs) = 1 + begun 0 0 rs
 
--- how many of these records, at most so many, are handings to that application before any other
+-- how many of the first records, up to `most`, are handings to this application before any other record
 unfoldable pub run_len : ℕ → ℕ → List Record → ℕ
 run_len sae zero rs = 0
 run_len sae (suc most) [] = 0
 run_len sae (suc most) (Handed n other ∷ rs) = if other == sae then 1 + run_len sae most rs else 0
 run_len sae (suc most) (r ∷ rs) = 0
 
--- what a run begins with
+-- the head of a run
 abbrev pub run_head : ℕ → ℕ → List ℕ
 run_head sae names = 5 ∷ fields (short sae ∷ short names ∷ [])
 
--- how many names of the run are still to come, with the one at which it begins
+-- how many names of the run are still to come, including this one
 abbrev pub left_in : ℕ → ℕ → List Record → ℕ
 left_in left sae rs = if left == 0 then run_len sae 128 rs else left
 
--- The octets of records in version 2, of which the first so many belong to a run that has begun: a run tells ahead how many
--- names it has.
+-- The octets of records in version 2, where the first `left` records belong to a run that has begun. The head of a run tells in
+-- advance how many names the run has.
 unfoldable pub octets_left : ℕ → List Record → List ℕ
 octets_left left [] = []
 octets_left left (Handed n sae ∷ rs) =
@@ -155,17 +155,17 @@ items Second rs = grouped 0 [] rs
 
 -- ---- bodies
 
--- 1 to 65,535 spelled records
+-- a batch: 1 to 65,535 spelled records
 pub record IsBatch (v : Version) (rs : List Record) : Type 0 where
   pub some : 1 ≤ length (items v rs)
   pub few : length (items v rs) ≤ 65535
   pub each : All IsRecord rs
 
--- their number, and they
+-- the number of spelled records, and then these records
 unfoldable pub body_octets : Version → List Record → List ℕ
 body_octets v rs = short (length (items v rs)) ++ flat_map (item_octets v) (items v rs)
 
--- the number by which lengths are told
+-- the version as the number that the model's lengths use
 abbrev pub version_number : Version → ℕ
 version_number First = 1
 version_number Second = 2

@@ -1,5 +1,5 @@
--- Reading record bodies. A field that doesn't fit or is cut off is refused where it begins, and octets behind the last
--- record are refused at the first of them. A refusal tells how many octets are left there.
+-- Decoding of record bodies. A field that doesn't fit or is cut off is refused at its first octet. Octets after the last record
+-- are refused at the first of them. A refusal tells how many octets are left at that place.
 use Rattle.std.specs.Prelude.{◌≡◌, ℕ, zero, suc, ◌+◌, ◌-◌, ◌/◌, ◌%◌, List, [], ◌∷◌, ◌++◌, length, take, drop, replicate, slice_index, Option, Some, None, Result, Ok, Err, Bool, true, false, nat_lt, nat_le, ◌==◌, ◌&&◌, if◌then◌else◌}
 use Rattle.std.specs.Int.{w16, w64, from_be_bytes}
 use Rattle.qkd_base.specs.Name.{Name, kind_of_octet}
@@ -16,7 +16,7 @@ use Rattle.frame_codec.specs.Reading.{◌>>=◌, prefix, named, of_kind, any_kin
 use Rattle.journal_records.specs.declared.version.Version.{Version}
 use Rattle.journal_records.specs.declared.version.Version.TheVariants.{First, Second}
 
--- ---- fields: a value, and the octets behind it
+-- ---- fields: a value, and the octets after it
 
 abbrev pub octet_at : List ℕ → Option ℕ
 octet_at octets = Some (slice_index octets 0)
@@ -43,7 +43,7 @@ within least most octets = prefix 2 (number_at w16) (λ n. nat_le least n && nat
 abbrev pub as_they_are : List ℕ → Option (List ℕ)
 as_they_are octets = Some octets
 
--- so many octets
+-- the next n octets
 unfoldable pub plain : ℕ → List ℕ → Result (List ℕ × List ℕ) ℕ
 plain n octets = prefix n as_they_are (λ os. true) octets
 
@@ -58,14 +58,14 @@ short_name_at octets =
 unfoldable pub short_named : (Name → Bool) → List ℕ → Result (Name × List ℕ) ℕ
 short_named test octets = prefix 7 short_name_at test octets
 
--- a name as the version spells it
+-- a name in the version's spelling
 abbrev pub name_in : Version → (Name → Bool) → List ℕ → Result (Name × List ℕ) ℕ
 name_in First test octets = named test octets
 name_in Second test octets = short_named test octets
 
 -- ---- facts
 
--- A payload of n octets that tells a fact. An acknowledgement, of kind 3, is none.
+-- A payload of n octets that tells a fact. An acknowledgement, which is of kind 3, is refused.
 abbrev pub fact_in : ℕ → List ℕ → Result Payload ℕ → Result (Fact × List ℕ) ℕ
 fact_in n octets (Ok (Data f)) = Ok (f, drop n octets)
 fact_in n octets (Ok (Ack name)) = Err (length octets)
@@ -75,7 +75,7 @@ unfoldable pub whole_fact : ℕ → List ℕ → Result (Fact × List ℕ) ℕ
 whole_fact n octets =
     if nat_lt (length octets) n then Err (length octets) else if slice_index octets 0 == 3 then Err (length octets) else fact_in n octets (payload_of (take n octets))
 
--- facts without their n bytes, behind the octet of their kind
+-- facts without their n bytes, after the octet of their kind
 
 unfoldable pub bare_key : ℕ → List ℕ → Result (Fact × List ℕ) ℕ
 bare_key n octets = do
@@ -114,7 +114,7 @@ bare_fact n octets = do
   kind ← octet octets
   bare_of_kind n (length octets) kind.0 kind.1
 
--- ---- records, behind the octet of their kind
+-- ---- records, after the octet of their kind
 
 unfoldable pub block : List ℕ → Result (Record × List ℕ) ℕ
 block octets = do
@@ -159,16 +159,16 @@ bare octets = do
   f ← bare_fact n.0 n.1
   Ok (Bare f.0, f.1)
 
--- by their kind, at which so many octets were left
+-- a record by its kind; at the octet of the kind, `left` octets were left
 abbrev pub one_of : Version → ℕ → ℕ → List ℕ → Result (Record × List ℕ) ℕ
 one_of v left kind octets =
     if kind == 1 then block octets else if kind == 2 then lease octets else if kind == 3 then learned octets else
     if kind == 4 then acked v octets else if kind == 5 then handed v octets else if kind == 6 then closed v octets else
     if kind == 7 then bare octets else Err left
 
--- ---- spelled records
+-- ---- spelled records: records alone, and runs
 
--- Version 2 has no two runs to one application beside each other, unless the first has 128 names: what a run may not begin with.
+-- In version 2, a run to the application of the run just before is refused, unless that run has 128 names.
 abbrev pub is_shut : Option ℕ → ℕ → Bool
 is_shut None to = false
 is_shut (Some other) to = other == to
@@ -176,12 +176,12 @@ is_shut (Some other) to = other == to
 abbrev pub shut_after : ℕ → ℕ → Option ℕ
 shut_after to names = if nat_lt names 128 then Some to else None
 
--- so many handings to one application, behind these records
+-- n handings to one application, appended to the records so far
 unfoldable pub handings : ℕ → ℕ → List Record → List ℕ → Result (List Record × List ℕ) ℕ
 handings to zero rs octets = Ok (rs, octets)
 handings to (suc n) rs octets = short_named any_kind octets >>= λ name. handings to n (rs ++ Handed name.0 to ∷ []) name.1
 
--- a run, at whose kind so many octets were left
+-- a run; at the octet of its kind, `left` octets were left
 unfoldable pub run_of : ℕ → Option ℕ → List Record → List ℕ → Result ((Option ℕ × List Record) × List ℕ) ℕ
 run_of left shut rs octets = do
   to ← sae octets
@@ -196,7 +196,7 @@ is_run Second kind = kind == 5
 abbrev pub alone : List Record → Result (Record × List ℕ) ℕ → Result ((Option ℕ × List Record) × List ℕ) ℕ
 alone rs read = read >>= λ r. Ok ((None, rs ++ r.0 ∷ []), r.1)
 
--- one spelled record, behind these records
+-- one spelled record, appended to the records so far
 unfoldable pub item : Version → Option ℕ → List Record → List ℕ → Result ((Option ℕ × List Record) × List ℕ) ℕ
 item v shut rs octets = do
   kind ← octet octets

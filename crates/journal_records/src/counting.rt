@@ -1,4 +1,4 @@
-// How many octets a batch is spelled in, and how many spelled records it has.
+// How many octets the encoding of a batch has, and how many spelled records.
 ghost use Rattle.std.specs.Prelude.{◌≡◌, ◌+◌, ◌*◌, ◌≤◌, ◌^◌, ◌<◌, ◌∷◌, length, List};
 ghost use Rattle.std.specs.List.{All, sum_by};
 ghost use Rattle.net_model.specs.Facts.{fact_len, IsWellFormedFact};
@@ -26,7 +26,7 @@ pub fn bytes_len(fact: &Fact) -> usize
     }
 }
 
-/// How many octets a record is spelled in, where a name has so many.
+/// How many octets the encoding of a record has, where a name has `names` octets.
 pub fn record_size(change: &Record, names: usize) -> usize
     requires formed { IsWellFormedRecord change.now }
     requires names { names ≤ 16 }
@@ -44,7 +44,7 @@ pub fn record_size(change: &Record, names: usize) -> usize
     }
 }
 
-/// How many octets records are spelled in, in the first version.
+/// How many octets the encodings of all records have in the first version.
 pub fn size_of(records: &[Record]) -> usize
     requires formed { All IsWellFormedRecord records.now }
     requires few { length records.now ≤ 65535 }
@@ -58,8 +58,8 @@ pub fn size_of(records: &[Record]) -> usize
     size
 }
 
-/// What records come to in the second version, as far as they were counted: octets, spelled records, and the run that
-/// the last of them belong to, of so many names.
+/// The count of records in the second version so far: their octets, their spelled records, and the application and the number
+/// of names of the run that the last records form.
 #[derive(Clone, Copy, Debug, PartialEq, Eq)]
 pub struct Tally {
     pub octets: usize,
@@ -69,14 +69,14 @@ pub struct Tally {
 }
 
 impl Tally {
-    // Whether a handing to that application goes on with the run.
+    // Whether a handing to this application continues the run.
     fn goes_on(&self, to: u16) -> bool
         ensures { result ≡ goes_on self.now.sae self.now.names to }
     {
         0 < self.names && self.names < 128 && to == self.sae
     }
 
-    // One record more.
+    // Counts one more record.
     fn add(&mut self, change: &Record)
         requires formed { IsWellFormedRecord change.now }
         requires octets { self.old.octets < 2 ^ 40 }
@@ -111,7 +111,7 @@ impl Tally {
     }
 }
 
-/// What records come to in the second version.
+/// Counts all records in the second version.
 pub fn tally_of(records: &[Record]) -> Tally
     requires formed { All IsWellFormedRecord records.now }
     requires few { length records.now ≤ 65535 }

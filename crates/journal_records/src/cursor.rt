@@ -1,4 +1,3 @@
-// Octets that are read from their first one on.
 ghost use Rattle.std.specs.Prelude.{◌≡◌, ◌+◌, ◌≤◌, ◌<◌, length, drop, take};
 ghost use Rattle.qkd_base.specs.declared.key_name.NameKind.TheVariants.{Stream as StreamKind};
 ghost use Rattle.frame_codec.specs.Reading.{named, of_kind, any_kind, sae, size, index, route};
@@ -12,7 +11,7 @@ use qkd_base::{KeyName, LinkNo, NameKind, NodeNo, Octets, Route, SaeNo, Way};
 use std::alloc::Global;
 use std::marker::Model;
 
-/// Octets that are read from their first one on. Contracts see those that are left.
+/// A reader that consumes octets from the first one on. Contracts see the octets that are left.
 #[derive(Drop)]
 pub struct Cursor<'a> {
     left: &'a [u8],
@@ -26,7 +25,7 @@ impl<'a> Model for Cursor<'a> {
     ghost view = { λ c. c.left.now };
 }
 
-// The name that 7 octets spell.
+// The name that 7 octets spell, or `None`.
 fn short_name_at(octets: &[u8]) -> Option<KeyName>
     requires { 7 ≤ length octets.now }
     ensures { result ≡ short_name_at (take 7 octets.now) }
@@ -45,14 +44,14 @@ fn short_name_at(octets: &[u8]) -> Option<KeyName>
 }
 
 impl<'a> Cursor<'a> {
-    /// At the first of these octets.
+    /// A cursor at the first of these octets.
     pub fn new(octets: &'a [u8]) -> Self
         ensures { result ≡ octets.now }
     {
         Cursor { left: octets }
     }
 
-    /// What is left.
+    /// The octets that are left.
     pub fn left(&self) -> &[u8]
         ensures { result.now ≡ self.now }
     {
@@ -66,7 +65,7 @@ impl<'a> Cursor<'a> {
         self.left.len()
     }
 
-    /// Leaves so many octets behind.
+    /// Skips the next `count` octets.
     pub fn skip(&mut self, count: usize)
         requires { count ≤ length self.old }
         ensures { self.new ≡ drop count self.old }
@@ -74,7 +73,7 @@ impl<'a> Cursor<'a> {
         self.left = &self.left[count..];
     }
 
-    /// The next octet.
+    /// Reads the next octet.
     #[tactic(auto, unfolding(crate::specs::Layout::octet))]
     pub fn octet(&mut self) -> Result<u8, Fault>
         ensures { Moves result self.new (octet self.old) }
@@ -87,7 +86,7 @@ impl<'a> Cursor<'a> {
         Ok(octet)
     }
 
-    /// A link.
+    /// Reads the number of a link.
     #[tactic(auto, unfolding(crate::specs::Layout::link_no))]
     pub fn link(&mut self) -> Result<LinkNo, Fault>
         ensures { Moves result self.new (link_no self.old) }
@@ -104,7 +103,7 @@ impl<'a> Cursor<'a> {
         }
     }
 
-    /// Which lane of a link.
+    /// Reads which of a link's two lanes it is.
     #[tactic(auto, unfolding(crate::specs::Layout::direction))]
     pub fn way(&mut self) -> Result<Way, Fault>
         ensures { Moves result self.new (direction self.old) }
@@ -124,7 +123,7 @@ impl<'a> Cursor<'a> {
         Err(Fault::Left(self.left.len()))
     }
 
-    /// The end of a lease.
+    /// Reads the end of a lease.
     #[tactic(auto, unfolding(crate::specs::Layout::lane_end))]
     pub fn end(&mut self) -> Result<u64, Fault>
         ensures { Moves result self.new (lane_end self.old) }
@@ -140,7 +139,7 @@ impl<'a> Cursor<'a> {
         Ok(end)
     }
 
-    /// A number of two octets in this range.
+    /// Reads a number of two octets from `least` to `most`.
     #[tactic(auto, unfolding(crate::specs::Layout::within))]
     pub fn within(&mut self, least: u16, most: u16) -> Result<u16, Fault>
         ensures { Moves result self.new (within least most self.old) }
@@ -157,7 +156,7 @@ impl<'a> Cursor<'a> {
         Err(Fault::Left(octets.len()))
     }
 
-    /// So many octets.
+    /// Reads the next `count` octets.
     #[tactic(auto, unfolding(crate::specs::Layout::plain))]
     pub fn plain(&mut self, alloc: Global, count: usize) -> Result<Octets, Fault>
         ensures { Moves result self.new (plain count self.old) }
@@ -171,7 +170,7 @@ impl<'a> Cursor<'a> {
         Ok(taken)
     }
 
-    /// How many octets a key, a chunk or a part has.
+    /// Reads how many octets a key, a chunk or a part has.
     pub fn size(&mut self) -> Result<u16, Fault>
         ensures { Moves result self.new (size self.old) }
     {
@@ -180,7 +179,7 @@ impl<'a> Cursor<'a> {
         Ok(size)
     }
 
-    /// An application.
+    /// Reads the number of an application.
     pub fn sae(&mut self) -> Result<SaeNo, Fault>
         ensures { Moves result self.new (sae self.old) }
     {
@@ -189,7 +188,7 @@ impl<'a> Cursor<'a> {
         Ok(sae)
     }
 
-    /// The index of a chunk, or the number of a block.
+    /// Reads the index of a chunk or the number of a block.
     pub fn index(&mut self) -> Result<u32, Fault>
         ensures { Moves result self.new (index self.old) }
     {
@@ -198,7 +197,7 @@ impl<'a> Cursor<'a> {
         Ok(index)
     }
 
-    /// A route.
+    /// Reads a route.
     pub fn route(&mut self) -> Result<Route, Fault>
         ensures { Moves result self.new (route self.old) }
     {
@@ -207,7 +206,7 @@ impl<'a> Cursor<'a> {
         Ok(route)
     }
 
-    /// A name of this kind, of 16 octets.
+    /// Reads a name of this kind, of 16 octets.
     pub fn long_name(&mut self, kind: NameKind) -> Result<KeyName, Fault>
         ensures { Moves result self.new (named (of_kind kind) self.old) }
     {
@@ -216,7 +215,7 @@ impl<'a> Cursor<'a> {
         Ok(name)
     }
 
-    /// A name of any kind, of 7 octets.
+    /// Reads a name of any kind, of 7 octets.
     #[tactic(auto, unfolding(crate::specs::Layout::short_named))]
     pub fn short_name(&mut self) -> Result<KeyName, Fault>
         ensures { Moves result self.new (short_named any_kind self.old) }
@@ -233,7 +232,7 @@ impl<'a> Cursor<'a> {
         }
     }
 
-    // The name of a stream, of 7 octets.
+    // Reads the name of a stream, of 7 octets.
     #[tactic(auto, unfolding(crate::specs::Layout::short_named))]
     fn short_stream(&mut self) -> Result<KeyName, Fault>
         ensures { Moves result self.new (short_named (of_kind StreamKind) self.old) }
@@ -250,7 +249,7 @@ impl<'a> Cursor<'a> {
         }
     }
 
-    /// A name of any kind, as the version spells it.
+    /// Reads a name of any kind, in the version's spelling.
     pub fn name(&mut self, version: Version) -> Result<KeyName, Fault>
         ensures { Moves result self.new (name_in version any_kind self.old) }
     {
@@ -264,7 +263,7 @@ impl<'a> Cursor<'a> {
         }
     }
 
-    /// The name of a stream, as the version spells it.
+    /// Reads the name of a stream, in the version's spelling.
     pub fn stream(&mut self, version: Version) -> Result<KeyName, Fault>
         ensures { Moves result self.new (name_in version (of_kind StreamKind) self.old) }
     {

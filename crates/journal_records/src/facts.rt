@@ -1,4 +1,4 @@
-// Facts in records.
+// Reading the facts in records.
 ghost use Rattle.std.specs.Prelude.{◌≡◌, ◌==◌, IfOk, IfErr, slice_index, replicate};
 ghost use Rattle.frame_codec.specs.declared.fault.Fault.TheVariants.{Memory};
 ghost use Rattle.journal_records.specs.Answers.{Moves};
@@ -11,7 +11,7 @@ use net_model::{Fact, Payload};
 use qkd_base::{NameKind, Octets};
 use std::alloc::Global;
 
-// Whether octets begin as an acknowledgement does.
+// Whether the octets begin with the kind of an acknowledgement.
 fn is_ack(octets: &[u8]) -> bool
     ensures { result ≡ (slice_index octets.now 0 == 3) }
 {
@@ -21,7 +21,7 @@ fn is_ack(octets: &[u8]) -> bool
     }
 }
 
-/// Reads a fact, spelled as a payload of so many octets.
+/// Reads a fact that is spelled as a payload of `size` octets.
 #[tactic(auto, unfolding(crate::specs::Layout::whole_fact))]
 pub fn whole_fact(alloc: Global, cursor: &mut Cursor<'_>, size: u16) -> Result<Fact, Fault>
     ensures { Moves result cursor.new (whole_fact size cursor.old) }
@@ -45,7 +45,7 @@ pub fn whole_fact(alloc: Global, cursor: &mut Cursor<'_>, size: u16) -> Result<F
     }
 }
 
-// So many zeros.
+// Makes `size` zeros.
 fn zeros(alloc: Global, size: u16) -> Result<Octets, Fault>
     ensures octets { IfOk result (λ octets. octets ≡ replicate size 0) }
     ensures memory { IfErr result (λ why. why ≡ Memory) }
@@ -56,7 +56,7 @@ fn zeros(alloc: Global, size: u16) -> Result<Octets, Fault>
     }
 }
 
-// A key without its bytes, behind its kind.
+// Reads a key without its bytes, after its kind.
 #[tactic(auto, unfolding(crate::specs::Layout::bare_key))]
 fn bare_key(alloc: Global, cursor: &mut Cursor<'_>, size: u16) -> Result<Fact, Fault>
     ensures { Moves result cursor.new (bare_key size cursor.old) }
@@ -76,7 +76,7 @@ fn bare_key(alloc: Global, cursor: &mut Cursor<'_>, size: u16) -> Result<Fact, F
     })
 }
 
-// A chunk without its bytes, behind its kind.
+// Reads a chunk without its bytes, after its kind.
 #[tactic(auto, unfolding(crate::specs::Layout::bare_chunk))]
 fn bare_chunk(alloc: Global, cursor: &mut Cursor<'_>, size: u16) -> Result<Fact, Fault>
     ensures { Moves result cursor.new (bare_chunk size cursor.old) }
@@ -96,7 +96,7 @@ fn bare_chunk(alloc: Global, cursor: &mut Cursor<'_>, size: u16) -> Result<Fact,
     })
 }
 
-// A part of a group key without its bytes, behind its kind.
+// Reads a part of a group key without its bytes, after its kind.
 #[tactic(auto, unfolding(crate::specs::Layout::bare_part))]
 fn bare_part(alloc: Global, cursor: &mut Cursor<'_>, size: u16) -> Result<Fact, Fault>
     ensures { Moves result cursor.new (bare_part size cursor.old) }
@@ -118,7 +118,7 @@ fn bare_part(alloc: Global, cursor: &mut Cursor<'_>, size: u16) -> Result<Fact, 
     })
 }
 
-/// Reads a fact without its bytes, which are so many.
+/// Reads a fact without its bytes. The fact then has `size` zeros for its bytes.
 #[tactic(auto, unfolding(crate::specs::Layout::bare_fact))]
 pub fn bare_fact(alloc: Global, cursor: &mut Cursor<'_>, size: u16) -> Result<Fact, Fault>
     ensures { Moves result cursor.new (bare_fact size cursor.old) }

@@ -1,4 +1,4 @@
-//! The spelling of journal records, both ways, in both versions.
+//! Encoding and decoding of the records in a key manager's journal, in both versions of the format.
 #![tactic(auto)]
 
 mod counting;
@@ -12,7 +12,6 @@ mod version;
 mod writing;
 
 pub use laws::{read_is_spelled, spelled_is_read};
-pub use net_model;
 pub use reading::{read_batch, read_batch_2};
 pub use record_refusal::RecordRefusal;
 pub use spelling::{respell, spell_batch, spell_batch_2};

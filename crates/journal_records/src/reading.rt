@@ -1,4 +1,4 @@
-// Reading record bodies.
+// Decoding bodies of records.
 ghost use Rattle.std.specs.Prelude.{◌≡◌, [], IfOk, Ok, None, List};
 ghost use Rattle.std.specs.List.{All};
 ghost use Rattle.net_model.specs.Formed.{IsWellFormedRecord};
@@ -17,7 +17,7 @@ use net_model::{Record, Records};
 use qkd_base::{Lane, SaeNo};
 use std::alloc::Global;
 
-// ---- records, behind the octet of their kind
+// ---- records, after the octet of their kind
 
 #[tactic(auto, unfolding(crate::specs::Layout::block))]
 fn block(alloc: Global, cursor: &mut Cursor<'_>) -> Result<Record, Fault>
@@ -90,7 +90,7 @@ fn bare(alloc: Global, cursor: &mut Cursor<'_>) -> Result<Record, Fault>
     Ok(Record::Bare { fact })
 }
 
-// A record by its kind, at which so many octets were left.
+// Reads a record of this kind. At the octet of the kind, `left` octets were left.
 fn one_of(
     alloc: Global,
     cursor: &mut Cursor<'_>,
@@ -123,7 +123,7 @@ fn is_run(version: Version, kind: u8) -> bool
     }
 }
 
-// So many handings to one application.
+// Reads `count` handings to one application.
 fn handings(
     cursor: &mut Cursor<'_>,
     sae: SaeNo,
@@ -144,7 +144,7 @@ fn handings(
     Ok(())
 }
 
-// A run, at whose kind so many octets were left. What it answers is the application that the next run may not have.
+// Reads a run. At the octet of its kind, `left` octets were left. Returns the application to which the next run may not be.
 #[tactic(auto, unfolding(crate::specs::Layout::run_of))]
 fn run_of(
     cursor: &mut Cursor<'_>,
@@ -163,7 +163,7 @@ fn run_of(
     if count < 128 { Ok(Some(sae)) } else { Ok(None) }
 }
 
-// The next spelled record.
+// Reads the next spelled record.
 #[tactic(auto, unfolding(crate::specs::Layout::item))]
 fn item(
     alloc: Global,
@@ -184,7 +184,7 @@ fn item(
     Ok(None)
 }
 
-// So many spelled records.
+// Reads `count` spelled records.
 fn many(
     alloc: Global,
     cursor: &mut Cursor<'_>,
@@ -204,7 +204,7 @@ fn many(
     Ok(())
 }
 
-// A body.
+// Reads a body.
 #[tactic(auto, unfolding(crate::specs::Layout::records_left))]
 fn records_left(alloc: Global, octets: &[u8], version: Version) -> Result<Records, Fault>
     ensures { Ends result (records_left version octets.now) }
@@ -217,40 +217,40 @@ fn records_left(alloc: Global, octets: &[u8], version: Version) -> Result<Record
     Ok(records)
 }
 
-// A body, or the place of the field that doesn't fit.
+// Reads a body, or finds the place of the field that doesn't fit.
 #[tactic(auto, unfolding(crate::specs::Layout::batch_of))]
 fn batch_at(alloc: Global, octets: &[u8], version: Version) -> Result<Records, RecordRefusal>
     ensures { Reads result (batch_of version octets.now) }
 {
     match records_left(alloc, octets, version) {
         Ok(records) => Ok(records),
-        // no more is left than there was
+        // There are never more octets left than there were at first.
         Err(Fault::Left(left)) => Err(RecordRefusal::NotARecord(octets.len().saturating_sub(left))),
         Err(Fault::Memory) => Err(RecordRefusal::Memory),
     }
 }
 
-/// The records that these octets spell in the first version, all of them.
+/// Decodes all records of a body in the first version.
 pub fn read_batch(alloc: Global, octets: &[u8]) -> Result<Records, RecordRefusal>
-    // What is read is in the grammar, and is spelled so.
+    // The result is a batch of the grammar, and the octets are its encoding.
     ensures found { IfOk result (λ batch. IsBatch First batch × (octets.now ≡ body_octets First batch)) }
     ensures formed { IfOk result (λ batch. All IsWellFormedRecord batch) }
-    // What is in the grammar is read, unless memory runs out.
+    // The encoding of each batch is decoded, unless memory runs out.
     ensures only { (batch : List RecordValue) → IsBatch First batch → octets.now ≡ body_octets First batch → Reads result (Ok batch) }
-    // Which records they are, and what a refusal says.
+    // Which records the result has, and which place a refusal tells.
     ensures exact { Reads result (batch_of First octets.now) }
 {
     batch_at(alloc, octets, Version::First)
 }
 
-/// The records that these octets spell in the second version, all of them.
+/// Decodes all records of a body in the second version.
 pub fn read_batch_2(alloc: Global, octets: &[u8]) -> Result<Records, RecordRefusal>
-    // What is read is in the grammar, and is spelled so.
+    // The result is a batch of the grammar, and the octets are its encoding.
     ensures found { IfOk result (λ batch. IsBatch Second batch × (octets.now ≡ body_octets Second batch)) }
     ensures formed { IfOk result (λ batch. All IsWellFormedRecord batch) }
-    // What is in the grammar is read, unless memory runs out.
+    // The encoding of each batch is decoded, unless memory runs out.
     ensures only { (batch : List RecordValue) → IsBatch Second batch → octets.now ≡ body_octets Second batch → Reads result (Ok batch) }
-    // Which records they are, and what a refusal says.
+    // Which records the result has, and which place a refusal tells.
     ensures exact { Reads result (batch_of Second octets.now) }
 {
     batch_at(alloc, octets, Version::Second)

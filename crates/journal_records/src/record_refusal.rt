@@ -1,14 +1,13 @@
-// Why octets are no record body.
 use std::error::Error;
 use std::fmt;
 
-/// Why no records were read.
+/// Why a body of records was refused.
 #[derive(Clone, Copy, Debug, PartialEq, Eq)]
 pub enum RecordRefusal {
-    /// The octets aren't the spelling of a batch. The place, counted from 0, is that of the first octet of the field
-    /// that doesn't fit or is cut off, or of the first octet behind the last record.
+    /// The octets aren't the encoding of a batch. The place, counted from 0, is that of the first octet of the field that
+    /// doesn't fit or is cut off, or of the first octet after the last record.
     NotARecord(usize),
-    /// Want of memory.
+    /// Out of memory.
     Memory,
 }
 

@@ -1,4 +1,4 @@
-// Spelling record bodies.
+// Encoding bodies of records.
 ghost use Rattle.std.specs.Prelude.{◌≡◌, ◌+◌, ◌≤◌, ◌<◌, ◌++◌, ◌∷◌, [], length, take, drop, IfOk};
 ghost use Rattle.std.specs.List.{All};
 ghost use Rattle.qkd_base.specs.Name.{IsName};
@@ -19,7 +19,7 @@ use qkd_base::{KeyName, Memory, Octets, SaeNo};
 use std::alloc::Global;
 use std::mem;
 
-// How many of the first 128 records are handings to that application before any other.
+// How many of the first 128 records are handings to this application, up to the first other record.
 fn run_len(records: &[Record], sae: SaeNo) -> u16
     ensures len { result ≡ run_len sae 128 records.now }
     ensures few { result ≤ 128 }
@@ -41,7 +41,7 @@ fn run_len(records: &[Record], sae: SaeNo) -> u16
     count
 }
 
-// Writes what a run begins with: its kind, the application, and how many names it has.
+// Writes the head of a run: its kind, the application, and how many names the run has.
 fn put_run_head(into: &mut [u8], at: usize, sae: SaeNo, names: u16) -> usize
     requires { at + 5 ≤ length into.old }
     ensures octets { Puts into.old into.new at result (run_head sae names) }
@@ -52,7 +52,7 @@ fn put_run_head(into: &mut [u8], at: usize, sae: SaeNo, names: u16) -> usize
     put_short(into, at, names)
 }
 
-// Writes the next handing of a run, of which so many names are still to come, or begins one.
+// Writes the next handing of a run of which `left` names are still to come, or begins a new run if `left` is 0.
 fn put_handing(
     into: &mut [u8],
     at: usize,
@@ -68,7 +68,7 @@ fn put_handing(
     ensures grammar { IsName name × IsSae sae }
 {
     if left > 0 {
-        // That it is an application's number is what it says.
+        // Reading the number shows the invariant that it is an application's number.
         let _holds = sae.get();
         return (put_short_name(into, at, name), left - 1);
     }
@@ -77,7 +77,7 @@ fn put_handing(
     (put_short_name(into, at, name), names - 1)
 }
 
-// Writes the first of the records in the second version. Of a run that has begun so many names are still to come.
+// Writes the first of the records in the second version. If a run has begun, `left` of its names are still to come.
 fn put_next_2(into: &mut [u8], at: usize, records: &[Record], left: u16) -> (usize, u16)
     requires some { 0 < length records.now }
     requires formed { All IsWellFormedRecord records.now }
@@ -92,7 +92,7 @@ fn put_next_2(into: &mut [u8], at: usize, records: &[Record], left: u16) -> (usi
     }
 }
 
-// Writes the first of the records.
+// Writes the first of the records in the given version.
 fn put_next(
     into: &mut [u8],
     at: usize,
@@ -113,7 +113,7 @@ fn put_next(
     }
 }
 
-// The records from a place on.
+// The records from an index on.
 fn rest_of(records: &[Record], place: usize) -> &[Record]
     requires { place ≤ length records.now }
     ensures { result.now ≡ drop place records.now }
@@ -121,7 +121,7 @@ fn rest_of(records: &[Record], place: usize) -> &[Record]
     &records[place..]
 }
 
-// Writes records.
+// Writes all records.
 fn put_records(into: &mut [u8], at: usize, records: &[Record], version: Version) -> usize
     requires formed { All IsWellFormedRecord records.now }
     requires fits { at + length (rest_octets version 0 records.now) ≤ length into.old }
@@ -137,7 +137,7 @@ fn put_records(into: &mut [u8], at: usize, records: &[Record], version: Version)
     end
 }
 
-// Writes a body: how many spelled records there are, and they.
+// Writes a body: the number of its spelled records, and then these records.
 fn put_body(into: &mut [u8], records: &[Record], version: Version, count: u16)
     requires formed { All IsWellFormedRecord records.now }
     requires count { count ≡ length (items version records.now) }
@@ -149,7 +149,7 @@ fn put_body(into: &mut [u8], records: &[Record], version: Version, count: u16)
     put_records(into, at, records, version);
 }
 
-// A body of so many octets.
+// Makes a body of `size` octets.
 fn spelled(
     alloc: Global,
     records: &[Record],
@@ -168,7 +168,7 @@ fn spelled(
     Ok(Octets::from_vec(into))
 }
 
-/// The spelling of 1 to 65,535 records in the first version.
+/// Encodes 1 to 65,535 records in the first version.
 pub fn spell_batch(alloc: Global, batch: &Records) -> Result<Octets, Memory>
     requires formed { All IsWellFormedRecord batch.now }
     requires some { 1 ≤ length batch.now }
@@ -182,7 +182,7 @@ pub fn spell_batch(alloc: Global, batch: &Records) -> Result<Octets, Memory>
     spelled(alloc, records, Version::First, size, records.len() as u16)
 }
 
-/// The spelling of 1 to 65,535 records in the second version.
+/// Encodes 1 to 65,535 records in the second version.
 pub fn spell_batch_2(alloc: Global, batch: &Records) -> Result<Octets, Memory>
     requires formed { All IsWellFormedRecord batch.now }
     requires some { 1 ≤ length batch.now }
@@ -202,8 +202,8 @@ pub fn spell_batch_2(alloc: Global, batch: &Records) -> Result<Octets, Memory>
     )
 }
 
-/// Makes octets the spelling of a batch of learned facts, where they were that of a batch as long. It takes no memory.
-/// Such a batch is spelled alike in both versions.
+/// Replaces the encoding of a batch by that of a batch of learned facts with the same length. It allocates no memory. A batch
+/// of learned facts has the same encoding in both versions.
 pub fn respell(alloc: Global, batch: &Records, into: &mut Octets)
     requires formed { All IsWellFormedRecord batch.now }
     requires learned { All IsLearned batch.now }

@@ -1,7 +1,5 @@
-// The versions of record bodies.
-
-/// How record bodies spell names and handings: in the first version a name has 16 octets, in the second 7, and
-/// neighbouring handings to one application are one spelled record.
+/// The version of a body of records. In the first version a name has 16 octets, and in the second 7. In the second version,
+/// consecutive handings to one application are one spelled record, called a run.
 #[derive(Clone, Copy, Debug, PartialEq, Eq)]
 pub enum Version {
     First,

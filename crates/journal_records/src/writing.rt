@@ -1,4 +1,4 @@
-// Writing records at a place.
+// Writing records at a place in a buffer.
 ghost use Rattle.std.specs.Prelude.{◌≡◌, ◌+◌, ◌-◌, ◌*◌, ◌≤◌, length};
 ghost use Rattle.qkd_base.specs.Name.{IsName, kind_number};
 ghost use Rattle.net_model.specs.Facts.{fact_len, IsWellFormedFact};
@@ -38,7 +38,7 @@ pub fn put_short_name(into: &mut [u8], at: usize, name: KeyName) -> usize
     put(into, at, &count[2..])
 }
 
-// Writes a name as the version spells it.
+// Writes a name in the version's spelling.
 fn put_name_of(into: &mut [u8], at: usize, name: KeyName, version: Version) -> usize
     requires { at + name_size version ≤ length into.old }
     ensures octets { Puts into.old into.new at result (name_octets version name) }
@@ -63,7 +63,7 @@ fn put_bare(into: &mut [u8], at: usize, fact: &Fact) -> usize
     put(into, at, &room.octets[..size])
 }
 
-// Writes a fact behind its length.
+// Writes the length of a fact, and then the fact.
 fn put_learned(into: &mut [u8], at: usize, fact: &Fact) -> usize
     requires formed { IsWellFormedFact fact.now }
     requires fits { at + (3 + fact_len fact.now) ≤ length into.old }
@@ -75,7 +75,7 @@ fn put_learned(into: &mut [u8], at: usize, fact: &Fact) -> usize
     put_fact(into, at, fact)
 }
 
-// Writes a fact without its bytes, behind their number.
+// Writes the number of a fact's bytes, and then the fact without them.
 fn put_bare_record(into: &mut [u8], at: usize, fact: &Fact) -> usize
     requires bare { IsBareFact fact.now }
     requires fits { at + (3 + (fact_len fact.now - length (bytes_of fact.now))) ≤ length into.old }
@@ -87,7 +87,7 @@ fn put_bare_record(into: &mut [u8], at: usize, fact: &Fact) -> usize
     put_bare(into, at, fact)
 }
 
-/// Writes a record that stands alone.
+/// Writes a record that is no part of a run.
 pub fn put_record(into: &mut [u8], at: usize, change: &Record, version: Version) -> usize
     requires formed { IsWellFormedRecord change.now }
     requires fits { at + record_len (name_size version) change.now ≤ length into.old }

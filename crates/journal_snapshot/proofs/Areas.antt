@@ -30,18 +30,18 @@ need_is batches = omega (arith, area_long batches, spelled_long batches)
     spelled_long [] = refl
     spelled_long (b ∷ batches) = omega (arith, spelled_long batches, length-append b (spelled batches), sum_by-cons (λ (x : List ℕ). 5 + length x) b batches)
 
--- the octets of an area with zeros before it
+-- How many octets an area with zeros before it has.
 pub block_long : (zeros : ℕ) (batches : List (List ℕ)) (block : List ℕ) → block ≡ replicate zeros 0 ++ area batches → length block ≡ zeros + need_of batches
 block_long zeros batches block is =
     omega (arith, ap length is, length-append (replicate zeros 0) (area batches), length-replicate {A = ℕ} zeros 0, need_is batches)
 
--- each body of a list whose octets are few is short
+-- If a list's octets are few, each of its bodies is short.
 pub all_short : (batches : List (List ℕ)) → need_of batches < 2 ^ 32 → AreShort batches
 all_short [] few k d lt = absurd (omega (arith, lt))
 all_short (b ∷ batches) few zero d lt = let here : length b < 2 ^ 32 = omega (arith, few, sum_by-cons (λ (x : List ℕ). 5 + length x) b batches) in here
 all_short (b ∷ batches) few (suc k) d lt = all_short batches (omega (arith, few, sum_by-cons (λ (x : List ℕ). 5 + length x) b batches)) k d (omega (arith, lt))
 
--- what stands at a place, as lists
+-- The octets written at a place split the disk's octets into three lists.
 at_place : (place : ℕ) (bytes i : List ℕ) → Written place bytes i → place + length bytes ≤ length i → i ≡ take place i ++ (bytes ++ drop (place + length bytes) i)
 at_place place bytes i w long =
     let behind : take (length bytes) (drop place i) ≡ bytes =
@@ -65,7 +65,7 @@ stands_of place batches i short a =
 pub settled_of : (place : ℕ) (batches : List (List ℕ)) (i : List ℕ) (images : List ℕ → Type 0) → Only i images → IsArea place batches i → IsSettled i images place batches
 settled_of place batches i images only a = record { rest = drop (place + length (area batches)) i; place = omega (arith, a.long); is = area_at place batches i a; only = only }
 
--- octets at the end of a front
+-- Octets that directly follow a front are written at the place that is the front's length.
 pub written_at : (front bytes rest i : List ℕ) (place : ℕ) → length front ≡ place → i ≡ front ++ (bytes ++ rest) → Written place bytes i
 written_at front bytes rest i place long is k lt =
     ap (λ (l : List ℕ). slice_index l (place + k)) is
@@ -83,7 +83,7 @@ area_of_settled place batches c images s =
       long = omega (arith, front, ap length is, length-append (take place c) (area batches ++ s.rest), length-append (area batches) s.rest);
     }
 
--- octets outside of a torn range
+-- Octets outside of a torn range are unchanged.
 pub torn_outside : (at n : ℕ) (c i : List ℕ) → Torn at n c i → (k : ℕ) → (k < at) ⊎ (at + n ≤ k) → slice_index i k ≡ slice_index c k
 torn_outside at n c i t k (inl before) = sym (get_or-take at i k 0 before) ∙ ap (λ (l : List ℕ). slice_index l k) t.before ∙ get_or-take at c k 0 before
 torn_outside at n c i t k (inr after) =
@@ -94,7 +94,7 @@ torn_outside at n c i t k (inr after) =
     ∙ get_or-drop (at + n) c (k - (at + n)) 0
     ∙ ap (λ (m : ℕ). slice_index c m) there
 
--- what stands outside of a torn range
+-- What was written outside of a torn range is still written.
 pub written_outside : (at n place : ℕ) (bytes c i : List ℕ) → Torn at n c i → (place + length bytes ≤ at) ⊎ (at + n ≤ place) → Written place bytes c → Written place bytes i
 written_outside at n place bytes c i t (inl before) w k lt = torn_outside at n c i t (place + k) (inl (omega (arith, before, lt))) ∙ w k lt
 written_outside at n place bytes c i t (inr after) w k lt = torn_outside at n c i t (place + k) (inr (omega (arith, after))) ∙ w k lt
@@ -105,7 +105,7 @@ area_outside at n place batches c i t apart a = record {
   long = omega (arith, a.long, t.no_shorter);
 }
 
--- what was laid over a range
+-- Octets laid over a range are written there.
 pub laid : (at : ℕ) (bytes c : List ℕ) → at ≤ length c → Written at bytes (overlaid at bytes c)
 laid at bytes c le =
     let front : length (take at c) ≡ at = length-take-le at c le in

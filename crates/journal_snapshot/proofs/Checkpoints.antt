@@ -1,4 +1,4 @@
--- What each stage of a checkpoint leaves.
+-- What a crash leaves at each stage of a checkpoint.
 use Rattle.std.proofs.Common.{◌≡◌, ◌≢◌, ◌≤◌, ◌<◌, ◌⊎◌, inl, inr, ℕ, ◌+◌, ◌-◌, ◌^◌, Bool, true, false, List, [], ◌∷◌, ◌++◌, length, take, replicate, refl, sym, ◌∙◌, ap, subst, arith, length-append}
 use Rattle.std.specs.Prelude.{slice_index, ◌==◌}
 use Rattle.std.proofs.lemmas.Bool.{cases_Bool, cases_eq, cases_lt, false≢true}
@@ -22,7 +22,7 @@ use Rattle.journal_snapshot.proofs.Marks.{front_len, fields_len, AgreesBut, Writ
 use Rattle.journal_snapshot.proofs.Areas.{area, IsArea, need_is, block_long, all_short, stands_of, settled_of, area_of_settled, torn_outside, written_outside, area_outside, laid, laid_long}
 use Rattle.journal_snapshot.proofs.Targets.{fields_long, fields_same, mark_low, fields_low, mark_first, front_moved, front_plain, shut_mark, open_there, closed_octet, equal_is, no_marks}
 
--- the start of the live area, and how many octets say what it is
+-- the place where the live area's start is said, and the length of the front that says it
 module _ (c : List ℕ) (live : Live) (batches : List (List ℕ)) (images : List ℕ → Type 0) (kept : IsKept live batches c images) where
   abbrev pub a : Area
   a = live.area
@@ -45,7 +45,7 @@ module _ (c : List ℕ) (live : Live) (batches : List (List ℕ)) (images : List
   old_area : IsArea live.start batches c
   old_area = area_of_settled live.start batches c images kept.settled
 
-  -- the old area is whole, and the front says the same but for the next area's mark and fields
+  -- The old area is complete, and the front is unchanged except for the next area's mark and fields.
   pub record Draws (i : List ℕ) : Type 0 where
     pub same : AgreesBut t c i
     pub whole : IsArea live.start batches i
@@ -85,7 +85,7 @@ module _ (c : List ℕ) (live : Live) (batches : List (List ℕ)) (images : List
       held batches i live d.whole kept.holds.stands.short (s.live ∙ kept.holds.says)
       (λ n lt. longer i (length c) n (s.placed (length c) ∙ kept.holds.placed) (subst (λ (l : Live). l.start < n) (sym (s.live ∙ kept.holds.says)) lt)) (headed i d.same)
 
-  -- a write outside of both
+  -- A torn write of the next area's mark changes nothing outside of mark and fields.
   pub draws_mark : (c' i : List ℕ) → Draws c' → Torn (mark_place t) 1 c' i → Draws i
   draws_mark c' i d torn = record {
     same = λ k lt ne side. torn_outside (mark_place t) 1 c' i torn k (beside (mark_place t) k ne) ∙ d.same k lt ne side;
@@ -118,7 +118,7 @@ module _ (c : List ℕ) (live : Live) (batches : List (List ℕ)) (images : List
       flipped (inl x) = inr x
       flipped (inr x) = inl x
 
-  -- a mark that is being cleared
+  -- the stage in which the mark is being cleared
   module _ (older : Bool) (mark : has_open_mark c live.area ≡ older) where
     pub clearing : (i : List ℕ) → IsClearing older (mark_place t) c i → Holds live batches [] i
     clearing i (inl same) = subst (λ (l : List ℕ). Holds live batches [] l) (sym same) kept.holds
@@ -170,7 +170,7 @@ module _ (c : List ℕ) (live : Live) (batches : List (List ℕ)) (images : List
       | false ↦ omega arith
     ]
 
-    -- a draft
+    -- the stage in which the draft is being written
     module _ (more : List (List ℕ)) (at place : ℕ) (block : List ℕ) (draft : IsDraft live batches more at place block) (small : live.generation < 2 ^ 64 - 1) where
       abbrev pub fields_now : List ℕ
       fields_now = fields_in live place
@@ -217,7 +217,7 @@ module _ (c : List ℕ) (live : Live) (batches : List (List ℕ)) (images : List
           let shut = shut_outside at (length block) c1 twice.mid (omega (arith, mark_low a, low)) twice.first cleared_shut in
           (draws_fields (length fields_now) twice.mid i fields_size first twice.second, shut_outside (fields_place t) (length fields_now) twice.mid i (omega (arith, mark_first a)) twice.second shut)
 
-      -- the octets once both are written
+      -- the octets after both writes
       abbrev pub c2 : List ℕ
       c2 = overlaid at block c1
 
@@ -243,7 +243,7 @@ module _ (c : List ℕ) (live : Live) (batches : List (List ℕ)) (images : List
       fields_within : fields_place t ≤ length c2
       fields_within = omega (arith, fields_low a, low, laid_long at block c1 within_c1)
 
-      -- the new area in the block
+      -- The block contains the new area.
       block_area : IsArea place more c2
       block_area =
           let all = laid at block c1 within_c1 in
@@ -268,7 +268,7 @@ module _ (c : List ℕ) (live : Live) (batches : List (List ℕ)) (images : List
       c3_fields : Written (fields_place t) fields_now c3
       c3_fields = laid (fields_place t) fields_now c2 fields_within
 
-      -- an image once the mark may be open
+      -- an image from the stage in which the mark may be open
       pub record IsNew (i : List ℕ) : Type 0 where
         pub draws : Draws i
         pub fields : Written (fields_place t) fields_now i
@@ -307,7 +307,7 @@ module _ (c : List ℕ) (live : Live) (batches : List (List ℕ)) (images : List
       at_header : a ≡ Header → live.start ≡ 16
       at_header e = sym start_is ∙ start_plain c (ap is_moved (here ∙ e))
 
-      -- on a disk that isn't moved the area begins behind the journal
+      -- On a disk without a checkpoint the new area begins right after the journal.
       at_behind : a ≡ Header → at ≡ length_of live.start batches
       at_behind e = behind draft.apart
         where
@@ -383,7 +383,7 @@ module _ (c : List ℕ) (live : Live) (batches : List (List ℕ)) (images : List
       pub spots : (mark_place t + 1 ≤ length c) × (fields_place t + fields_len t ≤ length c) × (at ≤ length c)
       spots = (omega (arith, mark_low a, front_before, old_area.long), omega (arith, fields_low a, front_before, old_area.long), within)
 
--- all that the stages of a checkpoint leave
+-- the results of all stages of a checkpoint
 pub record Results (c : List ℕ) (live : Live) (batches more : List (List ℕ)) (older : Bool) (at place : ℕ) (block : List ℕ) : Type 0 where
   pub stages : (i : List ℕ) → IsStage live older at block place c i → Holds live batches [] i ⊎ Holds (moved_to live place) more [] i
   pub leaves : IsKept (moved_to live place) more (marked live older at block place c) (λ i. i ≡ marked live older at block place c)
@@ -401,7 +401,7 @@ results c live batches more images older at place block kept mark draft small =
       spot = (spot.0, omega (arith, spot.1, fields_long (next_area live.area) (next_generation live) place), spot.2);
     }
 
--- what a disk has whose only image is another one's
+-- A disk with the same content as another, and with no other image, keeps the same batches.
 pub kept_only : (live : Live) (batches : List (List ℕ)) (c new : List ℕ) (images later : List ℕ → Type 0) → new ≡ c → IsKept live batches c images → Only new later → IsKept live batches new later
 kept_only live batches c new images later is kept =
     subst (λ (o : List ℕ). Only o later → IsKept live batches o later) (sym is)

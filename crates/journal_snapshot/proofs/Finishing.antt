@@ -40,7 +40,7 @@ room_for new old n end octets is le more = record {
   used = subst (λ (a : Allowance). a.used ≤ 3) (sym is) (omega arith);
 }
 
--- the need of a checkpoint that fits is a number
+-- A checkpoint that fits needs fewer than 2^64 octets, so the computed need is exact.
 module _ (j : Journal) (given : List (List ℕ)) (need place : ℕ) (fits : fits_in j (need_of given) ≡ true) (need_now : need ≡ min (need_of given) (2 ^ 64 - 1)) (place_is : place ≡ checkpoint_place j need) where
   pub need_whole : need ≡ need_of given
   need_whole = omega (arith, need_now, (fits_parts j (need_of given) fits).0)
@@ -75,7 +75,7 @@ moved_next Field = refl
 moved_next First = refl
 moved_next Second = refl
 
--- the journal that it leaves
+-- the model's journal after the checkpoint
 pub journal_after : {K : Type 0} (r : Result (SnapshotForm K) (SnapRefused K)) (j : Journal) (live : Live) (batches more : List (List ℕ)) (place : ℕ)
     → j ≡ record { length' = length_of live.start batches; start = live.start; generation = live.generation; moved = is_moved live.area; version = live.version } → place ≡ checkpoint_place j (need_of more)
     → IsFinished live more place r → IfOk r (λ new. journal_of new ≡ checkpointed j (need_of more))
@@ -90,7 +90,7 @@ journal_after (Ok new) j live batches more place j_is place_is f =
     is_now ∙ (λ i. record { length' = end i; start = place_is i; generation = sym same i; moved = moved i; version = 2 })
 journal_after (Err e) j live batches more place j_is place_is f = tt
 
--- a disk on which only memory was taken
+-- a disk for which only memory was allocated
 module _ {D : Type 0} (is_honest : D → Bool) (content : D → List ℕ) (moment : D → ℕ) (image : D → ℕ → List ℕ → Type 0) (old mid : D) (still : StandsStill (moment old) (moment mid) (image old) (image mid)) where
   pub still_only : content mid ≡ content old → Only (content old) (image old (moment old)) → Only (content mid) (image mid (moment mid))
   still_only same only i im = only i ((still.stays (moment old) i (omega arith)).0 (subst (λ (n : ℕ). image mid n i) still.same im)) ∙ sym same

@@ -1,4 +1,4 @@
--- Disks whose first octets are the same say the same.
+-- Disks with the same first octets say the same live area.
 use Rattle.std.proofs.Common.{◌≡◌, ◌≤◌, ◌<◌, ◌⊎◌, inl, inr, ℕ, ◌+◌, Bool, true, false, List, [], ◌∷◌, take, refl, sym, ◌∙◌, ap, arith}
 use Rattle.std.specs.Prelude.{slice_index, nat_le, nat_lt, ◌==◌, ◌&&◌}
 use Rattle.std.specs.Int.{w64, from_be_bytes}
@@ -10,7 +10,7 @@ use Rattle.journal_snapshot.specs.declared.area.Area.{Area}
 use Rattle.journal_snapshot.specs.declared.area.Area.TheVariants.{Header, Field, First, Second}
 use Rattle.journal_snapshot.specs.Layout.{word, tail_word, field_word, chosen, area_of, is_moved, start_of, generation_of, version_of, spelled_version, live_in, live_of, is_version, is_field, is_placed_in, is_placed, has_open_mark}
 
--- up to the n-th octet
+-- The first n octets are the same.
 abbrev pub Agrees : ℕ → List ℕ → List ℕ → Type 0
 Agrees n c i = (k : ℕ) → k < n → slice_index i k ≡ slice_index c k
 
@@ -111,7 +111,7 @@ same_open_mark c i same Field = ap (λ (o : ℕ). o == 3) (same 16 (omega arith)
 same_open_mark c i same First = ap (λ (o : ℕ). o == 3) (same 17 (omega arith))
 same_open_mark c i same Second = ap (λ (o : ℕ). o == 3) (same 16 (omega arith))
 
--- a disk that isn't moved
+-- a disk on which no checkpoint was made
 pub at_header : (c : List ℕ) → (slice_index c 8 == 1) ≡ false → area_of c ≡ Header
 at_header c e = ap (λ (b : Bool). chosen b (slice_index c 16 == 3) (slice_index c 17 == 3) (nat_lt (word c 18) (word c 34))) e
 
@@ -127,7 +127,7 @@ when_moved c e =
     ap (λ (b : Bool). is_moved (chosen b (slice_index c 16 == 3) (slice_index c 17 == 3) (nat_lt (word c 18) (word c 34)))) e
     ∙ chosen_moved (slice_index c 16 == 3) (slice_index c 17 == 3) (nat_lt (word c 18) (word c 34))
 
--- the front of another disk says the same
+-- The front of another disk says the same live area.
 pub record SaysSame (c i : List ℕ) : Type 0 where
   pub area : area_of i ≡ area_of c
   pub live : live_of i ≡ live_of c
@@ -171,7 +171,7 @@ same_head c i same is = record {
     version (inl one) = inl (same 7 (omega arith) ∙ one)
     version (inr two) = inr (same 7 (omega arith) ∙ two)
 
--- where the live area can be there
+-- where the live area can be
 
 and_first : (a b : Bool) → (a && b) ≡ true → a ≡ true
 and_first true b e = refl
@@ -226,7 +226,7 @@ start_plain c e = header_start c (area_of c) e
 pub longer : (c : List ℕ) (n m : ℕ) → is_placed c n ≡ true → (live_of c).start < m → is_placed c m ≡ true
 longer c n m e lt = placed_longer c (area_of c) n m e lt
 
--- octets up to the live start are enough
+-- Disks with the same octets before the live start say the same live area.
 pub enough : (c i : List ℕ) (n : ℕ) → is_placed c n ≡ true → Agrees (live_of c).start c i → AgreesEnough c i
 enough c i n e same = (
   fewer (live_of c).start 16 c i (start_least c n e) same,

@@ -1,4 +1,4 @@
--- Which area is live where the mark and the fields of the next one change.
+-- Which area is live when the mark and the fields of the next one change.
 use Rattle.std.proofs.Common.{◌≡◌, ◌≢◌, ◌≤◌, ◌<◌, ◌⊎◌, inl, inr, ℕ, ◌+◌, ◌-◌, ◌^◌, Bool, true, false, List, [], ◌∷◌, ◌++◌, length, drop, refl, sym, ◌∙◌, ap, arith}
 use Rattle.std.specs.Prelude.{slice_index, nat_le, nat_lt, ◌==◌, ◌&&◌}
 use Rattle.std.specs.Int.{w64, from_be_bytes, to_be_bytes, byte_at}
@@ -10,7 +10,7 @@ use Rattle.journal_snapshot.specs.Layout.{word, tail_word, field_word, chosen, a
 use Rattle.journal_snapshot.specs.Snapshots.{moved_to}
 use Rattle.journal_snapshot.proofs.Fronts.{at_header}
 
--- how many octets say which area is live, and how many the fields have
+-- how many octets say which area is live, and how many octets the fields have
 abbrev pub front_len : Area → ℕ
 front_len Header = 16
 front_len Field = 16
@@ -23,14 +23,14 @@ fields_len Field = 7
 fields_len First = 16
 fields_len Second = 16
 
--- the same front, but for the mark and the fields of an area
+-- The first octets are the same except for the mark and the fields of one area.
 abbrev pub AgreesBut : Area → List ℕ → List ℕ → Type 0
 AgreesBut t c i = (k : ℕ) → k < front_len t → k ≢ mark_place t → (k < fields_place t) ⊎ (fields_place t + fields_len t ≤ k) → slice_index i k ≡ slice_index c k
 
 abbrev pub Written : ℕ → List ℕ → List ℕ → Type 0
 Written at bytes i = (k : ℕ) → k < length bytes → slice_index i (at + k) ≡ slice_index bytes k
 
--- what an area that was chosen says of the marks
+-- what the choice of an area says of the marks
 
 pub chosen_second : (m f s n : Bool) → chosen m f s n ≡ Second → s ≡ true
 chosen_second false f s n e = absurd cc
@@ -64,7 +64,7 @@ chosen_off true true false n e = absurd cc
 chosen_off true false true n e = absurd cc
 chosen_off true false false n e = absurd cc
 
--- numbers whose octets are the same
+-- Numbers with the same octets are equal.
 
 word_within : (c i : List ℕ) (at : ℕ) → ((k : ℕ) → at ≤ k → k < at + 8 → slice_index i k ≡ slice_index c k) → word i at ≡ word c at
 unfolding word
@@ -139,7 +139,7 @@ field_written i p lt w =
 
 -- the old area stays live
 
--- what an image says
+-- The image tells the same live area.
 pub record Stays (c i : List ℕ) : Type 0 where
   pub live : live_of i ≡ live_of c
   pub placed : (n : ℕ) → is_placed i n ≡ is_placed c n
@@ -193,14 +193,14 @@ stays Second c i there same shut =
     let v = own 42 (omega arith) (omega arith) in
     says_in c i Second there here (λ j. record { area = Second; start = s j; generation = g j; version = spelled_version (v j) }) (λ n j. is_field (v j) (s j) n)
 
--- the next area is live
+-- The next area is the live one.
 
 pub record Turns (c i : List ℕ) (place : ℕ) : Type 0 where
   pub live : live_of i ≡ moved_to (live_of c) place
   pub placed : (n : ℕ) → place < n → is_placed i n ≡ true
   pub mark : has_open_mark i (next_area (area_of c)) ≡ is_slot (area_of c)
 
--- on a disk that was never moved the octets of both marks are no open ones
+-- On a disk without a checkpoint the octets of both marks are not 3.
 abbrev pub HasNoMarks : Area → List ℕ → Type 0
 HasNoMarks Header i = ((slice_index i 16 == 3) ≡ false) × ((slice_index i 17 == 3) ≡ false)
 HasNoMarks Field i = Unit {0}

@@ -1,4 +1,4 @@
--- Where a checkpoint goes, and whether it fits.
+-- Where a checkpoint is written, and whether it fits.
 use Rattle.std.proofs.Common.{◌≡◌, ◌≤◌, ◌<◌, inl, inr, ℕ, ◌+◌, ◌-◌, ◌^◌, min, max, Bool, true, false, List, [], ◌∷◌, ◌++◌, length, take, get_or, replicate, refl, sym, ◌∙◌, ap, arith, append_assoc}
 use Rattle.std.specs.Prelude.{nat_le, nat_lt, ◌&&◌, if◌then◌else◌}
 use Rattle.std.specs.Int.{w32, to_be_bytes}
@@ -27,7 +27,7 @@ place_behind j n s size out m r is moved start isnt size_is out_is =
     let e : (j.moved && nat_le (50 + n) j.start) ≡ false = ap (λ (b : Bool). b && nat_le (50 + n) j.start) (sym moved) ∙ ap (λ (t : ℕ). m && nat_le (50 + n) t) (sym start) ∙ sym is ∙ isnt in
     out_is ∙ ap (λ (k : ℕ). max k 50) size_is ∙ sym (ap (λ (b : Bool). if b then 50 else max j.length' 50) e)
 
--- a need that a number can't have doesn't fit
+-- A need of 2^64 octets or more doesn't fit, and neither does the need capped at 2^64 - 1.
 pub fits_is : (j : Journal) (n s place g : ℕ) (r : Bool) → s ≡ min n (2 ^ 64 - 1) → place ≡ checkpoint_place j s → g ≡ j.generation
     → r ≡ (nat_le (place + s) (2 ^ 25) && nat_lt g (2 ^ 64 - 1)) → r ≡ fits_in j n
 fits_is j n s place g r s_is place_is g_is r_is = elim (cases_lt (2 ^ 64 - 1) n) [
@@ -44,13 +44,13 @@ fits_is j n s place g r s_is place_is g_is r_is = elim (cases_lt (2 ^ 64 - 1) n)
       ∙ ap (λ (t : ℕ). nat_le (checkpoint_place j n + n) (2 ^ 25) && nat_lt t (2 ^ 64 - 1)) g_is
 ]
 
--- one batch more
+-- The need with one more batch.
 pub need_more : (batches : List (List ℕ)) (k a b c d : ℕ) (body : List ℕ) → k < length batches → a ≡ min (need_of (take k batches)) (2 ^ 64 - 1) → b ≡ min (a + 5) (2 ^ 64 - 1) → body ≡ get_or batches k body → d ≡ length body
     → c ≡ min (b + d) (2 ^ 64 - 1) → c ≡ min (need_of (take (k + 1) batches)) (2 ^ 64 - 1)
 need_more batches k a b c d body lt a_is b_is body_is d_is c_is =
     omega (arith, a_is, b_is, c_is, d_is, sum_by_more (λ (x : List ℕ). 5 + length x) batches k body lt, ap length body_is)
 
--- one batch more in the octets of an area
+-- The octets of an area with one more batch.
 pub spell_more : (z : List ℕ) (batches : List (List ℕ)) (k : ℕ) (body old first second third : List ℕ) → k < length batches → body ≡ get_or batches k body → old ≡ z ++ spelled (take k batches) → first ≡ old ++ 1 ∷ []
     → second ≡ first ++ to_be_bytes w32 (length body) → third ≡ second ++ body → third ≡ z ++ spelled (take (k + 1) batches)
 spell_more z batches k body old first second third lt body_is old_is first_is second_is third_is =
@@ -66,7 +66,7 @@ spell_more z batches k body old first second third lt body_is old_is first_is se
     ∙ ap (λ (l : List ℕ). z ++ l) (sym (spelled_more (take k batches) body))
     ∙ ap (λ (l : List (List ℕ)). z ++ spelled l) (sym more)
 
--- the area that a checkpoint is written to
+-- the area to which a checkpoint is written
 pub draft_is : (live : Live) (batches more : List (List ℕ)) (size need place at : ℕ) (block : List ℕ) (j : Journal) → j ≡ record { length' = length_of live.start batches; start = live.start; generation = live.generation; moved = is_moved live.area; version = live.version }
     → size ≡ length_of live.start batches → need ≡ need_of more → place ≡ checkpoint_place j need → at ≡ (if nat_lt size 50 then size else place) → place + need ≤ 2 ^ 25
     → block ≡ replicate (place - at) 0 ++ (spelled more ++ 0 ∷ []) → IsDraft live batches more at place block
@@ -123,7 +123,7 @@ draft_is live batches more size need place at block j j_is size_is need_is place
     where_is : place ≡ (if (is_moved live.area && nat_le (50 + need) live.start) then 50 else max (length_of live.start batches) 50)
     where_is = place_is ∙ ap (λ (k : Journal). checkpoint_place k need) j_is
 
--- what a checkpoint that fits has room for
+-- What fits lies within the limit, and the next generation is in range.
 pub fits_parts : (j : Journal) (n : ℕ) → fits_in j n ≡ true → (checkpoint_place j n + n ≤ 2 ^ 25) × (j.generation < 2 ^ 64 - 1)
 fits_parts j n e =
     let first : nat_le (checkpoint_place j n + n) journal_limit ≡ true = front (nat_le (checkpoint_place j n + n) journal_limit) (nat_lt j.generation (2 ^ 64 - 1)) e in

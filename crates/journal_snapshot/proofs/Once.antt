@@ -1,4 +1,4 @@
--- Octets stand for one list of batches.
+-- Octets stand for at most one list of batches.
 use Rattle.std.proofs.Common.{◌≡◌, ◌≢◌, ◌≤◌, ◌<◌, ◌⊎◌, inl, inr, ℕ, Bool, true, false, not, ◌&&◌, nat_le, List, [], ◌∷◌, ◌++◌, length, take, refl, sym, ◌∙◌, ap, subst, arith, length-append, length-take}
 use Rattle.std.specs.Prelude.{slice_index}
 use Rattle.std.proofs.lemmas.Bool.{cases_Bool, false≢true}
@@ -73,17 +73,17 @@ not_refused content batches place (inr s) r = why r.1
     why (inl other) = not_other content place s.1.head other
     why (inr headed) = behind headed.1
 
--- what is opened is what the octets stand for
+-- What is opened is what the octets stand for.
 pub opened_stands : (read : List ℕ) (live : Live) (batches : List (List ℕ)) → IsOpened read live batches → StandsFor read batches
 opened_stands read live batches (inl new) = inl (new.0, new.2)
 opened_stands read live batches (inr o) = holds_stands live batches read o.2
 
--- what is opened of octets that hold batches in a live area
+-- Opening octets that hold batches in a live area gives these batches.
 pub opened_again : (read : List ℕ) (live other : Live) (batches more : List (List ℕ)) → IsOpened read live batches → HasBatches other more read → (batches ≡ more) × ((is_blank read ≡ true) ⊎ (live ≡ other))
 opened_again read live other batches more (inl new) h = (stands_for_once read batches more (opened_stands read live batches (inl new)) (holds_stands other more read h), inl new.0)
 opened_again read live other batches more (inr o) h = (stands_for_once read batches more (opened_stands read live batches (inr o)) (holds_stands other more read h), inr (o.1 ∙ h.says))
 
--- a gate that is being closed and isn't open
+-- A gate that is being closed and isn't open doesn't change the batches.
 pub closing_stands : (content image : List ℕ) (batches : List (List ℕ)) → StandsFor content batches → (c : IsClosing content image) → c.gate.other ≢ 1 → StandsFor image batches
 closing_stands content image batches (inl blank) c shut = absurd (false≢true (sym c.plain ∙ blank.0))
 closing_stands content image batches (inr s) c shut =

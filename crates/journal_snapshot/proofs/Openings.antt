@@ -1,4 +1,4 @@
--- What an opening reads off the first octets, and what it leaves.
+-- What an opening reads from the first octets, and what it leaves.
 use Rattle.std.proofs.Common.{◌≡◌, ◌≤◌, ◌<◌, ◌⊎◌, inl, inr, ℕ, ◌+◌, ◌-◌, min, Bool, true, false, List, ◌++◌, length, take, drop, replicate, sym, ◌∙◌, ap, subst, arith, IsTrue}
 use Rattle.std.specs.Prelude.{slice_index, nat_le, not, ◌&&◌, Result, Ok, Err, IfErr}
 use Rattle.std.proofs.lemmas.Bool.{cases_lt}
@@ -21,7 +21,7 @@ use Rattle.journal_snapshot.proofs.Fronts.{Agrees, fewer, SaysSame, says_same, s
 use Rattle.journal_snapshot.proofs.Plain.{plain_on, head_in}
 use Rattle.journal_snapshot.proofs.Standings.{start_behind, kept_behind, mark_behind, closing}
 
--- the octets that were read, and zeros behind them
+-- The first 50 octets are those that were read, and zeros after them.
 pub head_read : (content into : List ℕ) (size count n : ℕ) → size ≡ length content → count ≡ min size 50 → n ≡ count → into ≡ take n content
     → (k : ℕ) → k < 50 → slice_index (into ++ drop count (replicate 50 0)) k ≡ slice_index content k
 head_read content into size count n long count_is n_is into_is k lt = elim (cases_lt k count) [
@@ -62,7 +62,7 @@ module _ (content head : List ℕ) (size count : ℕ) (fifty : length head ≡ 5
         ap (λ (n : ℕ). nat_le n 17 && not (is_new (take count head))) long ∙ ap (λ (l : List ℕ). nat_le (length content) 17 && not (is_new l)) whole
   ]
 
--- the first octet of another head
+-- A head that isn't a journal's is found in the first 50 octets.
 pub other_head : (content head : List ℕ) (place : ℕ) → Agrees 50 content head → HasOtherHead head place → HasOtherHead content place
 other_head content head place same (inl misnamed) = inl (record {
   here = misnamed.here;
@@ -152,7 +152,7 @@ module _ {D : Type 0} (is_honest : D → Bool) (moment : D → ℕ) (image : D �
       let third = weaker moment image new last _ P opening (λ i o h. inr (o (subst (λ (b : Bool). IsTrue b) (sym later) h))) in
       joined moment image old new last P (joined moment image old mid new P first second) third
 
--- what a refusal leaves of a disk that was settled is what a crash leaves of its opening
+-- What a refusal leaves of a synced disk is what a crash during its opening leaves.
 pub refusal_leaves : {K : Type 0} (moment : K → ℕ) (image : K → ℕ → List ℕ → Type 0) (settled : K) (result : Result (SnapshotForm K) (JournalRefusal × K)) (before : List ℕ → Type 0) (read : List ℕ) (honest : Type 0)
     → AtEachMoment moment image settled (disk_in result) (λ i. honest → IsOpening read i) → IfErr result (λ e. honest → LeavesOneKind before (image e.1 (moment e.1)) read)
 refusal_leaves moment image settled (Ok s) before read honest run = tt

@@ -1,4 +1,4 @@
--- A disk that isn't blank.
+-- When a disk isn't blank.
 use Rattle.std.proofs.Common.{◌≡◌, ◌≤◌, ◌<◌, inl, inr, ℕ, Bool, true, false, List, length, take, refl, sym, ◌∙◌, ap, arith}
 use Rattle.std.specs.Prelude.{nat_le, not, ◌&&◌, ◌==◌}
 use Rattle.std.specs.Str.{bytes_eq}
@@ -25,7 +25,7 @@ long_plain i more =
     let over : nat_le (length i) 17 ≡ false = grind (arith, nat_tests) in
     ap (λ (b : Bool). b && not (is_new i)) over
 
--- the head of a new journal with an octet behind it
+-- A disk with the head of a new journal and at least one more octet isn't blank.
 pub new_plain : (i : List ℕ) → 17 ≤ length i → take 16 i ≡ new_header → is_blank i ≡ false
 new_plain i some head = elim (cases_lt 17 (length i)) [
   | inl more ↦ long_plain i more
@@ -36,7 +36,7 @@ new_plain i some head = elim (cases_lt 17 (length i)) [
       λ j. within j && not ((is j == 17) && named j)
 ]
 
--- a short one that isn't blank
+-- A disk of at most 17 octets that isn't blank has exactly 17 octets, and begins with the head of a new journal.
 pub short_new : (i : List ℕ) → length i ≤ 17 → is_blank i ≡ false → (length i ≡ 17) × (take 16 i ≡ new_header)
 short_new i few plain =
     let within : nat_le (length i) 17 ≡ true = grind (arith, nat_tests) in
@@ -44,13 +44,13 @@ short_new i few plain =
     let long : (length i == 17) ≡ true = and_first (length i == 17) (bytes_eq (take 16 i) new_header) sure in
     (grind (arith, nat_tests), (bytes_eq-Decides (take 16 i) new_header).0 (and_second (length i == 17) (bytes_eq (take 16 i) new_header) sure))
 
--- no shorter, and with the same head
+-- A disk isn't blank if it has the head of another disk that isn't blank, and is no shorter.
 pub plain_on : (c i : List ℕ) → length c ≤ length i → take 16 i ≡ take 16 c → is_blank c ≡ false → is_blank i ≡ false
 plain_on c i le head plain = elim (cases_lt 17 (length i)) [
   | inl more ↦ long_plain i more
   | inr few ↦ let was = short_new c (omega (arith, le, few)) plain in new_plain i (omega (arith, was.0, le)) (head ∙ was.1)
 ]
 
--- a front has the head
+-- Disks whose first n octets are the same have the same head, if n is at least 16.
 pub head_in : (n : ℕ) (c i : List ℕ) → 16 ≤ n → take n i ≡ take n c → take 16 i ≡ take 16 c
 head_in n c i le same = sym (take-take 16 n i le) ∙ ap (λ (l : List ℕ). take 16 l) same ∙ take-take 16 n c le

@@ -1,4 +1,4 @@
--- What stands on a disk whose octets change behind its front.
+-- Which batches a disk holds when its octets after the front change.
 use Rattle.std.proofs.Common.{◌≡◌, ◌≤◌, ◌<◌, ◌⊎◌, inl, inr, ℕ, zero, suc, true, false, List, [], ◌∷◌, ◌++◌, length, take, drop, refl, sym, ◌∙◌, ap, subst, arith, append_assoc, length-append, length-take}
 use Rattle.std.specs.Prelude.{slice_index, ◌==◌}
 use Rattle.std.specs.Int.{w32, to_be_bytes}
@@ -18,7 +18,7 @@ use Rattle.journal_snapshot.specs.Opening.{IsClosing, IsOpening}
 use Rattle.journal_snapshot.proofs.Fronts.{Agrees, agrees_front, AgreesEnough, says_same, same_head, start_least, longer, enough, at_header}
 use Rattle.journal_snapshot.proofs.Plain.{new_plain, short_new, plain_on, head_in}
 
--- batches from a start on end behind it
+-- The start of the batches lies before the end of the image.
 pub stands_long : (start : ℕ) (image : List ℕ) (batches : List (List ℕ)) → Stands (take start image) batches image → start < length image
 stands_long start image batches s =
     omega (
@@ -29,7 +29,7 @@ stands_long start image batches s =
       length-take start image,
     )
 
--- a front that is as long as the start
+-- A front as long as the start is what the image has before the start.
 pub front_is : (front image : List ℕ) (batches : List (List ℕ)) (start : ℕ) → length front ≡ start → Stands front batches image → take start image ≡ front
 front_is front image batches start long s =
     ap (λ (l : List ℕ). take start l) (s.is ∙ append_assoc front (spelled batches) (s.gate ∷ s.rest)) ∙ take_at front (spelled batches ++ s.gate ∷ s.rest) start long
@@ -37,7 +37,7 @@ front_is front image batches start long s =
 pub settled_stands : (content : List ℕ) (images : List ℕ → Type 0) (start : ℕ) (batches : List (List ℕ)) → AreShort batches → IsSettled content images start batches → Stands (take start content) batches content
 settled_stands content images start batches short s = record { gate = 0; rest = s.rest; is = s.is; shut = λ z. absurd (omega (arith, z)); short = short }
 
--- up to the octet behind the closed gate
+-- The content is at least as long as the journal with its closed gate.
 pub settled_long : (content : List ℕ) (images : List ℕ → Type 0) (start : ℕ) (batches : List (List ℕ)) → IsSettled content images start batches → length_of start batches ≤ length content
 settled_long content images start batches s =
     omega (
@@ -53,19 +53,19 @@ pub settled_before : (content : List ℕ) (images : List ℕ → Type 0) (start 
 settled_before content images start batches doubt short s =
     record { gate = 0; rest = s.rest; is = s.is; shut = λ z. absurd (omega (arith, z)); short = short; closed = inl refl }
 
--- what stands before a doubt is read
+-- Batches that an image holds, with or without one in doubt, can be read.
 pub batches_of : (live : Live) (batches doubt : List (List ℕ)) (image : List ℕ) → Holds live batches doubt image → HasBatches live batches image
 batches_of live batches doubt image h = record { head = h.head; says = h.says; placed = h.placed; stands = before_stands (take live.start image) image batches doubt h.stands }
 
--- and what stands before none stands before any
+-- Batches held with none in doubt are also held with any batch in doubt.
 pub holds_any : (live : Live) (batches doubt : List (List ℕ)) (image : List ℕ) → Holds live batches [] image → Holds live batches doubt image
 holds_any live batches doubt image h = record { head = h.head; says = h.says; placed = h.placed; stands = before_any (take live.start image) image batches doubt h.stands }
 
--- and what is read may stand before a doubt
+-- Batches that can be read and stand before a batch in doubt are held.
 pub held_before : (live : Live) (batches doubt : List (List ℕ)) (image : List ℕ) → HasBatches live batches image → StandsBefore (take live.start image) batches doubt image → Holds live batches doubt image
 held_before live batches doubt image h s = record { head = h.head; says = h.says; placed = h.placed; stands = s }
 
--- the same front, and batches behind it
+-- With the same front and these batches after it, the image has these batches in the same live area.
 pub holds_kept : (live : Live) (batches more : List (List ℕ)) (c i : List ℕ) → HasBatches live batches c → AgreesEnough c i → Stands (take live.start i) more i → HasBatches live more i
 holds_kept live batches more c i h agrees s =
     let says = says_same c i agrees in
@@ -77,11 +77,11 @@ holds_kept live batches more c i h agrees s =
       stands = s;
     }
 
--- octets up to the start of what it has are enough
+-- Disks with the same octets before the live start say the same live area.
 pub holds_enough : (live : Live) (batches : List (List ℕ)) (c i : List ℕ) → HasBatches live batches c → Agrees live.start c i → AgreesEnough c i
 holds_enough live batches c i h same = enough c i (length c) h.placed (subst (λ (l : Live). Agrees l.start c i) (sym h.says) same)
 
--- an image behind the front of what a disk has
+-- The image has the same front as the disk.
 behind_front : (live : Live) (batches more doubt : List (List ℕ)) (c i : List ℕ) → HasBatches live batches c → StandsBefore (take live.start c) more doubt i → take live.start i ≡ take live.start c
 behind_front live batches more doubt c i h s =
     let there : Stands (take live.start c) more i = before_stands (take live.start c) i more doubt s in
@@ -96,11 +96,11 @@ holds_behind live batches more doubt c i h s =
     (holds_kept live batches more c i h (holds_enough live batches c i h (agrees_front live.start c i front)) (subst (λ (f : List ℕ). Stands f more i) (sym front) there))
     (subst (λ (f : List ℕ). StandsBefore f more doubt i) (sym front) s)
 
--- and behind the head
+-- The live start is after the head of 16 octets.
 pub start_behind : (live : Live) (batches : List (List ℕ)) (c : List ℕ) → HasBatches live batches c → 16 ≤ live.start
 start_behind live batches c h = subst (λ (l : Live). 16 ≤ l.start) h.says (start_least c (length c) h.placed)
 
--- such an image isn't blank, where it is no shorter
+-- Such an image isn't blank if it is no shorter than the disk.
 plain_behind : (live : Live) (batches more doubt : List (List ℕ)) (c i : List ℕ) → HasBatches live batches c → is_blank c ≡ false → length c ≤ length i → StandsBefore (take live.start c) more doubt i → is_blank i ≡ false
 plain_behind live batches more doubt c i h plain le s = plain_on c i le (head_in live.start c i (start_behind live batches c h) (behind_front live batches more doubt c i h s)) plain
 
@@ -115,7 +115,7 @@ old_or_doubt : (live : Live) (batches doubt : List (List ℕ)) (c i : List ℕ) 
 old_or_doubt live batches doubt c i h (inl old) = inl (holds_behind live batches batches doubt c i h old)
 old_or_doubt live batches doubt c i h (inr d) = inr (d.0, d.1, holds_behind live batches (batches ++ d.0 ∷ []) [] c i h d.2)
 
--- a gate that is being closed behind the batches
+-- the gate after the batches is being closed
 pub closing_holds : (live : Live) (batches doubt : List (List ℕ)) (c i : List ℕ) → Holds live batches doubt c → IsClosing c i → HoldsOldOrDoubt live batches doubt i
 closing_holds live batches doubt c i h closing =
     let has = batches_of live batches doubt c h in
@@ -123,7 +123,7 @@ closing_holds live batches doubt c i h closing =
     let start : (live_of c).start ≡ length (take live.start c) = ap (λ (l : Live). l.start) h.says ∙ sym long in
     old_or_doubt live batches doubt c i has (closed_over (take live.start c) c i batches doubt h.stands (subst (λ (n : ℕ). HasOtherGate n c i) start closing.gate))
 
--- a disk that has the same front, and settled batches behind it
+-- A disk with the same front and settled batches after it keeps these batches.
 pub kept_behind : (live : Live) (batches more : List (List ℕ)) (c new : List ℕ) (images : List ℕ → Type 0) → HasBatches live batches c → is_blank new ≡ false → take live.start new ≡ take live.start c → AreShort more
     → IsSettled new images live.start more → IsKept live more new images
 kept_behind live batches more c new images h plain front short s = record {
@@ -134,13 +134,13 @@ kept_behind live batches more c new images h plain front short s = record {
   settled = s;
 }
 
--- the mark of the slot that isn't live stays
+-- The mark of the slot that isn't live stays the same.
 pub mark_behind : (live : Live) (batches : List (List ℕ)) (c new : List ℕ) → HasBatches live batches c → take live.start new ≡ take live.start c → has_open_mark new live.area ≡ has_open_mark c live.area
 mark_behind live batches c new h front =
     let says = says_same c new (holds_enough live batches c new h (agrees_front live.start c new front)) in
     subst (λ (l : Live). has_open_mark new l.area ≡ has_open_mark c l.area) h.says says.mark
 
--- another gate changes neither the front nor how many octets there are
+-- Another value of the gate changes neither the front nor the number of octets.
 gate_beside : (start : ℕ) (c i : List ℕ) → HasOtherGate start c i → (length i ≡ length c) × (take start i ≡ take start c)
 gate_beside start c i other =
     let back : c ≡ take start c ++ (spelled other.batches ++ other.gate ∷ other.rest) = other.was ∙ append_assoc (take start c) (spelled other.batches) (other.gate ∷ other.rest) in
@@ -153,7 +153,7 @@ gate_beside start c i other =
     let long : length (take start c) ≡ start = length-take-le start c (omega (arith, ap length back, here, tail, length-take start c)) in
     (size, ap (λ (l : List ℕ). take start l) is ∙ take_at (take start c) (spelled other.batches ++ other.other ∷ other.rest) start long)
 
--- a gate that is closed
+-- the gate after the batches is being closed while the disk is opened
 pub closing : (c i : List ℕ) → is_blank c ≡ false → IsHeaded c → is_placed c (length c) ≡ true → IsReadOrClosing (live_of c).start c i → IsOpening c i
 closing c i plain head placed (inl same) = inl same
 closing c i plain head placed (inr other) =
@@ -241,7 +241,7 @@ new_closed =
     let s : StandsBefore (take 16 c) [] [] c = record { gate = 0; rest = []; is = refl; shut = λ z. absurd (omega (arith, z)); short = no_batches; closed = inl refl } in
     held_before new_live [] [] c (new_holds c refl (before_stands (take 16 c) c [] [] s)) s
 
--- behind the new header there is no batch
+-- After the head of a new journal there is no batch.
 none_behind : (batches : List (List ℕ)) (gate g : ℕ) (rest : List ℕ) → g ∷ [] ≡ spelled batches ++ gate ∷ rest → (spelled batches ≡ []) × (rest ≡ [])
 none_behind [] gate g rest e = (refl, let r : [] ≡ rest = cc in sym r)
 none_behind (b ∷ batches) gate g rest e =

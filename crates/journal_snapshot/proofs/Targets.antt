@@ -17,7 +17,7 @@ fields_long Field g p = refl
 fields_long First g p = refl
 fields_long Second g p = refl
 
--- octets 9 to 15 have no generation
+-- The fields of the next area have the same octets with either generation, since octets 9 to 15 have none.
 pub fields_same : (b : Area) (n p : ℕ) → fields_of (next_area b) (n + 1) p ≡ fields_of (next_area b) (if is_moved b then n + 1 else 0) p
 unfolding fields_of
 fields_same Header n p = refl
@@ -37,7 +37,7 @@ fields_low Field = omega arith
 fields_low First = omega arith
 fields_low Second = omega arith
 
--- the mark stands before the fields
+-- The mark stands before the fields.
 pub mark_first : (a : Area) → mark_place (next_area a) + 1 ≤ fields_place (next_area a)
 mark_first Header = omega arith
 mark_first Field = omega arith
@@ -56,14 +56,14 @@ front_plain Field e = absurd cc
 front_plain First e = absurd cc
 front_plain Second e = absurd cc
 
--- a mark that isn't to be cleared is closed
+-- A mark that needn't be cleared is closed.
 pub shut_mark : (c : List ℕ) (a : Area) → area_of c ≡ a → has_open_mark c a ≡ false → (slice_index c (mark_place (next_area a)) == open_mark (next_area a)) ≡ false
 shut_mark c Header there e = chosen_off (slice_index c 8 == 1) (slice_index c 16 == 3) (slice_index c 17 == 3) (nat_lt (word c 18) (word c 34)) there
 shut_mark c Field there e = e
 shut_mark c First there e = e
 shut_mark c Second there e = e
 
--- a mark that is to be cleared is open
+-- A mark that must be cleared is open.
 pub open_there : (c : List ℕ) (a : Area) → has_open_mark c a ≡ true → (is_moved a ≡ true) × (slice_index c (mark_place (next_area a)) ≡ 3) × (open_mark (next_area a) ≡ 3)
 open_there c Header e = absurd cc
 open_there c Field e = (refl, (let s : slice_index c 16 ≡ 3 = grind (arith, nat_tests) in s), refl)
@@ -79,7 +79,8 @@ closed_octet Second = refl
 pub equal_is : (m n : ℕ) → (m == n) ≡ true → m ≡ n
 equal_is m n e = grind (arith, nat_tests)
 
--- on a disk that was never moved octet 16 is a gate, and octet 17 the first of a length below 2 ^ 25 or 0
+-- On a disk without a checkpoint octet 16 is a gate, and octet 17 is 0 or the first octet of a length below 2^25. So neither is
+-- an open mark.
 pub no_marks : (batches : List (List ℕ)) (i : List ℕ) → IsArea 16 batches i → length_of 16 batches ≤ 2 ^ 25 → (batches ≡ [] → slice_index i 17 ≡ 0) → HasNoMarks Header i
 no_marks [] i w few zero_there = (ap (λ (o : ℕ). o == 3) (w.written 0 (omega arith)), ap (λ (o : ℕ). o == 3) (zero_there refl))
 no_marks (b ∷ batches) i w few zero_there =

@@ -1,4 +1,4 @@
--- What a checkpoint writes, and what a crash leaves of it.
+-- What a checkpoint writes, and what a crash during it leaves.
 use Rattle.std.specs.Prelude.{◌≡◌, ◌⊎◌, ◌≤◌, ℕ, ◌+◌, ◌-◌, ◌^◌, Bool, true, if◌then◌else◌, IsTrue, List, [], ◌∷◌, ◌++◌, length, replicate}
 use Rattle.disk_model.specs.Images.{Torn, Only, overlaid}
 use Rattle.disk_model.specs.declared.allowance.Allowance.{Allowance}
@@ -11,7 +11,7 @@ use Rattle.journal_snapshot.specs.Snapshots.{need_of, moved_to}
 abbrev pub next_generation : Live → ℕ
 next_generation live = if is_moved live.area then live.generation + 1 else 0
 
--- the octet that makes the next area count, and the fields that say its start
+-- the mark, which makes the next area the live one, and the fields that say its start
 abbrev pub mark_of : Live → ℕ
 mark_of live = mark_place (next_area live.area)
 
@@ -21,27 +21,27 @@ fields_at live = fields_place (next_area live.area)
 abbrev pub fields_in : Live → ℕ → List ℕ
 fields_in live place = fields_of (next_area live.area) (next_generation live) place
 
--- the mark is cleared where it is open
+-- The mark is cleared if it is open.
 abbrev pub cleared : Bool → ℕ → List ℕ → List ℕ
 cleared older mark c = if older then overlaid mark (0 ∷ []) c else c
 
 abbrev pub IsClearing : Bool → ℕ → List ℕ → List ℕ → Type 0
 IsClearing older mark c i = (i ≡ c) ⊎ ((older ≡ true) × Torn mark 1 c i)
 
--- two ranges were written, and nothing was synced between
+-- Two ranges were written without a sync between them.
 pub record TornTwice (at n place m : ℕ) (old new : List ℕ) : Type 0 where
   pub mid : List ℕ
   pub first : Torn at n old mid
   pub second : Torn place m mid new
 
--- the area and its fields are written
+-- The area and its fields are written.
 abbrev pub drawn : Live → ℕ → List ℕ → ℕ → List ℕ → List ℕ
 drawn live at block place c = overlaid (fields_at live) (fields_in live place) (overlaid at block c)
 
 abbrev pub IsDrawing : Live → ℕ → List ℕ → ℕ → List ℕ → List ℕ → Type 0
 IsDrawing live at block place c i = TornTwice at (length block) (fields_at live) (length (fields_in live place)) c i
 
--- the whole checkpoint
+-- The whole checkpoint is written, including the mark.
 abbrev pub marked : Live → Bool → ℕ → List ℕ → ℕ → List ℕ → List ℕ
 marked live older at block place c = overlaid (mark_of live) (open_mark (next_area live.area) ∷ []) (drawn live at block place (cleared older (mark_of live) c))
 
@@ -50,14 +50,15 @@ IsStage live older at block place c i =
     IsClearing older (mark_of live) c i
     ⊎ (IsDrawing live at block place (cleared older (mark_of live) c) i ⊎ Torn (mark_of live) 1 (drawn live at block place (cleared older (mark_of live) c)) i)
 
--- the memory for its writes
+-- the memory for the writes of a checkpoint
 pub record HasRoom (a : Allowance) (end octets : ℕ) : Type 0 where
   pub granted : IsTrue a.granted
   pub reach : end ≤ a.reach
   pub left : octets + 18 ≤ a.left
   pub used : a.used ≤ 3
 
--- An area at a place, with zeros before it where it doesn't begin behind the journal: it leaves the live area alone.
+-- The area of a checkpoint at a place doesn't overlap the live area. If it doesn't begin right after the journal, zeros stand
+-- before it.
 pub record IsDraft (live : Live) (batches more : List (List ℕ)) (at place : ℕ) (block : List ℕ) : Type 0 where
   pub before : at ≤ place
   pub fifty : 50 ≤ place
@@ -65,7 +66,8 @@ pub record IsDraft (live : Live) (batches more : List (List ℕ)) (at place : �
   pub apart : ((is_moved live.area ≡ true) × (50 ≤ at) × (place + need_of more ≤ live.start)) ⊎ (at ≡ length_of live.start batches)
   pub is : block ≡ replicate (place - at) 0 ++ (spelled more ++ 0 ∷ [])
 
--- A disk on which this checkpoint may be written: the places of its writes are there, and what it leaves has the new area.
+-- A disk on which this checkpoint may be written. All places that it writes are on the disk, and afterwards the disk has the
+-- new area.
 pub record IsReady (live : Live) (older : Bool) (at : ℕ) (block : List ℕ) (place : ℕ) (more : List (List ℕ)) (c : List ℕ) (images : List ℕ → Type 0) : Type 0 where
   pub only : Only c images
   pub spots : (mark_of live + 1 ≤ length c) × (fields_at live + length (fields_in live place) ≤ length c) × (at ≤ length c)

@@ -1,17 +1,17 @@
--- The front of a disk: where the live area starts, its generation, and the version of its records.
+-- The first octets of a disk: where the live area starts, its generation, and the version of its records.
 use Rattle.std.specs.Prelude.{ℕ, ◌+◌, ◌==◌, nat_lt, nat_le, ◌&&◌, ◌||◌, if◌then◌else◌, Bool, true, false, List, [], ◌∷◌, ◌++◌, drop, slice_index}
 use Rattle.std.specs.Int.{w64, from_be_bytes, to_be_bytes}
 use Rattle.journal_snapshot.specs.declared.area.Area.{Area}
 use Rattle.journal_snapshot.specs.declared.area.Area.TheVariants.{Header, Field, First, Second}
 use Rattle.journal_snapshot.specs.declared.live.Live.{Live}
 
--- the number in the eight octets from a place on; an octet that a disk doesn't have counts as 0
+-- the number in the eight octets from a place on; octets that the disk doesn't have count as 0
 unfoldable pub word : List ℕ → ℕ → ℕ
 word c at =
     from_be_bytes w64
     (slice_index c at ∷ slice_index c (at + 1) ∷ slice_index c (at + 2) ∷ slice_index c (at + 3) ∷ slice_index c (at + 4) ∷ slice_index c (at + 5) ∷ slice_index c (at + 6) ∷ slice_index c (at + 7) ∷ [])
 
--- the number in these octets but the first, which is a version
+-- the number in the last seven of eight octets, of which the first is a version
 unfoldable pub tail_word : List ℕ → ℕ → ℕ
 tail_word c at =
     from_be_bytes w64
@@ -23,17 +23,18 @@ field_word c =
     from_be_bytes w64
     (0 ∷ 0 ∷ slice_index c 10 ∷ slice_index c 11 ∷ slice_index c 12 ∷ slice_index c 13 ∷ slice_index c 14 ∷ slice_index c 15 ∷ [])
 
--- Of a disk that was moved or not, with these slots open or not. The second one counts where it is newer.
+-- where the start is said, by whether a checkpoint was made, which slots are open, and whether the second slot is newer
 abbrev pub chosen : Bool → Bool → Bool → Bool → Area
 chosen moved first second newer =
     if moved then (if first then (if second && newer then Second else First) else (if second then Second else Field)) else Header
 
--- Where the start of the live area is said. Octet 8 is 1 once the disk was moved; octets 16 and 17 are the marks of two slots,
--- which are open where they are 3, and each slot begins with its generation.
+-- Where the start of the live area is said. Octet 8 is 1 once a checkpoint was made. Octets 16 and 17 are the marks of the two
+-- slots; a mark of 3 is open. Each slot begins with its generation.
 abbrev pub area_of : List ℕ → Area
 area_of c = chosen (slice_index c 8 == 1) (slice_index c 16 == 3) (slice_index c 17 == 3) (nat_lt (word c 18) (word c 34))
 
--- the slot that isn't live, or the first one; a disk that isn't moved has its first move in octets 9 to 15
+-- where the next checkpoint says its start: octets 9 to 15 the first time, then the first slot, and then always the slot that
+-- isn't live
 abbrev pub next_area : Area → Area
 next_area Header = Field
 next_area Field = First
@@ -52,14 +53,14 @@ is_slot Field = false
 is_slot First = true
 is_slot Second = true
 
--- the octet with the version, the first of a start field
+-- the place of the version, which is the first octet of a start field
 abbrev pub version_place : Area → ℕ
 version_place Header = 7
 version_place Field = 9
 version_place First = 26
 version_place Second = 42
 
--- the octet that makes an area count, and what it is then
+-- the mark: the octet that makes an area the live one, and its value when it is open
 abbrev pub mark_place : Area → ℕ
 mark_place Header = 8
 mark_place Field = 8
@@ -84,14 +85,14 @@ start_of c Field = field_word c
 start_of c First = tail_word c 26
 start_of c Second = tail_word c 42
 
--- the first two areas have no generation of their own
+-- The first two areas have no generation field.
 abbrev pub generation_of : List ℕ → Area → ℕ
 generation_of c Header = 0
 generation_of c Field = 0
 generation_of c First = word c 18
 generation_of c Second = word c 34
 
--- an octet of 0 in a start field is version 1
+-- An octet of 0 in a start field means version 1.
 abbrev pub spelled_version : ℕ → ℕ
 spelled_version octet = if octet == 0 then 1 else 2
 
@@ -110,7 +111,7 @@ live_of c = live_in c (area_of c)
 abbrev pub is_version : ℕ → Bool
 is_version octet = (octet == 0) || (octet == 2)
 
--- a start field has a version that is known, and a place behind both slots and on the disk
+-- A start field has a known version, and a start that is after both slots and on the disk.
 abbrev pub is_field : ℕ → ℕ → ℕ → Bool
 is_field octet start size = (is_version octet && nat_le 50 start) && nat_lt start size
 
@@ -120,18 +121,18 @@ is_placed_in c Field size = is_field (slice_index c 9) (start_of c Field) size
 is_placed_in c First size = is_field (slice_index c 26) (start_of c First) size
 is_placed_in c Second size = is_field (slice_index c 42) (start_of c Second) size
 
--- the live area of a disk of so many octets can be there
+-- On a disk of this size, an area can start where the disk says.
 abbrev pub is_placed : List ℕ → ℕ → Bool
 is_placed c size = is_placed_in c (area_of c) size
 
--- whether the slot that the next checkpoint takes has an open mark
+-- Whether the slot of the next checkpoint has an open mark.
 abbrev pub has_open_mark : List ℕ → Area → Bool
 has_open_mark c Header = false
 has_open_mark c Field = slice_index c 16 == 3
 has_open_mark c First = slice_index c 17 == 3
 has_open_mark c Second = slice_index c 16 == 3
 
--- the fields that say this start, of version 2
+-- the fields that say this start, with version 2
 unfoldable pub fields_of : Area → ℕ → ℕ → List ℕ
 fields_of Header generation start = 2 ∷ drop 2 (to_be_bytes w64 start)
 fields_of Field generation start = 2 ∷ drop 2 (to_be_bytes w64 start)

@@ -7,14 +7,14 @@ use Rattle.journal_snapshot.specs.declared.live.Live.{Live}
 use Rattle.journal_snapshot.specs.Layout.{next_area, is_moved, has_open_mark}
 use Rattle.journal_snapshot.specs.Standing.{IsKept}
 
--- the disk, its live area, the batches in order, and how many octets of a body have their memory
+-- the disk, its live area, the batches in order, and for how many octets of a body the memory is allocated
 pub record SnapshotForm (K : Type 0) : Type 0 where
   pub disk : K
   pub live : Live
   pub batches : List (List ℕ)
   pub spare : ℕ
 
--- the journal that it is
+-- the network model's journal that it stands for
 abbrev pub journal_of : {K : Type 0} → SnapshotForm K → Journal
 journal_of s =
     record {
@@ -37,7 +37,7 @@ abbrev pub moved_to : Live → ℕ → Live
 moved_to live place =
     record { area = next_area live.area; start = place; generation = if is_moved live.area then live.generation + 1 else 0; version = 2 }
 
--- what holds of the fields
+-- the invariant of the fields
 pub record IsSound (is_honest : Bool) (content : List ℕ) (images : List ℕ → Type 0) (start : ℕ) (batches : List (List ℕ)) (live : Live) (older : Bool) : Type 0 where
   pub at : start ≡ live.start
   pub kept : IsTrue is_honest → IsKept live batches content images

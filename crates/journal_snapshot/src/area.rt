@@ -1,13 +1,12 @@
-// Where the start of the live area is said.
 ghost use Rattle.std.specs.Prelude.{◌≡◌, ℕ, Bool};
 ghost use Rattle.journal_snapshot.specs.Layout.{chosen, next_area, is_slot, version_place, mark_place, open_mark, fields_place};
 
-/// Where the start of a disk's live area is said.
+/// Where a disk says the start of its live area.
 #[derive(Clone, Copy, Debug, PartialEq, Eq)]
 pub enum Area {
-    /// Nowhere: it is octet 16, behind the header of a disk that no checkpoint has moved.
+    /// Nowhere: the start is octet 16, after the header. No checkpoint was made on this disk.
     Header,
-    /// In octets 9 to 15, on a disk that was moved and has no open slot.
+    /// In octets 9 to 15: a checkpoint was made, and neither slot is open.
     Field,
     /// In the first slot, octets 18 to 33.
     First,
@@ -16,7 +15,7 @@ pub enum Area {
 }
 
 impl Area {
-    /// The area of a disk that was moved or not, and has these slots open or not; the second one counts where it is newer.
+    /// Chooses among the areas: by whether a checkpoint was made, which slots are open, and whether the second slot is newer.
     pub fn chosen(moved: bool, first: bool, second: bool, newer: bool) -> Self
         ensures { result ≡ chosen moved first second newer }
     {
@@ -48,7 +47,7 @@ impl Area {
         }
     }
 
-    /// Whether it is one of the two slots.
+    /// Whether this is one of the two slots.
     pub fn is_slot(self) -> bool
         ensures { result ≡ is_slot self }
     {
@@ -60,7 +59,8 @@ impl Area {
         }
     }
 
-    /// Where the octet with the version of its records stands, which for all but the first area begins its start field.
+    /// The place of the octet that tells the version of the area's records. Except for `Header`, the start field begins with
+    /// this octet.
     pub fn version_place(self) -> usize
         ensures { result ≡ version_place self }
     {
@@ -72,7 +72,7 @@ impl Area {
         }
     }
 
-    /// The octet that makes it count.
+    /// The place of the mark: the octet that makes this area the live one.
     pub fn mark_place(self) -> u64
         ensures { result ≡ mark_place self }
     {
@@ -84,7 +84,7 @@ impl Area {
         }
     }
 
-    /// What that octet is then.
+    /// The value of the mark when it is open.
     pub fn open_mark(self) -> u8
         ensures { result ≡ open_mark self }
     {
@@ -96,7 +96,7 @@ impl Area {
         }
     }
 
-    /// Where its fields begin.
+    /// Where the area's fields begin.
     pub fn fields_place(self) -> u64
         ensures { result ≡ fields_place self }
     {

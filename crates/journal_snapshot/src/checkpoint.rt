@@ -1,4 +1,4 @@
-// A checkpoint on a disk.
+// Writing a checkpoint to a disk.
 ghost use Rattle.std.specs.Prelude.{◌≡◌, ◌⊎◌, ◌≤◌, ◌<◌, ◌+◌, ◌-◌, ◌^◌, ◌∷◌, ◌++◌, [], ℕ, List, length, max, replicate, IsTrue, OnOk, OnErr, IfOk};
 ghost use Rattle.qkd_base.specs.Faults.{HasCause};
 ghost use Rattle.disk_model.specs.Allowance.{after_room};
@@ -14,15 +14,15 @@ use qkd_base::{Memory, Octets, Replica};
 use range_journal::{Journal, write_synced};
 use std::alloc::Global;
 
-/// The memory of a checkpoint: the octets of its area, with zeros before it where it doesn't begin behind the journal, and its
-/// batches.
+/// The memory of a checkpoint: its batches, and the octets of its area. If the area doesn't begin right after the journal,
+/// zeros stand before it.
 #[derive(Drop)]
 pub struct Draft {
     pub block: Vec<u8>,
     pub batches: Vec<Octets>,
 }
 
-// So many zeros, the batches, each behind an open gate, and a closed gate.
+// Encodes `zeros` zeros, the batches, each after an open gate, and a closed gate.
 fn spelled(alloc: Global, batches: &[Octets], zeros: u64) -> Result<Vec<u8>, Memory>
     requires { AreShort batches.now }
     ensures { IfOk result (λ block. block.items ≡ replicate zeros 0 ++ (spelled_in batches.now ++ 0 ∷ [])) }
@@ -37,7 +37,7 @@ fn spelled(alloc: Global, batches: &[Octets], zeros: u64) -> Result<Vec<u8>, Mem
     Ok(block)
 }
 
-// The same batches, in memory of their own.
+// Copies the batches into memory of their own.
 fn copied(alloc: Global, batches: &[Octets]) -> Result<Vec<Octets>, Memory>
     ensures { IfOk result (λ copies. copies.items ≡ batches.now) }
 {
@@ -50,8 +50,8 @@ fn copied(alloc: Global, batches: &[Octets]) -> Result<Vec<Octets>, Memory>
 }
 
 impl Draft {
-    /// Takes the memory for a checkpoint at a place that is written from `at` on, the disk's too. Without it the journal is
-    /// as it was.
+    /// Allocates the memory for a checkpoint at `place` that is written from `at` on, including the disk's memory. If this
+    /// fails, the journal is unchanged.
     pub fn prepared<K: Disk>(
         alloc: Global,
         journal: &mut Journal<K>,
@@ -74,13 +74,13 @@ impl Draft {
     {
         let block = spelled(alloc, batches, place - at)?;
         let batches = copied(alloc, batches)?;
-        // The fields take 16 octets more, and the mark two.
+        // The fields take at most 16 more octets, and writing the mark twice takes two.
         journal.room_to(at + block.len() as u64 + 18)?;
         Ok(Draft { block, batches })
     }
 }
 
-// Clears a mark where it is open.
+// Clears the mark if it is open.
 fn clear<K: Disk>(disk: &mut K, older: bool, mark: u64) -> Result<(), DiskFailed>
     requires durable { IsTrue (K.is_honest disk.old) → Only (K.content disk.old) (K.image disk.old (K.moment disk.old)) }
     requires within { IsTrue (K.is_honest disk.old) → mark + 1 ≤ length (K.content disk.old) }
@@ -103,7 +103,7 @@ fn clear<K: Disk>(disk: &mut K, older: bool, mark: u64) -> Result<(), DiskFailed
     Ok(())
 }
 
-// Writes at two places, the second one inside of what is there, and syncs.
+// Writes at two places, the second of which lies within the disk's octets, and syncs.
 fn write_both<K: Disk>(
     disk: &mut K,
     at: u64,
@@ -134,7 +134,7 @@ fn write_both<K: Disk>(
     disk.sync()
 }
 
-// The start field of a first move, of version 2.
+// The start field of the first checkpoint on a disk, with version 2.
 fn field_octets(start: u64) -> [u8; 7]
     ensures { result ≡ fields_of Area.Field 0 start }
 {
@@ -144,7 +144,7 @@ fn field_octets(start: u64) -> [u8; 7]
     ]
 }
 
-// The fields of a slot, of version 2.
+// The fields of a slot, with version 2.
 fn slot_octets(generation: u64, start: u64) -> [u8; 16]
     ensures first { result ≡ fields_of Area.First generation start }
     ensures second { result ≡ fields_of Area.Second generation start }
@@ -203,8 +203,8 @@ fn draw<K: Disk>(
     }
 }
 
-/// Writes a checkpoint: it clears the mark of the area that is to be live where it is open, writes the area and the fields that
-/// say its start, and once these are synced opens the mark.
+/// Writes a checkpoint. It clears the mark of the next area if it is open, writes the area and the fields that say its start,
+/// and syncs. Then it opens the mark.
 pub fn write_checkpoint<K: Disk>(
     disk: &mut K,
     live: Live,

@@ -1,5 +1,6 @@
-//! A journal whose batches may be put into a shorter form: a checkpoint writes them beside the live area, and one octet then
-//! makes the new area the live one. What a crash at any moment leaves stands for the old batches or for the new ones.
+//! A journal on disk with checkpoints, which replace all of its batches by other ones; a crash leaves the old batches or the
+//! new ones.
+//! A checkpoint writes the new batches into an area beside the live one. Then one octet makes the new area the live one.
 #![tactic(auto)]
 
 mod area;
@@ -17,5 +18,4 @@ pub use laws::{
 };
 pub use live::Live;
 pub use opening::open;
-pub use range_journal;
 pub use snapshots::{SnapRefused, Snapshots};

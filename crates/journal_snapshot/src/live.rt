@@ -1,14 +1,13 @@
-// The front of a disk.
-ghost use Rattle.std.specs.Prelude.{◌≡◌, ◌≤◌, ◌+◌, ℕ, Bool, true, false, length, MatchOption};
+// The first octets of a disk, which say where the live area is.
+ghost use Rattle.std.specs.Prelude.{◌≡◌, ◌≤◌, ◌+◌, ℕ, Bool, true, false, length, MatchOption, ◌<◌, ◌-◌, ◌^◌};
 ghost use Rattle.journal_snapshot.specs.Standing.{new_live};
 ghost use Rattle.journal_snapshot.specs.Snapshots.{moved_to};
-ghost use Rattle.std.specs.Prelude.{◌<◌, ◌-◌, ◌^◌};
 ghost use Rattle.journal_snapshot.specs.Layout.{word, tail_word, field_word, start_of, generation_of, version_of, version_place, area_of, live_of, is_version, is_placed, has_open_mark};
 
 use crate::Area;
 
-/// The live area of a disk: where its start is said, its start, how often it was moved since the first time, and the version
-/// of its records.
+/// The live area of a disk: where its start is said, its start, its generation, and the version of its records. The generation
+/// counts the checkpoints after the first one.
 #[derive(Clone, Copy, Debug, PartialEq, Eq)]
 pub struct Live {
     pub area: Area,
@@ -17,7 +16,7 @@ pub struct Live {
     pub version: u8,
 }
 
-// The number in the eight octets from a place on.
+// The number in the eight octets from `at` on.
 fn word(head: &[u8], at: usize) -> u64
     requires { at + 8 ≤ length head.now }
     ensures { result ≡ word head.now at }
@@ -34,7 +33,7 @@ fn word(head: &[u8], at: usize) -> u64
     ])
 }
 
-// The number in these octets but the first.
+// The number in the last seven of these eight octets.
 fn tail_word(head: &[u8], at: usize) -> u64
     requires { at + 8 ≤ length head.now }
     ensures { result ≡ tail_word head.now at }
@@ -141,7 +140,7 @@ impl Live {
         }
     }
 
-    /// What the first 50 octets of a disk say, those that it doesn't have as 00.
+    /// Reads the live area from the first 50 octets of a disk. Octets that the disk doesn't have count as 00.
     pub fn read(head: &[u8]) -> Self
         requires { 50 ≤ length head.now }
         ensures { result ≡ live_of head.now }
@@ -156,7 +155,8 @@ impl Live {
     }
 }
 
-/// Where the start of the live area is said, if no area can start there or its version isn't known.
+/// The place where the disk says the version of its live area, if that version is unknown or no area can start where the disk
+/// says. Otherwise `None`.
 pub fn place_fault(head: &[u8], live: Live, size: u64) -> Option<u64>
     requires long { 50 ≤ length head.now }
     requires live { live ≡ live_of head.now }
@@ -174,7 +174,7 @@ pub fn place_fault(head: &[u8], live: Live, size: u64) -> Option<u64>
     }
 }
 
-/// Whether the slot that the next checkpoint takes has an open mark.
+/// Whether the slot of the next checkpoint has an open mark.
 pub fn has_open_mark(head: &[u8], area: Area) -> bool
     requires { 50 ≤ length head.now }
     ensures { result ≡ has_open_mark head.now area }

@@ -1,4 +1,4 @@
-// A disk is opened.
+// Opening the journal of a disk.
 ghost use Rattle.std.specs.Prelude.{◌≡◌, ◌≢◌, ◌+◌, ◌<◌, ◌≤◌, ◌∷◌, [], List, ℕ, false, length, slice_index, min, nat_le, not, ◌&&◌, take, true, IsTrue, IfOk, IfErr};
 ghost use Rattle.qkd_base.specs.Faults.{Rose};
 ghost use Rattle.disk_model.specs.Calls.{OnlyReads};
@@ -15,7 +15,7 @@ use disk_model::Disk;
 use range_journal::{JournalRefusal, header_fault, looks_blank, make_new, open_sized, settle};
 use std::alloc::Global;
 
-// Reads the first octets of a disk, up to 50 of them; those that it doesn't have are 0.
+// Reads the first 50 octets of a disk. Octets that the disk doesn't have are 0.
 fn read_head<K: Disk>(disk: &mut K, size: u64) -> Result<[u8; 50], JournalRefusal>
     requires { IsTrue (K.is_honest disk.old) → size ≡ length (K.content disk.old) }
     ensures head { IsTrue (K.is_honest disk.old) → IfOk result (λ h. (k : ℕ) → k < 50 → slice_index h k ≡ slice_index (K.content disk.old) k) }
@@ -90,7 +90,7 @@ fn open_new<K: Disk>(alloc: Global, disk: K) -> Result<Snapshots<K>, (JournalRef
     }
 }
 
-// Opens a synced disk of so many octets.
+// Opens a synced disk of `size` octets.
 fn open_synced<K: Disk>(
     alloc: Global,
     mut disk: K,
@@ -123,13 +123,13 @@ fn open_synced<K: Disk>(
     }
 }
 
-/// Opens the journal of a disk, which may have been cut at any moment. A blank disk gets a new one, whose records are of
+/// Opens the journal of a disk, which a crash may have cut at any moment. A blank disk gets a new journal, with records of
 /// version 2.
 pub fn open<K: Disk>(alloc: Global, mut disk: K) -> Result<Snapshots<K>, (JournalRefusal, K)>
     requires { (K.allowance disk).used ≤ 12 }
     ensures reads { (read : List ℕ) × Opens K.is_honest K.moment K.image K.faults disk result read }
 
-    // A refusal leaves what it found, where the disk didn't fail.
+    // A refusal leaves the disk's images as they were, unless the disk failed.
     ensures leaves { IfErr result (λ e. e.0 ≢ JournalRefusal.Disk → (i : List ℕ) → K.image e.1 (K.moment e.1) i → K.image disk (K.moment disk) i) }
     ensures kept { IfOk result (λ s. IsTrue (K.is_honest s.disk) → IsKept s.live s.batches (K.content s.disk) (K.image s.disk (K.moment s.disk))) }
     ensures later { K.faults disk ≤ K.faults (disk_in result) }

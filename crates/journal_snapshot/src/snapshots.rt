@@ -1,4 +1,4 @@
-// A journal with checkpoints that is open.
+// An open journal with checkpoints.
 ghost use Rattle.std.specs.Prelude.{◌≡◌, ◌⊎◌, ◌+◌, ◌-◌, ◌<◌, ◌≤◌, ◌^◌, ◌&&◌, ◌++◌, ◌∷◌, [], List, ℕ, length, take, Some, false, true, if◌then◌else◌, nat_le, nat_lt, min, IsTrue, IfOk, OnOk, OnErr};
 ghost use Rattle.qkd_base.specs.Faults.{Rose};
 ghost use Rattle.disk_model.specs.Images.{StandsStill, AtEachMoment};
@@ -21,22 +21,22 @@ use range_journal::{Journal, JournalRefusal, Refused};
 use std::alloc::Global;
 use std::marker::Model;
 
-/// A journal with checkpoints that is open: its live area and its batches, all of them on the disk.
+/// An open journal with checkpoints: its live area and its batches, which are all on the disk.
 #[derive(Drop)]
 pub struct Snapshots<K: Disk> {
     alloc: Global,
     journal: Journal<K>,
     live: Live,
-    // The slot that the next checkpoint takes has an open mark.
+    // Whether the slot of the next checkpoint has an open mark.
     older: bool,
 }
 
-/// What is left where a batch wasn't added, or a checkpoint not made.
+/// What remains after a batch wasn't appended or a checkpoint wasn't made.
 #[derive(Drop)]
 pub enum SnapRefused<K: Disk> {
-    /// The journal as it was.
+    /// The journal, unchanged.
     Kept(JournalRefusal, Snapshots<K>),
-    /// The disk failed. It is to be opened again.
+    /// The disk, which failed. It must be opened again.
     Spent(K),
 }
 
@@ -52,7 +52,7 @@ impl<K: Disk> Model for Snapshots<K> {
     ghost invariant = { λ s. IsSound (K.is_honest s.journal.disk) (K.content s.journal.disk) (K.image s.journal.disk (K.moment s.journal.disk)) s.journal.start s.journal.batches s.live s.older };
 }
 
-// Writes a checkpoint for which the memory is there.
+// Writes a checkpoint whose memory was allocated before.
 fn finish<K: Disk>(
     alloc: Global,
     journal: Journal<K>,
@@ -91,7 +91,7 @@ fn finish<K: Disk>(
 }
 
 impl<K: Disk> Snapshots<K> {
-    // The journal that stands in this live area of its disk.
+    // The journal in this live area of its disk.
     pub(crate) fn over(alloc: Global, journal: Journal<K>, live: Live, older: bool) -> Self
         requires at { journal.start ≡ live.start }
         requires kept { IsTrue (K.is_honest journal.disk) → IsKept live journal.batches (K.content journal.disk) (K.image journal.disk (K.moment journal.disk)) }
@@ -113,7 +113,7 @@ impl<K: Disk> Snapshots<K> {
         self.journal.batches()
     }
 
-    /// The place behind the closed gate.
+    /// The length of the journal: the place after the closed gate.
     pub fn length(&self) -> u64
         ensures { result ≡ (journal_of self.now).length' }
     {
@@ -127,22 +127,22 @@ impl<K: Disk> Snapshots<K> {
         self.live.start
     }
 
-    /// How often the live area was moved since the first time.
+    /// How many checkpoints were made after the first one.
     pub fn generation(&self) -> u64
         ensures { result ≡ (journal_of self.now).generation }
     {
         self.live.generation
     }
 
-    /// What holds of it at any time: its batches are what is on an honest disk, and the only image.
+    /// The journal's invariant: an honest disk has exactly these batches, and its content is the only image.
     pub fn stands(&self)
         ensures { IsTrue (K.is_honest self.now.disk) → IsKept self.now.live self.now.batches (K.content self.now.disk) (K.image self.now.disk (K.moment self.now.disk)) }
     {
-        // A read shows what holds of it at any time.
+        // Reading the field shows the invariant.
         let _holds = self.live;
     }
 
-    /// Whether a checkpoint has ever moved the live area.
+    /// Whether a checkpoint was ever made on this disk.
     pub fn is_moved(&self) -> bool
         ensures { result ≡ (journal_of self.now).moved }
     {
@@ -156,7 +156,7 @@ impl<K: Disk> Snapshots<K> {
         self.live.version
     }
 
-    /// How many octets a checkpoint with these batches takes, or the greatest number that there is.
+    /// How many octets a checkpoint with these batches takes, at most 2^64 - 1.
     pub fn need(&self, batches: &[Octets]) -> u64
         ensures { result ≡ min (need_of batches.now) (2 ^ 64 - 1) }
     {
@@ -167,7 +167,7 @@ impl<K: Disk> Snapshots<K> {
         need
     }
 
-    // Where a checkpoint of so many octets goes.
+    // Where a checkpoint of `need` octets is written.
     fn place(&self, need: u64) -> u64
         ensures { result ≡ checkpoint_place (journal_of self.now) need }
     {
@@ -178,8 +178,8 @@ impl<K: Disk> Snapshots<K> {
         }
     }
 
-    /// Whether a checkpoint with these batches can be made: the journal would not be longer than it may be, and there is a
-    /// generation for it.
+    /// Whether a checkpoint with these batches can be made: the journal stays within its greatest length, and the next
+    /// generation is in range.
     pub fn fits(&self, batches: &[Octets]) -> bool
         ensures { result ≡ fits_in (journal_of self.now) (need_of batches.now) }
     {
@@ -187,7 +187,7 @@ impl<K: Disk> Snapshots<K> {
         is_within(need, self.place(need), self.generation())
     }
 
-    /// Takes the memory for an append of so many octets. It changes nothing else.
+    /// Allocates the memory for an append of `body` octets. Otherwise it changes nothing.
     pub fn room(&mut self, body: u32) -> Result<(), Memory>
         ensures spare { OnOk result ((body ≤ self.new.spare) × (self.old.spare ≤ self.new.spare)) }
         ensures err { OnErr result (self.new ≡ self.old) }
@@ -201,7 +201,7 @@ impl<K: Disk> Snapshots<K> {
         self.journal.room(body)
     }
 
-    /// Arms the disk.
+    /// Arms the disk: sets the fault that it is to have.
     pub fn arm(&mut self, arm: Arm)
         requires { (K.armings self.old.disk).count < 2 ^ 32 }
         ensures armings { K.armings self.new.disk ≡ record { count = (K.armings self.old.disk).count + 1; last = Some arm } }
@@ -214,7 +214,7 @@ impl<K: Disk> Snapshots<K> {
         self.journal.arm(arm);
     }
 
-    /// Adds a batch. At `Ok` it is on the disk.
+    /// Appends a batch. After `Ok` the batch is on the disk.
     pub fn append(self, batch: &[u8]) -> Result<Snapshots<K>, SnapRefused<K>>
         ensures answer { IsAnswer self batch.now result }
         ensures full { is_full result ≡ nat_lt most (length_of self.live.start self.batches + (length batch.now + 5)) }
@@ -253,8 +253,8 @@ impl<K: Disk> Snapshots<K> {
         }
     }
 
-    /// Puts these batches in place of the old ones, in an area of their own beside the live one, which it leaves alone until the
-    /// new one is whole. Their records are to be of version 2.
+    /// Replaces all batches by these ones. It writes them to a new area and leaves the live area alone until the new one is
+    /// complete. The records must be of version 2.
     pub fn checkpoint(self, batches: &[Octets]) -> Result<Snapshots<K>, SnapRefused<K>>
         requires { fits_in (journal_of self) (need_of batches.now) ≡ true }
         ensures answer { IsMoved self batches.now result }
@@ -291,7 +291,7 @@ impl<K: Disk> Snapshots<K> {
         }
     }
 
-    /// Gives the disk back.
+    /// Returns the disk.
     pub fn into_disk(self) -> K
         ensures disk { result ≡ self.disk }
         ensures kept { IsTrue (K.is_honest result) → IsKept self.live self.batches (K.content result) (K.image result (K.moment result)) }

@@ -1,4 +1,4 @@
--- What is decided on ready and named keys.
+-- Decisions about ready keys and named keys.
 use Rattle.std.proofs.Common.{◌≡◌, ℕ, zero, suc, ◌+◌, ◌<◌, ◌≤◌, Bool, true, false, cond, not, ◌&&◌, List, [], ◌∷◌, ◌++◌, length, refl, sym, ◌∙◌, ap, subst, arith, take, min, Option, Some, None, Err, Result, length-append}
 use Rattle.std.specs.Prelude.{filter, find, nat_lt, is_some, if◌then◌else◌}
 use Rattle.std.specs.List.{list_any}
@@ -17,15 +17,15 @@ use Rattle.net_model.specs.Pools.{is_entitled, names_up_to, is_key_of, is_for, i
 use Rattle.relay_core.specs.Knowledge.{Knowledge}
 use Rattle.end_store.specs.Waiting.{Ends, own}
 use Rattle.end_store.specs.Pooled.{ends_view, Sees}
-use Rattle.kme_step.specs.declared.step.Step.{Step}
-use Rattle.kme_step.specs.Steps.{IsStep}
+use Rattle.kme_base.specs.declared.step.Step.{Step}
+use Rattle.kme_base.specs.Steps.{IsStep}
 use Rattle.kme_keys.specs.declared.holder.Holder.TheVariants.{Named, ForSlave}
 use Rattle.kme_keys.specs.Holding.{held_keys, name_fault}
 
 pub same_step : (v : View) (d e : Decision) (r : Result Step Reply) → d ≡ e → IsStep v [] e r → IsStep v [] d r
 same_step v d e r path h = subst (λ (x : Decision). IsStep v [] x r) (sym path) h
 
--- what is seen
+-- the view and the store agree
 
 pub me_seen : (v : View) (e : Ends) → Sees v e → (k : Knowledge) (me : ℕ) → k ≡ e.known → me ≡ k.me → v.me ≡ me
 me_seen v e seen k me is from = seen.me ∙ ap (λ (x : Knowledge). x.me) (sym is) ∙ sym from
@@ -53,7 +53,7 @@ fault_seen v e seen m s before (n ∷ ns) =
     else if was_handed (handed i) n s then Some (AlreadyHanded (length before)) else fault_seen v e seen m s (before ++ n ∷ []) ns i) in
     path
 
--- enc
+-- handing out ready keys (enc)
 
 module _ (site : Site) (v : View) (m s n bits : ℕ) (entitled : Bool) (test : entitled ≡ is_entitled site v m m s) where
   enc_shown : enc site v m s n bits ≡ (if not entitled then Refuses NotAllowed
@@ -102,7 +102,7 @@ module _ (site : Site) (v : View) (m s n bits : ℕ) (entitled : Bool) (test : e
           same_step v (enc site v m s n bits) (makes v (hand_to m names) (Handed (with_bytes v names))) r
           (enc_makes ∙ ap (λ (ns : List Name). makes v (hand_to m ns) (Handed (with_bytes v ns))) (sym first)) h
 
--- dec
+-- handing out named keys (dec)
 
 module _ (site : Site) (v : View) (s m : ℕ) (ns : List Name) (entitled : Bool) (test : entitled ≡ is_entitled site v s m s) where
   dec_shown : dec site v s m ns ≡ (if not entitled then Refuses NotAllowed else decs v m s ns (dec_fault v m s [] ns))
@@ -124,7 +124,7 @@ module _ (site : Site) (v : View) (s m : ℕ) (ns : List Name) (entitled : Bool)
       IsStep v [] (makes v (hand_to s ns) (Handed (held_keys (ForSlave m s) v.facts ns))) r → IsStep v [] (dec site v s m ns) r
   dec_hands is e r h = same_step v (dec site v s m ns) (makes v (hand_to s ns) (Handed (slave_bytes v m s ns))) r (dec_entitled is None e) h
 
--- the first fault, where those before have none
+-- the first fault, if no earlier name has one
 pub fault_found : (v : View) (m s : ℕ) (before : List Name) (n : Name) (ns : List Name) (fault : Reply) → Some fault ≡ name_fault v m s before n → dec_fault v m s before (n ∷ ns) ≡ Some fault
 fault_found v m s before n ns fault e = by (is_some (find (is_for m s n) v.facts)) (has before n) (was_handed v.handed n s) e
   where
@@ -136,7 +136,7 @@ fault_found v m s before n ns fault e = by (is_some (find (is_for m s n) v.facts
     by true false true h = sym h
     by true false false h = absurd (let u : ⊥ = cc in u)
 
--- status
+-- counting ready keys (status)
 
 filtered_length : (P : Name → Bool) (me c : ℕ) → length (filter P (names_up_to me KeyKind c)) ≤ c
 filtered_length P me zero = omega arith

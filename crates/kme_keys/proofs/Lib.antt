@@ -2,3 +2,9 @@ pub mod Passing
 pub mod Deciding
 pub mod Made
 pub mod Overs
+pub mod Behind
+pub mod Tested
+pub mod Searched
+pub mod Routed
+pub mod GroupsMade
+pub mod GroupOvers

@@ -1,4 +1,4 @@
--- What is decided on new keys.
+-- Decisions about new keys.
 use Rattle.std.proofs.Common.{◌≡◌, ℕ, zero, suc, ◌+◌, ◌-◌, ◌<◌, ◌≤◌, Bool, true, false, not, List, [], ◌∷◌, ◌++◌, refl, sym, ◌∙◌, ap, arith, take, drop, min, Option, Some, Ok, Err, Result, append_assoc}
 use Rattle.std.specs.Prelude.{◌/◌, nat_lt, count_by, ◌&&◌, if◌then◌else◌}
 use Rattle.std.proofs.lemmas.Bool.Decides.{nat_tests}
@@ -17,12 +17,12 @@ use Rattle.net_model.specs.Decision.{Decision, Refuses, last_count, makes, fresh
 use Rattle.net_model.specs.Pools.{is_entitled, is_key_of, unhanded, new_keys, filled, fill}
 use Rattle.end_store.specs.Waiting.{Ends}
 use Rattle.end_store.specs.Pooled.{ends_view, Sees}
-use Rattle.kme_step.specs.declared.change.Change.TheVariants.{Same}
-use Rattle.kme_step.specs.declared.step.Step.{Step}
-use Rattle.kme_step.specs.Steps.{IsStep}
+use Rattle.kme_base.specs.declared.change.Change.TheVariants.{Same}
+use Rattle.kme_base.specs.declared.step.Step.{Step}
+use Rattle.kme_base.specs.Steps.{IsStep}
 use Rattle.kme_keys.proofs.Deciding.{same_step}
 
--- what is seen
+-- the view and the store agree
 
 pub unhanded_seen : (v : View) (e : Ends) → Sees v e → (m s bits : ℕ) → unhanded (ends_view e) m s bits ≡ unhanded v m s bits
 unfolding unhanded
@@ -42,7 +42,7 @@ keys_seen v e seen m s way size random more zero = refl
 keys_seen v e seen m s way size random more (suc k) =
     (λ i. Learned (Key (fresh_seen v e seen more i) m s way (take size random)) ∷ keys_seen v e seen m s way size (drop size random) (more + 1) k i)
 
--- the records, one after the other
+-- the records, key by key
 
 pub one_key : (v : View) (m s : ℕ) (way : List ℕ) (size : ℕ) (random left after : List ℕ) (more count : ℕ) (batch more_batch : List Record) →
     batch ++ new_keys v m s way size left more (count - more) ≡ new_keys v m s way size random 0 count → more < count →
@@ -57,7 +57,7 @@ one_key v m s way size random left after more count batch more_batch h lt e d =
     ∙ ap (λ (k : ℕ). batch ++ new_keys v m s way size left more k) (sym step)
     ∙ h
 
--- fill
+-- filling a pool (fill)
 
 module _ (v : View) (m s bits count : ℕ) (random way : List ℕ) (stock : ℕ) (counted : stock ≡ min 4097 (unhanded v m s bits)) where
   rest : Decision

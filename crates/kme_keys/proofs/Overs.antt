@@ -1,4 +1,4 @@
--- Keys over other octets.
+-- The same new keys, made of other octets.
 use Rattle.std.proofs.Common.{◌≡◌, ℕ, zero, suc, ◌+◌, ◌*◌, ◌≤◌, Bool, true, false, not, List, [], ◌∷◌, ◌++◌, length, refl, ◌∙◌, ap, arith, take, drop, Option, Some, None, length-drop}
 use Rattle.std.specs.Prelude.{◌/◌, nat_lt, if◌then◌else◌}
 use Rattle.std.proofs.Math.Nat.{mul-suc}
@@ -13,7 +13,7 @@ use Rattle.net_model.specs.Routes.{route}
 use Rattle.net_model.specs.View.{View}
 use Rattle.net_model.specs.Decision.{Refuses, makes, fresh_name}
 use Rattle.net_model.specs.Pools.{is_entitled, unhanded, new_keys, filled, fill}
-use Rattle.kme_step.specs.Random.{over, with_random, decision_over}
+use Rattle.kme_base.specs.Random.{over, with_random, decision_over}
 
 drop_past : (n : ℕ) (xs : List ℕ) → length xs ≤ n → drop n xs ≡ []
 drop_past n [] le = drop_none n
@@ -31,7 +31,7 @@ append_nil (x ∷ xs) = ap (λ (ys : List ℕ). x ∷ ys) (append_nil xs)
 taken : (size : ℕ) (xs : List ℕ) → size ≤ length xs → length (take size xs) ≡ size
 taken size xs le = let e = length-take size xs in omega arith
 
--- octets over as many
+-- replacing octets by as many others
 pub over_as_many : (size : ℕ) (zeros random : List ℕ) → size ≤ length zeros → size ≤ length random → over random (take size zeros) ≡ take size random
 over_as_many size zeros random z r =
     let t = taken size zeros z in
@@ -39,7 +39,7 @@ over_as_many size zeros random z r =
     ∙ ap (λ (rest : List ℕ). take size random ++ rest) (drop_past (length random) (take size zeros) (omega arith))
     ∙ append_nil (take size random)
 
--- so many times so many octets, in front and behind
+-- a multiple of a size, split into its first part and the rest
 pub in_front : (size k len : ℕ) → size * suc k ≤ len → size ≤ len
 in_front size k len le = let e = mul-suc size k in omega arith
 

@@ -1,4 +1,4 @@
--- The first item that passes a test, found among those that pass a wider one.
+-- The first item that passes a test, found among those that pass a weaker one.
 use Rattle.std.proofs.Common.{◌≡◌, ℕ, ◌+◌, ◌<◌, ◌≤◌, Bool, true, false, ◌&&◌, ◌||◌, List, length, refl, sym, ◌∙◌, ap, arith, Some, ◌⊎◌, inl, inr}
 use Rattle.std.specs.Prelude.{slice_get, ◌==◌}
 use Rattle.std.proofs.lemmas.Bool.Decides.{nat_tests}
@@ -13,7 +13,7 @@ use Rattle.relay_core.proofs.Firsts.{not_true, get_within}
 use Rattle.relay_core.proofs.Names.{and_left, name_eq_from}
 use Rattle.kme_keys.specs.Holding.{is_key_for, is_part_for, passes_at}
 
--- none passes before a place
+-- no fact before a place passes
 pub record IsNoneBefore (q : Fact → Bool) (facts : List Fact) (from : ℕ) : Type 0 where
   pub none : (p : ℕ) (x : Fact) → p < from → slice_get facts p ≡ Some x → q x ≡ false
 
@@ -56,7 +56,7 @@ module _ (t q : Fact → Bool) (wider : (x : Fact) → q x ≡ true → t x ≡ 
   pub no_more : length facts ≤ from → IsNoneFrom q facts 0
   no_more le = record { none = λ p x ge g. before.none p x (let lt = get_within facts p x g in omega arith) g }
 
--- a key of a name has it, and a part for a slave is a part
+-- the name of a key, and of a part for a slave
 
 pub key_named : (m s : ℕ) (n : Name) (f : Fact) → is_key_for m s n f ≡ true → name_eq (name_of f) n ≡ true
 key_named m s n (Key name master slave route bytes) h = and_left (name_eq name n) (master == m) (and_left (name_eq name n && (master == m)) (slave == s) h)
@@ -74,7 +74,7 @@ part_named m s n (Stored note about route) h = absurd (let u : ⊥ = cc in u)
 part_named m s n (Open stream source peer size route) h = absurd (let u : ⊥ = cc in u)
 part_named m s n (Joined note about route) h = absurd (let u : ⊥ = cc in u)
 
--- where the one of that name is none
+-- if the fact of a name isn't such a key for the slave, no fact is one
 pub no_key : (m s : ℕ) (n : Name) (facts : List Fact) (place : ℕ) → AreDistinct facts → IsFirstFrom (λ f. name_eq (name_of f) n) facts 0 place →
     passes_at (is_key_for m s n) (slice_get facts place) ≡ false → IsNoneFrom (is_key_for m s n) facts 0
 no_key m s n facts place distinct first h = record {
@@ -85,7 +85,7 @@ no_key m s n facts place distinct first h = record {
       let u : ⊥ = cc in u);
 }
 
--- a slave has a key by the one or the other
+-- a slave has a key either by the key itself or by a part
 
 either : (m s : ℕ) (n : Name) (f : Fact) → is_for m s n f ≡ (is_key_for m s n f || is_part_for m s n f)
 either m s n (Key name master slave route bytes) = sym (or_no (name_eq name n && (master == m) && (slave == s)))

@@ -16,7 +16,7 @@ held_fact Named facts n = fact_at facts n
 held_fact (ForSlave master slave) facts n = find (is_for master slave n) facts
 held_fact Group facts n = find (is_part_of n) facts
 
--- the names with these bytes
+-- the names with the bytes that their facts have
 abbrev pub held_keys : Holder → List Fact → List Name → List (Name × List ℕ)
 held_keys h facts ns = map (λ n. (n, bytes_or_none (held_fact h facts n))) ns
 
@@ -34,7 +34,7 @@ abbrev pub passes_at : (Fact → Bool) → Option Fact → Bool
 passes_at test None = false
 passes_at test (Some f) = test f
 
--- the fault of a name that stands behind these, if it has one
+-- the fault of a name, given the names before it in the request
 abbrev pub name_fault : View → ℕ → ℕ → List Name → Name → Option Reply
 name_fault v m s before n =
     if not (is_some (for_slave v m s n)) then Some (Unknown (length before))

@@ -1,4 +1,4 @@
-// The octets that are drawn for new keys.
+// The number of random octets that an event needs for new keys.
 ghost use Rattle.std.specs.Prelude.{◌≡◌, ◌≤◌, ◌/◌, ◌*◌, ℕ, Bool, List, Some, length};
 ghost use Rattle.net_model.specs.Site.{Site};
 ghost use Rattle.net_model.specs.View.{View};
@@ -6,13 +6,13 @@ ghost use Rattle.net_model.specs.Table.{fact_at};
 ghost use Rattle.net_model.specs.Streams.{chunk_size};
 ghost use Rattle.net_model.specs.Decide.{random_need};
 ghost use Rattle.net_model.specs.Pools.{fill};
-ghost use Rattle.kme_step.specs.Random.{decision_over};
+ghost use Rattle.kme_base.specs.Random.{decision_over};
 
 use net_model::{Event, Fact};
 use qkd_base::KeyName;
 use relay_core::Known;
 
-// The size in octets of a stream's chunks, 0 where it isn't known.
+// The size of a stream's chunks in octets, or 0 if the stream isn't known.
 fn chunk_size(known: &Known, stream: KeyName) -> u16
     ensures { result ≡ chunk_size (fact_at known.now.facts stream) }
 {
@@ -22,7 +22,7 @@ fn chunk_size(known: &Known, stream: KeyName) -> u16
     }
 }
 
-// The size in octets of the chunks that a fact opens, 0 where it opens no stream.
+// The size in octets of the chunks of the stream that a fact opens, or 0 if it opens no stream.
 fn stated_size(fact: &Fact) -> u16
     ensures { result ≡ chunk_size (Some fact.now) }
 {
@@ -32,7 +32,7 @@ fn stated_size(fact: &Fact) -> u16
     }
 }
 
-/// How many octets an event draws.
+/// The number of random octets that an event needs.
 pub fn random_need(known: &Known, event: &Event) -> usize
     ensures { (v : View) → v.facts ≡ known.now.facts → result ≡ random_need v event.now }
 {
@@ -44,7 +44,8 @@ pub fn random_need(known: &Known, event: &Event) -> usize
     }
 }
 
-/// A fill that is decided over enough octets is the one over others, once these stand in their place.
+/// Proof only. A fill that is decided with some octets, such as zeros, becomes the one decided with other octets if
+/// these are put in their place.
 pub fn law_fill_over_other_octets()
     ensures { (site : Site) (up : ℕ → Bool) (v : View) (master slave bits count : ℕ) (zeros random : List ℕ) → bits / 8 * count ≤ length zeros → bits / 8 * count ≤ length random
         → decision_over random (fill site up v master slave bits count zeros) ≡ fill site up v master slave bits count random }

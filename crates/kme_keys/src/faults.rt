@@ -1,30 +1,29 @@
-// Named keys: handed to their slave, or the fault of the first that has one.
+// Handing keys with given names to their slave, or the first fault of these names.
 ghost use Rattle.std.specs.Prelude.{◌≡◌, ◌≤◌, [], length, is_some};
-ghost use Rattle.kme_site.specs.Passed.{IsDeclared, site_of};
+ghost use Rattle.declared_site.specs.SiteOf.{IsDeclared, site_of};
 ghost use Rattle.qkd_base.specs.Name.{has};
 ghost use Rattle.net_model.specs.View.{View};
 ghost use Rattle.net_model.specs.Pools.{dec, dec_fault, for_slave};
 ghost use Rattle.end_store.specs.Pooled.{Sees, ends_view};
-ghost use Rattle.kme_step.specs.Steps.{IsStep};
+ghost use Rattle.kme_base.specs.Steps.{IsStep};
 ghost use Rattle.kme_keys.specs.Holding.{name_fault};
 
 use crate::{Holder, hand_out};
+use declared_site::Site;
 use end_store::EndStore;
-use kme_site::declared_site::Site;
-use kme_site::is_entitled;
-use kme_step::Step;
+use kme_base::{Step, is_entitled};
 use net_model::Reply;
 use qkd_base::{KeyName, SaeNo};
 use std::alloc::Global;
 
-// Whether names have one.
+// Whether a name is in a list of names.
 fn has_name(names: &[KeyName], name: KeyName) -> bool
     ensures { result ≡ has names.now name }
 {
     names.iter().any(|n| *n == name)
 }
 
-// Whether a slave has a key of a name.
+// Whether a slave has a key of this name from this master.
 fn is_known(store: &EndStore, master: SaeNo, slave: SaeNo, name: KeyName) -> bool
     ensures { result ≡ is_some (for_slave (ends_view store.now) master slave name) }
 {
@@ -32,7 +31,7 @@ fn is_known(store: &EndStore, master: SaeNo, slave: SaeNo, name: KeyName) -> boo
     holder.fact(store.known(), name).is_some()
 }
 
-// The fault of a name that stands behind these, if it has one.
+// The fault of a name, given the names before it in the request. `None` if it has no fault.
 fn name_fault(
     store: &EndStore,
     master: SaeNo,
@@ -69,10 +68,12 @@ fn first_fault(store: &EndStore, master: SaeNo, slave: SaeNo, names: &[KeyName])
     None
 }
 
-/// Hands all named keys to their slave, or none (ETSI GS QKD 014 V1.1.1, Get key with key IDs). `NotAllowed` where the pair is
-/// not allowed or the slave not at home here; else the fault of the first name that has one, with its place: `Unknown` where
-/// the slave has no key of this name from the master, `Repeated` where an earlier name is the same, `AlreadyHanded` where the
-/// slave has got it.
+/// Hands all named keys to their slave, or none (ETSI GS QKD 014 V1.1.1, Get key with key IDs). It refuses with
+/// `NotAllowed` if the pair isn't allowed or the slave isn't at home here. Otherwise it refuses with the fault of the
+/// first name that has one, and with the place of this name:
+/// - `Unknown` if the slave has no key of this name from the master;
+/// - `Repeated` if an earlier name is the same;
+/// - `AlreadyHanded` if the slave has got the key.
 pub fn dec(
     alloc: Global,
     site: &Site,

@@ -1,6 +1,6 @@
-// New keys.
+// Making new keys.
 ghost use Rattle.std.specs.Prelude.{◌<◌, ◌^◌, ◌≡◌, ◌/◌, ℕ, Bool, [], IfOk, take, drop, Some};
-ghost use Rattle.kme_site.specs.Passed.{IsDeclared, site_of};
+ghost use Rattle.declared_site.specs.SiteOf.{IsDeclared, site_of};
 ghost use Rattle.net_model.specs.declared.reply.Reply.TheVariants.{MadeKeys};
 ghost use Rattle.net_model.specs.declared.record.Record.TheVariants.{Learned};
 ghost use Rattle.net_model.specs.declared.fact.Fact.TheVariants.{Key};
@@ -9,18 +9,18 @@ ghost use Rattle.net_model.specs.View.{View};
 ghost use Rattle.net_model.specs.Decision.{fresh_name, makes};
 ghost use Rattle.net_model.specs.Pools.{fill, filled, new_keys};
 ghost use Rattle.end_store.specs.Pooled.{Sees, ends_view};
-ghost use Rattle.kme_site.specs.Up.{AreUp};
-ghost use Rattle.kme_step.specs.Steps.{IsStep};
+ghost use Rattle.kme_base.specs.Up.{AreUp};
+ghost use Rattle.kme_base.specs.Steps.{IsStep};
 
+use declared_site::Site;
 use end_store::EndStore;
-use kme_site::declared_site::Site;
-use kme_site::{home, is_entitled, route_between};
-use kme_step::{Change, Step};
+use kme_base::{Change, Step, home, is_entitled, route_between};
 use net_model::{Fact, Record, Records, Reply};
 use qkd_base::{Items, KeyName, Memory, NameKind, Octets, PoolNo, Route};
 use std::alloc::Global;
 
-/// The name of a new key, so many counts behind the next one. Want of memory where no such name is left.
+/// The name of a new key. Its count is the next unused one plus `more`. An `Err` (out of memory) if there is no such
+/// name.
 pub fn fresh_name(store: &EndStore, more: u64) -> Result<KeyName, Memory>
     ensures name { IfOk result (λ name. name ≡ fresh_name (ends_view store.now) KeyKind more) }
     ensures bound { IfOk result (λ name. more < 2 ^ 48) }
@@ -32,21 +32,21 @@ pub fn fresh_name(store: &EndStore, more: u64) -> Result<KeyName, Memory>
     KeyName::new(store.known().me(), NameKind::Key, count).ok_or(Memory)
 }
 
-/// The first octets, at most so many.
+/// The first `size` octets, or all if there are fewer.
 pub fn first_octets(octets: &[u8], size: usize) -> &[u8]
     ensures { result.now ≡ take size octets.now }
 {
     &octets[..size.min(octets.len())]
 }
 
-/// Those behind them.
+/// The octets after the first `size` ones.
 pub fn octets_behind(octets: &[u8], size: usize) -> &[u8]
     ensures { result.now ≡ drop size octets.now }
 {
     &octets[size.min(octets.len())..]
 }
 
-// The record by which a new key with the first octets is known.
+// The record of a new key, made of the first octets.
 fn new_key(
     alloc: Global,
     store: &EndStore,
@@ -70,7 +70,7 @@ fn new_key(
     })
 }
 
-// So many new keys, each with the next octets.
+// The records of `count` new keys, each made of the next octets.
 fn new_keys(
     alloc: Global,
     store: &EndStore,
@@ -91,7 +91,7 @@ fn new_keys(
     Ok(batch)
 }
 
-// The step that makes so many keys with a route, unless the pool would be too full.
+// The step that makes `count` keys on a route, unless the pool would have too many keys.
 fn filled(
     alloc: Global,
     store: &EndStore,
@@ -118,9 +118,9 @@ fn filled(
     }
 }
 
-/// Makes keys of the next octets drawn, with the route of this moment; bit l of `up` says that link l is up. `NotAllowed` where
-/// the pair is not allowed or the master not at home here, `NoRoute` where no route leads to the slave's home, `PoolFull` where
-/// more than 4,096 keys would wait for the master.
+/// Makes keys of the next random octets. Their route uses only links that are up. Bit l of `up` says that link l is
+/// up. Refusals: `NotAllowed` if the pair isn't allowed or the master isn't at home here; `NoRoute` if no route leads
+/// to the slave's home; `PoolFull` if more than 4,096 keys would wait for the master.
 pub fn fill(
     alloc: Global,
     site: &Site,

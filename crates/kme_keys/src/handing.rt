@@ -1,21 +1,21 @@
-// Keys that are handed out.
+// Handing out keys.
 ghost use Rattle.std.specs.Prelude.{◌≡◌, IfOk, [], map};
 ghost use Rattle.net_model.specs.Table.{bytes_of};
 ghost use Rattle.net_model.specs.declared.reply.Reply.TheVariants.{Handed};
 ghost use Rattle.net_model.specs.View.{View};
 ghost use Rattle.net_model.specs.Decision.{makes};
 ghost use Rattle.net_model.specs.Pools.{hand_to, bytes_or_none};
-ghost use Rattle.kme_step.specs.Steps.{IsStep};
+ghost use Rattle.kme_base.specs.Steps.{IsStep};
 ghost use Rattle.kme_keys.specs.Holding.{held_fact, held_keys};
 
 use crate::Holder;
-use kme_step::{Change, Step};
+use kme_base::{Change, Step};
 use net_model::{Fact, Record, Records, Reply};
 use qkd_base::{Items, KeyName, Keys, Memory, Octets, SaeNo};
 use relay_core::Known;
 use std::alloc::Global;
 
-// The records by which an application has got these keys.
+// The records that an application has got these keys.
 fn hand_to(alloc: Global, sae: SaeNo, names: &[KeyName]) -> Result<Records, Memory>
     ensures { IfOk result (λ batch. batch ≡ hand_to sae names.now) }
 {
@@ -26,7 +26,7 @@ fn hand_to(alloc: Global, sae: SaeNo, names: &[KeyName]) -> Result<Records, Memo
     Ok(batch)
 }
 
-// A copy of a fact's bytes, none where it has none.
+// A copy of a fact's bytes, empty if the fact has none.
 fn copy_bytes(alloc: Global, fact: &Fact) -> Result<Octets, Memory>
     ensures { IfOk result (λ bytes. bytes ≡ bytes_of fact.now) }
 {
@@ -38,7 +38,7 @@ fn copy_bytes(alloc: Global, fact: &Fact) -> Result<Octets, Memory>
     }
 }
 
-// A copy of the bytes of a name.
+// A copy of the bytes of the key that has this name.
 fn held_bytes(
     alloc: Global,
     known: &Known,
@@ -53,7 +53,7 @@ fn held_bytes(
     }
 }
 
-// These keys with their bytes.
+// These names with copies of their bytes.
 fn held_keys(
     alloc: Global,
     known: &Known,
@@ -70,7 +70,7 @@ fn held_keys(
     Ok(keys)
 }
 
-/// The step that hands these keys with their bytes to an application.
+/// The step that hands these keys, with their bytes, to an application.
 pub fn hand_out(
     alloc: Global,
     known: &Known,

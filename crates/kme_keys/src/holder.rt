@@ -1,28 +1,28 @@
-// Where the bytes of a key stand.
-ghost use Rattle.std.specs.Prelude.{◌≡◌, slice_get, IfSome, IfNone};
+// Which fact has the bytes of a key.
+ghost use Rattle.std.specs.Prelude.{◌≡◌, slice_get, IfSome, IfNone, find};
 ghost use Rattle.std.specs.Option.{option_copied};
 ghost use Rattle.net_model.specs.Pools.{is_for};
 ghost use Rattle.net_model.specs.Table.{is_part_of};
 ghost use Rattle.relay_core.specs.Firsts.{IsFirstFrom, IsNoneFrom};
-ghost use Rattle.std.specs.Prelude.{find};
 ghost use Rattle.kme_keys.specs.Holding.{held_fact, is_key_for, is_part_for, passes_at};
 
 use net_model::Fact;
 use qkd_base::{KeyName, SaeNo};
 use relay_core::{Group, Known};
 
-/// Which fact has the bytes of a name that is handed out.
+/// Which fact has the bytes of a key that is handed out under a name.
 #[derive(Clone, Copy, Debug)]
 pub enum Holder {
-    /// The one of that name.
+    /// The fact of this name.
     Named,
-    /// That by which a slave has a key of that name from a master: the key itself, or the slave's part of the group key.
+    /// The fact by which the slave has a key of this name from the master: the key itself, or the slave's part of the
+    /// group key.
     ForSlave { master: SaeNo, slave: SaeNo },
     /// The first part of the group key of that name.
     Group,
 }
 
-// Whether a fact is the key of a name for a slave.
+// Whether a fact is the key of this name, from this master for this slave.
 fn is_key_for(fact: &Fact, of: SaeNo, to: SaeNo, name: KeyName) -> bool
     ensures { result ≡ is_key_for of to name fact.now }
 {
@@ -37,7 +37,7 @@ fn is_key_for(fact: &Fact, of: SaeNo, to: SaeNo, name: KeyName) -> bool
     }
 }
 
-// Whether a fact is the part for a slave of the group key of a name.
+// Whether a fact is the part, for this slave, of this master's group key with this name.
 fn is_part_for(fact: &Fact, of: SaeNo, to: SaeNo, name: KeyName) -> bool
     ensures { result ≡ is_part_for of to name fact.now }
 {
@@ -52,7 +52,7 @@ fn is_part_for(fact: &Fact, of: SaeNo, to: SaeNo, name: KeyName) -> bool
     }
 }
 
-// The same of the fact at a place.
+// Whether the fact at a place is the key of this name, from this master for this slave.
 fn is_key_at(known: &Known, place: usize, of: SaeNo, to: SaeNo, name: KeyName) -> bool
     ensures { result ≡ passes_at (is_key_for of to name) (slice_get known.now.facts place) }
 {
@@ -71,12 +71,12 @@ fn is_part_at(known: &Known, place: usize, of: SaeNo, to: SaeNo, name: KeyName) 
     }
 }
 
-// The place of the key of a name for a slave.
+// The place of the key of this name, from this master for this slave.
 fn key_place(known: &Known, of: SaeNo, to: SaeNo, name: KeyName) -> Option<usize>
     ensures first { IfSome result (λ place. IsFirstFrom (is_key_for of to name) known.now.facts 0 place) }
     ensures none { IfNone result (IsNoneFrom (is_key_for of to name) known.now.facts 0) }
 {
-    // That no two facts have one name is what it says.
+    // The contract of `len` also says that all names differ.
     let _holds = known.len();
     match known.next(&Group::Named(name), 0) {
         None => None,
@@ -90,7 +90,7 @@ fn key_place(known: &Known, of: SaeNo, to: SaeNo, name: KeyName) -> Option<usize
     }
 }
 
-// The place of the first part for a slave of the group key of a name.
+// The place of the first part, for this slave, of this master's group key with this name.
 fn part_place(known: &Known, of: SaeNo, to: SaeNo, name: KeyName) -> Option<usize>
     ensures first { IfSome result (λ place. IsFirstFrom (is_part_for of to name) known.now.facts 0 place) }
     ensures none { IfNone result (IsNoneFrom (is_part_for of to name) known.now.facts 0) }
@@ -110,7 +110,7 @@ fn part_place(known: &Known, of: SaeNo, to: SaeNo, name: KeyName) -> Option<usiz
     None
 }
 
-// The place of the first fact by which a slave has a key of a name.
+// The place of the first fact by which the slave has a key of this name from the master.
 fn slave_place(known: &Known, of: SaeNo, to: SaeNo, name: KeyName) -> Option<usize>
     ensures first { IfSome result (λ place. IsFirstFrom (is_for of to name) known.now.facts 0 place) }
     ensures none { IfNone result (IsNoneFrom (is_for of to name) known.now.facts 0) }
@@ -127,7 +127,7 @@ fn slave_place(known: &Known, of: SaeNo, to: SaeNo, name: KeyName) -> Option<usi
     }
 }
 
-// That fact.
+// The first fact by which the slave has a key of this name from the master.
 fn slave_fact(known: &Known, of: SaeNo, to: SaeNo, name: KeyName) -> Option<&Fact>
     ensures { option_copied result ≡ find (is_for of to name) known.now.facts }
 {
@@ -148,7 +148,7 @@ fn first_part(known: &Known, name: KeyName) -> Option<&Fact>
 }
 
 impl Holder {
-    /// The fact.
+    /// The fact that has the bytes of this name.
     pub fn fact<'a>(&self, known: &'a Known, name: KeyName) -> Option<&'a Fact>
         ensures { option_copied result ≡ held_fact self.now known.now.facts name }
     {

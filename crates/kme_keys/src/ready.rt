@@ -1,24 +1,23 @@
-// Ready keys: handed to their master, and counted.
+// Handing ready keys to their master, and counting them.
 ghost use Rattle.std.specs.Prelude.{◌≡◌, []};
-ghost use Rattle.kme_site.specs.Passed.{IsDeclared, site_of};
+ghost use Rattle.declared_site.specs.SiteOf.{IsDeclared, site_of};
 ghost use Rattle.net_model.specs.View.{View};
 ghost use Rattle.net_model.specs.declared.reply.Reply.TheVariants.{ReadyCount};
 ghost use Rattle.net_model.specs.Decision.{answers};
 ghost use Rattle.net_model.specs.Pools.{enc, status};
 ghost use Rattle.end_store.specs.Pooled.{Sees};
-ghost use Rattle.kme_step.specs.Steps.{IsStep};
+ghost use Rattle.kme_base.specs.Steps.{IsStep};
 
 use crate::{Holder, hand_out};
+use declared_site::Site;
 use end_store::EndStore;
-use kme_site::declared_site::Site;
-use kme_site::is_entitled;
-use kme_step::{Change, Step};
+use kme_base::{Change, Step, is_entitled};
 use net_model::Reply;
 use qkd_base::{Items, PoolNo, SaeNo};
 use std::alloc::Global;
 
-/// Hands the first ready keys of a pool to their master (ETSI GS QKD 014 V1.1.1, Get key). `NotAllowed` where the pair is not
-/// allowed or the master not at home here, `Few` where fewer are ready.
+/// Hands the first ready keys of a pool to their master (ETSI GS QKD 014 V1.1.1, Get key). Refusals: `NotAllowed` if
+/// the pair isn't allowed or the master isn't at home here; `Few` if too few keys are ready.
 pub fn enc(
     alloc: Global,
     site: &Site,
@@ -33,7 +32,7 @@ pub fn enc(
     if !is_entitled(site, known.me(), pool.master, pool.master, pool.slave) {
         return Err(Reply::NotAllowed);
     }
-    // A refusal takes no memory, so the ready keys are counted first.
+    // The ready keys are counted first, since a refusal must not allocate.
     let ready = store.ready_count(pool, number as usize);
     if ready < number as usize {
         return Err(Reply::Few {
@@ -46,7 +45,7 @@ pub fn enc(
     }
 }
 
-// So many keys are ready. No pool has more than can be told; where one had, it is want of memory.
+// The step that reports the number of ready keys. An `Err` (out of memory) if the number doesn't fit in 32 bits.
 fn ready_count(alloc: Global, count: usize) -> Result<Step, Reply>
     ensures { (v : View) → IsStep v [] (answers v (ReadyCount count)) result }
 {
@@ -62,7 +61,8 @@ fn ready_count(alloc: Global, count: usize) -> Result<Step, Reply>
     })
 }
 
-/// Counts the ready keys of 256 bits of a pair (ETSI GS QKD 014 V1.1.1, Get status). `NotAllowed` as in `enc`.
+/// Counts the ready keys of 256 bits of a pair (ETSI GS QKD 014 V1.1.1, Get status). It refuses with `NotAllowed` as
+/// `enc` does.
 pub fn status(
     alloc: Global,
     site: &Site,
@@ -77,7 +77,7 @@ pub fn status(
     if !is_entitled(site, known.me(), master, master, slave) {
         return Err(Reply::NotAllowed);
     }
-    // That there are fewer names is what it says.
+    // The contract of `last_count` also bounds the number of names.
     let _holds = known.last_count();
     let pool = PoolNo {
         master,

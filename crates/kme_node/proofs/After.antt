@@ -1,13 +1,13 @@
--- What a manager is once a step was applied.
+-- The manager after a step.
 use Rattle.std.proofs.Common.{◌≡◌, List, refl, sym, ap, subst, ◌∙◌}
 use Rattle.net_model.specs.declared.order.Order.{Order}
 use Rattle.net_model.specs.declared.placing.Placing.{Placing}
 use Rattle.net_model.specs.Decision.{Effect}
 use Rattle.net_model.specs.Fold.{view_batch, view_after}
-use Rattle.kme_step.specs.declared.step.Step.{Step}
-use Rattle.kme_step.specs.Steps.{IsEffect, changed, orders_of}
-use Rattle.lane_ports.specs.Places.{LinkEnds, HasBytesFor}
-use Rattle.kept_facts.specs.Passed.{Sees}
+use Rattle.kme_base.specs.declared.step.Step.{Step}
+use Rattle.kme_base.specs.Steps.{IsEffect, changed, orders_of}
+use Rattle.kme_base.specs.Places.{LinkEnds, HasBytesFor}
+use Rattle.stream_core.specs.Kept.{Sees}
 use Rattle.kme_node.specs.Holdings.{Holdings, HasOrdersWithin, view}
 use Rattle.kme_node.specs.Ports.{ports_after}
 use Rattle.kme_node.proofs.Applied.{after_step, seen_me, with_orders, lanes_planned}
@@ -15,7 +15,7 @@ use Rattle.kme_node.proofs.Ends.{lanes_of, lanes_after, bytes_after}
 use Rattle.kme_node.proofs.Replies.{orders_within}
 use Rattle.kme_node.proofs.Split.{bare}
 
--- a manager whose parts have taken a step over
+-- the new manager, part by part, after the step
 pub record HasTaken (old new : Holdings) (placings : List Placing) (s : Step) : Type 0 where
   pub fits : HasOrdersWithin old s.reply
   pub kept : Sees (view_batch (bare (view old)) s.batch) new.kept

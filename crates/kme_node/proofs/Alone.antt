@@ -1,4 +1,4 @@
--- Batches without a block.
+-- Batches without blocks.
 use Rattle.std.proofs.Common.{ℕ, zero, suc, ◌+◌, true, false, List, [], ◌∷◌, ◌++◌, length, take, drop, sym, subst}
 use Rattle.std.specs.Prelude.{nat_lt, if◌then◌else◌}
 use Rattle.std.specs.List.{flat_map, AllByRecursion}
@@ -37,7 +37,7 @@ both : (rs qs : List Record) → AreNoBlocks rs → AreNoBlocks qs → AreNoBloc
 both [] qs a b = b
 both (r ∷ rs) qs a b = (a.0, both rs qs a.1 b)
 
--- what is handed or made
+-- records of keys that are handed out or made
 
 handings : (sae : ℕ) (ns : List Name) → AreNoBlocks (hand_to sae ns)
 handings sae [] = tt
@@ -73,7 +73,7 @@ groups v m slaves size random more (suc k) =
 pub alone_groups : (v : View) (m : ℕ) (slaves : List (ℕ × List ℕ)) (size : ℕ) (random : List ℕ) (more k : ℕ) → HasBlocksAlone (new_groups v m slaves size random more k)
 alone_groups v m slaves size random more k = without_block (new_groups v m slaves size random more k) (groups v m slaves size random more k)
 
--- leases
+-- records of leases
 
 module _ (site : Site) (v : View) where
   leases_of : (p : Port) → AreNoBlocks (leases_on site v p)

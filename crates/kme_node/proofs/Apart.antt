@@ -1,4 +1,4 @@
--- A manager's ends of its links stand apart, since each lane leaves a node once.
+-- The ends of a manager have different lanes, since each lane has one sender.
 use Rattle.std.proofs.Common.{◌≡◌, ◌≢◌, ℕ, zero, suc, ◌<◌, Bool, true, false, List, [], ◌∷◌, ◌++◌, map, filter, append-nil, sym, ap, subst, arith}
 use Rattle.std.specs.Prelude.{if◌then◌else◌}
 use Rattle.std.specs.List.{AllByRecursion}
@@ -6,10 +6,10 @@ use Rattle.std.proofs.lemmas.List.Elements.{filter-append}
 use Rattle.qkd_base.specs.declared.lane.Lane.{Lane}
 use Rattle.net_model.specs.Site.{Site, count_up, is_incident, outgoing_lane, outgoing_lanes}
 use Rattle.net_model.specs.View.{Port}
-use Rattle.lane_ports.specs.Places.{AreEnds}
+use Rattle.kme_base.specs.Places.{AreEnds}
 use Rattle.kme_node.specs.Places.{AreApart, AreWithin}
 
--- numbers that rise are all different
+-- increasing numbers are all different
 
 abbrev AreBelow : ℕ → List ℕ → Type 0
 AreBelow n xs = AllByRecursion (λ (x : ℕ). x < n) xs
@@ -55,7 +55,7 @@ module _ (p : ℕ → Bool) where
         | false ↦ subst Differ (sym (append-nil (filter p (count_up n)))) (all_differ n)
       ])
 
--- so are the ends
+-- the ends have different lanes
 
 abbrev LanesDiffer : List Lane → Type 0
 LanesDiffer [] = Unit {0}

@@ -1,4 +1,4 @@
--- What a manager is after a step.
+-- The manager after a step.
 use Rattle.std.proofs.Common.{◌≡◌, ℕ, true, false, List, [], ◌∷◌, ◌++◌, map, add-zero, refl, sym, ap, subst, ◌∙◌}
 use Rattle.std.specs.Prelude.{◌&&◌, length, Result, Ok, Err, OnOk, if◌then◌else◌}
 use Rattle.std.specs.List.{list_any}
@@ -12,15 +12,15 @@ use Rattle.net_model.specs.View.{View, Port}
 use Rattle.net_model.specs.Needed.{masked}
 use Rattle.net_model.specs.Decision.{Effect}
 use Rattle.net_model.specs.Fold.{view_record, view_records, view_batch, view_after, owes, is_end_of, is_handed_by, is_stream_of, marked, on_lane}
-use Rattle.kept_facts.specs.Needs.{kept_view}
-use Rattle.kme_step.specs.declared.step.Step.{Step}
-use Rattle.kme_step.specs.Steps.{IsEffect, changed, orders_of}
-use Rattle.lane_ports.specs.Places.{with_planned}
-use Rattle.kept_facts.specs.Passed.{StreamEnds, Sees}
+use Rattle.kme_facts.specs.Needs.{kept_view}
+use Rattle.kme_base.specs.declared.step.Step.{Step}
+use Rattle.kme_base.specs.Steps.{IsEffect, changed, orders_of}
+use Rattle.kme_base.specs.Places.{with_planned}
+use Rattle.stream_core.specs.Kept.{StreamEnds, Sees}
 use Rattle.declared_site.specs.SiteOf.{IsDeclared, site_of}
 use Rattle.declared_site.specs.declared.site.Site.{Site as Declared}
 use Rattle.net_model.specs.Site.{outgoing_lanes}
-use Rattle.kept_facts.specs.Taken.{HasRoom as HasFactsRoom}
+use Rattle.kme_facts.specs.Taken.{HasRoom as HasFactsRoom}
 use Rattle.kme_node.specs.Holdings.{Holdings, IsHeld, view, HasRoom, HasBatchRoom, HasWindowRoom}
 use Rattle.kme_node.specs.Ports.{ports_after}
 use Rattle.relay_core.specs.Knowledge.{Knowledge}
@@ -28,7 +28,7 @@ use Rattle.end_store.specs.Waiting.{Ends}
 use Rattle.kme_node.proofs.Ends.{lanes_of, same_lanes}
 use Rattle.kme_node.proofs.Split.{bare, with_rest, batch_split}
 
--- a manager whose rooms alone change
+-- reserving memory doesn't change the view
 
 pub same_view : (old new : Holdings) → kept_view new.kept ≡ kept_view old.kept → new.ends.ports ≡ old.ends.ports → new.window.volatile ≡ old.window.volatile → view new ≡ view old
 same_view old new kept ports volatile =
@@ -36,7 +36,7 @@ same_view old new kept ports volatile =
     ∙ ap (λ (ps : List Port). with_rest ps new.window.volatile (kept_view old.kept)) ports
     ∙ ap (λ (w : Volatile). with_rest old.ends.ports w (kept_view old.kept)) volatile
 
--- one with the same site, node and lanes is held
+-- a manager with the same site, node and lanes keeps its invariant
 pub held_still : (old new : Holdings) → new.site ≡ old.site → new.kept.ends.known.me ≡ old.kept.ends.known.me → lanes_of new.ends.ports ≡ lanes_of old.ends.ports → IsHeld old → IsHeld new
 held_still old new site me lanes held =
     record {
@@ -44,7 +44,7 @@ held_still old new site me lanes held =
       lanes = lanes ∙ held.lanes ∙ ap (λ (s : Declared). outgoing_lanes (site_of s) old.kept.ends.known.me) (sym site) ∙ ap (outgoing_lanes (site_of new.site)) (sym me);
     }
 
--- a manager stays who it is
+-- a step doesn't change the node's number
 
 record_me : (r : Record) (v : View) → (view_record r v).me ≡ v.me
 unfolding view_record
@@ -70,7 +70,7 @@ masked_me v = refl
 pub batch_me : (v : View) (rs : List Record) → (view_batch v rs).me ≡ v.me
 batch_me v rs = masked_me (view_records rs v) ∙ records_me rs v
 
--- a manager's view by what is seen of what it keeps
+-- the manager's view is that of its parts
 
 pub seen_view : (b : View) (s : StreamEnds) → Sees b s → (ports : List Port) (vol : Volatile) → with_rest ports vol (kept_view s) ≡ with_rest ports vol b
 seen_view b s sees ports vol =
@@ -83,7 +83,7 @@ seen_view b s sees ports vol =
 pub sees_bare : (h : Holdings) → Sees (bare (view h)) h.kept
 sees_bare h = record { ends = record { me = refl; facts = refl; acked = refl; handed = refl }; closed = refl }
 
--- what orders plan
+-- the bytes that orders plan
 
 abbrev pub with_orders : List Fact → List Transmission → List Port → List Port
 with_orders facts orders ports = map (λ (p : Port). with_planned (needs facts (on_lane p.lane orders)) p) ports
@@ -93,7 +93,7 @@ without_orders facts [] = refl
 without_orders facts (p ∷ ps) =
     ap (λ (n : ℕ). record p { planned = n } ∷ with_orders facts [] ps) (add-zero p.planned) ∙ ap (λ (qs : List Port). p ∷ qs) (without_orders facts ps)
 
--- what is kept after the batch of a step, with the ends and the life that the step leaves
+-- after a step, the view of the parts is that of the model
 pub after_step : (h : Holdings) (placings : List Placing) (e : Effect) (s : Step) → IsEffect (view h) placings e s → (kept : StreamEnds) → Sees (view_batch (bare (view h)) s.batch) kept
     → (ports : List Port) → ports ≡ with_orders h.kept.ends.known.facts (orders_of s.reply) (ports_after s.batch h.ends.ports)
     → (vol : Volatile) → vol ≡ changed h.kept.ends.known.acked placings s.reply s.change h.window.volatile
@@ -107,7 +107,7 @@ after_step h placings e s is kept sees ports ports_are vol vol_is =
     ∙ ap (λ (b : View). with_rest (with_orders (view h).facts e.orders b.ports) e.volatile b) (sym (batch_split s.batch (view h)))
     ∙ ap (λ (rs : List Record). with_rest (with_orders (view h).facts e.orders (view_batch (view h) rs).ports) e.volatile (view_batch (view h) rs)) is.batch
 
--- the same after a batch alone
+-- after a batch alone, the view of the parts is that of the model
 pub after_batch : (h : Holdings) (rs : List Record) (kept : StreamEnds) → Sees (view_batch (bare (view h)) rs) kept → (ports : List Port) → ports ≡ ports_after rs h.ends.ports
     → with_rest ports h.window.volatile (kept_view kept) ≡ view_batch (view h) rs
 after_batch h rs kept sees ports ports_are =
@@ -115,25 +115,25 @@ after_batch h rs kept sees ports ports_are =
     ∙ ap (λ (ps : List Port). with_rest ps h.window.volatile (view_batch (bare (view h)) rs)) ports_are
     ∙ sym (batch_split rs (view h))
 
--- rooms that were made in each part
+-- memory was reserved in each part
 pub all_rooms : {T E : Type 0} (r : Result T E) (h : Holdings) (s : Step) → OnOk r (HasFactsRoom h.kept (length s.batch)) → OnOk r (HasBatchRoom h.ends s.batch) → OnOk r (HasWindowRoom h.window s.change s.reply) → OnOk r (HasRoom h s)
 all_rooms (Ok x) h s facts blocks window = record { facts = facts; blocks = blocks; window = window }
 all_rooms (Err e) h s facts blocks window = tt
 
--- what is looked up of what a manager keeps
+-- the parts of a manager that its functions look up
 
 pub known_is : (h : Holdings) (s : StreamEnds) (e : Ends) (k : Knowledge) → s ≡ h.kept → e ≡ s.ends → k ≡ e.known → k ≡ h.kept.ends.known
 known_is h s e k a b c = c ∙ ap (λ (x : Ends). x.known) b ∙ ap (λ (x : StreamEnds). x.ends.known) a
 
--- who has what is seen of a batch's view is who had it before
+-- a batch doesn't change the node's number
 pub seen_me : (h : Holdings) (rs : List Record) (kept : StreamEnds) → Sees (view_batch (bare (view h)) rs) kept → kept.ends.known.me ≡ h.kept.ends.known.me
 seen_me h rs kept sees = sym sees.ends.me ∙ batch_me (bare (view h)) rs
 
--- planning keeps lanes
+-- planning doesn't change the lanes
 pub lanes_planned : (facts : List Fact) (orders : List Transmission) (ports : List Port) → lanes_of (with_orders facts orders ports) ≡ lanes_of ports
 lanes_planned facts orders ports = same_lanes (λ (p : Port). with_planned (needs facts (on_lane p.lane orders)) p) (λ p. refl) ports
 
--- what is seen of what is kept doesn't hang on rooms
+-- two states that differ only in reserved memory have the same view
 pub kept_sees : (h : Holdings) (s : StreamEnds) → kept_view s ≡ kept_view h.kept → Sees (bare (view h)) s
 kept_sees h s same =
     record {

@@ -1,11 +1,11 @@
--- Octets that are drawn for a batch leave its length and its blocks.
+-- Replacing the octets of a batch by drawn ones changes neither its length nor its blocks.
 use Rattle.std.proofs.Common.{◌≡◌, ℕ, List, [], ◌∷◌, length, suc, drop, refl, sym, ap, subst}
 use Rattle.net_model.specs.declared.record.Record.{Record}
 use Rattle.net_model.specs.declared.record.Record.TheVariants.{Block, Lease, Learned, Acked, Handed, Closed, Bare}
-use Rattle.kept_facts.specs.Taken.{HasRoom as HasFactsRoom}
-use Rattle.kme_step.specs.Random.{with_random, spends, fact_spends}
-use Rattle.kme_step.specs.declared.step.Step.{Step}
-use Rattle.lane_ports.specs.Places.{LinkEnds}
+use Rattle.kme_facts.specs.Taken.{HasRoom as HasFactsRoom}
+use Rattle.kme_base.specs.Random.{with_random, spends, fact_spends}
+use Rattle.kme_base.specs.declared.step.Step.{Step}
+use Rattle.kme_base.specs.Places.{LinkEnds}
 use Rattle.kme_node.specs.Holdings.{Holdings, Fits, HasRoom, HasBatchRoom, HasBlocksAlone}
 
 pub drawn_length : (random : List ℕ) (rs : List Record) → length (with_random random rs) ≡ length rs

@@ -1,4 +1,4 @@
--- What records leave of a manager's ends of its links.
+-- How records change a manager's ends of links.
 use Rattle.std.proofs.Common.{◌≡◌, ℕ, ◌+◌, ◌<◌, ◌≤◌, true, false, List, [], ◌∷◌, ◌++◌, length, map, refl, sym, ap, subst, ◌∙◌, arith, length-append}
 use Rattle.std.specs.Prelude.{◌==◌, ◌&&◌, nat_lt, nat_le, if◌then◌else◌}
 use Rattle.std.proofs.lemmas.Bool.Decides.{nat_tests}
@@ -13,12 +13,12 @@ use Rattle.net_model.specs.declared.record.Record.TheVariants.{Block, Lease, Lea
 use Rattle.net_model.specs.View.{Port, received_of}
 use Rattle.net_model.specs.Fold.{with_block, with_lease}
 use Rattle.net_model.specs.Records.{keyed_lease, is_first}
-use Rattle.law_records.proofs.Base.{and_left, and_right}
-use Rattle.lane_ports.specs.Places.{LinkEnds, HasRoomFor, HasBytesFor, lane_need}
+use Rattle.law_base.proofs.Base.{and_left, and_right}
+use Rattle.kme_base.specs.Places.{LinkEnds, HasRoomFor, HasBytesFor, lane_need}
 use Rattle.kme_node.specs.Ports.{ports_by, ports_after}
 use Rattle.kme_node.specs.Holdings.{HasBatchRoom, HasBlocksAlone}
 
--- lanes stay
+-- the lanes stay the same
 
 abbrev pub lanes_of : List Port → List Lane
 lanes_of ports = map (λ (p : Port). p.lane) ports
@@ -51,7 +51,7 @@ pub lanes_after : (rs : List Record) (ports : List Port) → lanes_of (ports_aft
 lanes_after [] ports = refl
 lanes_after (r ∷ rs) ports = lanes_after rs (ports_by r ports) ∙ lanes_by r ports
 
--- bytes that orders need are there after records, too
+-- bytes that suffice for orders still suffice after more records
 
 keyed_fits : (before after planned need : ℕ) → planned + need ≤ before → before ≤ after → (0 < after → 8 ≤ after) → keyed_lease before after planned + need ≤ after
 keyed_fits before after planned need fits grows whole = elim (is_first before after) as (λ t. is_first before after ≡ t → (if t then 8 else planned) + need ≤ after) [
@@ -116,14 +116,14 @@ pub bytes_after : (orders : List Order) (rs : List Record) (ports : List Port) �
 bytes_after orders [] ports have = have
 bytes_after orders (r ∷ rs) ports have = bytes_after orders rs (ports_by r ports) (bytes_by orders r ports have)
 
--- room for a batch's block
+-- room for the block of a batch
 
 leased_room : (lane : Lane) (end : ℕ) (ports : List Port) (spares : List ℕ) (link : ℕ) → HasRoomFor ports spares link → HasRoomFor (map (with_lease lane end) ports) spares link
 leased_room lane end [] spares link room = tt
 leased_room lane end (p ∷ ps) [] link room = tt
 leased_room lane end (p ∷ ps) (n ∷ ns) link room = (λ is. room.0 (sym (ap (λ (l : Lane). l.link) (lease_lane lane end p)) ∙ is), leased_room lane end ps ns link room.1)
 
--- a lease takes none of it
+-- a lease takes no room
 pub room_leased : (lane : Lane) (end : ℕ) (old new : LinkEnds) → new.ports ≡ map (with_lease lane end) old.ports → new.spares ≡ old.spares → (rs : List Record) → HasBatchRoom old rs → HasBatchRoom new rs
 room_leased lane end old new ports spares [] room = tt
 room_leased lane end old new ports spares (Block link number bytes ∷ rs) room =

@@ -1,4 +1,4 @@
--- What every event but a plan and a frame decides fits its manager.
+-- A decision on any event but a plan and a frame fits the manager.
 use Rattle.std.proofs.Common.{◌≡◌, ℕ, ◌+◌, ◌*◌, ◌/◌, Bool, true, false, not, ◌&&◌, ◌||◌, List, [], ◌∷◌, length, take, refl, sym, subst, arith}
 use Rattle.std.specs.Prelude.{nat_lt, ◌==◌, if◌then◌else◌, count_by, reverse, IfOk, Option, Some, None, Result, Ok, Err}
 use Rattle.std.proofs.lemmas.Bool.Decides.{nat_tests}
@@ -17,7 +17,7 @@ use Rattle.net_model.specs.Site.{Site}
 use Rattle.net_model.specs.Routes.{route}
 use Rattle.net_model.specs.Sealing.{Sealing, Forged}
 use Rattle.declared_site.specs.SiteOf.{site_of}
-use Rattle.lane_ports.specs.Passed.{AreUp}
+use Rattle.kme_base.specs.Up.{AreUp}
 use Rattle.route_table.specs.Layer.{bit_is_set}
 use Rattle.net_model.specs.View.{View, Port, port_of, blocks_of}
 use Rattle.net_model.specs.Decide.{decide}
@@ -27,13 +27,13 @@ use Rattle.net_model.specs.Pools.{is_entitled, pool, unhanded, hand_to, with_byt
 use Rattle.net_model.specs.Show.{counted_of}
 use Rattle.net_model.specs.Streams.{is_size, only_status, has_end, stream_here, has_joined, opened, open_stream, joins, join_stream, at_end, gives_chunk, chunk_at, get_chunk, close_stream, new_chunks, waiting, fed, fed_stream, feed, is_chunk_of}
 use Rattle.net_model.specs.Groups.{new_groups, routes_to, filled_group, is_entitled_group, fill_group, enc_group, group, group_bytes, unhanded_group}
-use Rattle.kme_step.specs.Steps.{IsStep, placings_of}
-use Rattle.kme_step.specs.declared.step.Step.{Step}
+use Rattle.kme_base.specs.Steps.{IsStep, placings_of}
+use Rattle.kme_base.specs.declared.step.Step.{Step}
 use Rattle.kme_node.specs.Holdings.{Holdings, view, HasBlocksAlone, HasOrdersWithin, Fits}
 use Rattle.kme_node.proofs.Alone.{alone_handings, alone_keys, alone_chunks, alone_groups}
 use Rattle.kme_node.proofs.Shown.{show_holds}
 
--- a plan goes by its ends, and a frame is opened first
+-- any event but a plan, whose fit depends on the ends of links, and a frame, which must be opened first
 abbrev pub IsCalm : Event → Type 0
 IsCalm events.Plan = ⊥
 IsCalm (events.Heard lane bytes) = ⊥
@@ -44,7 +44,7 @@ module _ (h : Holdings) where
   DecisionFits (Refuses reply) = Unit {0}
   DecisionFits (Does effect) = HasBlocksAlone effect.batch × HasOrdersWithin h effect.reply
 
-  -- so does the step that is this decision
+  -- if a decision fits the manager, so does the step that follows it
   pub step_fits : (v : View) (placings : List Placing) (d : Decision) (r : Result Step Reply) → DecisionFits d → IsStep v placings d r → IfOk r (Fits h)
   step_fits v placings (Refuses reply) (Ok s) fits is = absurd is
   step_fits v placings (Refuses reply) (Err q) fits is = tt
@@ -218,7 +218,7 @@ module _ (h : Holdings) where
   event_fits site frames up v random (events.EncGroup m slaves n bits) calm valid = enc_group_fits v site m slaves n bits
   event_fits site frames up v random (events.Note placings) calm valid = (tt, tt)
 
-  -- frames and what lies past the links say nothing of the decision, so any will do
+  -- the decision doesn't depend on how frames are sealed or which links are up, so any choice will do
   pub answer_fits : (up : ℕ) (random : List ℕ) (e : Event) → IsCalm e → is_valid_event (site_of h.site) (view h).me e ≡ true → (r : Result Step Reply) →
       ((frames : Sealing) (is_up : ℕ → Bool) → AreUp up is_up → IsStep (view h) (placings_of e) (decide (site_of h.site) frames is_up (view h) random e) r) → IfOk r (Fits h)
   answer_fits up random e calm valid r decided =

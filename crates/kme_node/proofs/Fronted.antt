@@ -1,4 +1,4 @@
--- What is under way before a place stays so, but for what is acknowledged and what is let go.
+-- Facts that are on their way before a place stay so, unless they are acknowledged or their frames are removed.
 use Rattle.std.proofs.Common.{◌≡◌, ℕ, zero, suc, ◌<◌, ◌≤◌, Bool, true, false, ◌||◌, ◌&&◌, List, [], ◌∷◌, ◌++◌, length, refl, sym, ◌∙◌, ap, subst, arith, Some}
 use Rattle.std.specs.Prelude.{map, filter, slice_get, not, is_some, nat_le, ◌==◌, ◌+◌, if◌then◌else◌}
 use Rattle.std.specs.List.{list_any}
@@ -21,31 +21,31 @@ use Rattle.net_model.specs.Table.{name_of, route_of, without_bytes}
 use Rattle.net_model.specs.View.{View}
 use Rattle.net_model.specs.Window.{acknowledge, answers_frame, mark_due, cleared, age, is_data_entry, stands_at, record_retransmission, transmission_of, transmission_eq, entry_of, is_acked_item, is_pending_of, complete, complete_one}
 use Rattle.net_model.specs.World.{Entry, Transmission, Volatile}
-use Rattle.kme_step.specs.declared.change.Change.{Change}
-use Rattle.kme_step.specs.declared.change.Change.TheVariants.{Same, Received, Acknowledged, Planned, Noted}
-use Rattle.kme_step.specs.Steps.{changed, planned_by, repeated_by, transmission_of_order}
+use Rattle.kme_base.specs.declared.change.Change.{Change}
+use Rattle.kme_base.specs.declared.change.Change.TheVariants.{Same, Received, Acknowledged, Planned, Noted}
+use Rattle.kme_base.specs.Steps.{changed, planned_by, repeated_by, transmission_of_order}
 use Rattle.relay_core.proofs.Firsts.{get_prefix}
 use Rattle.relay_core.specs.Index.{is_owed_to}
-use Rattle.kme_plan.proofs.Passed.{any_map, any_same, length_map}
-use Rattle.law_records.proofs.Base.{lane_eq_from, lane_same, name_eq_from, name_eq_same}
-use Rattle.law_views.proofs.Masked.{name_blind, route_blind}
-use Rattle.kept_facts.specs.Passed.{Grows, IsAlike}
-use Rattle.kept_facts.proofs.Passed.{records_add}
-use Rattle.kept_facts.proofs.Passed.{masked_alike}
-use Rattle.law_lanes.proofs.Lists.{mapped_at, transmission_from}
-use Rattle.kept_facts.specs.Needs.{kept_view}
+use Rattle.resend_window.proofs.Lists.{any_map, any_same, length_map}
+use Rattle.law_base.proofs.Base.{lane_eq_from, lane_same, name_eq_from, name_eq_same}
+use Rattle.law_base.proofs.Masked.{name_blind, route_blind}
+use Rattle.law_base.specs.Touched.{Grows, IsAlike}
+use Rattle.law_base.proofs.Adding.{records_add}
+use Rattle.law_base.proofs.Blind.{masked_alike}
+use Rattle.law_base.proofs.Lists.{mapped_at, transmission_from}
+use Rattle.kme_facts.specs.Needs.{kept_view}
 use Rattle.declared_site.specs.SiteOf.{site_of}
 use Rattle.declared_site.specs.declared.site.Site.{Site as Declared}
-use Rattle.kme_step.specs.declared.step.Step.{Step}
+use Rattle.kme_base.specs.declared.step.Step.{Step}
 use Rattle.relay_core.specs.Knowledge.{Knowledge}
-use Rattle.kme_plan.specs.Passed.{Kept as Window}
-use Rattle.kept_facts.specs.Passed.{StreamEnds, Sees}
+use Rattle.resend_window.specs.Kept.{Kept as Window}
+use Rattle.stream_core.specs.Kept.{StreamEnds, Sees}
 use Rattle.kme_node.specs.Holdings.{Holdings, view}
 use Rattle.kme_node.proofs.Applied.{seen_me}
 use Rattle.kme_node.proofs.Split.{bare}
-use Rattle.kme_plan.specs.Wanted.{data_on, is_awaited, is_held}
-use Rattle.kme_plan.specs.UnderWay.{AreUnderWay, AreLeft, AreFronts, AreFrontsBut, front_of, is_under_way, is_let_go}
-use Rattle.kme_plan.proofs.UnderWay.{is_one, is_other}
+use Rattle.kme_relay.specs.Wanted.{data_on, is_awaited, is_held}
+use Rattle.kme_relay.specs.UnderWay.{AreUnderWay, AreLeft, AreFronts, AreFrontsBut, front_of, is_under_way, is_let_go}
+use Rattle.kme_relay.proofs.UnderWay.{is_one, is_other}
 
 left_of : (a b : Bool) → (a && b) ≡ true → a ≡ true
 left_of true b h = refl
@@ -59,7 +59,7 @@ both_of : (a b : Bool) → a ≡ true → b ≡ true → (a && b) ≡ true
 both_of true b h k = k
 both_of false b h k = cc
 
--- by what is learned and acknowledged
+-- learned and acknowledged facts
 
 record WasThere (facts : List Fact) (p : ℕ) (f : Fact) : Type 0 where
   pub fact : Fact
@@ -136,7 +136,7 @@ module _ (v : View) (rs : List Record) where
         ap (λ (n : Name). is_let_go change l n || is_under_way vol l n) (sym at.name) ∙ left.each p at.fact lt at.there (owed_before to f at.fact at.name at.route owed);
   }
 
--- where nothing is let go
+-- changes that remove no frames
 
 pub all_left : (me : ℕ) (acked : List Name) (facts : List Fact) (vol : Volatile) (l : Lane) (to place : ℕ) → AreUnderWay me acked facts vol l to place → AreLeft me acked facts vol Same l to place
 all_left me acked facts vol l to place way = record { within = way.within; each = way.each }
@@ -144,13 +144,13 @@ all_left me acked facts vol l to place way = record { within = way.within; each 
 pub none_let : (me : ℕ) (acked : List Name) (facts : List Fact) (vol : Volatile) (l : Lane) (to place : ℕ) → AreLeft me acked facts vol Same l to place → AreUnderWay me acked facts vol l to place
 none_let me acked facts vol l to place left = record { within = left.within; each = left.each }
 
--- by a change of the window
+-- changes of the window
 
 abbrev held_test : Lane → Name → Entry → Bool
 held_test l n e = lane_eq e.transmission.lane l && is_data_of n e.transmission.item
 
 module _ (l : Lane) (n : Name) where
-  -- entries that change, but not what they are of
+  -- entries that keep their transmissions
   held_map : (g : Entry → Entry) → ((e : Entry) → (g e).transmission ≡ e.transmission) → (es : List Entry) → list_any (held_test l n) (map g es) ≡ list_any (held_test l n) es
   held_map g same es = any_map g (held_test l n) es ∙ any_same (λ e. held_test l n (g e)) (held_test l n) (λ e. ap (λ (t : Transmission). lane_eq t.lane l && is_data_of n t.item) (same e)) es
 
@@ -191,7 +191,7 @@ module _ (l : Lane) (n : Name) where
   name_of_item (DataItem m) h = ap DataItem (name_eq_from m n h)
   name_of_item (AckItem m) h = cc
 
-  -- entries that are let go
+  -- entries that are removed
   not_cleared : (k : Lane) (m : Name) → is_let_go (Acknowledged k m) l n ≡ false → (es : List Entry) → list_any (held_test l n) (cleared k m es) ≡ list_any (held_test l n) es
   not_cleared k m miss es = kept_any (held_test l n) (λ e. not (lane_eq e.transmission.lane (reverse_lane k) && is_data_of m e.transmission.item)) one es
     where
@@ -230,7 +230,7 @@ module _ (l : Lane) (n : Name) where
       further false b c h = is_one b c h
   planned_still vol reply h = h
 
-  -- a placing
+  -- placings
   is_same_order : (x : Transmission) → transmission_eq (data_on l n) x ≡ true → x ≡ data_on l n
   is_same_order x h = sym (transmission_from (data_on l n) x h)
 
@@ -310,7 +310,7 @@ module _ (l : Lane) (n : Name) where
   changed_left acked placings reply Planned vol miss h = planned_still vol reply h
   changed_left acked placings reply Noted vol miss h = noted_still acked vol placings miss h
 
--- a manager's
+-- the places of a manager's lanes
 
 unacked : (me : ℕ) (acked : List Name) (to : ℕ) (f : Fact) → is_owed_to me acked to f ≡ true → has acked (name_of f) ≡ false
 unacked me acked to f owed = by (has acked (name_of f)) (right_of (is_some_of (next_after (route_of f) me) to) (not (has acked (name_of f))) owed)
@@ -323,13 +323,13 @@ pub anew : (site : Site) (me : ℕ) (acked : List Name) (facts : List Fact) (vol
 anew site me acked facts vol fronts first l =
     subst (AreUnderWay me acked facts vol l (receiver site l)) (sym (first l)) (record { within = omega arith; each = λ p f lt there owed. absurd (omega arith) })
 
--- of what is kept in other room
+-- the state may be stored in other memory
 pub ahead_same : (site : Site) (fronts : List ℕ) (a b : StreamEnds) (x y : Volatile) → kept_view b ≡ kept_view a → y ≡ x →
     AreFronts site a.ends.known.me a.ends.known.acked a.ends.known.facts x fronts → AreFronts site b.ends.known.me b.ends.known.acked b.ends.known.facts y fronts
 ahead_same site fronts a b x y kept vol h =
     subst (λ (z : Volatile). AreFronts site b.ends.known.me b.ends.known.acked b.ends.known.facts z fronts) (sym vol) (subst (λ (v : View). AreFronts site v.me v.acked v.facts x fronts) (sym kept) h)
 
--- of the parts of a manager
+-- the state in the parts of a manager
 pub ahead_of : (h : Holdings) (fronts : List ℕ) (site : Declared) (k : Knowledge) (w : Window) → site ≡ h.site → k ≡ h.kept.ends.known → w ≡ h.window →
     AreFronts (site_of h.site) h.kept.ends.known.me h.kept.ends.known.acked h.kept.ends.known.facts h.window.volatile fronts → AreFronts (site_of site) k.me k.acked k.facts w.volatile fronts
 ahead_of h fronts site k w a b c ahead =
@@ -337,7 +337,7 @@ ahead_of h fronts site k w a b c ahead =
     (subst (λ (x : Knowledge). AreFronts (site_of h.site) x.me x.acked x.facts w.volatile fronts) (sym b)
     (subst (λ (x : Window). AreFronts (site_of h.site) h.kept.ends.known.me h.kept.ends.known.acked h.kept.ends.known.facts x.volatile fronts) (sym c) ahead))
 
--- behind a batch
+-- after a batch
 pub left_behind : (h : Holdings) (rs : List Record) (kept : StreamEnds) (vol : Volatile) (change : Change) (fronts : List ℕ) → Sees (view_batch (bare (view h)) rs) kept →
     AreFrontsBut change (site_of h.site) h.kept.ends.known.me h.kept.ends.known.acked h.kept.ends.known.facts vol fronts →
     AreFrontsBut change (site_of h.site) kept.ends.known.me kept.ends.known.acked kept.ends.known.facts vol fronts
@@ -357,7 +357,7 @@ ahead_behind h rs kept fronts sees ahead l =
     (left_behind h rs kept h.window.volatile Same fronts sees
     (λ m. all_left h.kept.ends.known.me h.kept.ends.known.acked h.kept.ends.known.facts h.window.volatile m (receiver (site_of h.site) m) (front_of fronts m) (ahead m)) l)
 
--- behind a step
+-- after a step
 pub left_after : (h : Holdings) (placings : List Placing) (s : Step) (kept : StreamEnds) (vol : Volatile) (fronts : List ℕ) → Sees (view_batch (bare (view h)) s.batch) kept →
     vol ≡ changed h.kept.ends.known.acked placings s.reply s.change h.window.volatile →
     AreFronts (site_of h.site) h.kept.ends.known.me h.kept.ends.known.acked h.kept.ends.known.facts h.window.volatile fronts →

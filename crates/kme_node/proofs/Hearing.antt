@@ -1,4 +1,4 @@
--- What a payload that came changes fits the manager.
+-- The step for a received payload fits the manager.
 use Rattle.std.proofs.Common.{ℕ, Bool, true, false, ◌&&◌, not, List, [], ◌∷◌}
 use Rattle.std.specs.Prelude.{◌==◌, if◌then◌else◌, reverse}
 use Rattle.qkd_base.specs.Name.{has}

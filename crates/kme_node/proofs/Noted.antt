@@ -1,4 +1,4 @@
--- What placings make of one life, one after the other.
+-- How placings change the window, one by one.
 use Rattle.std.proofs.Common.{◌≡◌, ℕ, List, [], ◌∷◌, refl}
 use Rattle.std.specs.Prelude.{◌&&◌, is_none, Option, Some, None}
 use Rattle.qkd_base.specs.Name.{Name, has}
@@ -8,9 +8,9 @@ use Rattle.net_model.specs.declared.placing.Placing.{Placing}
 use Rattle.net_model.specs.Item.{item_of}
 use Rattle.net_model.specs.Window.{complete, complete_one, is_acked_item}
 use Rattle.net_model.specs.World.{Volatile}
-use Rattle.kme_step.specs.Steps.{placings_of}
+use Rattle.kme_base.specs.Steps.{placings_of}
 
--- an acknowledgement is never acknowledged
+-- an acknowledgement itself is never acknowledged
 pub acked_item : (acked : List Name) (ack_of : Option ℕ) (n : Name) → (is_none ack_of && has acked n) ≡ is_acked_item acked (item_of ack_of n)
 acked_item acked None n = refl
 acked_item acked (Some offset) n = refl

@@ -1,4 +1,4 @@
--- The orders of a plan fit the bytes received.
+-- The orders of a plan fit in the bytes received.
 use Rattle.std.proofs.Common.{◌≡◌, ◌≢◌, ℕ, ◌+◌, ◌≤◌, Bool, true, false, List, [], ◌∷◌, ◌++◌, map, refl, sym, ap, subst, ◌∙◌, arith, append-nil}
 use Rattle.std.specs.Prelude.{nat_lt, not, filter, if◌then◌else◌}
 use Rattle.std.specs.List.{list_any, flat_map, AllByRecursion}
@@ -14,10 +14,10 @@ use Rattle.net_model.specs.World.{Transmission, needs}
 use Rattle.net_model.specs.View.{View, Port, received_of}
 use Rattle.net_model.specs.Fold.{on_lane}
 use Rattle.net_model.specs.Plan.{acks_on, facts_on, wanted_on, that_fit, orders_on}
-use Rattle.law_records.proofs.Base.{lane_eq_from, lane_same}
+use Rattle.law_base.proofs.Base.{lane_eq_from, lane_same}
 use Rattle.kme_node.specs.Places.{AreApart, AreWithin, HaveBytes}
 
--- what holds of each
+-- a property of all items of a concatenation
 
 all_append : {A : Type 0} (P : A → Type 0) (xs ys : List A) → AllByRecursion P xs → AllByRecursion P ys → AllByRecursion P (xs ++ ys)
 all_append P [] ys a b = b
@@ -93,7 +93,7 @@ module _ (site : Site) (v : View) where
     abbrev ordered : List Port → List Transmission
     ordered ports = flat_map (orders_on site v) (filter up ports)
 
-    -- the orders of an end, and those of the ends after it
+    -- the orders of one end, and those of all ends
     abbrev mine : Port → List Transmission
     mine p = if up p then orders_on site v p else []
 
@@ -109,7 +109,7 @@ module _ (site : Site) (v : View) where
     mine_bound : (p : Port) → p.planned ≤ received_of p → p.planned + needs v.facts (mine p) ≤ received_of p
     mine_bound p h = elim (up p) as (λ t. p.planned + needs v.facts (if t then orders_on site v p else []) ≤ received_of p) [ true ↦ orders_bound p h | false ↦ omega arith ]
 
-    -- ends of other lanes order nothing on this one
+    -- the ends of other lanes order nothing on this one
     nothing_of : (l : Lane) (ps : List Port) → AllByRecursion (λ (q : Port). q.lane ≢ l) ps → on_lane l (ordered ps) ≡ []
     nothing_of l [] apart = refl
     nothing_of l (p ∷ ps) apart =

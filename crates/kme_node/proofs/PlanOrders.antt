@@ -1,4 +1,4 @@
--- The orders that a plan replies spell facts that are known, and its batch has leases alone.
+-- The orders of a plan are of known facts, and its batch has only leases.
 use Rattle.std.proofs.Common.{◌≡◌, ℕ, ◌+◌, ◌≤◌, true, false, List, [], ◌∷◌, ◌++◌, refl, sym, ap, subst, ◌∙◌}
 use Rattle.std.specs.Prelude.{◌&&◌, nat_lt, nat_le, Option, Some, None, if◌then◌else◌}
 use Rattle.std.specs.List.{flat_map, AllByRecursion}
@@ -16,12 +16,12 @@ use Rattle.net_model.specs.World.{Transmission, needs}
 use Rattle.net_model.specs.View.{View, Port, received_of}
 use Rattle.net_model.specs.Fold.{on_lane, with_lease}
 use Rattle.net_model.specs.Plan.{orders_on, spelled_order, spelled_orders, leases_on, end_on, raise}
-use Rattle.law_records.proofs.Tables.{found_name}
-use Rattle.lane_ports.specs.Places.{AreOf}
+use Rattle.law_base.proofs.Tables.{found_name}
+use Rattle.kme_base.specs.Places.{AreOf}
 use Rattle.kme_node.specs.Places.{HaveBytes}
 use Rattle.kme_node.specs.Ports.{ports_by, ports_after}
 
--- an order spends what its item needs
+-- an order needs as many bytes as its item
 of_one : (facts : List Fact) (t : Transmission) (used : ℕ) → AreOf facts (spelled_order t used (payload facts t.item))
 of_one facts t used = by_item t.item
   where
@@ -51,7 +51,7 @@ module _ (site : Site) (v : View) where
       subst (AreOf v.facts) (sym (flat_map-cons (λ (q : Port). spelled_orders v.facts q.planned (orders_on site v q)) p ps))
       (of_append v.facts (spelled_orders v.facts p.planned (orders_on site v p)) _ (of_all v.facts p.planned (orders_on site v p)) (plan_spells ps))
 
-  -- leases leave blocks and what is planned
+  -- leases change neither blocks nor planned bytes
   abbrev IsLease : Record → Type 0
   IsLease (Lease lane end) = Unit {0}
   IsLease _ = ⊥

@@ -1,4 +1,4 @@
--- What a tick's plan decides fits its manager.
+-- The plan of a tick fits the manager.
 use Rattle.std.proofs.Common.{◌≡◌, ℕ, ◌+◌, ◌≤◌, Bool, List, [], ◌∷◌, map, filter, sym, ap, subst, ◌∙◌}
 use Rattle.std.specs.Prelude.{IfOk, Result, Ok, Err}
 use Rattle.std.specs.List.{flat_map}
@@ -11,10 +11,10 @@ use Rattle.net_model.specs.View.{Port, received_of}
 use Rattle.net_model.specs.Decision.{Does}
 use Rattle.net_model.specs.Fold.{on_lane}
 use Rattle.net_model.specs.Plan.{plan, orders_on, spelled_orders}
-use Rattle.kme_step.specs.Steps.{IsStep, transmission_of_order, orders_of}
-use Rattle.kme_step.specs.declared.step.Step.{Step}
-use Rattle.lane_ports.specs.Places.{AreEnds, AreOf, HasBytesFor}
-use Rattle.lane_ports.proofs.Ends.{needs_are}
+use Rattle.kme_base.specs.Steps.{IsStep, transmission_of_order, orders_of}
+use Rattle.kme_base.specs.declared.step.Step.{Step}
+use Rattle.kme_base.specs.Places.{AreEnds, AreOf, HasBytesFor}
+use Rattle.kme_base.proofs.Ends.{needs_are}
 use Rattle.kme_node.specs.Places.{AreApart, HaveBytes}
 use Rattle.kme_node.specs.Holdings.{Holdings, view, HasBlocksAlone, HasOrdersWithin, Fits}
 use Rattle.kme_node.proofs.Apart.{ends_within}
@@ -22,7 +22,7 @@ use Rattle.kme_node.proofs.Alone.{alone_leases}
 use Rattle.kme_node.proofs.PlanFits.{ordered_fit}
 use Rattle.kme_node.proofs.PlanOrders.{plan_spells}
 
--- what is to be sent needs as much as the orders that spell it
+-- the orders need as many bytes as their transmissions
 bytes_for : (facts : List Fact) (orders : List Order) (ts : List Transmission) → AreOf facts orders → map transmission_of_order orders ≡ ts →
     (ports : List Port) → HaveBytes facts ts ports → HasBytesFor orders ports
 bytes_for facts orders ts spelled same [] have = tt

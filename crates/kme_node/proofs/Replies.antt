@@ -1,4 +1,4 @@
--- What is true of each reply that orders nothing, and of a plan's.
+-- Properties of a reply without orders, and of a plan's reply.
 use Rattle.std.proofs.Common.{◌≡◌, List, [], refl, sym, subst, length}
 use Rattle.net_model.specs.declared.fact.Fact.{Fact}
 use Rattle.net_model.specs.declared.order.Order.{Order}
@@ -7,10 +7,10 @@ use Rattle.net_model.specs.declared.reply.Reply.{Reply}
 use Rattle.net_model.specs.declared.reply.Reply.TheVariants as replies
 use Rattle.net_model.specs.declared.short_of.ShortOf.{ShortOf}
 use Rattle.net_model.specs.World.{Volatile}
-use Rattle.kme_step.specs.declared.change.Change.TheVariants.{Planned}
-use Rattle.kme_step.specs.Steps.{orders_of, planned_by}
-use Rattle.lane_ports.specs.Places.{AreOf, HasBytesFor}
-use Rattle.kme_plan.specs.Passed.{Kept as Window}
+use Rattle.kme_base.specs.declared.change.Change.TheVariants.{Planned}
+use Rattle.kme_base.specs.Steps.{orders_of, planned_by}
+use Rattle.kme_base.specs.Places.{AreOf, HasBytesFor}
+use Rattle.resend_window.specs.Kept.{Kept as Window}
 use Rattle.kme_node.specs.Holdings.{Holdings, HasWindowRoom, HasOrdersWithin}
 
 abbrev pub IsNoPlan : Reply → Type 0
@@ -106,7 +106,7 @@ no_room w (replies.Unknown place) none = tt
 no_room w (replies.Repeated place) none = tt
 no_room w (replies.AlreadyHanded place) none = tt
 
--- orders fit wherever the same facts are known and the bytes are there
+-- orders still fit while the same facts are known and the bytes suffice
 pub orders_within : (old new : Holdings) (reply : Reply) → new.kept.ends.known.facts ≡ old.kept.ends.known.facts
     → ((orders : List Order) → HasBytesFor orders old.ends.ports → HasBytesFor orders new.ends.ports) → HasOrdersWithin old reply → HasOrdersWithin new reply
 orders_within old new (replies.Planned orders repeats shorts) same reach fits = (subst (λ (fs : List Fact). AreOf fs orders) (sym same) fits.0, reach orders fits.1)

@@ -1,4 +1,4 @@
--- What is shown of a name is a state and its bytes.
+-- The reply to a query for a name has a state and bytes.
 use Rattle.std.proofs.Common.{◌≡◌, ℕ, Bool, true, false, List, [], ◌∷◌, refl}
 use Rattle.std.specs.Prelude.{◌==◌, ◌||◌, filter, Option, Some, None, if◌then◌else◌}
 use Rattle.qkd_base.specs.Name.{Name}
@@ -10,7 +10,7 @@ use Rattle.net_model.specs.declared.reply.Reply.TheVariants.{Shown}
 use Rattle.net_model.specs.Table.{origin, target, parts_of, fact_at}
 use Rattle.net_model.specs.View.{View}
 use Rattle.net_model.specs.Show.{shown_one, shown_at_target, shown_group, shown_part, shown, show}
-use Rattle.kme_step.specs.Steps.{orders_of}
+use Rattle.kme_base.specs.Steps.{orders_of}
 
 module _ (P : Reply → Type 0) (each : (held : Held) (bytes : List ℕ) → P (Shown held bytes)) where
   either : (t : Bool) (a b : Reply) → P a → P b → P (if t then a else b)

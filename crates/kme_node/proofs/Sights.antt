@@ -1,11 +1,11 @@
--- What the parts of a manager are of what it knows.
+-- The parts of a manager agree with its view.
 use Rattle.std.proofs.Common.{◌≡◌, refl, sym, subst}
 use Rattle.relay_core.specs.Knowledge.{Knowledge}
-use Rattle.lane_ports.specs.Places.{LinkEnds}
-use Rattle.kme_plan.specs.Passed.{Kept as Window}
+use Rattle.kme_base.specs.Places.{LinkEnds}
+use Rattle.resend_window.specs.Kept.{Kept as Window}
 use Rattle.end_store.specs.Pooled.{Sees as SeesEnds}
-use Rattle.kept_facts.specs.Passed.{Sees}
-use Rattle.kme_plan.specs.Keeps.{Keeps}
+use Rattle.stream_core.specs.Kept.{Sees}
+use Rattle.kme_relay.specs.Keeps.{Keeps}
 use Rattle.kme_relay.specs.Knows.{Knows, HasPorts}
 use Rattle.kme_node.specs.Holdings.{Holdings, view}
 

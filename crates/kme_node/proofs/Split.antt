@@ -1,4 +1,4 @@
--- Records change what is kept of facts and the ends of links each by itself.
+-- Records change the facts and the ends of links independently.
 use Rattle.std.proofs.Common.{◌≡◌, true, false, List, [], ◌∷◌, ◌++◌, refl, ap, ◌∙◌}
 use Rattle.std.specs.Prelude.{◌&&◌, if◌then◌else◌}
 use Rattle.std.specs.List.{list_any}
@@ -10,11 +10,11 @@ use Rattle.net_model.specs.Needed.{is_needed, masked}
 use Rattle.net_model.specs.Fold.{view_record, view_records, view_batch, owes, is_end_of, is_handed_by, is_stream_of, marked}
 use Rattle.kme_node.specs.Ports.{ports_by, ports_after}
 
--- a view without ends of links and without what one life keeps
+-- a view without ends of links and without a window
 abbrev pub bare : View → View
 bare v = record v { ports = []; volatile = no_volatile }
 
--- and with them
+-- a view with these ends of links and this window
 abbrev pub with_rest : List Port → Volatile → View → View
 with_rest ports volatile v = record v { ports = ports; volatile = volatile }
 
@@ -40,7 +40,7 @@ one (Closed n sae) v =
     ]
 one (Bare f) v = refl
 
--- what records leave of the ends of links where there are none
+-- a view without ends of links gets none from a record
 no_ports : (r : Record) (v : View) → v.ports ≡ [] → (view_record r v).ports ≡ []
 no_ports r v h = ap (λ (w : View). w.ports) (one r v) ∙ ap (ports_by r) h ∙ none r
   where
@@ -84,7 +84,7 @@ records_split (r ∷ rs) v =
     ∙ ap (λ (volatile : Volatile). with_rest (ports_after rs (ports_by r v.ports)) volatile (view_records rs (bare (view_record r v)))) (ap (λ (w : View). w.volatile) (one r v))
     ∙ ap (λ (w : View). with_rest (ports_after rs (ports_by r v.ports)) v.volatile (view_records rs w)) (bare_again r v)
 
--- masking looks at neither
+-- masking depends neither on the ends of links nor on the window
 masked_rest : (ports : List Port) (volatile : Volatile) (v : View) → masked (with_rest ports volatile v) ≡ with_rest ports volatile (masked v)
 unfolding masked is_needed
 masked_rest ports volatile v = refl

@@ -1,4 +1,4 @@
--- What the ranges of events say of their lists.
+-- What valid events say of the lengths of their lists.
 use Rattle.std.proofs.Common.{◌≡◌, ℕ, ◌≤◌, true, List, length, arith}
 use Rattle.std.specs.Prelude.{◌&&◌, nat_le}
 use Rattle.std.specs.List.{list_all}
@@ -8,7 +8,7 @@ use Rattle.net_model.specs.declared.event.Event.TheVariants.{Dec, FillGroup, Enc
 use Rattle.net_model.specs.Site.{Site}
 use Rattle.net_model.specs.Streams.{is_size}
 use Rattle.net_model.specs.Events.{is_count, is_name, is_rising, are_slaves, is_valid_event}
-use Rattle.law_records.proofs.Base.{and_left, and_right}
+use Rattle.law_base.proofs.Base.{and_left, and_right}
 
 count_most : (n : ℕ) → is_count n ≡ true → n ≤ 128
 count_most n h = let most : nat_le n 128 ≡ true = and_right (nat_le 1 n) (nat_le n 128) h in grind (arith, nat_tests)

@@ -1,4 +1,4 @@
--- Blocks of records that are well formed are whole.
+-- Blocks in well-formed records have 1,024 octets.
 use Rattle.std.proofs.Common.{List, [], ◌∷◌}
 use Rattle.std.specs.List.{All}
 use Rattle.std.proofs.lemmas.List.Elements.{All-head, All-tail}

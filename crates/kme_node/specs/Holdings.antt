@@ -1,4 +1,4 @@
--- What a manager has: its site, and what it keeps of facts, of its links and of one life.
+-- The state of a manager: its site, its facts, its ends of links, and its window.
 use Rattle.std.specs.Prelude.{◌≡◌, ℕ, ◌<◌, ◌≤◌, List, [], ◌∷◌, length, map}
 use Rattle.net_model.specs.declared.event.Event.{Event}
 use Rattle.net_model.specs.declared.event.Event.TheVariants.{Heard}
@@ -10,14 +10,14 @@ use Rattle.net_model.specs.Site.{outgoing_lanes}
 use Rattle.net_model.specs.View.{View, Port}
 use Rattle.declared_site.specs.SiteOf.{IsDeclared, site_of}
 use Rattle.declared_site.specs.declared.site.Site.{Site as Declared}
-use Rattle.kept_facts.specs.Taken.{HasRoom as HasFactsRoom}
-use Rattle.kme_plan.specs.UnderWay.{AreFronts}
-use Rattle.kme_step.specs.declared.change.Change.{Change}
-use Rattle.kme_step.specs.declared.change.Change.TheVariants.{Received, Planned}
-use Rattle.kme_step.specs.declared.step.Step.{Step}
-use Rattle.lane_ports.specs.Places.{LinkEnds, HasRoom as HasBlockRoom, HasBytesFor, AreOf}
-use Rattle.kme_plan.specs.Passed.{Kept as Window}
-use Rattle.kept_facts.specs.Passed.{StreamEnds}
+use Rattle.kme_facts.specs.Taken.{HasRoom as HasFactsRoom}
+use Rattle.kme_relay.specs.UnderWay.{AreFronts}
+use Rattle.kme_base.specs.declared.change.Change.{Change}
+use Rattle.kme_base.specs.declared.change.Change.TheVariants.{Received, Planned}
+use Rattle.kme_base.specs.declared.step.Step.{Step}
+use Rattle.kme_base.specs.Places.{LinkEnds, HasRoom as HasBlockRoom, HasBytesFor, AreOf}
+use Rattle.resend_window.specs.Kept.{Kept as Window}
+use Rattle.stream_core.specs.Kept.{StreamEnds}
 
 pub record Holdings : Type 0 where
   pub site : Declared
@@ -25,7 +25,7 @@ pub record Holdings : Type 0 where
   pub ends : LinkEnds
   pub window : Window
 
--- what the manager knows, as the network has it
+-- the manager's view, as the model has it
 abbrev pub view : Holdings → View
 view h =
     record {
@@ -38,12 +38,12 @@ view h =
       volatile = h.window.volatile;
     }
 
--- the site is declared, and the ends are those of the links that join the node, in order
+-- the site is well declared, and the ends are those of the node's links, in order
 pub record IsHeld (h : Holdings) : Type 0 where
   pub declared : IsDeclared h.site
   pub lanes : map (λ (p : Port). p.lane) h.ends.ports ≡ outgoing_lanes (site_of h.site) h.kept.ends.known.me
 
--- and before its place for each lane all that is owed is under way
+-- the same, and for each lane, all owed facts before its place are on their way
 pub record IsNode (h : Holdings) (fronts : List ℕ) : Type 0 where
   pub held : IsHeld h
   pub ahead : AreFronts (site_of h.site) h.kept.ends.known.me h.kept.ends.known.acked h.kept.ends.known.facts h.window.volatile fronts
@@ -65,25 +65,25 @@ pub record HasRoom (h : Holdings) (s : Step) : Type 0 where
   pub blocks : HasBatchRoom h.ends s.batch
   pub window : HasWindowRoom h.window s.change s.reply
 
--- what a decision's batch and orders have in common
+-- what each decision guarantees of its batch and its orders
 
--- a block has 1,024 octets, and no other record beside it
+-- a block has 1,024 octets and is the last record of its batch
 abbrev pub HasBlocksAlone : List Record → Type 0
 HasBlocksAlone (Block link number bytes ∷ rs) = (length bytes ≡ 1024) × (rs ≡ [])
 HasBlocksAlone (r ∷ rs) = HasBlocksAlone rs
 HasBlocksAlone [] = Unit {0}
 
--- orders spend what they spell, of bytes that were received and are not planned yet
+-- each order is of a known fact, and the orders need only bytes that were received and that no earlier order uses
 abbrev pub HasOrdersWithin : Holdings → Reply → Type 0
 HasOrdersWithin h (PlannedReply orders repeats shorts) = AreOf h.kept.ends.known.facts orders × HasBytesFor orders h.ends.ports
 HasOrdersWithin h reply = Unit {0}
 
--- a step that this manager may take as it now is
+-- a step that may be applied to this manager
 pub record Fits (h : Holdings) (s : Step) : Type 0 where
   pub blocks : HasBlocksAlone s.batch
   pub orders : HasOrdersWithin h s.reply
 
--- every event but a frame, which is opened first
+-- any event but a frame, which must be opened first
 abbrev pub IsPlain : Event → Type 0
 IsPlain (Heard lane bytes) = ⊥
 IsPlain _ = Unit {0}

@@ -1,5 +1,4 @@
 pub mod Holdings
-pub mod Passed
 pub mod Places
 pub mod Ports
 pub mod Replayed

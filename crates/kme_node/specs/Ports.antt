@@ -1,4 +1,4 @@
--- What records make of a manager's ends of its links.
+-- How records change a manager's ends of links.
 use Rattle.std.specs.Prelude.{List, [], ◌∷◌, map}
 use Rattle.net_model.specs.declared.record.Record.{Record}
 use Rattle.net_model.specs.declared.record.Record.TheVariants.{Block, Lease}

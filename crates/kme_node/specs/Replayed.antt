@@ -1,4 +1,4 @@
--- A batch that was read from a journal.
+-- Batches that were read from a journal.
 use Rattle.std.specs.Prelude.{◌≡◌, List, length}
 use Rattle.std.specs.List.{AllByRecursion}
 use Rattle.net_model.specs.declared.record.Record.{Record}

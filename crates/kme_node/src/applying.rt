@@ -1,24 +1,23 @@
-// What a step makes of a manager.
+// How a step changes a manager.
 ghost use Rattle.std.specs.Prelude.{◌≡◌, ◌∷◌, [], List, map};
 ghost use Rattle.net_model.specs.declared.record.Record.{Record as RecordValue};
 ghost use Rattle.net_model.specs.Decision.{Effect};
 ghost use Rattle.net_model.specs.Fold.{view_after, on_lane};
 ghost use Rattle.net_model.specs.Window.{complete, complete_one};
 ghost use Rattle.net_model.specs.World.{needs};
-ghost use Rattle.kme_step.specs.declared.change.Change.TheVariants as changes;
-ghost use Rattle.kme_step.specs.Steps.{IsEffect, changed, orders_of, placings_of, planned_by};
-ghost use Rattle.lane_ports.specs.Places.{with_planned};
+ghost use Rattle.kme_base.specs.declared.change.Change.TheVariants as changes;
+ghost use Rattle.kme_base.specs.Steps.{IsEffect, changed, orders_of, placings_of, planned_by};
+ghost use Rattle.kme_base.specs.Places.{with_planned};
 ghost use Rattle.kme_node.specs.Ports.{ports_by, ports_after};
 ghost use Rattle.kme_node.specs.Holdings.{Holdings, view, Fits, HasRoom, HasBatchRoom, HasBlocksAlone, HasOrdersWithin, HasWindowRoom};
 
 use crate::Node;
-use kme_plan::resend_window::Window;
-use kme_step::{Change, Step};
-use lane_ports::Ports;
+use kme_base::{Change, Ports, Step};
 use net_model::{Event, Placing, Record, Reply};
 use relay_core::Known;
+use resend_window::Window;
 
-// One placing is noted, by what was acknowledged before.
+// Notes one placing. Whether its fact is acknowledged is looked up in `known`.
 fn note_one(window: &mut Window, known: &Known, placing: &Placing)
     ensures { window.new.volatile ≡ complete_one known.now.acked window.old.volatile placing.now }
 {
@@ -26,7 +25,7 @@ fn note_one(window: &mut Window, known: &Known, placing: &Placing)
     window.completed(placing, is_acked);
 }
 
-// Placings are noted in order.
+// Notes placings in order.
 fn note_all(window: &mut Window, known: &Known, placings: &[Placing])
     ensures { window.new.volatile ≡ complete known.now.acked window.old.volatile placings.now }
 {
@@ -35,7 +34,7 @@ fn note_all(window: &mut Window, known: &Known, placings: &[Placing])
     }
 }
 
-// The placings of an event are noted.
+// Notes the placings of an event, if it has any.
 fn note_event(window: &mut Window, known: &Known, event: &Event)
     ensures { window.new.volatile ≡ complete known.now.acked window.old.volatile (placings_of event.now) }
 {
@@ -45,7 +44,7 @@ fn note_event(window: &mut Window, known: &Known, event: &Event)
     }
 }
 
-// What a plan replies is on its way.
+// Records in the window that the orders and repeats of a plan are on their way.
 fn plan_window(window: &mut Window, reply: &Reply)
     requires room { HasWindowRoom window.old changes.Planned reply.now }
     ensures { window.new.volatile ≡ planned_by reply.now window.old.volatile }
@@ -60,7 +59,7 @@ fn plan_window(window: &mut Window, reply: &Reply)
     }
 }
 
-// What a step makes of one life, by what was acknowledged before.
+// Changes the window as a step says. `known` has what was acknowledged before the step.
 fn change_window(window: &mut Window, known: &Known, event: &Event, step: &Step)
     requires room { HasWindowRoom window.old step.now.change step.now.reply }
     ensures { window.new.volatile ≡ changed known.now.acked (placings_of event.now) step.now.reply step.now.change window.old.volatile }
@@ -74,7 +73,7 @@ fn change_window(window: &mut Window, known: &Known, event: &Event, step: &Step)
     }
 }
 
-// One record of a batch whose only block stands alone.
+// Applies one record to the ends of links. If it is a block, it is the last record of its batch.
 fn take_record(ports: &mut Ports, change: &Record)
     requires fits { HasBlocksAlone (change.now ∷ []) }
     requires room { HasBatchRoom ports.old (change.now ∷ []) }
@@ -96,7 +95,7 @@ fn take_record(ports: &mut Ports, change: &Record)
     }
 }
 
-// The records of a batch in order.
+// Applies the records of a batch to the ends of links, in order.
 fn take_batch(ports: &mut Ports, batch: &[Record])
     requires fits { HasBlocksAlone batch.now }
     requires room { HasBatchRoom ports.old batch.now }
@@ -107,7 +106,7 @@ fn take_batch(ports: &mut Ports, batch: &[Record])
     }
 }
 
-// What a reply orders is planned.
+// Counts the bytes of a reply's orders as planned.
 fn plan_reply(ports: &mut Ports, reply: &Reply)
     ensures { (h : Holdings) → h.ends.ports ≡ ports.old.ports → HasOrdersWithin h reply.now
         → ports.new.ports ≡ map (λ p. with_planned (needs h.kept.ends.known.facts (on_lane p.lane (orders_of reply.now))) p) ports.old.ports }
@@ -119,8 +118,8 @@ fn plan_reply(ports: &mut Ports, reply: &Reply)
 }
 
 impl Node {
-    /// Makes of what is kept what a step says: its batch, what it makes of one life, and the bytes that its orders plan. It
-    /// takes no memory: that was reserved.
+    /// Applies a step: its batch, its change of the window, and the bytes that its orders plan. It needs only the
+    /// memory that was reserved.
     pub fn apply(&mut self, event: &Event, step: Step) -> Reply
         requires fits { Fits self.old step }
         requires room { HasRoom self.old step }
@@ -128,7 +127,7 @@ impl Node {
         ensures site { self.new.site ≡ self.old.site }
         ensures view { (e : Effect) → IsEffect (view self.old) (placings_of event.now) e step → view self.new ≡ view_after (view self.old) e }
     {
-        // What was acknowledged before decides of the placings.
+        // The placings are noted first, since they depend on what was acknowledged before the step.
         let known = self.kept.streams().ends().known();
         change_window(&mut self.window, known, event, &step);
         take_batch(&mut self.ports, step.batch.as_slice());

@@ -1,8 +1,8 @@
-// What a manager decides on each event.
+// The decision on each kind of event.
 ghost use Rattle.std.specs.Prelude.{◌≡◌, ◌≤◌, ℕ, List, Bool, [], length, Ok, IfOk};
 ghost use Rattle.declared_site.specs.SiteOf.{site_of};
-ghost use Rattle.lane_ports.specs.Passed.{AreUp};
-ghost use Rattle.kme_step.specs.Steps.{IsStep};
+ghost use Rattle.kme_base.specs.Up.{AreUp};
+ghost use Rattle.kme_base.specs.Steps.{IsStep};
 ghost use Rattle.net_model.specs.declared.event.Event.TheVariants as events;
 ghost use Rattle.net_model.specs.Decide.{decide, random_need};
 ghost use Rattle.net_model.specs.Decision.{Does};
@@ -11,18 +11,16 @@ ghost use Rattle.net_model.specs.Sealing.{Sealing};
 ghost use Rattle.kme_node.specs.Holdings.{view, Fits};
 
 use crate::Node;
-use kme_groups::kme_keys::{dec, enc, fill, random_need, status};
-use kme_groups::{GroupPool, enc_group, fill_group};
-use kme_plan::plan;
-use kme_relay::{block, heard, ledger};
-use kme_step::{Change, Step};
+use kme_base::{Change, Step};
+use kme_keys::{GroupPool, dec, enc, enc_group, fill, fill_group, random_need, status};
+use kme_relay::{block, heard, ledger, plan};
 use kme_streams::{close_stream, feed, get_chunk, join_stream, open_stream};
 use net_model::{Event, Payload, Records, Reply};
 use qkd_base::{KeyName, Lane, LinkNo, PoolNo, SaeNo};
 use std::alloc::Global;
 
 impl Node {
-    // Keys are made for a pool.
+    // Decides on making keys for a pool.
     pub(crate) fn fill(
         &self,
         alloc: Global,
@@ -36,21 +34,21 @@ impl Node {
         fill(alloc, self.site(), up, self.ends(), pool, count, random)
     }
 
-    // Ready keys are handed to their master.
+    // Decides on handing ready keys to their master.
     pub(crate) fn enc(&self, alloc: Global, pool: &PoolNo, number: u16) -> Result<Step, Reply>
         ensures { (frames : Sealing) (is_up : ℕ → Bool) (random : List ℕ) → IsStep (view self.now) [] (decide (site_of self.now.site) frames is_up (view self.now) random (events.Enc pool.now.master pool.now.slave number pool.now.bits)) result }
     {
         enc(alloc, self.site(), self.ends(), pool, number)
     }
 
-    // Ready keys are counted.
+    // Decides on counting ready keys.
     pub(crate) fn status(&self, alloc: Global, master: SaeNo, slave: SaeNo) -> Result<Step, Reply>
         ensures { (frames : Sealing) (is_up : ℕ → Bool) (random : List ℕ) → IsStep (view self.now) [] (decide (site_of self.now.site) frames is_up (view self.now) random (events.Status master slave)) result }
     {
         status(alloc, self.site(), self.ends(), master, slave)
     }
 
-    // A stream is opened.
+    // Decides on opening a stream.
     pub(crate) fn open(
         &self,
         alloc: Global,
@@ -64,7 +62,7 @@ impl Node {
         open_stream(alloc, self.site(), self.streams(), up, source, peer, bits)
     }
 
-    // A stream is joined.
+    // Decides on joining a stream.
     pub(crate) fn join(
         &self,
         alloc: Global,
@@ -86,7 +84,7 @@ impl Node {
         )
     }
 
-    // A chunk is handed.
+    // Decides on handing out a chunk.
     pub(crate) fn get(
         &self,
         alloc: Global,
@@ -99,14 +97,14 @@ impl Node {
         get_chunk(alloc, self.site(), self.streams(), caller, stream, index)
     }
 
-    // An end of a stream is closed.
+    // Decides on closing an end of a stream.
     pub(crate) fn close(&self, alloc: Global, caller: SaeNo, stream: KeyName) -> Result<Step, Reply>
         ensures { (frames : Sealing) (is_up : ℕ → Bool) (random : List ℕ) → IsStep (view self.now) [] (decide (site_of self.now.site) frames is_up (view self.now) random (events.Close caller stream)) result }
     {
         close_stream(alloc, self.site(), self.streams(), caller, stream)
     }
 
-    // Chunks are made for a stream.
+    // Decides on making chunks for a stream.
     pub(crate) fn feed(
         &self,
         alloc: Global,
@@ -128,11 +126,12 @@ impl Node {
         )
     }
 
-    // A tick is planned.
+    // Decides on the plan of a tick.
     pub(crate) fn plan(&self, alloc: Global, up: u32) -> Result<Step, Reply>
         ensures step { (frames : Sealing) (is_up : ℕ → Bool) (random : List ℕ) → AreUp up is_up → IsStep (view self.now) [] (decide (site_of self.now.site) frames is_up (view self.now) random (events.Plan)) result }
 
-        // Orders spend what they spell, of bytes that were received and are not planned yet.
+        // Each order is of a known fact, and the orders need only bytes that were received and that no earlier order
+        // uses.
         ensures fits { IfOk result (Fits self.now) }
     {
         plan(
@@ -146,7 +145,7 @@ impl Node {
         )
     }
 
-    // An operator is shown a name.
+    // Decides on showing a name to an operator.
     pub(crate) fn show(&self, alloc: Global, name: KeyName) -> Result<Step, Reply>
         ensures { (frames : Sealing) (is_up : ℕ → Bool) (random : List ℕ) → IsStep (view self.now) [] (decide (site_of self.now.site) frames is_up (view self.now) random (events.Show name)) result }
     {
@@ -160,7 +159,7 @@ impl Node {
         }
     }
 
-    // Named keys are handed to their slave.
+    // Decides on handing named keys to their slave.
     pub(crate) fn dec(
         &self,
         alloc: Global,
@@ -174,7 +173,7 @@ impl Node {
         dec(alloc, self.site(), self.ends(), slave, master, names)
     }
 
-    // Group keys are made.
+    // Decides on making group keys.
     pub(crate) fn fill_group(
         &self,
         alloc: Global,
@@ -190,7 +189,7 @@ impl Node {
         fill_group(alloc, self.site(), up, self.ends(), pool, count, random)
     }
 
-    // Ready group keys are handed to their master.
+    // Decides on handing ready group keys to their master.
     pub(crate) fn enc_group(
         &self,
         alloc: Global,
@@ -203,7 +202,7 @@ impl Node {
         enc_group(alloc, self.site(), self.ends(), pool, number)
     }
 
-    // A block is taken.
+    // Decides on taking a link's block.
     pub(crate) fn block(
         &self,
         alloc: Global,
@@ -216,21 +215,22 @@ impl Node {
         block(alloc, self.ports(), link, number, bytes)
     }
 
-    // The bytes of a lane are counted.
+    // Decides on counting the bytes of a lane.
     pub(crate) fn ledger(&self, alloc: Global, lane: Lane) -> Step
         ensures { (frames : Sealing) (is_up : ℕ → Bool) (random : List ℕ) → IsStep (view self.now) [] (decide (site_of self.now.site) frames is_up (view self.now) random (events.Ledger lane)) (Ok result) }
     {
         ledger(alloc, self.ports(), lane)
     }
 
-    /// How many octets an event draws from the node's entropy.
+    /// The number of octets that an event draws from the node's entropy.
     pub fn random_need(&self, event: &Event) -> usize
         ensures { result ≡ random_need (view self.now) event.now }
     {
         random_need(self.known(), event)
     }
 
-    /// A frame was opened: what a payload that came on a lane at an offset changes, or want of memory.
+    /// Decides on the payload of a frame that was received on a lane at an offset and opened. It fails only if memory
+    /// runs out.
     pub fn heard(
         &self,
         alloc: Global,
@@ -240,7 +240,7 @@ impl Node {
     ) -> Result<Step, Reply>
         ensures step { IsStep (view self.now) [] (Does (receive (site_of self.now.site) (view self.now) lane offset payload.now)) result }
 
-        // The manager may take what was decided.
+        // The step fits the manager, so it may be applied.
         ensures fits { IfOk result (Fits self.now) }
     {
         heard(alloc, self.site(), self.known(), lane, offset, payload)

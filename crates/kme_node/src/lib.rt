@@ -1,4 +1,4 @@
-//! One manager: what it keeps, what it decides on each event, and what it keeps after it.
+//! One key manager without its disk: what it keeps, what it decides on each event, and how a decision changes it.
 #![tactic(auto)]
 
 mod applying;
@@ -9,9 +9,5 @@ mod replaying;
 mod reserving;
 mod stepping;
 
-pub use kept_facts;
-pub use kme_groups;
-pub use kme_groups::kme_keys;
-pub use kme_streams;
 pub use laws::{law_drawn_steps_apply, law_formed_batches_are_whole};
 pub use node::Node;

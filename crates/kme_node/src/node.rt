@@ -1,4 +1,4 @@
-// A manager's state.
+// The state of a manager.
 ghost use Rattle.std.specs.Prelude.{◌≡◌, ◌<◌, IfOk, length};
 ghost use Rattle.declared_site.specs.SiteOf.{IsDeclared, site_of};
 ghost use Rattle.net_model.specs.Fold.{empty_view};
@@ -6,24 +6,25 @@ ghost use Rattle.kme_node.specs.Holdings.{view};
 
 use declared_site::Site;
 use end_store::EndStore;
-use kept_facts::Kept;
-use kept_facts::stream_core::Streams;
-use kme_plan::Fronts;
-use kme_plan::resend_window::Window;
-use lane_ports::Ports;
+use kme_base::Ports;
+use kme_facts::Kept;
+use kme_relay::Fronts;
 use qkd_base::{Memory, NodeNo, Replica};
 use relay_core::Known;
+use resend_window::Window;
 use std::alloc::Global;
 use std::marker::Model;
+use stream_core::Streams;
 
-/// One key manager (KME) without its disk: what it keeps of facts and applications, of its links' lanes, and of one life.
+/// One key manager (KME) without its disk: its site, its facts and what applications have got, the lanes of its
+/// links, and its window.
 #[derive(Drop)]
 pub struct Node {
     pub(crate) site: Site,
     pub(crate) kept: Kept,
     pub(crate) ports: Ports,
     pub(crate) window: Window,
-    // What lies before these places is on its way already.
+    // For each lane, the place in the list of facts before which everything owed is on its way.
     pub(crate) fronts: Fronts,
 }
 
@@ -42,7 +43,7 @@ impl Model for Node {
 }
 
 impl Node {
-    /// A manager that has nothing yet.
+    /// A manager that has nothing yet. An `Err` if memory runs out.
     pub fn new(alloc: Global, site: &Site, me: NodeNo) -> Result<Node, Memory>
         requires { IsDeclared site.now }
         ensures site { IfOk result (λ node. node.site ≡ site.now) }
@@ -59,14 +60,14 @@ impl Node {
         })
     }
 
-    /// The node.
+    /// The number of this node.
     pub fn me(&self) -> NodeNo
         ensures { result ≡ (view self.now).me }
     {
         self.known().me()
     }
 
-    // The facts known.
+    // The facts that are known.
     pub(crate) fn known(&self) -> &Known
         ensures { result.now ≡ self.now.kept.ends.known }
     {
@@ -80,38 +81,38 @@ impl Node {
         self.streams().ends()
     }
 
-    // The same, and the ends of streams.
+    // The facts, which application has got what, and the ends of streams.
     pub(crate) fn streams(&self) -> &Streams
         ensures { result.now ≡ self.now.kept }
     {
         self.kept.streams()
     }
 
-    /// The site.
+    /// The site that the scenario declares.
     pub fn site(&self) -> &Site
         ensures site { result.now ≡ self.now.site }
 
-        // What holds of the site at any time.
+        // The site is always well declared.
         ensures declared { IsDeclared result.now }
     {
         &self.site
     }
 
-    /// What is kept of facts and applications.
+    /// The facts, with their acknowledgements, handed-out keys and closed ends of streams.
     pub fn kept(&self) -> &Kept
         ensures { result.now ≡ self.now.kept }
     {
         &self.kept
     }
 
-    // What one life keeps.
+    // The window, which is lost at a crash.
     pub(crate) fn window(&self) -> &Window
         ensures { result.now ≡ self.now.window }
     {
         &self.window
     }
 
-    /// The ends of the links that join the node: blocks, leases, and what is planned.
+    /// This node's ends of links: their blocks, their leases, and the bytes that are planned.
     pub fn ports(&self) -> &Ports
         ensures { result.now ≡ self.now.ends }
     {

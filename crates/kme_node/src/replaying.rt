@@ -1,4 +1,4 @@
-// A manager that goes on from its journal.
+// A manager that is recovered from its journal.
 ghost use Rattle.std.specs.Prelude.{◌≡◌, map, OnOk, OnErr};
 ghost use Rattle.net_model.specs.Fold.{view_batch, view_restarted};
 ghost use Rattle.net_model.specs.View.{Port};
@@ -8,12 +8,12 @@ ghost use Rattle.kme_node.specs.Replayed.{IsWhole, AreWhole};
 
 use crate::Node;
 use crate::reserving::count_of;
-use kme_plan::Fronts;
-use lane_ports::Ports;
+use kme_base::Ports;
+use kme_relay::Fronts;
 use net_model::{Record, Records};
 use qkd_base::Memory;
 
-// One record, with the room that it needs.
+// Applies one record to the ends of links, and allocates the memory for it.
 fn replay_record(ports: &mut Ports, change: &Record) -> Result<(), Memory>
     requires whole { IsWhole change.now }
     ensures ok { OnOk result (ports.new.ports ≡ ports_by change.now ports.old.ports) }
@@ -38,7 +38,7 @@ fn replay_record(ports: &mut Ports, change: &Record) -> Result<(), Memory>
     Ok(())
 }
 
-// The records of a batch in order.
+// Applies the records of a batch to the ends of links, in order.
 fn replay_batch(ports: &mut Ports, batch: &[Record]) -> Result<(), Memory>
     requires whole { AreWhole batch.now }
     ensures lanes { map (λ (p : Port). p.lane) ports.new.ports ≡ map (λ (p : Port). p.lane) ports.old.ports }
@@ -51,8 +51,8 @@ fn replay_batch(ports: &mut Ports, batch: &[Record]) -> Result<(), Memory>
 }
 
 impl Node {
-    /// Takes a batch that was read from a journal. On want of memory some of its blocks and leases are taken, and nothing else
-    /// of it: the manager is of no more use then.
+    /// Applies a batch that was read from a journal. If memory runs out, some of its blocks and leases may be applied
+    /// and nothing else, so the manager must not be used any more.
     pub fn replay(&mut self, batch: Records) -> Result<(), Memory>
         requires whole { AreWhole batch }
         ensures site { self.new.site ≡ self.old.site }
@@ -66,7 +66,8 @@ impl Node {
         Ok(())
     }
 
-    /// A start: what one life keeps is gone, and each lane that leaves here goes on at its leased end. It takes no memory.
+    /// Starts the manager: its window becomes empty, and each outgoing lane goes on at the end of its lease. It
+    /// allocates nothing.
     pub fn restart(&mut self)
         ensures site { self.new.site ≡ self.old.site }
         ensures view { view self.new ≡ view_restarted (view self.old) }

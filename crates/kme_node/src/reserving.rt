@@ -1,19 +1,18 @@
-// The memory that a step needs, taken before it is applied.
+// The memory that a step needs, reserved before the step is applied.
 ghost use Rattle.std.specs.Prelude.{◌≡◌, length, IfOk, OnOk};
-ghost use Rattle.kept_facts.specs.Needs.{kept_view};
-ghost use Rattle.kept_facts.specs.Taken.{HasRoom as HasFactsRoom};
-ghost use Rattle.kme_step.specs.declared.change.Change.TheVariants as changes;
+ghost use Rattle.kme_facts.specs.Needs.{kept_view};
+ghost use Rattle.kme_facts.specs.Taken.{HasRoom as HasFactsRoom};
+ghost use Rattle.kme_base.specs.declared.change.Change.TheVariants as changes;
 ghost use Rattle.kme_node.specs.Holdings.{view, Fits, HasRoom, HasBatchRoom, HasWindowRoom};
 
 use crate::Node;
-use kept_facts::Kept;
-use kme_plan::resend_window::Window;
-use kme_step::{Change, Step};
-use lane_ports::Ports;
+use kme_base::{Change, Ports, Step};
+use kme_facts::Kept;
 use net_model::{Record, Reply};
 use qkd_base::Memory;
+use resend_window::Window;
 
-// A number of items as rooms count them.
+// A number of items as a `u32`. An `Err` if it doesn't fit.
 pub(crate) fn count_of(items: usize) -> Result<u32, Memory>
     ensures { IfOk result (λ count. count ≡ items) }
 {
@@ -23,7 +22,7 @@ pub(crate) fn count_of(items: usize) -> Result<u32, Memory>
     }
 }
 
-// Room for the block of a batch, which has no other.
+// Reserves memory for the block of a batch, if it has one.
 fn room_ports(ports: &mut Ports, batch: &[Record]) -> Result<(), Memory>
     ensures ports { ports.new.ports ≡ ports.old.ports }
     ensures ok { OnOk result (HasBatchRoom ports.new batch.now) }
@@ -37,7 +36,7 @@ fn room_ports(ports: &mut Ports, batch: &[Record]) -> Result<(), Memory>
     Ok(())
 }
 
-// Room for what a plan orders.
+// Reserves memory for what a plan orders.
 fn room_plan(window: &mut Window, reply: &Reply) -> Result<(), Memory>
     ensures volatile { window.new.volatile ≡ window.old.volatile }
     ensures ok { OnOk result (HasWindowRoom window.new changes.Planned reply.now) }
@@ -51,7 +50,7 @@ fn room_plan(window: &mut Window, reply: &Reply) -> Result<(), Memory>
     }
 }
 
-// Room for what a step makes of one life.
+// Reserves memory for what a step adds to the window.
 fn room_window(window: &mut Window, step: &Step) -> Result<(), Memory>
     ensures volatile { window.new.volatile ≡ window.old.volatile }
     ensures ok { OnOk result (HasWindowRoom window.new step.now.change step.now.reply) }
@@ -65,7 +64,7 @@ fn room_window(window: &mut Window, step: &Step) -> Result<(), Memory>
     }
 }
 
-// Room in each part of a manager.
+// Reserves memory in each part of a manager.
 fn room_parts(
     kept: &mut Kept,
     ports: &mut Ports,
@@ -86,7 +85,7 @@ fn room_parts(
 }
 
 impl Node {
-    /// Takes the memory that applying a step needs. An `Err` changes nothing but room.
+    /// Reserves the memory that applying a step needs. An `Err` changes nothing but reserved memory.
     pub fn reserve(&mut self, step: &Step) -> Result<(), Memory>
         ensures site { self.new.site ≡ self.old.site }
         ensures view { view self.new ≡ view self.old }

@@ -1,32 +1,33 @@
 // The decision on any event.
 ghost use Rattle.std.specs.Prelude.{◌≡◌, ℕ, Bool, true, IfOk};
 ghost use Rattle.declared_site.specs.SiteOf.{site_of};
-ghost use Rattle.lane_ports.specs.Passed.{AreUp};
-ghost use Rattle.kme_step.specs.Steps.{IsStep, placings_of};
+ghost use Rattle.kme_base.specs.Up.{AreUp};
+ghost use Rattle.kme_base.specs.Steps.{IsStep, placings_of};
 ghost use Rattle.net_model.specs.Decide.{decide};
 ghost use Rattle.net_model.specs.Events.{is_valid_event};
 ghost use Rattle.net_model.specs.Sealing.{Sealing};
 ghost use Rattle.kme_node.specs.Holdings.{view, IsPlain, Fits};
 
 use crate::Node;
-use kme_groups::GroupPool;
-use kme_plan::note;
-use kme_step::Step;
+use kme_base::Step;
+use kme_keys::GroupPool;
+use kme_relay::note;
 use net_model::{Event, Reply};
 use qkd_base::PoolNo;
 use std::alloc::Global;
 
 impl Node {
-    /// What the manager decides on an event: a refusal, or its durable changes, its answer and what one life then keeps. Want
-    /// of memory never comes in the place of a refusal. The random octets are those that the event draws; bit l of `up` says
-    /// that link l is up. A frame that came is opened first, and then heard.
+    /// What the manager decides on an event. The result is a refusal, or a step: its durable changes, its answer, and
+    /// its change of the window. If the decision is a refusal, it never fails for lack of memory. `random` has the
+    /// octets that the event draws. Bit l of `up` says that link l is up. A frame isn't decided here: it must be
+    /// opened first, and then goes to `heard`.
     pub fn step(&self, alloc: Global, event: &Event, random: &[u8], up: u32) -> Result<Step, Reply>
         requires plain { IsPlain event.now }
         requires valid { is_valid_event (site_of self.now.site) (view self.now).me event.now ≡ true }
         ensures step { (frames : Sealing) (is_up : ℕ → Bool) → AreUp up is_up
             → IsStep (view self.now) (placings_of event.now) (decide (site_of self.now.site) frames is_up (view self.now) random.now event.now) result }
 
-        // The manager may take what was decided.
+        // The step fits the manager, so it may be applied.
         ensures fits { IfOk result (Fits self.now) }
     {
         match event {

@@ -1,4 +1,4 @@
--- What is received, as steps.
+-- Received payloads and blocks, as steps.
 use Rattle.std.proofs.Common.{◌≡◌, ℕ, ◌==◌, Bool, true, false, List, [], ◌∷◌, Ok, Err, refl, sym, ap, ◌∙◌, subst}
 use Rattle.std.specs.Prelude.{not, if◌then◌else◌}
 use Rattle.qkd_base.specs.Name.{Name, has}
@@ -18,8 +18,8 @@ use Rattle.net_model.specs.Decision.{Does, Refuses, makes}
 use Rattle.net_model.specs.Relay.{owed, receive_ack, receive_fact, stored_note}
 use Rattle.net_model.specs.Decide.{decide}
 use Rattle.relay_core.specs.Knowledge.{Knowledge, owed_names}
-use Rattle.kme_step.specs.declared.change.Change.TheVariants.{Same, Received, Acknowledged}
-use Rattle.kme_step.specs.Steps.{IsStep, orders_of}
+use Rattle.kme_base.specs.declared.change.Change.TheVariants.{Same, Received, Acknowledged}
+use Rattle.kme_base.specs.Steps.{IsStep, orders_of}
 use Rattle.kme_relay.specs.Knows.{Knows}
 
 pub owed_is : (v : View) (k : Knowledge) (to : ℕ) → Knows v k → owed v to ≡ owed_names k.me k.acked k.facts to
@@ -32,7 +32,7 @@ owed_is v k to h =
 pub knows_is : (v : View) (k : Knowledge) (n : Name) → Knows v k → has_fact v.facts n ≡ has_fact k.facts n
 knows_is v k n h = ap (λ (facts : List Fact). has_fact facts n) h.facts
 
--- an acknowledgement
+-- receiving an acknowledgement
 
 pub ack_again : (v : View) (lane : Lane) (from : ℕ) (n : Name) (batch : List Record) (reply : Reply) → has (owed v from) n ≡ false → batch ≡ [] → reply ≡ HeardFact false 3 n → IsStep v [] (Does (receive_ack v lane from n)) (Ok (record { batch = batch; reply = reply; change = Same }))
 unfolding receive_ack
@@ -52,7 +52,7 @@ ack_taken v lane from n batch reply new batch_is reply_is = record {
   volatile = sym (ap (λ (b : Bool). if b then record (v.volatile) { window = cleared lane n v.volatile.window } else v.volatile) new);
 }
 
--- a fact
+-- receiving a fact
 
 pub fact_again : (v : View) (lane : Lane) (offset : ℕ) (f : Fact) (n : Name) (batch : List Record) (reply : Reply) → n ≡ name_of f → has_fact v.facts (name_of f) ≡ true → batch ≡ [] → reply ≡ HeardFact false (kind_of f) (name_of f) → IsStep v [] (Does (receive_fact v lane offset f)) (Ok (record { batch = batch; reply = reply; change = Received lane offset n }))
 unfolding receive_fact
@@ -72,7 +72,7 @@ fact_taken v lane offset f n batch reply named new batch_is reply_is = record {
   volatile = ap (acknowledge v.volatile lane offset) named;
 }
 
--- a block
+-- receiving a block
 
 module _ (v : View) (site : Site) (frames : Sealing) (is_up : ℕ → Bool) (random : List ℕ) (link number : ℕ) (bytes : List ℕ) where
   pub block_full : (blocks_of (port_of v link) == 1024) ≡ true → IsStep v [] (decide site frames is_up v random (BlockEvent link number bytes)) (Err LinkFull)

@@ -1,8 +1,8 @@
--- A view that has what a manager keeps of facts, or of its links.
+-- Views that agree with a manager's facts and ends of links.
 use Rattle.std.specs.Prelude.{◌≡◌}
 use Rattle.net_model.specs.View.{View}
 use Rattle.relay_core.specs.Knowledge.{Knowledge}
-use Rattle.lane_ports.specs.Places.{LinkEnds}
+use Rattle.kme_base.specs.Places.{LinkEnds}
 
 -- the view has these facts and acknowledgements
 pub record Knows (v : View) (k : Knowledge) : Type 0 where

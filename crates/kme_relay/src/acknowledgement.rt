@@ -1,4 +1,4 @@
-// An acknowledgement that was received.
+// Acknowledgements that are received.
 ghost use Rattle.std.specs.Prelude.{◌≡◌, [], ◌∷◌, IfOk};
 ghost use Rattle.net_model.specs.declared.record.Record.TheVariants.{Acked};
 ghost use Rattle.net_model.specs.declared.reply.Reply.TheVariants.{HeardFact};
@@ -6,16 +6,16 @@ ghost use Rattle.net_model.specs.View.{View};
 ghost use Rattle.net_model.specs.Decision.{Does};
 ghost use Rattle.net_model.specs.Relay.{owed, receive_ack};
 ghost use Rattle.qkd_base.specs.Name.{has};
-ghost use Rattle.kme_step.specs.Steps.{IsStep};
+ghost use Rattle.kme_base.specs.Steps.{IsStep};
 ghost use Rattle.kme_relay.specs.Knows.{Knows};
 
-use kme_step::{Change, Step};
+use kme_base::{Change, Step};
 use net_model::{Record, Records, Reply};
 use qkd_base::{KeyName, Lane, Memory, NodeNo};
 use relay_core::Known;
 use std::alloc::Global;
 
-// Whether the fact of a name is owed to a neighbour.
+// Whether this node owes the fact of a name to a neighbour.
 fn is_owed(known: &Known, to: NodeNo, name: KeyName) -> bool
     ensures { (v : View) → Knows v known.now → result ≡ has (owed v to) name }
 {
@@ -25,7 +25,7 @@ fn is_owed(known: &Known, to: NodeNo, name: KeyName) -> bool
     }
 }
 
-// The one record of an acknowledgement that is taken.
+// The record of a new acknowledgement.
 fn acked(alloc: Global, name: KeyName) -> Result<Records, Memory>
     ensures { IfOk result (λ records. records ≡ Acked name ∷ []) }
 {
@@ -34,7 +34,7 @@ fn acked(alloc: Global, name: KeyName) -> Result<Records, Memory>
     Ok(records)
 }
 
-// What a node answers to an acknowledgement.
+// What a node answers when it receives an acknowledgement.
 fn answer(fresh: bool, name: KeyName) -> Reply
     ensures { result ≡ HeardFact fresh 3 name }
 {
@@ -45,7 +45,7 @@ fn answer(fresh: bool, name: KeyName) -> Reply
     }
 }
 
-/// The acknowledgement of a name was received on a lane that comes from a neighbour.
+/// Decides about the acknowledgement of a fact, received on a lane from a neighbour.
 pub fn heard_acknowledgement(
     alloc: Global,
     known: &Known,

@@ -1,4 +1,4 @@
-// A fact that was received.
+// Facts that are received.
 ghost use Rattle.std.specs.Prelude.{◌≡◌, [], ◌∷◌, IfOk, IfSome, option_map, option_to_list};
 ghost use Rattle.qkd_base.specs.declared.key_name.NameKind.TheVariants.{Note as NoteKind};
 ghost use Rattle.net_model.specs.declared.record.Record.TheVariants.{Learned};
@@ -6,23 +6,24 @@ ghost use Rattle.net_model.specs.declared.reply.Reply.TheVariants.{HeardFact};
 ghost use Rattle.net_model.specs.View.{View};
 ghost use Rattle.net_model.specs.Decision.{Does, fresh_name};
 ghost use Rattle.net_model.specs.Relay.{receive_fact, stored_note};
-ghost use Rattle.kme_step.specs.Steps.{IsStep};
+ghost use Rattle.kme_base.specs.Steps.{IsStep};
 ghost use Rattle.kme_relay.specs.Knows.{Knows};
 
-use kme_step::{Change, Step};
+use kme_base::{Change, Step};
 use net_model::{Fact, Record, Records, Reply};
 use qkd_base::{KeyName, Lane, Memory, NameKind, Replica};
 use relay_core::{Known, fact_name, fact_route, is_secret, kind_octet};
 use std::alloc::Global;
 
-// The name of the next note, if its count is below 2^48.
+// The name of the next note. `None` if its count isn't below 2^48.
 fn next_note(known: &Known) -> Option<KeyName>
     ensures { IfSome result (λ name. (v : View) → Knows v known.now → name ≡ fresh_name v NoteKind 0) }
 {
     KeyName::new(known.me(), NameKind::Note, known.last_count() + 1)
 }
 
-// The note that a fact came, where it is at the last node of its route and has bytes.
+// The note that a fact has reached the last node of its route. `None` if this node isn't the last, or if the fact has
+// no bytes.
 fn stored_note(known: &Known, fact: &Fact) -> Result<Option<Fact>, Memory>
     ensures { IfOk result (λ note. (v : View) → Knows v known.now → option_to_list (option_map Learned note) ≡ stored_note v fact.now) }
 {
@@ -40,7 +41,7 @@ fn stored_note(known: &Known, fact: &Fact) -> Result<Option<Fact>, Memory>
     }
 }
 
-// The records of a fact that is new.
+// The records of a new fact: the fact, and the note that it has reached its last node, if there is one.
 fn new_records(alloc: Global, known: &Known, fact: &Fact) -> Result<Records, Memory>
     ensures { IfOk result (λ records. (v : View) → Knows v known.now → records ≡ Learned fact.now ∷ stored_note v fact.now) }
 {
@@ -54,14 +55,14 @@ fn new_records(alloc: Global, known: &Known, fact: &Fact) -> Result<Records, Mem
     Ok(records)
 }
 
-// What a node answers to a fact.
+// What a node answers when it receives a fact.
 fn answer(fresh: bool, kind: u8, name: KeyName) -> Reply
     ensures { result ≡ HeardFact fresh kind name }
 {
     Reply::HeardFact { fresh, kind, name }
 }
 
-/// A fact was received on a lane at an offset.
+/// Decides about a fact, received on a lane at an offset.
 pub fn heard_fact(
     alloc: Global,
     known: &Known,

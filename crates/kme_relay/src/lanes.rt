@@ -1,4 +1,4 @@
-// Blocks of a link, and the count of a lane.
+// Blocks of a link, and the count of a lane's bytes.
 ghost use Rattle.std.specs.Prelude.{◌≡◌, ◌==◌, ℕ, Bool, List, [], ◌∷◌, Ok, Some, IfOk};
 ghost use Rattle.net_model.specs.declared.event.Event.TheVariants.{Block as BlockEvent, Ledger};
 ghost use Rattle.net_model.specs.declared.record.Record.TheVariants.{Block};
@@ -8,16 +8,15 @@ ghost use Rattle.net_model.specs.Site.{Site};
 ghost use Rattle.net_model.specs.View.{View, blocks_of, port_of};
 ghost use Rattle.net_model.specs.Decide.{decide};
 ghost use Rattle.net_model.specs.Show.{counted_of};
-ghost use Rattle.kme_step.specs.Steps.{IsStep};
+ghost use Rattle.kme_base.specs.Steps.{IsStep};
 ghost use Rattle.kme_relay.specs.Knows.{HasPorts};
 
-use kme_step::{Change, Step};
-use lane_ports::{LinkEnd, Ports};
+use kme_base::{Change, LinkEnd, Ports, Step};
 use net_model::{Counts4, Record, Records, Reply};
 use qkd_base::{Lane, LinkNo, Memory, Octets};
 use std::alloc::Global;
 
-// Whether a link has all of its blocks.
+// Whether a link has all of its 1,024 blocks.
 fn is_full(ports: &Ports, link: LinkNo) -> bool
     ensures { (v : View) → HasPorts v ports.now → result ≡ (blocks_of (port_of v link) == 1024) }
 {
@@ -27,7 +26,7 @@ fn is_full(ports: &Ports, link: LinkNo) -> bool
     }
 }
 
-// The one record of a block that is taken.
+// The record of a new block.
 fn taken(alloc: Global, link: LinkNo, number: u32, bytes: &[u8]) -> Result<Records, Memory>
     ensures { IfOk result (λ records. records ≡ Block link number bytes.now ∷ []) }
 {
@@ -41,7 +40,8 @@ fn taken(alloc: Global, link: LinkNo, number: u32, bytes: &[u8]) -> Result<Recor
     Ok(records)
 }
 
-/// A block of a link came: it is taken, unless the link has all of its 1,024 blocks. The bytes are copied into the record.
+/// Decides about a link's next block: it is recorded, unless the link has all of its 1,024 blocks. The bytes are
+/// copied into the record.
 pub fn block(
     alloc: Global,
     ports: &Ports,
@@ -64,7 +64,7 @@ pub fn block(
     }
 }
 
-// What an end counts of the lane that leaves it.
+// The counts that an end keeps of the bytes of its outgoing lane.
 fn counts(end: &LinkEnd) -> Counts4
     ensures { Counted result ≡ counted_of (Some end.now.port) }
 {
@@ -78,7 +78,7 @@ fn counts(end: &LinkEnd) -> Counts4
     }
 }
 
-// What a manager counts of a lane: nothing where the lane's link isn't here.
+// The counts that a manager keeps of the bytes of a lane, all 0 if it has no end of the lane's link.
 fn counts_of(ports: &Ports, lane: Lane) -> Counts4
     ensures { (v : View) → HasPorts v ports.now → Counted result ≡ counted_of (port_of v lane.link) }
 {
@@ -93,7 +93,7 @@ fn counts_of(ports: &Ports, lane: Lane) -> Counts4
     }
 }
 
-/// The bytes of a lane that leaves here, as this manager counts them. It takes no memory.
+/// The step that reports a manager's counts of the bytes of its outgoing lane. It allocates nothing.
 pub fn ledger(alloc: Global, ports: &Ports, lane: Lane) -> Step
     ensures { (v : View) → HasPorts v ports.now → (site : Site) (frames : Sealing) (is_up : ℕ → Bool) (random : List ℕ) → IsStep v [] (decide site frames is_up v random (Ledger lane)) (Ok result) }
 {

@@ -1,13 +1,17 @@
-//! A manager's decisions on what comes to it over its links: facts, acknowledgements and blocks, and the count of a lane.
+//! Frames that come, and the plan of frames to send, as decisions.
 #![tactic(auto)]
 
 mod acknowledgement;
+mod draft;
 mod fact;
+mod fronts;
 mod lanes;
+mod parts;
 mod payload;
+mod planning;
+mod wanted;
 
-pub use kme_step;
-pub use lane_ports;
+pub use fronts::Fronts;
 pub use lanes::{block, ledger};
 pub use payload::heard;
-pub use relay_core;
+pub use planning::{note, plan};

@@ -28,7 +28,7 @@ consumes_none : (before after : Option (List ℕ)) → after ≡ before → Cons
 consumes_none None after same = tt
 consumes_none (Some xs) after same = subst (λ (known : Option (List ℕ)). Consumes (Some xs) known []) (sym same) refl
 
--- the source did not fail where a response tells the cause
+-- If a response tells the cause of a refusal, the source didn't fail.
 calm_told : (e : FrontRefusal) (text : List ℕ) (before after : ℕ) → front_message e ≡ Some text → FaultsFor e before after → after ≡ before
 calm_told refusals.ReadFault text before after told faults = cc
 calm_told refusals.NoRequest text before after told faults = faults
@@ -56,10 +56,10 @@ calm_unless refusals.EndOfInput before after other faults = faults
 calm_unless refusals.Memory before after other faults = faults
 
 module _ (nodes : List (List ℕ)) (g : Grants) (node : ℕ) {P : Type 0} (Answers : P → Turn → P → Type 0) (seen : P → ℕ) where
-  -- ---- where no request was read
+  -- ---- if no request was read
 
   module _ (count : ℕ) (kept owed : List ℕ) (before after : Moment P) (octets : List ℕ) where
-    -- nothing is answered, and all octets are left
+    -- Nothing is answered, and all octets are left.
     ends_unanswered : (ended : Ended) → count < 1000 → Consumes before.left after.left octets → after.pass ≡ before.pass
         → WritesUpTo before.taken after.taken (not (is_write_fault ended)) (owed ++ []) → EndsBy nodes g node ended count None (kept ++ octets) after.left []
         → RoseOnly (is_read_fault ended) before.read_faults after.read_faults → RoseOnly (is_write_fault ended) before.write_faults after.write_faults
@@ -83,7 +83,7 @@ module _ (nodes : List (List ℕ)) (g : Grants) (node : ℕ) {P : Type 0} (Answe
     }
 
   module _ (count : ℕ) (kept kept_after : List ℕ) (before after : Moment P) (octets : List ℕ) where
-    -- what is no request is answered
+    -- Octets that are no request are answered.
     ends_refused : (ended : Ended) (e : FrontRefusal) (text : List ℕ) → count < 1000 → Consumes before.left after.left octets → after.pass ≡ before.pass
         → front_message e ≡ Some text → IsRefused (kept ++ octets) e → WritesUpTo before.taken after.taken (not (is_write_fault ended)) (response_text (error_response 400 text true))
         → EndsBy nodes g node ended count (Some (record { read = Err e; turn = None })) (kept ++ octets) after.left (response_text (error_response 400 text true))
@@ -138,7 +138,7 @@ module _ (nodes : List (List ℕ)) (g : Grants) (node : ℕ) {P : Type 0} (Answe
     refused_ends endings.Memory e few consumed pass answer faults by =
         ends_unanswered count kept [] before after octets endings.Memory few consumed pass (appends_none before.taken after.taken by.1) refl (calm_unless e _ _ by.0 faults) by.2
 
-  -- what was owed was written first
+  -- What was owed was written first.
   pub paid_first : (count : ℕ) (kept owed : List ℕ) (before after : Moment P) (paid : Option (List ℕ)) (ended : Ended) → Appends before.taken paid owed
       → IsServed nodes g node Answers seen count kept [] (record before { taken = paid }) after ended → IsServed nodes g node Answers seen count kept owed before after ended
   paid_first count kept owed before after paid ended first later = record {
@@ -159,7 +159,7 @@ module _ (nodes : List (List ℕ)) (g : Grants) (node : ℕ) {P : Type 0} (Answe
     write_faults = later.write_faults;
   }
 
-  -- a connection ends where no request was read
+  -- The connection ends because no request was read.
   pub next_ends : (count : ℕ) (kept kept_after owed owed_after : List ℕ) (before after : Edge) (pass : P) (ended : Ended) → count < 1000 → (0 < length owed → 0 < count)
       → IsUnread kept kept_after owed owed_after before after ended ⊎ IsNoRequest kept kept_after owed owed_after before after ended
       → IsServed nodes g node Answers seen count kept owed (moment before pass) (moment after pass) ended
@@ -172,7 +172,7 @@ module _ (nodes : List (List ℕ)) (g : Grants) (node : ℕ) {P : Type 0} (Answe
       (refused_ends count kept kept_after (record (moment before pass) { taken = none.paid }) (moment after pass) none.octets ended none.cause few none.consumed refl none.answer
       none.faults none.refused)
 
-  -- ---- where a request was read
+  -- ---- if a request was read
 
   module _ (count : ℕ) (kept kept_after owed owed_mid : List ℕ) (edge mid : Edge) (pass pass_after : P) (taken : Option (List ℕ)) (faults : ℕ) (q : HttpRequest) (few : count < 1000)
       (room : 0 < length owed → 0 < count) (came : IsAsked kept kept_after owed owed_mid edge mid q) where
@@ -182,7 +182,7 @@ module _ (nodes : List (List ℕ)) (g : Grants) (node : ℕ) {P : Type 0} (Answe
     abbrev after : Moment P
     after = moment (record mid { taken = taken; write_faults = faults }) pass_after
 
-    -- its response has this text
+    -- The response to the request has this text.
     ends_asked : (ended : Ended) (turn : Option Turn) (text : List ℕ) → IsTurnOf (event_of g node (Ok q)) turn → Takes Answers seen pass turn pass_after
         → WritesUpTo edge.taken taken (not (is_write_fault ended)) (owed ++ text)
         → EndsBy nodes g node ended count (Some (record { read = Ok q; turn = turn })) kept_after mid.left text
@@ -209,13 +209,13 @@ module _ (nodes : List (List ℕ)) (g : Grants) (node : ℕ) {P : Type 0} (Answe
     risen : RoseOnly true mid.write_faults faults → RoseOnly true edge.write_faults faults
     risen rose = subst (λ (n : ℕ). RoseOnly true n faults) came.write_faults rose
 
-    -- a first part of what was owed is one of that with a response behind it
+    -- A prefix of the owed octets is also a prefix of the owed octets and a response.
     first_part : (text : List ℕ) → AppendsPrefix mid.taken taken owed_mid → AppendsPrefix edge.taken taken (owed ++ text)
     first_part text unpaid =
         prefix_more edge.taken taken owed text
         (subst (AppendsPrefix edge.taken taken) (append-nil owed) (owes_unpaid edge.taken mid.taken taken owed [] owed_mid came.owes unpaid))
 
-    -- memory was wanting
+    -- Memory ran out.
     ends_wanting : (ended : Ended) (turn : Option Turn) → (turn ≡ None) ⊎ (IsTurnOf (event_of g node (Ok q)) turn × IsSome turn) → Takes Answers seen pass turn pass_after
         → IsGivenUp mid.taken taken mid.write_faults faults owed_mid ended → IsServed nodes g node Answers seen count kept owed before after ended
     ends_wanting endings.Memory turn (inl none) takes up =
@@ -237,7 +237,7 @@ module _ (nodes : List (List ℕ)) (g : Grants) (node : ℕ) {P : Type 0} (Answe
         → IsGivenUp mid.taken taken mid.write_faults faults owed_mid ended → IsServed nodes g node Answers seen count kept owed before after ended
     memory_ends close m ended answered up = ends_wanting ended answered.turn answered.response answered.takes up
 
-    -- a turn that was asked for, or none
+    -- Either no turn was asked for, or the turn is there.
     some_or_none : (turn : Option Turn) → IsTurnOf (event_of g node (Ok q)) turn → (turn ≡ None) ⊎ (IsTurnOf (event_of g node (Ok q)) turn × IsSome turn)
     some_or_none None event = inl refl
     some_or_none (Some turn) event = inr (event, refl)
@@ -256,20 +256,20 @@ module _ (nodes : List (List ℕ)) (g : Grants) (node : ℕ) {P : Type 0} (Answe
       its_own_text : response_text response ≡ text_of nodes g node close its
       its_own_text = ap response_text is.1.2 ∙ ap (text_with close) (sym is.1.1)
 
-      -- the sink failed
+      -- The sink failed.
       write_ends : AppendsPrefix edge.taken taken (owed ++ text_of nodes g node (closes count (Ok q)) its) → RoseOnly true mid.write_faults faults
           → IsServed nodes g node Answers seen count kept owed before after endings.WriteFault
       write_ends first rose =
           ends_asked endings.WriteFault answered.turn (text_of nodes g node (closes count (Ok q)) its) is.0 answered.takes first (inl has_answer, tt, refl) came.read_faults (risen rose)
 
-      -- it isn't owed
+      -- The response was not added to the owed octets.
       pub fault_ends : (ended : Ended) → IsGivenUp mid.taken taken mid.write_faults faults owed_mid ended → IsServed nodes g node Answers seen count kept owed before after ended
       fault_ends endings.WriteFault up = write_ends (first_part _ up.0) up.1
       fault_ends endings.Memory up = ends_wanting endings.Memory answered.turn (some_or_none answered.turn is.0) answered.takes up
       fault_ends endings.Closed up = absurd up
       fault_ends endings.ReadFault up = absurd up
 
-      -- it is owed, and then written or not
+      -- The response was added to the owed octets, which are then written or not.
       module _ (owed_now : List ℕ) (now : Option (List ℕ)) (owes : Owes mid.taken now owed_mid (response_text response) owed_now) where
         owes_all : Owes edge.taken now owed (response_text response) owed_now
         owes_all = owes_more edge.taken mid.taken now owed [] owed_mid came.owes (response_text response) owed_now owes

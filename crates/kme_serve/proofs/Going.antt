@@ -27,13 +27,13 @@ right_false : (a b : Bool) → (a || b) ≡ false → b ≡ false
 right_false true b is = cc
 right_false false b is = is
 
--- behind a response that leaves the connection open there is room for another one
+-- After a response that leaves the connection open, one more response is within the limit.
 pub few_more : (count : ℕ) (read : Front) → count < 1000 → closes count read ≡ false → count + 1 < 1000
 few_more count read few stays =
     let other : count + 1 ≡ 1000 → ⊥ = eqb-false (count + 1) 1000 (right_false (asks_close read) _ stays) in
     omega arith
 
--- what is no request asks to close
+-- What was read and doesn't ask to close means the same when more octets follow.
 meant_append : (octets behind later : List ℕ) (read : Front) → asks_close read ≡ false → IsMeant octets behind read → IsMeant (octets ++ later) (behind ++ later) read
 meant_append octets behind later (Ok request) stays is = request-append octets request behind later is
 meant_append octets behind later (Err refusal) stays is = cc
@@ -71,7 +71,7 @@ module _ (nodes : List (List ℕ)) (g : Grants) (node : ℕ) {P : Type 0} (Answe
         write_faults = subst (λ (n : ℕ). RoseOnly (is_write_fault ended) n after.write_faults) first.write_faults later.write_faults;
       }
 
-  -- however the connection goes on from here, with what was done it is served
+  -- However the connection goes on from here, with what was done before it is served to its end.
   abbrev pub GoesOn : (count : ℕ) (kept owed : List ℕ) (now first : Moment P) → Type 0
   GoesOn count kept owed now first =
       (after : Moment P) (ended : Ended) → IsServed nodes g node Answers seen count kept owed now after ended → IsServed nodes g node Answers seen 0 [] [] first after ended

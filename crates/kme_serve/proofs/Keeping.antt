@@ -1,4 +1,4 @@
--- What each turn keeps of a caller's pass is kept by all that is served.
+-- A relation of passes that each turn keeps is kept by all that is served.
 use Rattle.std.proofs.Common.{◌≡◌, ℕ, List, [], ◌∷◌, Option, Some, None, Result, sym, subst}
 use Rattle.edge_io.specs.declared.ended.Ended.{Ended}
 use Rattle.sae_entitlements.specs.Grants.{Grants}
@@ -31,7 +31,7 @@ module _ {P : Type 0} (Answers : P → Turn → P → Type 0) (seen : P → ℕ)
     serves_all_keep p (visit ∷ visits) q did =
         both p did.0 q (served_keeps 0 [] [] (first_moment visit p) (last_moment visit did.0) visit.finished.ended did.1) (serves_all_keep did.0 visits q did.2)
 
-    -- the connections of a door
+    -- the connections of a listener
     pub door_keeps : {T E : Type 0} (connections : ℕ) (before after : Door) (p q : P) (result : Result T E) → IsDoorServed nodes g node Answers seen connections before after p q result
         → Keeps p q
     door_keeps connections before after p q result did = serves_all_keep p did.visits q did.served

@@ -6,3 +6,7 @@ pub mod Ending
 pub mod Visits
 pub mod Mapping
 pub mod Keeping
+pub mod OneJob
+pub mod WorkerMapping
+pub mod Rooms
+pub mod Listeners

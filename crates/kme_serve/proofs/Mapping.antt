@@ -1,4 +1,4 @@
--- What is served over passes of one kind is served over those of another, where each turn of the first is one of the second.
+-- Serving over one kind of pass is also serving over another kind, if each turn over the first is a turn over the second.
 use Rattle.std.proofs.Common.{◌≡◌, ℕ, ◌≤◌, List, [], ◌∷◌, Option, Some, None, Result, sym, ap, subst, ◌∙◌}
 use Rattle.edge_io.specs.declared.ended.Ended.{Ended}
 use Rattle.sae_entitlements.specs.Grants.{Grants}
@@ -8,7 +8,7 @@ use Rattle.kme_serve.specs.Turns.{Takes, TakesAll}
 use Rattle.kme_serve.specs.Connection.{Moment, IsServed}
 use Rattle.kme_serve.specs.Door.{Visit, Door, ServesAll, IsDoorServed, first_moment, last_moment}
 
--- the same moment, with another pass
+-- the same moment with another pass
 abbrev pub moment_at : {P Q : Type 0} → (P → Q) → Moment P → Moment Q
 moment_at f m = record { left = m.left; taken = m.taken; read_faults = m.read_faults; write_faults = m.write_faults; pass = f m.pass }
 
@@ -51,7 +51,7 @@ module _ {P Q : Type 0} (Answers : P → Turn → P → Type 0) (seen : P → �
       serves_all_maps did.0 visits q did.2,
     )
 
-    -- the connections of a door
+    -- the connections of a listener
     pub door_maps : {T E : Type 0} (connections : ℕ) (before after : Door) (p q : P) (result : Result T E) → IsDoorServed nodes g node Answers seen connections before after p q result
         → IsDoorServed nodes g node Others seen_there connections before after (f p) (f q) result
     door_maps connections before after p q result did = record {

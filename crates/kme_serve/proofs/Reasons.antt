@@ -1,4 +1,4 @@
--- Each answer has a status with a reason.
+-- Each answer has a status with a reason phrase.
 use Rattle.std.proofs.Common.{◌≡◌, ℕ, List, Option, Some, None, Result, Ok, Err, refl, subst}
 use Rattle.std.specs.Prelude.{IsTrue}
 use Rattle.net_model.specs.declared.event.Event.{Event}

@@ -1,4 +1,4 @@
--- The response to a request: behind the manager's turn, or to a fault.
+-- The response to a request: after the manager's turn, or to a fault.
 use Rattle.std.proofs.Common.{◌≡◌, ℕ, ◌+◌, ◌≤◌, Bool, List, Option, Some, None, Result, Ok, Err, refl, sym, ap, ◌∙◌, inl, inr}
 use Rattle.std.specs.Prelude.{IfOk}
 use Rattle.net_model.specs.declared.event.Event.{Event}
@@ -15,7 +15,7 @@ use Rattle.kme_serve.specs.declared.turn.Turn.{Turn}
 use Rattle.kme_serve.specs.Exchange.{event_in, event_of, IsTurnOf, reply_answer, response_with}
 use Rattle.kme_serve.specs.Steps.{IsAtOnce, IsResponseTo, IsAnswered}
 
--- a response is that of an answer
+-- A response is made from an answer.
 its_answer : (answer : Option Answer) (close : Bool) (response : HttpResponse) → IsResponse answer close response
     → (a : Answer) × (answer ≡ Some a) × (response ≡ response_with close a)
 its_answer None close response is = absurd is
@@ -44,7 +44,7 @@ module _ (nodes : List (List ℕ)) (g : Grants) (node : ℕ) {P : Type 0} (Answe
       response = responds event turn result is same response;
     }
 
-    -- what is answered at once, or isn't for want of memory
+    -- A fault is answered at once, or memory ran out.
     pub answers_refusal : (pass : P) (refusal : CallRefusal) (result : Result HttpResponse E) → IsCalled (asked g node q) q.close (Err refusal) → IsAtOnce refusal close result
         → IsAnswered nodes g node Answers seen q close pass pass result
     answers_refusal pass refusals.Memory (Err e) called told = record { turn = None; takes = refl; response = inl refl }

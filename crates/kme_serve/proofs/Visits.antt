@@ -1,4 +1,4 @@
--- The connections of a door, and then the next ones.
+-- The connections of a listener, and then the next ones.
 use Rattle.std.proofs.Common.{◌≡◌, ℕ, ◌+◌, ◌<◌, List, [], ◌∷◌, ◌++◌, length, map, Option, Some, None, Result, Ok, Err, refl, sym, ap, subst, ◌∙◌, arith, add-zero, append_assoc, append-nil, length-append}
 use Rattle.std.specs.Prelude.{MatchResult}
 use Rattle.edge_io.specs.Writes.{Adds}
@@ -32,7 +32,7 @@ module _ (nodes : List (List ℕ)) (g : Grants) (node : ℕ) {P : Type 0} (Answe
   serves_trans pass between next [] ys first second = subst (λ (p : P). ServesAll nodes g node Answers seen p ys next) first second
   serves_trans pass between next (x ∷ xs) ys first second = (first.0, first.1, serves_trans first.0 between next xs ys first.2 second)
 
-  -- none came yet
+  -- No connection was accepted yet.
   pub none_served : {T E : Type 0} (door : Door) (pass : P) (done : T) → IsDoorServed nodes g node Answers seen {E = E} 0 door door pass pass (Ok done)
   none_served door pass done = record {
     visits = [];
@@ -45,7 +45,7 @@ module _ (nodes : List (List ℕ)) (g : Grants) (node : ℕ) {P : Type 0} (Answe
     count = refl;
   }
 
-  -- one came, was served and is finished
+  -- One connection was accepted, served and finished.
   pub one_served : {T E : Type 0} (before between after : Door) (visit : Visit) (read_faults write_faults : ℕ) (pass next : P) (done : T) → read_faults ≡ 0 → write_faults ≡ 0
       → IsNext before.waiting between.waiting visit.left visit.taken
       → IsServed nodes g node Answers seen 0 [] [] (record { left = visit.left; taken = visit.taken; read_faults = read_faults; write_faults = write_faults; pass = pass }) (last_moment visit next)
@@ -69,7 +69,7 @@ module _ (nodes : List (List ℕ)) (g : Grants) (node : ℕ) {P : Type 0} (Answe
     count = refl;
   }
 
-  -- so many, and then one more, or none
+  -- `count` connections, and then one more or none
   module _ (count : ℕ) (before between after : Door) (pass middle next : P) where
     joined : {T U E F : Type 0} (more : ℕ) (done : T) (result : Result U F) (connections : ℕ) (first : IsDoorServed nodes g node Answers seen {E = E} count before between pass middle (Ok done))
         (second : IsDoorServed nodes g node Answers seen more between after middle next result)

@@ -1,4 +1,4 @@
--- The connections of one door, one after another.
+-- The connections of one listener, one after another.
 use Rattle.std.specs.Prelude.{◌≡◌, ℕ, ◌+◌, ◌<◌, List, [], ◌∷◌, length, map, Option, Result, MatchResult}
 use Rattle.edge_io.specs.Connections.{Finished, IsNext}
 use Rattle.edge_io.specs.Writes.{Adds}
@@ -6,7 +6,7 @@ use Rattle.sae_entitlements.specs.Grants.{Grants}
 use Rattle.kme_serve.specs.declared.turn.Turn.{Turn}
 use Rattle.kme_serve.specs.Connection.{Moment, IsServed}
 
--- a connection as it came, and as it was finished: what its source had to give, and what its sink had taken
+-- a connection as it was accepted and as it was finished: what its source would give, and what its sink had taken
 pub record Visit : Type 0 where
   pub left : Option (List ℕ)
   pub taken : Option (List ℕ)
@@ -15,7 +15,7 @@ pub record Visit : Type 0 where
 abbrev pub finished_of : Visit → Finished
 finished_of visit = visit.finished
 
--- the connections came in this order from those that waited
+-- The connections were accepted in this order from those that waited.
 abbrev pub Come : Option (List (List ℕ)) → List Visit → Option (List (List ℕ)) → Type 0
 Come waiting [] later = later ≡ waiting
 Come waiting (visit ∷ visits) later = (next : Option (List (List ℕ))) × IsNext waiting next visit.left visit.taken × Come next visits later
@@ -29,13 +29,13 @@ module _ {P : Type 0} where
       record { left = visit.finished.left; taken = visit.finished.taken; read_faults = visit.finished.read_faults; write_faults = visit.finished.write_faults; pass = pass }
 
 module _ (nodes : List (List ℕ)) (g : Grants) (node : ℕ) {P : Type 0} (Answers : P → Turn → P → Type 0) (seen : P → ℕ) where
-  -- each was served to its end, one after another
+  -- Each connection was served to its end, one after another.
   abbrev pub ServesAll : P → List Visit → P → Type 0
   ServesAll pass [] next = next ≡ pass
   ServesAll pass (visit ∷ visits) next =
       (between : P) × IsServed nodes g node Answers seen 0 [] [] (first_moment visit pass) (last_moment visit between) visit.finished.ended × ServesAll between visits next
 
--- what a door tells of itself
+-- what a listener tells of itself
 pub record Door : Type 0 where
   pub port : ℕ
   pub accepted : ℕ
@@ -44,7 +44,7 @@ pub record Door : Type 0 where
   pub done : Option (List Finished)
 
 module _ (nodes : List (List ℕ)) (g : Grants) (node : ℕ) {P : Type 0} (Answers : P → Turn → P → Type 0) (seen : P → ℕ) where
-  -- So many connections of a door came, were served and finished, each of them once; or fewer, where the door failed.
+  -- This number of connections were accepted, served and finished, each exactly once. If the listener failed, there were fewer.
   pub record IsDoorServed {T E : Type 0} (connections : ℕ) (before after : Door) (pass next : P) (result : Result T E) : Type 0 where
     pub visits : List Visit
     pub served : ServesAll nodes g node Answers seen pass visits next

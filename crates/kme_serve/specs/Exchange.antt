@@ -1,5 +1,5 @@
--- One exchange of a connection: what was read, the turn of the node's manager where one was asked for, and the response (ETSI GS QKD 014 V1.1.1,
--- sections 5 and 6; RFC 9112, section 9.3).
+-- One exchange of a connection: what was read, the turn of the node's manager if the request asked for one, and the response
+-- (ETSI GS QKD 014 V1.1.1, sections 5 and 6; RFC 9112, section 9.3).
 use Rattle.std.specs.Prelude.{◌≡◌, ℕ, ◌+◌, Bool, true, ◌||◌, ◌==◌, List, [], Option, Some, None, Result, Ok, Err}
 use Rattle.std.specs.Option.{option_map, option_and_then}
 use Rattle.net_model.specs.declared.event.Event.{Event}
@@ -21,7 +21,7 @@ Front = Result HttpRequest FrontRefusal
 
 pub record Exchange : Type 0 where
   pub read : Front
-  -- what the manager was asked and replied, if it was asked
+  -- what the manager was asked and what it replied, if it was asked
   pub turn : Option Turn
 
 -- ---- what reaches the manager
@@ -30,18 +30,18 @@ abbrev pub event_in : Result Event CallFault → Option Event
 event_in (Ok event) = Some event
 event_in (Err fault) = None
 
--- the event that a request to a node asks for, where nothing is wrong with it
+-- the event that a request to a node asks for, if nothing is wrong with the request
 abbrev pub event_of : Grants → (node : ℕ) → Front → Option Event
 event_of g node (Ok request) = event_in (asked g node request)
 event_of g node (Err refusal) = None
 
--- The manager was asked this event, and nothing else; where there is none it was not asked.
+-- The manager was asked this event and nothing else. If there is no event, it wasn't asked.
 abbrev pub IsTurnOf : Option Event → Option Turn → Type 0
 IsTurnOf event turn = option_map (λ (t : Turn). t.event) turn ≡ event
 
 -- ---- what is answered
 
--- a fault is answered by its message, and an event by what the manager replied
+-- A fault is answered by its message, and an event by what the manager replied.
 abbrev pub reply_answer : List (List ℕ) → Grants → Result Event CallFault → Option Turn → Option Answer
 reply_answer nodes g (Err fault) turn = Some (fault_status fault, message_body (fault_message fault))
 reply_answer nodes g (Ok event) turn = option_and_then (λ (t : Turn). answer_of nodes g event t.reply) turn
@@ -53,7 +53,7 @@ abbrev pub answer_at : List (List ℕ) → Grants → (node : ℕ) → Front →
 answer_at nodes g node (Ok request) turn = reply_answer nodes g (asked g node request) turn
 answer_at nodes g node (Err refusal) turn = option_map refusal_answer (front_message refusal)
 
--- the answer to what was read, where there is one
+-- the answer to what was read, if there is one
 abbrev pub answer_to : List (List ℕ) → Grants → (node : ℕ) → Exchange → Option Answer
 answer_to nodes g node x = answer_at nodes g node x.read x.turn
 
@@ -64,17 +64,18 @@ abbrev pub text_with : (close : Bool) → Option Answer → List ℕ
 text_with close None = []
 text_with close (Some answer) = response_text (response_with close answer)
 
--- the text of its response, which says whether the connection closes behind it
+-- the text of the response, which says whether the connection closes after it
 abbrev pub text_of : List (List ℕ) → Grants → (node : ℕ) → (close : Bool) → Exchange → List ℕ
 text_of nodes g node close x = text_with close (answer_to nodes g node x)
 
 -- ---- what closes the connection
 
--- a request that says so, and what is no request
+-- A request may ask for it, and octets that are no request always close the connection.
 abbrev pub asks_close : Front → Bool
 asks_close (Ok request) = request.close
 asks_close (Err refusal) = true
 
--- it closes behind the response to what asks for it, and behind the 1,000th; so many responses stand before this one
+-- The connection closes after the response to an exchange that asks for it, and after the 1,000th. There are `before` responses
+-- before this one.
 abbrev pub closes : (before : ℕ) → Front → Bool
 closes before read = asks_close read || before + 1 == 1000

@@ -4,3 +4,6 @@ pub mod Connection
 pub mod Owed
 pub mod Steps
 pub mod Door
+pub mod Workers
+pub mod Doors
+pub mod Twins

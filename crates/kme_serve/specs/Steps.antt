@@ -23,25 +23,27 @@ use Rattle.kme_serve.specs.Turns.{Takes}
 use Rattle.kme_serve.specs.Connection.{Moment, RoseOnly, IsServed}
 use Rattle.kme_serve.specs.Owed.{Owes, IsUnpaid}
 
--- a text was written; or not: a prefix of it where the sink failed, and nothing where memory was wanting
+-- A text was written. If the sink failed, a prefix of it was written. If memory ran out, nothing was.
 abbrev pub IsWritten : {T : Type 0} → Option (List ℕ) → Option (List ℕ) → (faults_before faults_after : ℕ) → List ℕ → Result T Ended → Type 0
 IsWritten before after faults_before faults_after text (Ok done) = Appends before after text × (faults_after ≡ faults_before)
 IsWritten before after faults_before faults_after text (Err endings.WriteFault) = AppendsPrefix before after text × RoseOnly true faults_before faults_after
 IsWritten before after faults_before faults_after text (Err endings.Memory) = (after ≡ before) × (faults_after ≡ faults_before)
 IsWritten before after faults_before faults_after text (Err ended) = ⊥
 
--- a fault is answered at once by its response, which says whether the connection closes behind it; for want of memory it isn't
+-- A fault is answered at once, and the response says whether the connection closes after it. If memory ran out, there is no
+-- response.
 abbrev pub IsAtOnce : {E : Type 0} → CallRefusal → (close : Bool) → Result HttpResponse E → Type 0
 IsAtOnce (calls.Answer response) close (Ok result) = result ≡ record response { close = close }
 IsAtOnce (calls.Answer response) close (Err e) = ⊥
 IsAtOnce calls.Memory close (Ok result) = ⊥
 IsAtOnce calls.Memory close (Err e) = Unit {0}
 
--- nothing is written for this cause
+-- Nothing is written for this cause.
 abbrev pub IsUnanswered : FrontRefusal → (cause : FrontRefusal) → Option (List ℕ) → Option (List ℕ) → Type 0
 IsUnanswered refusal cause before after = (refusal ≡ cause) × (after ≡ before)
 
--- How a connection ends for what is no request: by the end of the input, by a fault, or behind the response with its message.
+-- How a connection ends if no request was read: at the end of the input, by a fault, or after the response with the cause's
+-- message.
 abbrev pub IsRefusedBy : FrontRefusal → Option (List ℕ) → Option (List ℕ) → (faults_before faults_after : ℕ) → Ended → Type 0
 IsRefusedBy refusal before after faults_before faults_after endings.Closed =
     (IsUnanswered refusal refusals.NoRequest before after ⊎ ((text : List ℕ) × (front_message refusal ≡ Some text) × Appends before after (response_text (error_response 400 text true))))
@@ -53,7 +55,7 @@ IsRefusedBy refusal before after faults_before faults_after endings.Memory = (¬
 
 -- ---- the next request
 
--- the ends of a connection: what its source has left, what its sink took, and how often each failed
+-- a connection without its pass: what its source has left, what its sink took, and how often each failed
 pub record Edge : Type 0 where
   pub left : Option (List ℕ)
   pub taken : Option (List ℕ)
@@ -64,7 +66,7 @@ abbrev pub moment : {P : Type 0} → Edge → P → Moment P
 moment edge pass = record { left = edge.left; taken = edge.taken; read_faults = edge.read_faults; write_faults = edge.write_faults; pass = pass }
 
 module _ (kept kept_after owed owed_after : List ℕ) (before after : Edge) where
-  -- a request was read, and all that was owed was written, or is owed still
+  -- A request was read. All that was owed was written, or is still owed.
   pub record IsAsked (asked : HttpRequest) : Type 0 where
     pub octets : List ℕ
     pub consumed : Consumes before.left after.left octets
@@ -73,14 +75,14 @@ module _ (kept kept_after owed owed_after : List ℕ) (before after : Edge) wher
     pub read_faults : after.read_faults ≡ before.read_faults
     pub write_faults : after.write_faults ≡ before.write_faults
 
-  -- what was owed was not written, and nothing was read
+  -- The owed octets were not written, and nothing was read.
   pub record IsUnread (end : Ended) : Type 0 where
     pub ended : end ≡ endings.WriteFault
     pub left : after.left ≡ before.left
     pub unpaid : IsUnpaid before.taken after.taken before.write_faults after.write_faults owed
     pub read_faults : after.read_faults ≡ before.read_faults
 
-  -- what was owed was written, and no request was read
+  -- The owed octets were written, and no request was read.
   pub record IsNoRequest (ended : Ended) : Type 0 where
     pub paid : Option (List ℕ)
     pub wrote : Appends before.taken paid owed
@@ -96,7 +98,8 @@ module _ (kept kept_after owed owed_after : List ℕ) (before after : Edge) wher
   IsNext (Err ended) = IsUnread ended ⊎ IsNoRequest ended
 
 module _ (nodes : List (List ℕ)) (g : Grants) (node : ℕ) where
-  -- the response to a request, behind a turn where it asks for one; or memory was wanting, before the manager was asked or behind its turn
+  -- The response to a request, after a turn if the request asks for one. Otherwise memory ran out, before the manager was asked
+  -- or after its turn.
   abbrev pub IsResponseTo : {E : Type 0} → HttpRequest → (close : Bool) → Option Turn → Result HttpResponse E → Type 0
   IsResponseTo request close turn (Ok response) =
       IsTurnOf (event_of g node (Ok request)) turn × ((answer : Answer) × (answer_at nodes g node (Ok request) turn ≡ Some answer) × (response ≡ response_with close answer))
@@ -108,7 +111,7 @@ module _ (nodes : List (List ℕ)) (g : Grants) (node : ℕ) where
       pub takes : Takes Answers seen before turn after
       pub response : IsResponseTo request close turn result
 
-    -- one exchange, behind which the connection stays open
+    -- One exchange took place, after which the connection stays open.
     pub record StaysOpen (count : ℕ) (kept kept_after owed owed_after : List ℕ) (before after : Moment P) : Type 0 where
       pub octets : List ℕ
       pub consumed : Consumes before.left after.left octets
@@ -122,7 +125,7 @@ module _ (nodes : List (List ℕ)) (g : Grants) (node : ℕ) where
       pub read_faults : after.read_faults ≡ before.read_faults
       pub write_faults : after.write_faults ≡ before.write_faults
 
-    -- the connection stays open behind an exchange, or is served to its end
+    -- The connection stays open after an exchange, or was served to its end.
     abbrev pub Goes : {T : Type 0} → (count : ℕ) → (kept kept_after owed owed_after : List ℕ) → (before after : Moment P) → Result T Ended → Type 0
     Goes count kept kept_after owed owed_after before after (Ok done) = StaysOpen count kept kept_after owed owed_after before after
     Goes count kept kept_after owed owed_after before after (Err ended) = IsServed nodes g node Answers seen count kept owed before after ended

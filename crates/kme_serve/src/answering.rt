@@ -1,4 +1,4 @@
-// The response to a request.
+// Making the response to a request.
 ghost use Rattle.std.specs.Prelude.{◌≡◌, ◌+◌, ◌<◌, ◌≤◌, Ok};
 ghost use Rattle.http_front.specs.declared.request.HttpRequest.{HttpRequest as RequestValue};
 ghost use Rattle.net_model.specs.declared.event.Event.{Event as EventValue};
@@ -6,14 +6,14 @@ ghost use Rattle.qkd014_api.specs.Calls.{asked};
 ghost use Rattle.kme_serve.specs.Steps.{IsAtOnce, IsAnswered};
 
 use crate::Managers;
+use http_front::{HttpRequest, HttpResponse};
 use qkd_base::{Memory, NodeNo};
-use qkd014_api::http_front::{HttpRequest, HttpResponse};
 use qkd014_api::{Api, CallRefusal};
 use std::alloc::Global;
 use std::sync::Wait;
 
-/// The response to a request. The manager of the node is asked once where the request asks for an event, and else not at
-/// all.
+/// The response to a request. If the request asks for an event, the manager of the node is asked exactly once, and otherwise
+/// not at all.
 pub(crate) fn answer<R: Wait, M: Managers>(
     rt: &R,
     alloc: Global,
@@ -50,7 +50,7 @@ fn at_once(refusal: CallRefusal, close: bool) -> Result<HttpResponse, Memory>
     }
 }
 
-// The same response, which says whether the connection closes behind it.
+// The response with its field `close` set to this value.
 fn closing(response: HttpResponse, close: bool) -> HttpResponse
     ensures { result ≡ record response { close = close } }
 {

@@ -1,4 +1,4 @@
-// A connection.
+// Serving one connection.
 ghost use Rattle.std.specs.Prelude.{◌≡◌, ◌+◌, ◌<◌, ◌≤◌, [], Ok};
 ghost use Rattle.http_front.specs.declared.request.HttpRequest.{HttpRequest as RequestValue};
 ghost use Rattle.net_model.specs.declared.event.Event.{Event as EventValue};
@@ -13,11 +13,11 @@ use qkd014_api::Api;
 use std::alloc::Global;
 use std::sync::Wait;
 
-/// Serves one connection to the manager of a node, and answers how it ended (ETSI GS QKD 014 V1.1.1, section 5, over RFC
-/// 9112). Requests are read from the source and answered, one after another. Answers to requests that came together are
-/// written together; all are written before more is read, and before the connection closes. It closes at the end of the
-/// input, behind octets that are no request, behind a request that closes it, and behind the 1,000th response. After a
-/// fault nothing more is read or written, and for want of memory nothing but the answers before.
+/// Serves one connection to the manager of a node, and returns how it ended (ETSI GS QKD 014 V1.1.1, section 5, over RFC 9112).
+/// Requests are read from the source and answered one after another. Answers to requests that arrived together are written
+/// together. All answers are written before more is read, and before the connection closes. The connection closes at the end of
+/// the input, after octets that are no request, after a request that closes it, and after the 1,000th response. After a fault
+/// nothing more is read or written. If memory runs out, only the answers made before are written.
 pub fn serve_connection<R: Wait, M: Managers, S: Source, W: Sink>(
     rt: &R,
     alloc: Global,

@@ -1,4 +1,4 @@
-// The connections of one door.
+// Serving the connections of one listener.
 ghost use Rattle.std.specs.Prelude.{◌≡◌, ◌+◌, ◌*◌, ◌<◌, ◌≤◌, ◌^◌, Ok, OnOk};
 ghost use Rattle.http_front.specs.declared.request.HttpRequest.{HttpRequest as RequestValue};
 ghost use Rattle.net_model.specs.declared.event.Event.{Event as EventValue};
@@ -14,8 +14,8 @@ use qkd014_api::Api;
 use std::alloc::Global;
 use std::sync::Wait;
 
-/// Accepts so many connections at a door, one after another, serves each to its end and finishes it with its ending. Where
-/// the door fails, the connections before are served and finished, and no more come.
+/// Accepts `connections` connections at a listener, one after another, serves each to its end, and finishes it with the way it
+/// ended. If the listener fails, no more connections are accepted. Those accepted before are served and finished.
 pub fn serve_door<R: Wait, M: Managers, D: Listener>(
     rt: &R,
     alloc: Global,
@@ -49,7 +49,7 @@ pub fn serve_door<R: Wait, M: Managers, D: Listener>(
     Ok(())
 }
 
-// The same for the next connection.
+// Accepts, serves and finishes the next connection.
 fn serve_next<R: Wait, M: Managers, D: Listener>(
     rt: &R,
     alloc: Global,

@@ -1,4 +1,4 @@
-// One exchange of a connection.
+// One exchange of a connection: a request and its response.
 ghost use Rattle.std.specs.Prelude.{◌≡◌, ◌+◌, ◌<◌, ◌≤◌, Ok, length};
 ghost use Rattle.http_front.specs.declared.request.HttpRequest.{HttpRequest as RequestValue};
 ghost use Rattle.net_model.specs.declared.event.Event.{Event as EventValue};
@@ -16,11 +16,11 @@ use qkd014_api::Api;
 use std::alloc::Global;
 use std::sync::Wait;
 
-/// The most responses of a connection.
+/// The most responses of one connection.
 pub(crate) const RESPONSE_LIMIT: u32 = 1000;
 
-/// Reads the next request and answers it, behind so many responses. The connection then stays open, where the answer may still
-/// be owed; or it ended so.
+/// Reads the next request and answers it, after `count` responses. After `Ok` the connection stays open, and the answer may
+/// still be owed. After `Err` the connection has ended.
 pub(crate) fn exchange<R: Wait, M: Managers, S: Source, W: Sink>(
     rt: &R,
     alloc: Global,

@@ -1,20 +1,29 @@
-//! Connections of applications to key managers, served over HTTP (ETSI GS QKD 014): each request is read, taken to the
-//! manager of its node and answered, until the connection ends.
+//! Connections over HTTP to a node's manager, the listeners that they come from, and a worker for each port.
 #![tactic(auto)]
 
 mod answering;
 mod connection;
 mod door;
+mod doors;
 mod exchange;
 mod managers;
 mod next;
+mod opening;
 mod owed;
+mod port_refusal;
+mod refusal;
+mod serving;
 mod turn;
+mod worker;
+mod workers;
 mod writing;
 
 pub use connection::serve_connection;
 pub use door::serve_door;
-pub use edge_io;
+pub use doors::{open_doors, shut_doors};
 pub use managers::Managers;
-pub use qkd014_api;
+pub use port_refusal::DoorRefusal;
+pub use refusal::ServeRefusal;
 pub use turn::Turn;
+pub use worker::Worker;
+pub use workers::serve;

@@ -6,13 +6,13 @@ ghost use Rattle.kme_serve.specs.Steps.{IsNext, IsRefusedBy};
 use crate::owed::pay;
 use crate::writing::write;
 use edge_io::{Ended, Failed, MemSource, Sink, Source};
+use http_front::{FrontRefusal, HttpRequest, read_request};
 use qkd_base::{Memory, Octets};
 use qkd014_api::front_response;
-use qkd014_api::http_front::{FrontRefusal, HttpRequest, read_request};
 use std::alloc::Global;
 
-/// Reads the next request, or the connection ends so. Before more is read than was kept, what is owed is written: no
-/// answer waits for what an application has yet to send.
+/// Reads the next request, or ends the connection. Before more octets are read than were kept, all owed answers are written. So
+/// no answer waits for what an application has yet to send.
 pub(crate) fn next<S: Source, W: Sink>(
     alloc: Global,
     source: &mut S,
@@ -38,7 +38,7 @@ pub(crate) fn next<S: Source, W: Sink>(
     }
 }
 
-// The request that was kept, where it is whole.
+// The request in the kept octets, if it is complete.
 fn kept_request(alloc: Global, kept: &mut Octets) -> Option<HttpRequest>
     ensures some { IfSome result (λ request. IsRequest kept.old request kept.new) }
     ensures none { IfNone result (kept.new ≡ kept.old) }
@@ -53,7 +53,7 @@ fn kept_request(alloc: Global, kept: &mut Octets) -> Option<HttpRequest>
     }
 }
 
-// How a connection ends where no request is read: most causes are answered first.
+// How a connection ends when no request is read. Most causes are answered first.
 fn refuse<W: Sink>(alloc: Global, refusal: &FrontRefusal, sink: &mut W) -> Ended
     ensures { IsRefusedBy refusal.now (W.taken sink.old) (W.taken sink.new) (W.faults sink.old) (W.faults sink.new) result }
 {

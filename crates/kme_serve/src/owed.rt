@@ -1,4 +1,4 @@
-// Answers that are owed: their octets are spelled, and not written yet.
+// Owed answers: responses that are encoded and not written yet.
 ghost use Rattle.std.specs.Prelude.{◌≡◌};
 ghost use Rattle.kme_serve.specs.Owed.{IsPaid, IsOwed, IsGivenUp};
 
@@ -6,10 +6,10 @@ use edge_io::{Ended, Failed, Sink};
 use qkd_base::Octets;
 use std::alloc::Global;
 
-// The most octets that are owed, but for those of a single answer.
+// The most octets that are owed, unless a single answer has more.
 const OWED_LIMIT: usize = 16_384;
 
-/// Writes what is owed, in one piece.
+/// Writes all owed octets with one call.
 pub(crate) fn pay<W: Sink>(alloc: Global, sink: &mut W, owed: &mut Octets) -> Result<(), Failed>
     ensures { IsPaid (W.taken sink.old) (W.taken sink.new) (W.faults sink.old) (W.faults sink.new) owed.old owed.new result }
 {
@@ -24,8 +24,7 @@ pub(crate) fn pay<W: Sink>(alloc: Global, sink: &mut W, owed: &mut Octets) -> Re
     Ok(())
 }
 
-/// Owes the octets of one more answer. Where they are too many, or memory is wanting to keep them together, those before
-/// are written.
+/// Adds one more answer to the owed octets. If they would be too many, or memory runs out, the older ones are written first.
 pub(crate) fn owe<W: Sink>(
     alloc: Global,
     sink: &mut W,
@@ -45,12 +44,12 @@ pub(crate) fn owe<W: Sink>(
     Ok(())
 }
 
-// Whether octets are to be written in one piece with what is owed.
+// Whether octets are added to the owed ones and written together with them.
 fn joins(owed: &Octets, octets: &Octets) -> bool {
     !owed.is_empty() && octets.len() <= OWED_LIMIT - owed.len().min(OWED_LIMIT)
 }
 
-/// How a connection ends for want of memory: behind what is owed.
+/// Ends a connection because memory ran out, after writing what is owed.
 pub(crate) fn give_up<W: Sink>(alloc: Global, sink: &mut W, owed: &mut Octets) -> Ended
     ensures { IsGivenUp (W.taken sink.old) (W.taken sink.new) (W.faults sink.old) (W.faults sink.new) owed.old result }
 {

@@ -1,4 +1,4 @@
-// Responses written.
+// Writing responses.
 ghost use Rattle.std.specs.Prelude.{IsTrue};
 ghost use Rattle.http_front.specs.Response.{has_reason, response_text};
 ghost use Rattle.kme_serve.specs.Owed.{IsResponded};
@@ -6,11 +6,11 @@ ghost use Rattle.kme_serve.specs.Steps.{IsWritten};
 
 use crate::owed::{give_up, owe};
 use edge_io::{Ended, Failed, Sink};
+use http_front::{HttpResponse, response_bytes};
 use qkd_base::{Memory, Octets};
-use qkd014_api::http_front::{HttpResponse, response_bytes};
 use std::alloc::Global;
 
-/// Writes a response. Otherwise the connection ends: the sink failed, or memory was wanting to spell it.
+/// Writes a response. An `Err` tells how the connection ends: the sink failed, or memory ran out.
 pub(crate) fn write<W: Sink>(
     alloc: Global,
     response: &HttpResponse,
@@ -29,7 +29,8 @@ pub(crate) fn write<W: Sink>(
     }
 }
 
-/// Spells a response and owes its octets. Otherwise the connection ends: the sink failed, or memory was wanting to spell it.
+/// Encodes a response and adds its octets to the owed ones. An `Err` tells how the connection ends: the sink failed, or memory
+/// ran out.
 pub(crate) fn respond<W: Sink>(
     alloc: Global,
     response: &HttpResponse,

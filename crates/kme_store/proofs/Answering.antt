@@ -1,4 +1,4 @@
--- What an event makes of a manager that is up, from the parts of its handling.
+-- How an event changes a manager that is up, from the parts of its handling.
 use Rattle.std.proofs.Common.{◌≡◌, ◌⊎◌, inl, inr, ℕ, ◌+◌, ◌<◌, ◌≤◌, Bool, true, false, IsTrue, List, [], length, refl, sym, ap, subst, ◌∙◌, arith}
 use Rattle.std.specs.Prelude.{IsSome, Option, Some, None, Ok, Err}
 use Rattle.std.specs.List.{list_all}
@@ -31,26 +31,26 @@ use Rattle.journal_snapshot.specs.declared.live.Live.{Live}
 use Rattle.journal_snapshot.specs.Layout.{is_moved}
 use Rattle.journal_snapshot.specs.Snapshots.{SnapshotForm, journal_of}
 use Rattle.journal_snapshot.proofs.Standings.{holds_any}
-use Rattle.kme_step.specs.Steps.{IsStep, IsEffect, placings_of}
-use Rattle.kme_step.specs.Random.{with_random}
-use Rattle.kme_step.specs.declared.step.Step.{Step}
+use Rattle.kme_base.specs.Steps.{IsStep, IsEffect, placings_of}
+use Rattle.kme_base.specs.Random.{with_random}
+use Rattle.kme_base.specs.declared.step.Step.{Step}
 use Rattle.kme_store.specs.Course.{Course, Stays, Stops, Goes, decided}
-use Rattle.kme_batches.specs.Spelled.{with_batch, batch_in_doubt, IsBody, added}
-use Rattle.kme_batches.specs.Drafts.{IsHeldBack, IsRoomier, HoldsEither, with_octets, octets_in_doubt}
+use Rattle.kme_journal.specs.Spelled.{with_batch, batch_in_doubt, IsBody, added}
+use Rattle.kme_journal.specs.Drafts.{IsHeldBack, IsRoomier, HoldsEither, with_octets, octets_in_doubt}
 use Rattle.kme_store.specs.Drawing.{Gives}
 use Rattle.kme_store.specs.Manager.{ManagerForm, HasDisk, ComesNext, IsDrawn, Keeps, Writes, IsAdded, HasStayed, IsAfter, Answers, IsTaken}
 use Rattle.kme_store.specs.declared.standing.Standing.TheVariants.{Up, Down}
-use Rattle.kme_batches.proofs.Bodies.{body_numbered, body_added, body_with, body_in_doubt, body_is_written}
-use Rattle.kme_batches.proofs.Drawn.{drawn_numbered, drawn_added}
-use Rattle.kme_batches.proofs.Decided.{AreOver, step_drawn}
+use Rattle.kme_journal.proofs.Bodies.{body_numbered, body_added, body_with, body_in_doubt, body_is_written}
+use Rattle.kme_journal.proofs.Drawn.{drawn_numbered, drawn_added}
+use Rattle.kme_journal.proofs.Decided.{AreOver, step_drawn}
 use Rattle.kme_store.proofs.Outcomes.{Comes, HasRoomFor, held_back, without_end, with_fault, stopping, going, from_length, drawn, not_drawn, untouched, some_rest}
 
--- the effect that a step has
+-- the effect of a step
 pub effect_of : (v : View) (placings : List Placing) (d : Decision) (s : Step) → IsStep v placings d (Ok s) → (e : Effect) × (d ≡ Does e) × IsEffect v placings e s
 effect_of v placings (Refuses r) s is = absurd is
 effect_of v placings (Does e) s is = (e, refl, is)
 
--- a step that has its place in the journal still has it over drawn octets
+-- a step that fits in the journal still fits with drawn octets
 pub has_place : (journal : Journal) (v : View) (placings : List Placing) (e : Effect) (s : Step) (random : List ℕ) (body : Option (List ℕ)) →
     IsEffect v placings e (record s { batch = with_random random s.batch }) → IsBody journal.version s.batch body → journal.length' + added body ≤ journal_limit → HasRoomFor journal e
 has_place journal v placings e s random body is spelled within = record {
@@ -60,7 +60,7 @@ has_place journal v placings e s random body is spelled within = record {
       omega (arith, within, same);
 }
 
--- the same area, batches and doubt
+-- images of the same area, with the same batches and the same octets in doubt
 held_as : (a b : Live) (batches bodies doubt waiting : List (List ℕ)) (i : List ℕ) → a ≡ b → batches ≡ bodies → doubt ≡ waiting → Holds a batches doubt i → Holds b bodies waiting i
 held_as a b batches bodies doubt waiting i live same in_it h =
     subst (λ (l : Live). Holds l bodies waiting i) live
@@ -68,7 +68,7 @@ held_as a b batches bodies doubt waiting i live same in_it h =
     (subst (λ (bs : List (List ℕ)). Holds a batches bs i) in_it h))
 
 module _ {K : Type 0} (is_honest : K → Bool) (content : K → List ℕ) (moment : K → ℕ) (image : K → ℕ → List ℕ → Type 0) where
-  -- with more room
+  -- the journal gets more reserved memory
   pub roomier_keeps : (faults : K → ℕ) (armings : K → Armings) (old new : SnapshotForm K) → IsRoomier is_honest content moment image faults armings old new →
       (IsTrue (is_honest old.disk) → IsKept old.live old.batches (content old.disk) (image old.disk (moment old.disk))) → Keeps is_honest moment image old new.disk
   roomier_keeps faults armings old new r kept =
@@ -96,7 +96,7 @@ module _ {K : Type 0} (is_honest : K → Bool) (content : K → List ℕ) (momen
         };
       }
 
-  -- then with a batch
+  -- then the batch is written
   pub writes_after : (faults : K → ℕ) (armings : K → Armings) (old mid : SnapshotForm K) (disk : K) (batch : List Record) (body : Option (List ℕ)) → IsRoomier is_honest content moment image faults armings old mid →
       Keeps is_honest moment image old mid.disk → with_octets mid.batches body ≡ with_batch old.live.version old.batches batch → octets_in_doubt body ≡ batch_in_doubt old.live.version batch →
       AtEachMoment moment image mid.disk disk (λ i. IsTrue (is_honest mid.disk) → HoldsEither mid body i) → Writes is_honest moment image old batch disk
@@ -117,7 +117,7 @@ with_length : (start : ℕ) (batches : List (List ℕ)) (body : Option (List ℕ
 with_length start batches None = omega arith
 with_length start batches (Some octets) = length_more start batches octets
 
--- a journal by its parts
+-- the journal as a value of the model
 abbrev journal_in : Live → List (List ℕ) → Journal
 journal_in live batches = record { length' = length_of live.start batches; start = live.start; generation = live.generation; moved = is_moved live.area; version = live.version }
 
@@ -164,7 +164,7 @@ module _ {K E : Type 0} (is_honest : K → Bool) (content : K → List ℕ) (mom
   abbrev Fails : ManagerForm K E → Type 0
   Fails new = HasDisk (λ disk. Rose (disk_faults journal.disk) (disk_faults disk)) new.standing
 
-  -- it stays as it was
+  -- the manager stays as it was
   pub stayed : (j : SnapshotForm K) (site' : Declared) (v' : View) (after : E) (reply : Reply) → IsRoomier is_honest content moment image disk_faults armings journal j →
       (IsTrue (is_honest journal.disk) → IsKept journal.live journal.batches (content journal.disk) (image journal.disk (moment journal.disk))) →
       v' ≡ v → IsDrawn (told before) 0 (told after) → HasStayed is_honest moment image told old journal reply (record { site = site'; view = v'; standing = Up j; entropy = after }) reply
@@ -175,7 +175,7 @@ module _ {K E : Type 0} (is_honest : K → Bool) (content : K → List ℕ) (mom
     up = (r.live, r.batches, roomier_keeps is_honest content moment image disk_faults armings journal j r kept);
   }
 
-  -- it goes no further
+  -- the event makes no step
   pub back : (j : SnapshotForm K) (site' : Declared) (v' : View) (reply : Reply) → IsRoomier is_honest content moment image disk_faults armings journal j →
       (IsTrue (is_honest journal.disk) → IsKept journal.live journal.batches (content journal.disk) (image journal.disk (moment journal.disk))) → v' ≡ v →
       ((random : List ℕ) → length random ≡ random_need v event → IsHeldBack (journal_of journal) (over random) reply) →
@@ -188,14 +188,14 @@ module _ {K E : Type 0} (is_honest : K → Bool) (content : K → List ℕ) (mom
       (held_back (journal_of journal) rest.0 (random_need v event) (Rises before) (Fails new) (over random) reply (held random (from_length rest.0.octet 0 (random_need v event))))
       (stayed j site' v' before reply r kept same (untouched (told before)))
 
-  -- what is known of a step over zeros
+  -- what is known of a step that was decided over zeros
   pub record IsMadeOver (zeros : List ℕ) (s : Step) (body : Option (List ℕ)) : Type 0 where
     pub need : length zeros ≡ random_need v event
     pub step : IsStep v (placings_of event) (over zeros) (Ok s)
     pub spelled : IsBody journal.live.version s.batch body
     pub within : (journal_of journal).length' + added body ≤ journal_limit
 
-  -- its effect over the octets that are drawn
+  -- the effect of this step with the drawn octets
   pub record HasEffect (random : List ℕ) (s : Step) : Type 0 where
     pub effect : Effect
     pub is : over random ≡ Does effect
@@ -213,7 +213,7 @@ module _ {K E : Type 0} (is_honest : K → Bool) (content : K → List ℕ) (mom
         place = has_place (journal_of journal) v (placings_of event) found.0 s random body found.2 made.spelled made.within;
       }
 
-  -- nothing was drawn
+  -- no octets could be drawn
   pub undrawn : AreOver → (T : Type 0) (zeros into : List ℕ) (s : Step) (body : Option (List ℕ)) (j : SnapshotForm K) (site' : Declared) (v' : View) (after : E) (why : Shortage) → IsMadeOver zeros s body →
       IsRoomier is_honest content moment image disk_faults armings journal j →
       (IsTrue (is_honest journal.disk) → IsKept journal.live journal.batches (content journal.disk) (image journal.disk (moment journal.disk))) → v' ≡ v →
@@ -233,7 +233,7 @@ module _ {K E : Type 0} (is_honest : K → Bool) (content : K → List ℕ) (mom
       (subst (λ (d : Decision). Comes (journal_of journal) given.rest (random_need v event) d replies.NoRandom (Stays replies.NoRandom) (Rises after) (Fails new)) (sym e.is) comes)
       (stayed j site' v' after replies.NoRandom r kept same given.left)
 
-  -- octets were drawn: those that come next
+  -- the drawn octets are the next ones
   pub record IsNext (random : List ℕ) (after : E) (s : Step) : Type 0 where
     pub rest : OctetSequence
     pub next : ComesNext (told before) rest
@@ -256,7 +256,7 @@ module _ {K E : Type 0} (is_honest : K → Bool) (content : K → List ℕ) (mom
         is = (e.effect, ap over octets ∙ e.is, e.same, e.place);
       }
 
-  -- what is known once the disk was asked
+  -- what is known after the disk was written
   pub record IsWritten (mid : SnapshotForm K) (s : Step) (body : Option (List ℕ)) (disk : K) : Type 0 where
     pub roomier : IsRoomier is_honest content moment image disk_faults armings journal mid
     pub kept : IsTrue (is_honest journal.disk) → IsKept journal.live journal.batches (content journal.disk) (image journal.disk (moment journal.disk))
@@ -269,7 +269,7 @@ module _ {K E : Type 0} (is_honest : K → Bool) (content : K → List ℕ) (mom
       (ap (λ (bs : List (List ℕ)). with_octets bs body) w.roomier.batches ∙ body_with journal.live.version journal.batches s.batch body w.spelled ∙ ap (with_batch journal.live.version journal.batches) is.batch)
       (body_in_doubt journal.live.version s.batch body w.spelled ∙ ap (batch_in_doubt journal.live.version) is.batch) w.moments
 
-  -- it stopped
+  -- the manager stopped
   pub stopped : AreOver → {T : Type 0} (zeros random : List ℕ) (s : Step) (body body' : Option (List ℕ)) (after : E) (done : T) (mid : SnapshotForm K) (disk : K) (site' : Declared) (v' : View) (reply : Reply) → IsMadeOver zeros s body → length random ≡ length zeros →
       Gives (told before) (told after) (Ok done) (length random) random → IsWritten mid (record s { batch = with_random random s.batch }) body' disk → reply ≡ replies.Stopped → IsSome body' → Rose (disk_faults mid.disk) (disk_faults disk) →
       Answered (record { site = site'; view = v'; standing = Down disk; entropy = after }) reply
@@ -290,7 +290,7 @@ module _ {K E : Type 0} (is_honest : K → Bool) (content : K → List ℕ) (mom
         down = writes mid drawn_step body' disk n.is.0 w n.is.2;
       })
 
-  -- it took place
+  -- the effect took place
   pub gone : AreOver → {T : Type 0} (zeros random : List ℕ) (s : Step) (body body' : Option (List ℕ)) (after : E) (done : T) (mid j : SnapshotForm K) (site' : Declared) (v' : View) (reply : Reply) → IsMadeOver zeros s body → length random ≡ length zeros →
       Gives (told before) (told after) (Ok done) (length random) random → IsWritten mid (record s { batch = with_random random s.batch }) body' j.disk →
       j.live ≡ mid.live → j.batches ≡ with_octets mid.batches body' → IsTaken v (placings_of event) (record s { batch = with_random random s.batch }) v' reply →

@@ -1,4 +1,4 @@
--- What an event makes of the network is what it makes of the manager that is asked.
+-- An event changes the network as it changes the manager that is asked.
 use Rattle.std.proofs.Common.{◌≡◌, ℕ, zero, suc, ◌+◌, ◌-◌, Bool, true, false, not, ◌&&◌, ◌||◌, List, ◌∷◌, refl, sym, ap, ◌∙◌, arith, add-zero, zero-add}
 use Rattle.std.specs.Prelude.{nat_lt, Option, Some, None, option_map, if◌then◌else◌}
 use Rattle.std.specs.List.{list_all}
@@ -20,7 +20,7 @@ use Rattle.hop_frames.specs.Sealing.{hop_sealing}
 use Rattle.source_devices.specs.Telling.{IsRest}
 use Rattle.kme_store.specs.Course.{Stays, Stops, Goes, performed, resolved, decided, course, in_world}
 
--- the next octets are those at their place
+-- the next octets are those at the entropy's place
 pub same_octets : (f g : ℕ → ℕ) (p q n : ℕ) → ((i : ℕ) → g (q + i) ≡ f (p + i)) → octets_from f p n ≡ octets_from g q n
 unfolding octets_from
 same_octets f g p q zero same = refl
@@ -33,7 +33,7 @@ same_reach : (end : Option ℕ) (n k : ℕ) → reaches end (n + suc k) ≡ reac
 same_reach None n k = refl
 same_reach (Some e) n k = grind (arith, nat_tests)
 
--- whether octets are wanted that aren't there
+-- whether octets are needed that the entropy doesn't have
 wanting : (t rest : OctetSequence) (n octets : ℕ) (fails : Bool) → IsRest t n rest →
     (nat_lt 0 octets && (not (has_octets t (n + octets)) || fails)) ≡ (nat_lt 0 octets && (not (has_octets rest octets) || fails))
 wanting t rest n zero fails r = refl

@@ -1,4 +1,4 @@
--- What an event makes of a manager that is up, from what each call of its handling ensures.
+-- How an event changes a manager that is up, from the contract of each call of its handling.
 use Rattle.std.proofs.Common.{◌≡◌, ℕ, ◌+◌, ◌≤◌, Bool, IsTrue, List, ◌++◌, length, take, replicate, refl, sym, ap, subst, ◌∙◌}
 use Rattle.std.specs.Prelude.{IsSome, Option, Ok}
 use Rattle.std.proofs.lemmas.List.{length-replicate}
@@ -21,12 +21,12 @@ use Rattle.range_journal.specs.Batches.{length_of}
 use Rattle.journal_snapshot.specs.Standing.{IsKept}
 use Rattle.journal_snapshot.specs.declared.live.Live.{Live}
 use Rattle.journal_snapshot.specs.Snapshots.{SnapshotForm}
-use Rattle.kme_step.specs.Steps.{IsStep, placings_of}
-use Rattle.kme_step.specs.Random.{with_random}
-use Rattle.kme_step.specs.declared.step.Step.{Step}
-use Rattle.kme_batches.specs.Spelled.{IsBody, added}
-use Rattle.kme_batches.specs.Drafts.{HasPlace, IsRoomier, HoldsEither, with_octets}
-use Rattle.kme_batches.proofs.Decided.{AreOver}
+use Rattle.kme_base.specs.Steps.{IsStep, placings_of}
+use Rattle.kme_base.specs.Random.{with_random}
+use Rattle.kme_base.specs.declared.step.Step.{Step}
+use Rattle.kme_journal.specs.Spelled.{IsBody, added}
+use Rattle.kme_journal.specs.Drafts.{HasPlace, IsRoomier, HoldsEither, with_octets}
+use Rattle.kme_journal.proofs.Decided.{AreOver}
 use Rattle.kme_store.specs.Drawing.{Gives}
 use Rattle.kme_store.specs.Manager.{HasDisk, WhereUp, WhereDown, IsTaken, IsToldBy, Answers}
 use Rattle.kme_store.specs.declared.standing.Standing.{Standing}
@@ -34,12 +34,12 @@ use Rattle.kme_store.specs.declared.standing.Standing.TheVariants.{Up, Down, Bet
 use Rattle.kme_store.proofs.Answering.{IsMadeOver, IsWritten, drawn_effect, stopped, gone}
 use Rattle.kme_store.proofs.Told.{Appends, Nothing, told_still, told_more}
 
--- what is written back of a slice is the slice
+-- writing a slice back gives this slice
 pub written : {X : Type 0} (n : ℕ) (new old : List X) → length new ≡ n → take n (new ++ old) ≡ new
 written n new old e = ap (λ (m : ℕ). take m (new ++ old)) (sym e) ∙ take-append_seam new old
 
 module _ {K E : Type 0} (is_honest : K → Bool) (content : K → List ℕ) (moment : K → ℕ) (image : K → ℕ → List ℕ → Type 0) (disk_faults : K → ℕ) (armings : K → Armings) (told : E → Option OctetSequence) (entropy_faults : E → ℕ) (is_up : ℕ → Bool) (event : Event) (site : Declared) (v : View) (before : E) (journal : SnapshotForm K) where
-  -- a draft over zeros, and the journal that has the room for it
+  -- a draft over zeros, and a journal with memory for it
   pub record IsDrafted (mid : SnapshotForm K) (zeros : List ℕ) (s : Step) (body : Option (List ℕ)) : Type 0 where
     pub roomier : IsRoomier is_honest content moment image disk_faults armings journal mid
     pub kept : IsTrue (is_honest journal.disk) → IsKept journal.live journal.batches (content journal.disk) (image journal.disk (moment journal.disk))
@@ -59,7 +59,7 @@ module _ {K E : Type 0} (is_honest : K → Bool) (content : K → List ℕ) (mom
         (subst (λ (bs : List (List ℕ)). length_of mid.live.start bs + added body ≤ journal_limit) d.roomier.batches d.place.within);
   }
 
-  -- the step over the octets that were drawn, and what became of its batch
+  -- the step with the drawn octets, and what happened to its batch
   pub record IsFinished (mid : SnapshotForm K) (random : List ℕ) (s : Step) (body : Option (List ℕ)) (standing : Standing K) (now : View) (reply : Reply) : Type 0 where
     pub spelled : IsBody mid.live.version (with_random random s.batch) body
     pub moments : HasDisk (λ disk. AtEachMoment moment image mid.disk disk (λ i. IsTrue (is_honest mid.disk) → HoldsEither mid body i)) standing
@@ -67,7 +67,7 @@ module _ {K E : Type 0} (is_honest : K → Bool) (content : K → List ℕ) (mom
     pub taken : WhereUp (λ j. IsTaken v (placings_of event) (record s { batch = with_random random s.batch }) now reply) standing
     pub down : WhereDown (λ disk. (reply ≡ replies.Stopped) × IsSome body × Rose (disk_faults mid.disk) (disk_faults disk)) standing
 
-  -- from what was said over the view that was left and the step with its octets in place
+  -- the same, from the contracts over the view and the step with drawn octets
   pub is_finished : (mid : SnapshotForm K) (random : List ℕ) (s s' : Step) (body : Option (List ℕ)) (standing : Standing K) (w now : View) (reply : Reply) → w ≡ v → s' ≡ record s { batch = with_random random s.batch } →
       IsBody mid.live.version s'.batch body → HasDisk (λ disk. AtEachMoment moment image mid.disk disk (λ i. IsTrue (is_honest mid.disk) → HoldsEither mid body i)) standing →
       WhereUp (λ j. (j.live ≡ mid.live) × (j.batches ≡ with_octets mid.batches body)) standing → WhereUp (λ j. IsTaken w (placings_of event) s' now reply) standing →
@@ -90,7 +90,7 @@ module _ {K E : Type 0} (is_honest : K → Bool) (content : K → List ℕ) (mom
     moments = moments;
   }
 
-  -- it took place, or it stopped
+  -- the effect took place, or the manager stopped
   pub finished : AreOver → {T : Type 0} (zeros random : List ℕ) (s : Step) (body body' : Option (List ℕ)) (after : E) (done : T) (mid : SnapshotForm K) (standing : Standing K) (site' : Declared) (now : View) (reply : Reply) →
       IsDrafted mid zeros s body → length random ≡ length zeros → Gives (told before) (told after) (Ok done) (length random) random → IsFinished mid random s body' standing now reply →
       Answers is_honest moment image disk_faults told entropy_faults is_up event (record { site = site; view = v; standing = Up journal; entropy = before }) journal
@@ -103,7 +103,7 @@ module _ {K E : Type 0} (is_honest : K → Bool) (content : K → List ℕ) (mom
       (made_over mid zeros s body d) as_many gives (is_written mid zeros random s body body' disk d f.spelled f.moments) f.down.0 f.down.1 f.down.2
   finished laws {T} zeros random s body body' after done mid Between site' now reply d as_many gives f = absurd f.moments
 
-  -- what its journal gives back is still what it is
+  -- replaying the journal still gives the manager
   pub told_after : AreOver → Appends → Nothing → (zeros random : List ℕ) (s : Step) (body body' : Option (List ℕ)) (mid : SnapshotForm K) (standing : Standing K) (site' : Declared) (now : View) (reply : Reply) →
       IsDrafted mid zeros s body → length random ≡ length zeros → IsFinished mid random s body' standing now reply → site' ≡ site → IsToldBy site v (Up journal) → IsToldBy site' now standing
   told_after laws appends nothing zeros random s body body' mid (Up j) site' now reply d as_many f same was =

@@ -4,3 +4,6 @@ pub mod Handling
 pub mod Outcomes
 pub mod Performed
 pub mod Told
+pub mod StartTold
+pub mod Sent
+pub mod Passed

@@ -1,4 +1,4 @@
--- The outcomes of an event, each as the course that the outside's answer gives.
+-- The outcomes of an event, each as the course that the environment's answer gives.
 use Rattle.std.proofs.Common.{◌≡◌, ◌⊎◌, inl, inr, ℕ, zero, suc, ◌+◌, ◌<◌, ◌≤◌, true, false, List, [], ◌∷◌, length, refl, sym, ap, ◌∙◌, arith, zero-add}
 use Rattle.std.specs.Prelude.{slice_index_or, Option, Some, None, Ok, Err}
 use Rattle.std.specs.List.{list_all}
@@ -9,23 +9,22 @@ use Rattle.net_model.specs.World.{Journal}
 use Rattle.net_model.specs.Journal.{added_len, is_nil, journal_limit}
 use Rattle.net_model.specs.Decision.{Decision, Refuses, Does, Effect}
 use Rattle.net_model.specs.Handle.{is_numbered}
-use Rattle.net_model.specs.Action.{Environment, OutOfMemory, EntropyFault, IoFault, Replies, is_shown}
-use Rattle.net_model.specs.Action.{Ok as Fine}
+use Rattle.net_model.specs.Action.{Environment, OutOfMemory, EntropyFault, IoFault, Replies, is_shown, Ok as Fine}
 use Rattle.source_devices.specs.declared.shortage.Shortage.{Shortage}
 use Rattle.source_devices.specs.declared.shortage.Shortage.TheVariants.{Failed, End}
 use Rattle.kme_store.specs.Course.{Course, Stays, Stops, Goes, resolved}
-use Rattle.kme_batches.specs.Drafts.{IsHeldBack, IsPast}
+use Rattle.kme_journal.specs.Drafts.{IsHeldBack, IsPast}
 use Rattle.kme_store.specs.Drawing.{Gives}
 use Rattle.kme_store.specs.Manager.{ComesNext, IsDrawn}
 use Rattle.kme_store.proofs.Courses.{same_octets}
 use Rattle.kme_store.proofs.Performed.{no_memory, past, not_there, not_given, stops, goes}
 
--- an effect that has its place in the journal
+-- an effect that fits in the journal
 pub record HasRoomFor (journal : Journal) (e : Effect) : Type 0 where
   pub numbered : list_all is_numbered e.batch ≡ true
   pub within : journal.length' + added_len journal.version e.batch ≤ journal_limit
 
--- an answer of the outside by which the course is this one; it shows in the reply, and a fault has its cause
+-- an answer of the environment that gives this course; it shows in the reply, and each failure comes from a fault
 pub record Comes (journal : Journal) (rest : OctetSequence) (octets : ℕ) (d : Decision) (reply : Reply) (c : Course) (entropy_rose disk_rose : Type 0) : Type 0 where
   pub environment : Environment
   pub course : resolved journal rest octets environment d ≡ c
@@ -52,7 +51,7 @@ module _ (journal : Journal) (rest : OctetSequence) (octets : ℕ) (entropy_rose
     disk_fault = λ other. absurd (cc other);
   }
 
-  -- what goes no further
+  -- an event that makes no step
   pub held_back : (d : Decision) (reply : Reply) → IsHeldBack journal d reply → Comes journal rest octets d reply (Stays reply) entropy_rose disk_rose
   held_back (Refuses refusal) reply is = record {
     environment = Fine;
@@ -101,9 +100,9 @@ module _ (journal : Journal) (rest : OctetSequence) (octets : ℕ) (entropy_rose
     disk_fault = λ other. absurd (cc other);
   }
 
--- what is left of an entropy, and what was drawn of it
+-- the rest of an entropy, and what was drawn of it
 
--- octets that nobody told, which begin with these
+-- octets of an entropy that isn't known, which begin with these
 abbrev pub told_as : List ℕ → OctetSequence
 told_as octets = record { octet = λ i. slice_index_or octets i 0; end = None }
 
@@ -120,7 +119,7 @@ told_again (x ∷ xs) =
     same_octets (told_as (x ∷ xs)).octet (told_as xs).octet (0 + 1) 0 (length xs) (λ i. let next : suc i ≡ (0 + 1) + i = omega arith in ap (told_as xs).octet (zero-add i) ∙ ap (told_as (x ∷ xs)).octet next) in
     ap (λ (ys : List ℕ). x ∷ ys) (later ∙ told_again xs)
 
--- what was drawn came next
+-- the drawn octets came next
 pub record HasDrawn (told now : Option OctetSequence) (octets : List ℕ) : Type 0 where
   pub rest : OctetSequence
   pub next : ComesNext told rest
@@ -135,7 +134,7 @@ drawn (Some t) now done [] g = record { rest = t; next = refl; there = λ none. 
 drawn None now done (x ∷ xs) g = record { rest = told_as (x ∷ xs); next = tt; there = λ some. refl; are = told_again (x ∷ xs); left = tt }
 drawn (Some t) now done (x ∷ xs) g = record { rest = t; next = refl; there = λ some. g.0; are = sym g.1; left = g.2 }
 
--- nothing was drawn
+-- no octets could be drawn
 pub record HasNotDrawn (told now : Option OctetSequence) (octets : ℕ) (why : Shortage) : Type 0 where
   pub rest : OctetSequence
   pub next : ComesNext told rest

@@ -1,4 +1,4 @@
--- What an effect comes to, by what the outside answers.
+-- The course of an effect, by what the environment answers.
 use Rattle.std.proofs.Common.{◌≡◌, ℕ, ◌+◌, ◌<◌, ◌≤◌, Bool, true, false, not, ◌&&◌, ◌||◌, refl, ap, ◌∙◌, arith}
 use Rattle.std.specs.Prelude.{nat_lt, if◌then◌else◌}
 use Rattle.std.specs.List.{list_all}
@@ -13,11 +13,11 @@ use Rattle.net_model.specs.Handle.{is_numbered}
 use Rattle.net_model.specs.Action.{Ok, OutOfMemory, EntropyFault, IoFault}
 use Rattle.kme_store.specs.Course.{Course, Stays, Stops, Goes, performed}
 
--- the four tests, by their answers
+-- the course by the answers to the four tests
 abbrev four : Reply → ℕ → Effect → Bool → Bool → Bool → Bool → Course
 four full octets effect a b c d = if a then Stays Memory else if b then Stays full else if c then Stays NoRandom else if d then Stops octets effect else Goes octets effect
 
--- octets are wanted and not there, or not given
+-- octets are needed that the entropy doesn't have, or fails to give
 abbrev lacks : OctetSequence → ℕ → Bool → Bool
 lacks rest octets fails = nat_lt 0 octets && (not (has_octets rest octets) || fails)
 

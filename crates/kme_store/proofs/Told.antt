@@ -1,4 +1,4 @@
--- A manager is what its journal gives back, after an event too.
+-- Replaying the journal gives the manager, also after an event.
 use Rattle.std.proofs.Common.{◌≡◌, ℕ, true, false, List, [], ◌∷◌, ◌++◌, map, refl, sym, ap, subst, ◌∙◌}
 use Rattle.std.specs.Prelude.{◌&&◌, Option, Some, None, if◌then◌else◌}
 use Rattle.std.specs.List.{list_any}
@@ -16,14 +16,14 @@ use Rattle.declared_site.specs.declared.site.Site.{Site as Declared}
 use Rattle.journal_records.specs.Grammar.{IsBatch}
 use Rattle.journal_snapshot.specs.declared.live.Live.{Live}
 use Rattle.journal_snapshot.specs.Snapshots.{SnapshotForm}
-use Rattle.law_journals.specs.GivesBack.{GivesBack}
-use Rattle.kme_batches.specs.Recovery.{AreReadAs}
-use Rattle.kme_batches.specs.Spelled.{body, version_named, IsBody}
-use Rattle.kme_batches.specs.Drafts.{with_octets}
+use Rattle.law_recovery.specs.GivesBack.{GivesBack}
+use Rattle.kme_journal.specs.BatchRecovery.{AreReadAs}
+use Rattle.kme_journal.specs.Spelled.{body, version_named, IsBody}
+use Rattle.kme_journal.specs.Drafts.{with_octets}
 use Rattle.kme_store.specs.Manager.{IsStory, IsToldBy}
 use Rattle.kme_store.specs.declared.standing.Standing.TheVariants.{Up}
 
--- records leave whose view it is
+-- records don't change the node's number
 
 me_record : (r : Record) (v : View) → (view_record r v).me ≡ v.me
 unfolding view_record
@@ -53,9 +53,9 @@ pub me_after : (v : View) (e : Effect) → (view_after v e).me ≡ v.me
 unfolding view_after
 me_after v e = me_batch v e.batch
 
--- stories
+-- the batches of a journal
 
--- the laws of an effect and its batch
+-- laws about an effect and its batch
 abbrev pub Appends : Type 0
 Appends = (site : Site) (me : ℕ) (batches : List (List Record)) (v : View) (e : Effect) → GivesBack site me batches v → GivesBack site me (batches ++ e.batch ∷ []) (view_after v e)
 
@@ -63,7 +63,7 @@ abbrev pub Nothing : Type 0
 Nothing = (site : Site) (me : ℕ) (batches : List (List Record)) (v : View) (e : Effect) → e.batch ≡ [] → GivesBack site me batches v → GivesBack site me batches (view_after v e)
 
 module _ {K : Type 0} (site : Declared) (v : View) (old new : SnapshotForm K) where
-  -- what is read of bodies is read of the newer journal, which has them
+  -- batches are read from the newer journal as from the older one
   read_on : (bodies : List (List ℕ)) (story : List (List Record)) → new.live ≡ old.live → new.batches ≡ bodies → AreReadAs old.live.version bodies story → AreReadAs new.live.version new.batches story
   read_on bodies story live batches read =
       subst (λ (l : Live). AreReadAs l.version new.batches story) (sym live) (subst (λ (bs : List (List ℕ)). AreReadAs old.live.version bs story) (sym batches) read)

@@ -1,5 +1,5 @@
--- What becomes of one manager by an event: the network's rule without its world. It is said over what the manager knows, its journal and
--- the octets that its entropy gives next.
+-- How an event changes one manager: the model's rule, without the other nodes. It depends on the manager's view, its journal, and the
+-- next octets of its entropy.
 use Rattle.std.specs.Prelude.{ℕ, ◌+◌, ◌&&◌, ◌||◌, not, nat_lt, Bool, if◌then◌else◌}
 use Rattle.std.specs.List.{list_all}
 use Rattle.net_model.specs.declared.event.Event.{Event}
@@ -16,13 +16,13 @@ use Rattle.net_model.specs.Handle.{is_numbered, commit, stopped}
 use Rattle.net_model.specs.Action.{Environment, Outcome, Replies, is_no_memory, is_entropy_fault, is_io_fault}
 use Rattle.hop_frames.specs.Sealing.{hop_sealing}
 
--- it stays as it was; it stops in an effect for which so many octets were drawn; or the effect takes place
+-- the manager stays as it is; or it stops during an effect for which `octets` were drawn; or the effect takes place
 pub data Course : Type 0 where
   Stays : (reply : Reply) → Course
   Stops : (octets : ℕ) (effect : Effect) → Course
   Goes : (octets : ℕ) (effect : Effect) → Course
 
--- an effect for which so many octets are drawn, by what the outside answers
+-- the course of an effect that draws `octets`, by what its environment answers
 unfoldable pub performed : Journal → OctetSequence → ℕ → Environment → Effect → Course
 performed journal rest octets environment effect =
     let added = added_len journal.version effect.batch in
@@ -36,14 +36,14 @@ abbrev pub resolved : Journal → OctetSequence → ℕ → Environment → Deci
 resolved journal rest octets environment (Refuses reply) = Stays reply
 resolved journal rest octets environment (Does effect) = performed journal rest octets environment effect
 
--- the decision is made over the octets that come next, if they do
+-- the decision with the next octets of the entropy, if there are enough
 abbrev pub decided : Site → (ℕ → Bool) → View → OctetSequence → Event → Decision
 decided site is_up view rest event = decide site hop_sealing is_up view (octets_from rest.octet 0 (random_need view event)) event
 
 abbrev pub course : Site → (ℕ → Bool) → View → Journal → OctetSequence → Event → Environment → Course
 course site is_up view journal rest event environment = resolved journal rest (random_need view event) environment (decided site is_up view rest event)
 
--- the same of a manager of the network
+-- the world of the model after this course of one manager
 abbrev pub in_world : Network → World → ℕ → Course → World × Outcome
 in_world net w v (Stays reply) = (w, Replies reply)
 in_world net w v (Stops octets effect) = (stopped w v octets effect, Replies Stopped)

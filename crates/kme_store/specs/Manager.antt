@@ -1,4 +1,4 @@
--- A manager as a value, and what an event makes of it.
+-- A manager as a value, and how an event changes it.
 use Rattle.std.specs.Prelude.{◌≡◌, ◌⊎◌, ℕ, zero, suc, Bool, true, false, IsTrue, ◌+◌, List, [], Option, Some, None}
 use Rattle.qkd_base.specs.Faults.{Rose}
 use Rattle.net_model.specs.declared.event.Event.{Event}
@@ -21,41 +21,41 @@ use Rattle.range_journal.specs.Header.{is_blank}
 use Rattle.journal_snapshot.specs.Standing.{Holds}
 use Rattle.journal_snapshot.specs.Snapshots.{SnapshotForm, journal_of}
 use Rattle.source_devices.specs.Telling.{IsRest}
-use Rattle.law_journals.specs.GivesBack.{GivesBack}
-use Rattle.kme_step.specs.declared.step.Step.{Step}
-use Rattle.kme_step.specs.Steps.{IsEffect}
+use Rattle.law_recovery.specs.GivesBack.{GivesBack}
+use Rattle.kme_base.specs.declared.step.Step.{Step}
+use Rattle.kme_base.specs.Steps.{IsEffect}
 use Rattle.kme_store.specs.Course.{Course, Stays, Stops, Goes, course}
-use Rattle.kme_batches.specs.Recovery.{AreReadAs}
-use Rattle.kme_batches.specs.Spelled.{with_batch, batch_in_doubt, IsBody}
+use Rattle.kme_journal.specs.BatchRecovery.{AreReadAs}
+use Rattle.kme_journal.specs.Spelled.{with_batch, batch_in_doubt, IsBody}
 use Rattle.kme_store.specs.declared.standing.Standing.{Standing}
 use Rattle.kme_store.specs.declared.standing.Standing.TheVariants.{Up, Down, Between}
 
--- what its site is, what it knows, where its journal stands, and its entropy. What a manager that is down knows says nothing.
+-- its site, its view, whether it is up, and its entropy; the view of a manager that is down means nothing
 pub record ManagerForm (K E : Type 0) : Type 0 where
   pub site : Declared
   pub view : View
   pub standing : Standing K
   pub entropy : E
 
--- it is up, with a journal of which this holds
+-- the manager is up, with a journal that satisfies this
 abbrev pub IsUpWith : {K : Type 0} → (SnapshotForm K → Type 0) → Standing K → Type 0
 IsUpWith P (Up journal) = P journal
 IsUpWith P (Down disk) = ⊥
 IsUpWith P Between = ⊥
 
--- it is down, with a disk of which this holds
+-- the manager is down, with a disk that satisfies this
 abbrev pub IsDownWith : {K : Type 0} → (K → Type 0) → Standing K → Type 0
 IsDownWith P (Up journal) = ⊥
 IsDownWith P (Down disk) = P disk
 IsDownWith P Between = ⊥
 
--- this holds of its disk, up or down
+-- the disk satisfies this, whether the manager is up or down
 abbrev pub HasDisk : {K : Type 0} → (K → Type 0) → Standing K → Type 0
 HasDisk P (Up journal) = P journal.disk
 HasDisk P (Down disk) = P disk
 HasDisk P Between = ⊥
 
--- this holds of the journal or of the disk, where it is up or down
+-- if the manager is up, its journal satisfies this; `WhereDown` says the same of the disk of a manager that is down
 abbrev pub WhereUp : {K : Type 0} → (SnapshotForm K → Type 0) → Standing K → Type 0
 WhereUp P (Up journal) = P journal
 WhereUp P (Down disk) = Unit {0}
@@ -66,23 +66,23 @@ WhereDown P (Up journal) = Unit {0}
 WhereDown P (Down disk) = P disk
 WhereDown P Between = Unit {0}
 
--- a step is taken over and answered
+-- a step is applied and answered
 pub record IsTaken (v : View) (placings : List Placing) (s : Step) (now : View) (reply : Reply) : Type 0 where
   pub answer : reply ≡ s.reply
   pub view : (e : Effect) → IsEffect v placings e s → now ≡ view_after v e
 
--- the batches of a journal, which give this view back
+-- the batches of a journal; replaying them gives this view
 pub record IsStory {K : Type 0} (site : Declared) (view : View) (journal : SnapshotForm K) (story : List (List Record)) : Type 0 where
   pub read : AreReadAs journal.live.version journal.batches story
   pub back : GivesBack (site_of site) view.me story view
 
--- A manager that is up is what its journal gives back. Within an event alone it is neither up nor down.
+-- Replaying the journal of a manager that is up gives this manager. Only during an event is a manager neither up nor down.
 abbrev pub IsToldBy : {K : Type 0} → Declared → View → Standing K → Type 0
 IsToldBy site view (Up journal) = (story : List (List Record)) × IsStory site view journal story
 IsToldBy site view (Down disk) = Unit {0}
 IsToldBy site view Between = ⊥
 
--- a disk that was armed once more, and else is what it was
+-- a disk after it was armed once more, which is otherwise the same
 pub record IsArmed {K : Type 0} (is_honest : K → Bool) (content : K → List ℕ) (moment : K → ℕ) (image : K → ℕ → List ℕ → Type 0) (faults : K → ℕ) (armings : K → Armings) (arm : Arm) (old new : K) : Type 0 where
   pub armed : armings new ≡ record { count = (armings old).count + 1; last = Some arm }
   pub same : content new ≡ content old
@@ -90,7 +90,7 @@ pub record IsArmed {K : Type 0} (is_honest : K → Bool) (content : K → List �
   pub failed : faults new ≡ faults old
   pub honest : is_honest new ≡ is_honest old
 
--- up or down as before, with the same batches, and this of the disk
+-- the manager is up or down as before, with the same batches, and its disk changes like this
 abbrev pub StandsOver : {K : Type 0} → (K → K → Type 0) → Standing K → Standing K → Type 0
 StandsOver P (Up old) (Up new) = (new.live ≡ old.live) × (new.batches ≡ old.batches) × P old.disk new.disk
 StandsOver P (Down old) (Down new) = P old new
@@ -100,36 +100,36 @@ StandsOver P Between new = ⊥
 StandsOver P (Up old) Between = ⊥
 StandsOver P (Down old) Between = ⊥
 
--- what the outside answers
+-- what the environment answers
 
--- these octets come next, where any are told
+-- these octets come next, if the entropy is known
 abbrev pub ComesNext : Option OctetSequence → OctetSequence → Type 0
 ComesNext None rest = Unit {0}
 ComesNext (Some told) rest = told ≡ rest
 
--- so many of them were drawn
+-- this many octets were drawn
 abbrev pub IsDrawn : Option OctetSequence → ℕ → Option OctetSequence → Type 0
 IsDrawn None octets now = Unit {0}
 IsDrawn (Some told) zero now = now ≡ Some told
 IsDrawn (Some told) (suc n) now = (left : OctetSequence) × (now ≡ Some left) × IsRest told (suc n) left
 
--- what becomes of it
+-- the manager after an event
 
--- from this journal to that disk each image at each moment has the journal's batches, and isn't blank
+-- from this journal to that disk, each crash image at each moment has the journal's batches and isn't blank
 abbrev pub Keeps : {K : Type 0} → (K → Bool) → (K → ℕ) → (K → ℕ → List ℕ → Type 0) → SnapshotForm K → K → Type 0
 Keeps is_honest moment image journal disk = AtEachMoment moment image journal.disk disk (λ i. IsTrue (is_honest journal.disk) → (is_blank i ≡ false) × Holds journal.live journal.batches [] i)
 
--- or, while the new one is in doubt, it has these or these with one more
+-- while the new batch is in doubt, a crash image has the journal's batches, or these and the new one
 abbrev pub Writes : {K : Type 0} → (K → Bool) → (K → ℕ) → (K → ℕ → List ℕ → Type 0) → SnapshotForm K → List Record → K → Type 0
 Writes is_honest moment image journal batch disk =
     AtEachMoment moment image journal.disk disk
     (λ i. IsTrue (is_honest journal.disk) → (is_blank i ≡ false) × (Holds journal.live journal.batches (batch_in_doubt journal.live.version batch) i ⊎ Holds journal.live (with_batch journal.live.version journal.batches batch) [] i))
 
--- a batch that is well formed in this version, with its octets where it isn't empty
+-- the batch is well formed in this version, and has octets if it isn't empty
 abbrev pub HasBodyIn : ℕ → List Record → Type 0
 HasBodyIn version batch = (octets : Option (List ℕ)) × IsBody version batch octets
 
--- the batch stands behind the others, and nothing does for an empty one
+-- the batch is appended to the journal, unless it is empty
 pub record IsAdded {K : Type 0} (old : SnapshotForm K) (batch : List Record) (new : SnapshotForm K) : Type 0 where
   pub live : new.live ≡ old.live
   pub batches : new.batches ≡ with_batch old.live.version old.batches batch
@@ -159,7 +159,7 @@ IsAfter is_honest moment image told old journal (Stays refusal) new reply = HasS
 IsAfter is_honest moment image told old journal (Stops octets effect) new reply = HasStopped is_honest moment image told old journal octets effect new reply
 IsAfter is_honest moment image told old journal (Goes octets effect) new reply = HasGone is_honest moment image told old journal octets effect new reply
 
--- An event. The outside gave these octets and this answer, and a fault has its cause.
+-- An event is answered. The environment gave these octets and this answer, and each failure comes from a fault.
 pub record Answers {K E : Type 0} (is_honest : K → Bool) (moment : K → ℕ) (image : K → ℕ → List ℕ → Type 0) (disk_faults : K → ℕ) (told : E → Option OctetSequence) (entropy_faults : E → ℕ) (is_up : ℕ → Bool) (event : Event) (old : ManagerForm K E) (journal : SnapshotForm K) (new : ManagerForm K E) (reply : Reply) : Type 0 where
   pub rest : OctetSequence
   pub environment : Environment
@@ -169,7 +169,7 @@ pub record Answers {K E : Type 0} (is_honest : K → Bool) (moment : K → ℕ) 
   pub disk_fault : environment ≡ IoFault → HasDisk (λ disk. Rose (disk_faults journal.disk) (disk_faults disk)) new.standing
   pub after : IsAfter is_honest moment image told old journal (course (site_of old.site) is_up old.view (journal_of journal) rest event environment) new reply
 
--- a manager that is up answers the event; one that is down stays as it is
+-- a manager that is up answers the event, and one that is down stays as it is
 abbrev pub Acts : {K E : Type 0} → (K → Bool) → (K → ℕ) → (K → ℕ → List ℕ → Type 0) → (K → ℕ) → (E → Option OctetSequence) → (E → ℕ) → (ℕ → Bool) → Event → ManagerForm K E → Standing K → ManagerForm K E → Reply → Type 0
 Acts is_honest moment image disk_faults told entropy_faults is_up event old (Up journal) new reply = Answers is_honest moment image disk_faults told entropy_faults is_up event old journal new reply
 Acts is_honest moment image disk_faults told entropy_faults is_up event old (Down disk) new reply = (new ≡ old) × (reply ≡ replies.Down)

@@ -1,31 +1,30 @@
-// What an event makes of a manager that is up.
+// Handling events of a manager that is up.
 ghost use Rattle.std.specs.Prelude.{◌≡◌, ◌≤◌, ℕ, Bool, IsTrue, IsSome, true};
 ghost use Rattle.qkd_base.specs.Faults.{Rose};
 ghost use Rattle.declared_site.specs.SiteOf.{site_of};
 ghost use Rattle.net_model.specs.Events.{is_valid_event};
-ghost use Rattle.kme_site.specs.Up.{AreUp};
+ghost use Rattle.kme_base.specs.Up.{AreUp};
 ghost use Rattle.disk_model.specs.Images.{AtEachMoment};
 ghost use Rattle.journal_snapshot.specs.Standing.{IsKept};
-ghost use Rattle.kme_step.specs.Steps.{placings_of};
-ghost use Rattle.kme_batches.specs.Passed.{view, Fits, HasRoom};
-ghost use Rattle.kme_batches.specs.Drafts.{HasOctets, HasPlace, HoldsEither, with_octets};
+ghost use Rattle.kme_base.specs.Steps.{placings_of};
+ghost use Rattle.kme_node.specs.Holdings.{view, Fits, HasRoom};
+ghost use Rattle.kme_journal.specs.Drafts.{HasOctets, HasPlace, HoldsEither, with_octets};
 ghost use Rattle.kme_store.specs.Manager.{Answers, HasDisk, WhereUp, WhereDown, IsTaken, IsToldBy};
 
 use crate::Standing;
 use crate::drawing::draw;
 use disk_model::Disk;
 use journal_snapshot::Snapshots;
-use kme_batches::kme_groups::law_group_fill_over_other_octets;
-use kme_batches::kme_keys::law_fill_over_other_octets;
-use kme_batches::kme_node::{Node, law_drawn_steps_apply};
-use kme_batches::kme_streams::law_feed_over_other_octets;
-use kme_batches::{Draft, write};
-use law_journals::law_effect_is_given_back;
+use kme_journal::{Draft, write};
+use kme_keys::{law_fill_over_other_octets, law_group_fill_over_other_octets};
+use kme_node::{Node, law_drawn_steps_apply};
+use kme_streams::law_feed_over_other_octets;
+use law_recovery::law_effect_is_given_back;
 use net_model::{Event, Reply};
 use source_devices::Entropy;
 use std::alloc::Global;
 
-// Makes a draft durable, and only then takes it over.
+// Writes a draft to the disk, and only then applies it to the manager.
 fn finish<K: Disk>(
     node: &mut Node,
     journal: Snapshots<K>,
@@ -56,7 +55,8 @@ fn finish<K: Disk>(
     }
 }
 
-/// Handles an event: the decision, all the memory, the random octets, the disk, and only then what the manager keeps.
+/// Handles an event, in this order: it decides, reserves all memory, draws the random octets, writes to the disk, and
+/// then changes the manager.
 pub fn handle<K: Disk, E: Entropy>(
     alloc: Global,
     node: &mut Node,

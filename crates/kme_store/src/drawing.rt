@@ -6,7 +6,7 @@ ghost use Rattle.kme_store.specs.Drawing.{Gives};
 
 use source_devices::{Entropy, Shortage};
 
-/// Fills the buffer with the next octets. Where none are wanted the entropy isn't asked.
+/// Fills the buffer with the next octets of the entropy. If the buffer is empty, the entropy isn't asked.
 pub fn draw<E: Entropy>(entropy: &mut E, random: &mut [u8]) -> Result<(), Shortage>
     ensures given { Gives (E.left entropy.old) (E.left entropy.new) result (length random.old) random.new }
     ensures cause { IsErrOf result ShortageFailed → Rose (E.faults entropy.old) (E.faults entropy.new) }

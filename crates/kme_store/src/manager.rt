@@ -1,13 +1,13 @@
-// One manager over its disk.
+// A manager with its disk.
 ghost use Rattle.std.specs.Prelude.{◌≡◌, ◌<◌, ◌≤◌, ◌^◌, ◌+◌, ◌*◌, ◌&&◌, nat_le, ℕ, Bool, IsTrue, IfOk, length, take, drop, true, false};
 ghost use Rattle.declared_site.specs.SiteOf.{site_of};
 ghost use Rattle.net_model.specs.Events.{is_valid_event};
 ghost use Rattle.journal_snapshot.specs.Standing.{IsKept};
-ghost use Rattle.kme_site.specs.Up.{AreUp};
-ghost use Rattle.kme_batches.specs.Passed.{view};
+ghost use Rattle.kme_base.specs.Up.{AreUp};
+ghost use Rattle.kme_node.specs.Holdings.{view};
 ghost use Rattle.net_model.specs.View.{port_of, blocks_of, incoming_octets};
 ghost use Rattle.hop_frames.specs.Opening.{open_of};
-ghost use Rattle.kme_batches.specs.Frames.{is_match};
+ghost use Rattle.kme_journal.specs.Frames.{is_match};
 ghost use Rattle.kme_store.specs.Manager.{Acts, HasDisk, WhereUp, WhereDown, IsToldBy, IsArmed, StandsOver, is_up, lease_of, length_in};
 
 use crate::Standing;
@@ -15,8 +15,8 @@ use crate::acting::handle;
 use crate::lanes::copy_block;
 use disk_model::{Arm, Disk};
 use journal_snapshot::Snapshots;
-use kme_batches::kme_node::Node;
-use kme_batches::matches;
+use kme_journal::matches;
+use kme_node::Node;
 use net_model::{Event, Reply};
 use qkd_base::{Lane, LinkNo, Memory};
 use source_devices::Entropy;
@@ -37,7 +37,7 @@ impl<K: Disk, E: Entropy> Model for Manager<K, E> {
     ghost use Rattle.std.specs.Prelude.{◌≤◌};
     ghost use Rattle.std.specs.Coded.{codes};
     ghost use Rattle.sae_entitlements.specs.Grants.{grants_code};
-    ghost use Rattle.kme_batches.specs.Passed.{view as seen_by};
+    ghost use Rattle.kme_node.specs.Holdings.{view as seen_by};
     ghost use Rattle.kme_store.specs.Manager.{ManagerForm, IsToldBy, WhereDown};
 
     ghost Value = { ManagerForm K E };
@@ -50,7 +50,7 @@ impl<K: Disk, E: Entropy> Model for Manager<K, E> {
 }
 
 impl<K: Disk + Drop, E: Entropy> Manager<K, E> {
-    /// A manager that is up, and keeps all that it knows in this journal.
+    /// A manager that is up. Replaying the journal must give this manager.
     pub fn new(alloc: Global, node: Node, journal: Snapshots<K>, entropy: E) -> Self
         requires told { IsToldBy node.site (view node) (Standing.Up journal) }
         ensures { result ≡ record { site = node.site; view = view node; standing = Standing.Up journal; entropy = entropy } }
@@ -63,8 +63,8 @@ impl<K: Disk + Drop, E: Entropy> Manager<K, E> {
         }
     }
 
-    /// What holds of it at any time. Where it is up its batches are what is on an honest disk, the only image, and give back what
-    /// it knows.
+    /// It does nothing. Its contract has the invariant: while the manager is up, an honest disk has exactly the
+    /// journal's batches, a crash leaves nothing else, and replaying the batches gives this manager.
     pub fn stands(&self)
         ensures told { IsToldBy self.now.site self.now.view self.now.standing }
         ensures kept { WhereUp (λ j. IsTrue (K.is_honest j.disk) → IsKept j.live j.batches (K.content j.disk) (K.image j.disk (K.moment j.disk))) self.now.standing }
@@ -77,15 +77,15 @@ impl<K: Disk + Drop, E: Entropy> Manager<K, E> {
         }
     }
 
-    /// Handles an event, and answers it once all that it changes durably is on the disk. Bit l of `up` says that link l is up.
-    /// A manager that is down stays so.
+    /// Handles an event, and answers once all durable changes are on the disk. Bit l of `up` says that link l is up.
+    /// A manager that is down stays down.
     pub fn act(&mut self, event: &Event, up: u32) -> Reply
         requires { is_valid_event (site_of self.old.site) self.old.view.me event.now ≡ true }
         ensures site { self.new.site ≡ self.old.site }
         ensures acts { (linked : ℕ → Bool) → AreUp up linked
             → Acts K.is_honest K.moment K.image K.faults E.left E.faults linked event.now self.old self.old.standing self.new result }
 
-        // After it the batches of a manager that is up are what is on an honest disk, and the only image.
+        // While the manager is up, an honest disk has exactly the journal's batches, and a crash leaves nothing else.
         ensures kept { WhereUp (λ j. IsTrue (K.is_honest j.disk) → IsKept j.live j.batches (K.content j.disk) (K.image j.disk (K.moment j.disk))) self.new.standing }
         ensures same { HasDisk (λ before. HasDisk (λ disk. (K.is_honest disk ≡ K.is_honest before) × (K.armings disk ≡ K.armings before)) self.new.standing) self.old.standing }
         ensures later { HasDisk (λ before. HasDisk (λ disk. K.faults before ≤ K.faults disk) self.new.standing) self.old.standing }
@@ -112,7 +112,7 @@ impl<K: Disk + Drop, E: Entropy> Manager<K, E> {
         }
     }
 
-    /// Arms its disk.
+    /// Arms the manager's disk with a fault.
     pub fn arm(&mut self, arm: Arm)
         requires { HasDisk (λ disk. (K.armings disk).count < 2 ^ 32) self.old.standing }
         ensures same { self.new ≡ record self.old { standing = self.new.standing } }
@@ -125,7 +125,7 @@ impl<K: Disk + Drop, E: Entropy> Manager<K, E> {
         }
     }
 
-    /// Whether it is up.
+    /// Whether the manager is up.
     pub fn is_up(&self) -> bool
         ensures { result ≡ is_up self.now.standing }
     {
@@ -136,7 +136,7 @@ impl<K: Disk + Drop, E: Entropy> Manager<K, E> {
         }
     }
 
-    /// Ends its life: what one life alone keeps is lost. It hands its disk and its entropy back.
+    /// Crashes the manager and gives its disk and its entropy back. All that isn't on the disk is lost.
     pub fn crash(self) -> (K, E)
         ensures disk { HasDisk (λ disk. result.0 ≡ disk) self.standing }
         ensures entropy { result.1 ≡ self.entropy }
@@ -155,7 +155,7 @@ impl<K: Disk + Drop, E: Entropy> Manager<K, E> {
         }
     }
 
-    /// How many blocks of a link it took, 0 where the link doesn't join its node.
+    /// The number of blocks of a link that the manager took, 0 if it has no end of the link.
     pub fn blocks(&self, link: LinkNo) -> u32
         ensures { result ≡ blocks_of (port_of self.now.view link) }
     {
@@ -165,7 +165,8 @@ impl<K: Disk + Drop, E: Entropy> Manager<K, E> {
         }
     }
 
-    /// Copies a block of a lane of a link, counted from 0, where its end of the link has it.
+    /// Copies a block of a lane of a link, counted from 0. False, with `into` unchanged, if the manager hasn't
+    /// received the block.
     pub fn lane_block(&self, lane: Lane, number: u64, into: &mut [u8; 1024]) -> bool
         ensures has { result ≡ nat_le (1024 * number + 1024) (length (incoming_octets lane (port_of self.now.view lane.link))) }
         ensures block { result ≡ true → into.new ≡ take 1024 (drop (1024 * number) (incoming_octets lane (port_of self.now.view lane.link))) }
@@ -177,7 +178,7 @@ impl<K: Disk + Drop, E: Entropy> Manager<K, E> {
         }
     }
 
-    /// The end below which bytes of a lane may be claimed, 0 where the lane's link doesn't join its node.
+    /// The end of a lane's lease: bytes below it may be used. 0 if the manager has no end of the lane's link.
     pub fn lease(&self, lane: Lane) -> u64
         ensures { result ≡ lease_of (port_of self.now.view lane.link) }
     {
@@ -187,7 +188,7 @@ impl<K: Disk + Drop, E: Entropy> Manager<K, E> {
         }
     }
 
-    /// The length of the journal of a manager that is up, 0 of one that is down.
+    /// The length of the journal in octets, 0 if the manager is down.
     pub fn journal_length(&self) -> u64
         ensures { result ≡ length_in self.now.standing }
     {
@@ -198,7 +199,8 @@ impl<K: Disk + Drop, E: Entropy> Manager<K, E> {
         }
     }
 
-    /// Whether octets that come on a lane have a right tag, so that a manager that is up takes them for a frame of the network.
+    /// Whether octets that are received on a lane have a valid tag and the manager is up, so that it would take them
+    /// for a frame.
     pub fn would_match(&self, lane: Lane, frame: &[u8]) -> Result<bool, Memory>
         ensures { IfOk result (λ does. does ≡ (is_up self.now.standing && is_match (open_of lane (incoming_octets lane (port_of self.now.view lane.link)) frame.now))) }
     {

@@ -1,14 +1,14 @@
-// Where a manager's journal stands.
+// Whether a manager is up or down, with its journal or disk.
 use disk_model::Disk;
 use journal_snapshot::Snapshots;
 
 /// Whether a manager is up or down.
 #[derive(Drop)]
 pub enum Standing<K: Disk> {
-    /// Up, with all that it keeps on its disk in this journal.
+    /// Up, with a journal that has all durable changes.
     Up(Snapshots<K>),
-    /// Down, with this disk.
+    /// Down, with its disk.
     Down(K),
-    /// Neither, within an event.
+    /// Neither: an event is being handled.
     Between,
 }

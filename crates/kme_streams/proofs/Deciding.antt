@@ -1,4 +1,4 @@
--- Steps that are decisions.
+-- Steps that follow decisions.
 use Rattle.std.proofs.Common.{◌≡◌, ℕ, ◌+◌, ◌*◌, Bool, true, false, not, ◌&&◌, List, [], ◌∷◌, refl, sym, ◌∙◌, ap, subst, Option, Some, None, Result}
 use Rattle.std.specs.Prelude.{IfSome, if◌then◌else◌, ◌==◌, reverse}
 use Rattle.qkd_base.specs.Name.{Name}
@@ -18,15 +18,15 @@ use Rattle.net_model.specs.Pools.{is_entitled}
 use Rattle.net_model.specs.Streams.{is_size, only_status, opened, open_stream, joins, join_stream, stream_here, at_end, gives_chunk, chunk_at, get_chunk, close_stream, has_joined}
 use Rattle.stream_core.specs.declared.opened.Opened.{Opened}
 use Rattle.stream_core.specs.Kept.{StreamEnds, Sees, opened_of}
-use Rattle.kme_step.specs.declared.step.Step.{Step}
+use Rattle.kme_base.specs.declared.step.Step.{Step}
 use Rattle.kme_streams.specs.Prompt.{IsPromptStep}
 use Rattle.kme_streams.specs.Calls.{opening, takes_part, may_join, awaits_peer, is_end, end_status, is_early, gets}
 
--- a step of a decision is one of an equal one
+-- a step that follows a decision also follows an equal decision
 pub decided : (v : View) (d e : Decision) (r : Result Step Reply) → d ≡ e → IsPromptStep v e r → IsPromptStep v d r
 decided v d e r path h = subst (λ (x : Decision). IsPromptStep v x r) (sym path) h
 
--- names
+-- new names
 
 pub made_name : (o : Option Name) (test : Bool) (n : Name) (P : Name → Type 0) → o ≡ (if test then Some n else None) → P n → IfSome o P
 made_name o true n P e p = subst (λ (x : Option Name). IfSome x P) (sym e) p
@@ -39,7 +39,7 @@ name_seen v s seen me last kind more is count =
     let c = count ∙ ap (λ (m : ℕ). last_count m s.ends.known.facts) (sym seen.ends.me) ∙ ap (last_count v.me) (sym seen.ends.facts) in
     λ i. record { node = n i; kind = kind; count = c i + 1 + more }
 
--- open
+-- opening a stream
 
 pub open_shown : (site : Site) (up : ℕ → Bool) (v : View) (source peer bits : ℕ) (entitled sized : Bool) (way : Option (List ℕ)) → entitled ≡ is_entitled site v source source peer → sized ≡ is_size bits →
     way ≡ route site up v.me (site.home peer) →
@@ -59,7 +59,7 @@ opened_made v source peer octets route n bytes named none =
     let b = sym none in
     λ i. makes v (Learned (Open (a i) source peer octets route) ∷ []) (Stream 1 (Some (a i)) 0 (b i))
 
--- join
+-- joining a stream
 
 pub joins_shown : (site : Site) (v : View) (caller other bits : ℕ) (o : Opened) (part may sized : Bool) → part ≡ takes_part v caller o → may ≡ may_join site v caller other o → sized ≡ (8 * o.octets == bits) →
     joins site v caller other bits (Some (opening o)) ≡ (if part then answers v (only_status 5) else if not may then answers v (only_status 8) else if not sized then answers v (only_status 7)
@@ -79,7 +79,7 @@ joined_made v stream route way n bytes named back none =
     let c = sym none in
     λ i. makes v (Learned (Joined (a i) stream (b i)) ∷ []) (Stream 0 (Some stream) 0 (c i))
 
--- a stream that is open here, or none
+-- whether the stream is open at this node
 
 pub opened_some : (f : Option Fact) (o : Opened) → Some o ≡ opened_of f → f ≡ Some (opening o)
 opened_some (Some (Open stream source peer size route)) o h =
@@ -110,7 +110,7 @@ no_end site v caller (Some (Joined note about route)) then' h = refl
 no_end site v caller (Some (Part name key master slave route bytes)) then' h = refl
 no_end site v caller None then' h = refl
 
--- what get and close ask first
+-- the tests that get and close make first
 
 faulty_end : (site : Site) (v : View) (caller : ℕ) (o : Opened) (then' : Name → ℕ → Decision) (status : ℕ) → Some status ≡ end_status site v caller o →
     at_end site v caller (Some (opening o)) then' ≡ answers v (only_status status)
@@ -179,7 +179,7 @@ module _ (site : Site) (v : View) (stream : Name) where
         ap (λ (f : Option Fact). at_end site v caller f (λ s source. makes v (Closed s caller ∷ []) (only_status 0))) (opened_some (stream_here site v stream) o h)
         ∙ right_end site v caller o (λ s source. makes v (Closed s caller ∷ []) (only_status 0)) e
 
--- get at an end
+-- getting a chunk at an end
 
 pub gets_shown : (v : View) (caller index : ℕ) (o : Opened) (early at_source : Bool) (chunk : Option Fact) → early ≡ is_early v caller o → at_source ≡ (caller == o.source) → chunk ≡ chunk_at v o.stream index →
     gets v caller index o ≡ (if early then answers v (only_status 3) else gives_chunk v caller index at_source chunk)

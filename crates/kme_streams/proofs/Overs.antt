@@ -1,4 +1,4 @@
--- Chunks over other octets.
+-- The same new chunks, made of other octets.
 use Rattle.std.proofs.Common.{◌≡◌, ℕ, zero, suc, ◌+◌, ◌*◌, ◌≤◌, Bool, true, false, List, ◌∷◌, length, refl, ◌∙◌, ap, arith, take, drop, Option, Some, None}
 use Rattle.std.proofs.lemmas.List.{length-take}
 use Rattle.std.specs.Prelude.{nat_lt, count_by, if◌then◌else◌}
@@ -15,7 +15,7 @@ use Rattle.net_model.specs.Routes.{route}
 use Rattle.net_model.specs.View.{View}
 use Rattle.net_model.specs.Decision.{Refuses, makes, fresh_name}
 use Rattle.net_model.specs.Streams.{is_chunk_of, has_end, waiting, new_chunks, fed, fed_stream, feed, chunk_size}
-use Rattle.kme_step.specs.Random.{with_random, decision_over}
+use Rattle.kme_base.specs.Random.{with_random, decision_over}
 use Rattle.kme_keys.proofs.Overs.{over_as_many, in_front, behind}
 
 taken : (size : ℕ) (xs : List ℕ) → size ≤ length xs → length (take size xs) ≡ size

@@ -1,4 +1,4 @@
--- Feeding as a decision.
+-- Feeding a stream, as a decision.
 use Rattle.std.proofs.Common.{◌≡◌, ℕ, suc, ◌+◌, Bool, not, ◌&&◌, List, [], ◌∷◌, ◌++◌, refl, sym, ◌∙◌, ap, subst, drop, take, Option, Some, None, Result, append_assoc}
 use Rattle.std.specs.Prelude.{nat_lt, count_by, if◌then◌else◌}
 use Rattle.qkd_base.specs.Name.{Name}
@@ -15,19 +15,19 @@ use Rattle.net_model.specs.Routes.{route}
 use Rattle.net_model.specs.View.{View}
 use Rattle.net_model.specs.Decision.{Decision, Refuses, makes, fresh_name}
 use Rattle.net_model.specs.Streams.{is_chunk_of, has_end, waiting, new_chunks, fed, fed_stream, feed}
-use Rattle.stream_core.specs.Passed.{ends_view}
+use Rattle.end_store.specs.Pooled.{ends_view}
 use Rattle.stream_core.specs.declared.opened.Opened.{Opened}
 use Rattle.stream_core.specs.Kept.{StreamEnds, Sees, opened_of}
-use Rattle.kme_step.specs.declared.step.Step.{Step}
-use Rattle.kme_step.specs.Steps.{IsStep}
+use Rattle.kme_base.specs.declared.step.Step.{Step}
+use Rattle.kme_base.specs.Steps.{IsStep}
 use Rattle.kme_streams.specs.Calls.{opening}
 use Rattle.kme_streams.proofs.Deciding.{opened_some}
 
--- a step of a decision is one of an equal one
+-- a step that follows a decision also follows an equal decision
 pub stepped : (v : View) (d e : Decision) (r : Result Step Reply) → d ≡ e → IsStep v [] e r → IsStep v [] d r
 stepped v d e r path h = subst (λ (x : Decision). IsStep v [] x r) (sym path) h
 
--- one more chunk
+-- adding one more chunk
 pub chunks_more : (v : View) (stream : Name) (way : List ℕ) (size next more : ℕ) (left rest : List ℕ) (batch after : List Record) (entry : Record) (k n : ℕ) → after ≡ batch ++ entry ∷ [] →
     entry ≡ Learned (Chunk (fresh_name v KeyKind more) stream (next + more) way (take size left)) → rest ≡ drop size left → n ≡ suc k →
     after ++ new_chunks v stream way size next rest (more + 1) k ≡ batch ++ new_chunks v stream way size next left more n

@@ -1,4 +1,4 @@
-// Streams that are open here, and who may ask of them.
+// Streams that are open at this node, and which applications may use them.
 ghost use Rattle.std.specs.Prelude.{◌≡◌, ◌==◌};
 ghost use Rattle.net_model.specs.View.{View};
 ghost use Rattle.net_model.specs.Streams.{stream_here};
@@ -8,11 +8,11 @@ ghost use Rattle.kme_streams.specs.Calls.{has_open_end, awaits_peer, is_end, end
 
 use crate::answering::me;
 use declared_site::Site;
-use kme_keys::kme_site::home;
+use kme_base::home;
 use qkd_base::{KeyName, SaeNo};
 use stream_core::{Opened, Streams};
 
-// Whether one of a stream's ends is here and isn't closed.
+// Whether one of a stream's ends is at this node and isn't closed.
 fn has_open_end(site: &Site, kept: &Streams, opened: &Opened) -> bool
     ensures { (v : View) → Sees v kept.now → result ≡ has_open_end (site_of site.now) v opened.now }
 {
@@ -21,7 +21,7 @@ fn has_open_end(site: &Site, kept: &Streams, opened: &Opened) -> bool
     source || peer
 }
 
-/// The stream of a name, where this node has an end of it that isn't closed.
+/// The stream of a name, if this node has an end of it that isn't closed.
 pub fn stream_here(site: &Site, kept: &Streams, stream: KeyName) -> Option<Opened>
     ensures { (v : View) → Sees v kept.now → result ≡ opened_of (stream_here (site_of site.now) v stream) }
 {
@@ -37,14 +37,14 @@ pub fn stream_here(site: &Site, kept: &Streams, stream: KeyName) -> Option<Opene
     }
 }
 
-/// Whether an application is at home here.
+/// Whether an application is at home at this node.
 pub fn is_home(site: &Site, kept: &Streams, sae: SaeNo) -> bool
     ensures { (v : View) → Sees v kept.now → result ≡ ((site_of site.now).home sae == v.me) }
 {
     home(site, sae) == me(kept)
 }
 
-// Whether the peer's home is here, and it hasn't joined.
+// Whether the peer is at home at this node and hasn't joined the stream.
 fn awaits_peer(site: &Site, kept: &Streams, opened: &Opened) -> bool
     ensures { (v : View) → Sees v kept.now → result ≡ awaits_peer (site_of site.now) v opened.now }
 {
@@ -52,7 +52,7 @@ fn awaits_peer(site: &Site, kept: &Streams, opened: &Opened) -> bool
     is_home(site, kept, opened.peer) && is_unjoined
 }
 
-// Whether a caller is an end of the stream, and at home here.
+// Whether the caller is the source or the peer of the stream, and at home at this node.
 fn is_end(site: &Site, kept: &Streams, caller: SaeNo, opened: &Opened) -> bool
     ensures { (v : View) → Sees v kept.now → result ≡ is_end (site_of site.now) v caller opened.now }
 {
@@ -61,7 +61,7 @@ fn is_end(site: &Site, kept: &Streams, caller: SaeNo, opened: &Opened) -> bool
     at_source || at_peer
 }
 
-/// The status of get and close, where the caller has no end here of which it may ask.
+/// The status that get and close answer if the caller has no end at this node that it may use. `None` if it has one.
 pub fn end_status(site: &Site, kept: &Streams, caller: SaeNo, opened: &Opened) -> Option<u8>
     ensures { (v : View) → Sees v kept.now → result ≡ end_status (site_of site.now) v caller opened.now }
 {

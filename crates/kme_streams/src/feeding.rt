@@ -1,4 +1,4 @@
-// New chunks of a stream.
+// Making new chunks of a stream.
 ghost use Rattle.std.specs.Prelude.{◌≡◌, ◌+◌, ◌<◌, ◌≤◌, ◌^◌, ℕ, Bool, nat_lt, [], IfOk, IfSome, take, Some};
 ghost use Rattle.qkd_base.specs.declared.key_name.NameKind.TheVariants.{Key as KeyKind};
 ghost use Rattle.net_model.specs.declared.fact.Fact.TheVariants.{Chunk};
@@ -8,21 +8,20 @@ ghost use Rattle.net_model.specs.Decision.{fresh_name};
 ghost use Rattle.net_model.specs.Streams.{new_chunks, fed, fed_stream, feed};
 ghost use Rattle.declared_site.specs.SiteOf.{IsDeclared, site_of};
 ghost use Rattle.stream_core.specs.Kept.{Sees};
-ghost use Rattle.kme_keys.specs.Passed.{AreUp};
-ghost use Rattle.kme_step.specs.Steps.{IsStep};
+ghost use Rattle.kme_base.specs.Up.{AreUp};
+ghost use Rattle.kme_base.specs.Steps.{IsStep};
 ghost use Rattle.kme_streams.specs.Calls.{opening};
 
 use crate::answering::{fresh_name, me};
 use declared_site::Site;
-use kme_keys::kme_site::{home, route_between};
+use kme_base::{Change, Step, home, route_between};
 use kme_keys::{first_octets, octets_behind};
-use kme_step::{Change, Step};
 use net_model::{Fact, Record, Records, Reply};
 use qkd_base::{Items, KeyName, Memory, NameKind, Octets, Route};
 use std::alloc::Global;
 use stream_core::{Opened, Streams};
 
-// What the new chunks of a stream have in common, and the index of the first.
+// What all new chunks of a stream have in common, and the index of the first one.
 #[derive(Clone, Copy, Debug)]
 struct Series {
     stream: KeyName,
@@ -31,7 +30,7 @@ struct Series {
     next: u32,
 }
 
-// The record by which a new chunk with the first octets is known.
+// The record of a new chunk, made of the first octets.
 fn new_chunk(
     alloc: Global,
     kept: &Streams,
@@ -60,7 +59,7 @@ fn new_chunk(
     }
 }
 
-// So many new chunks, each with the next octets.
+// The records of `count` new chunks, each made of the next octets.
 fn new_chunks(
     alloc: Global,
     kept: &Streams,
@@ -89,7 +88,7 @@ fn is_full(waiting: u64, count: u16) -> bool
     4096 < waiting || 4096 < waiting + count as u64
 }
 
-// The index of the first of so many new chunks, if there are indexes for all.
+// The index of the first of `count` new chunks. `None` if the indexes don't suffice for all.
 fn first_index(next: u64, count: u16) -> Option<u32>
     ensures { IfSome result (λ first. (first ≡ next) × (first + count < 2 ^ 32)) }
 {
@@ -100,7 +99,7 @@ fn first_index(next: u64, count: u16) -> Option<u32>
     }
 }
 
-// Makes so many chunks of a stream with a route, unless too many would wait for its source.
+// The step that makes `count` chunks of a stream on a route, unless too many would wait for its source.
 fn fed(
     alloc: Global,
     kept: &Streams,
@@ -137,7 +136,7 @@ fn fed(
     }
 }
 
-// Feeds a stream that is known here.
+// Feeds a stream that is known at this node.
 fn feed_open(
     alloc: Global,
     site: &Site,
@@ -159,9 +158,10 @@ fn feed_open(
     }
 }
 
-/// Makes chunks of a stream of the next octets drawn, with the next indexes and the route of this moment; bit l of `up` says
-/// that link l is up. `UnknownStream` where no such stream has its source's end here, or that is closed, `NoRoute` where no
-/// route leads to the peer's home, `PoolFull` where more than 4,096 chunks would wait for the source.
+/// Makes chunks of a stream from the next random octets, with the next indexes. Their route uses only links that are
+/// up. Bit l of `up` says that link l is up. Refusals: `UnknownStream` if this node has no such stream with its
+/// source's end, or if that end is closed; `NoRoute` if no route leads to the peer's home; `PoolFull` if more than
+/// 4,096 chunks would wait for the source.
 pub fn feed(
     alloc: Global,
     site: &Site,

@@ -1,4 +1,4 @@
-// Chunks handed to the ends of a stream, and ends closed.
+// Handing chunks to the ends of a stream, and closing ends.
 ghost use Rattle.std.specs.Prelude.{◌≡◌, ◌&&◌, not, ◌∷◌, [], IfOk, None, Some};
 ghost use Rattle.net_model.specs.declared.record.Record.TheVariants.{Handed};
 ghost use Rattle.net_model.specs.declared.reply.Reply.TheVariants.{Stream};
@@ -14,7 +14,7 @@ ghost use Rattle.kme_streams.specs.Calls.{gets, is_early};
 use crate::answering::{answer, make};
 use crate::ends::{end_status, stream_here};
 use declared_site::Site;
-use kme_step::Step;
+use kme_base::Step;
 use net_model::{Fact, Record, Reply};
 use qkd_base::{KeyName, Memory, Octets, SaeNo};
 use relay_core::fact_name;
@@ -33,7 +33,7 @@ fn copied_bytes(alloc: Global, fact: &Fact) -> Result<Octets, Memory>
     }
 }
 
-// Hands a chunk to its caller.
+// The step that hands a chunk to its caller.
 fn hand(alloc: Global, caller: SaeNo, index: u32, fact: &Fact) -> Result<Step, Reply>
     ensures { (v : View) → IsPromptStep v (makes v (Handed (name_of fact.now) caller ∷ []) (Stream 0 None index (bytes_of fact.now))) result }
 {
@@ -62,14 +62,14 @@ fn has_got(kept: &Streams, sae: SaeNo, fact: &Fact) -> bool
     kept.ends().was_handed(fact_name(fact), sae)
 }
 
-// Whether it is known here that a chunk has come to the peer's home.
+// Whether this node knows that a chunk has reached the peer's home.
 fn is_confirmed(kept: &Streams, fact: &Fact) -> bool
     ensures { (v : View) → Sees v kept.now → result ≡ is_confirmed v (name_of fact.now) }
 {
     kept.ends().known().is_confirmed(fact_name(fact))
 }
 
-// Whether a chunk waits at the source for the word that it has come.
+// Whether the source must wait for a chunk, since this node doesn't know that the chunk has reached the peer's home.
 fn is_held_back(kept: &Streams, at_source: bool, fact: &Fact) -> bool
     ensures { (v : View) → Sees v kept.now → result ≡ (at_source && not (is_confirmed v (name_of fact.now))) }
 {
@@ -77,7 +77,7 @@ fn is_held_back(kept: &Streams, at_source: bool, fact: &Fact) -> bool
     at_source && is_unconfirmed
 }
 
-// Whether a caller is the source, which hasn't learned that the peer joined.
+// Whether the caller is the source and this node doesn't know yet that the peer has joined.
 fn is_early(kept: &Streams, caller: SaeNo, opened: &Opened) -> bool
     ensures { (v : View) → Sees v kept.now → result ≡ is_early v caller opened.now }
 {
@@ -85,7 +85,8 @@ fn is_early(kept: &Streams, caller: SaeNo, opened: &Opened) -> bool
     caller == opened.source && is_unjoined
 }
 
-// Hands a chunk that is known here, unless the caller has got it or it waits at the source for the word that it has come.
+// Hands a chunk that is known at this node. The caller mustn't have got it, and the source gets it only once it is
+// known to have reached the peer's home.
 fn give(
     alloc: Global,
     kept: &Streams,
@@ -105,7 +106,7 @@ fn give(
     hand(alloc, caller, index, fact)
 }
 
-// Hands a chunk to a caller that has its end here.
+// Hands a chunk to a caller that has its end at this node.
 fn get_at(
     alloc: Global,
     kept: &Streams,
@@ -125,10 +126,14 @@ fn get_at(
     }
 }
 
-/// Hands the chunk at an index of a stream (ETSI GS QKD 004, GET_KEY). Statuses: 9 where no such stream has an end here that
-/// isn't closed, or its peer is at home here and hasn't joined; 8 where the caller is neither of its ends, or isn't at home
-/// here; 3 at the source where it isn't known that the peer has joined; 10 where the caller has got the chunk; 2 where the
-/// chunk isn't known here, or at the source isn't known to have come to the peer; 0 with the bytes.
+/// Hands out the chunk at an index of a stream (ETSI GS QKD 004, GET_KEY). The first status that applies is answered:
+/// - 9: this node has no open end of such a stream, or the peer is at home here and hasn't joined;
+/// - 8: the caller is neither the source nor the peer, or isn't at home here;
+/// - 3: the caller is the source, and this node doesn't know yet that the peer has joined;
+/// - 2: the chunk isn't known here;
+/// - 10: the caller has got the chunk;
+/// - 2: the caller is the source, and the chunk isn't known to have reached the peer's home;
+/// - 0: the chunk is handed out, with its bytes.
 pub fn get_chunk(
     alloc: Global,
     site: &Site,
@@ -148,8 +153,8 @@ pub fn get_chunk(
     }
 }
 
-/// Closes the caller's end of a stream (ETSI GS QKD 004, CLOSE); the other end isn't told. Statuses: 9 and 8 as for a chunk,
-/// 0 where it is closed.
+/// Closes the caller's end of a stream (ETSI GS QKD 004, CLOSE). The other end isn't told. Statuses: 9 and 8 as in
+/// `get_chunk`, 0 if the end is closed.
 pub fn close_stream(
     alloc: Global,
     site: &Site,

@@ -1,31 +1,30 @@
-// Streams opened and joined.
+// Opening and joining streams.
 ghost use Rattle.std.specs.Prelude.{◌≡◌, ◌*◌, ◌==◌, ℕ, Bool, Some};
 ghost use Rattle.net_model.specs.View.{View};
 ghost use Rattle.net_model.specs.Streams.{is_size, opened, open_stream, joins, join_stream};
 ghost use Rattle.declared_site.specs.SiteOf.{IsDeclared, site_of};
 ghost use Rattle.stream_core.specs.Kept.{Sees};
-ghost use Rattle.kme_keys.specs.Passed.{AreUp};
+ghost use Rattle.kme_base.specs.Up.{AreUp};
 ghost use Rattle.kme_streams.specs.Prompt.{IsPromptStep};
 ghost use Rattle.kme_streams.specs.Calls.{opening, is_joined_peer, takes_part, may_join};
 
 use crate::answering::{answer, fresh_name, make, me};
 use crate::ends::{is_home, stream_here};
 use declared_site::Site;
-use kme_keys::kme_site::{home, is_entitled, route_between};
-use kme_step::Step;
+use kme_base::{Step, home, is_entitled, route_between};
 use net_model::{Fact, Record, Reply};
 use qkd_base::{KeyName, NameKind, Octets, Route, SaeNo};
 use std::alloc::Global;
 use stream_core::{Opened, Streams};
 
-// Whether chunks may have so many bits: 64 to 4,096 in steps of 8.
+// Whether chunks may have this size: 64 to 4,096 bits, in steps of 8.
 fn is_size(bits: u16) -> bool
     ensures { result ≡ is_size bits }
 {
     64 <= bits && bits <= 4096 && bits % 8 == 0
 }
 
-// Opens a stream with a route.
+// The step that opens a stream with a route.
 fn opened(
     alloc: Global,
     kept: &Streams,
@@ -59,10 +58,12 @@ fn opened(
     }
 }
 
-/// Opens a stream at its source (ETSI GS QKD 004, OPEN_CONNECT). Statuses: 8 where the pair is not allowed or the source not
-/// at home here, 7 where the size of chunks is none of 64 to 4,096 bits in steps of 8, 4 where there is no route to the peer's
-/// home, 1 where the stream is opened and its peer is yet to join; it gets a new name and the route of this moment. Bit l of
-/// `up` says that link l is up.
+/// Opens a stream at its source (ETSI GS QKD 004, OPEN_CONNECT). The stream gets a new name and a route that uses only
+/// links that are up. Bit l of `up` says that link l is up. The first status that applies is answered:
+/// - 8: the pair isn't allowed, or the source isn't at home here;
+/// - 7: the size of the chunks isn't one of 64 to 4,096 bits in steps of 8;
+/// - 4: no route leads to the peer's home;
+/// - 1: the stream is opened, and its peer hasn't joined yet.
 pub fn open_stream(
     alloc: Global,
     site: &Site,
@@ -87,7 +88,7 @@ pub fn open_stream(
     }
 }
 
-// Whether a caller is the peer and has joined.
+// Whether the caller is the peer and has joined.
 fn is_joined_peer(kept: &Streams, caller: SaeNo, opened: &Opened) -> bool
     ensures { (v : View) → Sees v kept.now → result ≡ is_joined_peer v caller opened.now }
 {
@@ -95,21 +96,21 @@ fn is_joined_peer(kept: &Streams, caller: SaeNo, opened: &Opened) -> bool
     caller == opened.peer && has_joined
 }
 
-// Whether a caller is the source, or the peer and has joined.
+// Whether the caller is the source, or is the peer and has joined.
 fn takes_part(kept: &Streams, caller: SaeNo, opened: &Opened) -> bool
     ensures { (v : View) → Sees v kept.now → result ≡ takes_part v caller opened.now }
 {
     caller == opened.source || is_joined_peer(kept, caller, opened)
 }
 
-// Whether the chunks of a stream have so many bits.
+// Whether the chunks of a stream have this size in bits.
 fn has_bits(opened: &Opened, bits: u16) -> bool
     ensures { result ≡ (8 * opened.now.octets == bits) }
 {
     8 * opened.octets as u32 == bits as u32
 }
 
-// Whether a caller is the peer, names the source, and is at home here.
+// Whether the caller is the peer, names the source, and is at home at this node.
 fn may_join(site: &Site, kept: &Streams, caller: SaeNo, other: SaeNo, opened: &Opened) -> bool
     ensures { (v : View) → Sees v kept.now → result ≡ may_join (site_of site.now) v caller other opened.now }
 {
@@ -117,7 +118,7 @@ fn may_join(site: &Site, kept: &Streams, caller: SaeNo, other: SaeNo, opened: &O
     named && is_home(site, kept, opened.peer)
 }
 
-// Joins a stream that is open here.
+// Joins a stream that is open at this node.
 fn joins(
     alloc: Global,
     site: &Site,
@@ -159,9 +160,13 @@ fn joins(
     }
 }
 
-/// Joins a stream at its peer (ETSI GS QKD 004, OPEN_CONNECT). Statuses: 9 where no such stream has an end here that isn't
-/// closed, 5 where the caller is its source or has joined it, 8 where the caller isn't its peer, names another source or isn't
-/// at home here, 7 where chunks have another size, 0 where it is joined, which the source is told along the stream's route.
+/// Joins a stream at its peer (ETSI GS QKD 004, OPEN_CONNECT). A note that tells the source goes back along the
+/// stream's route. The first status that applies is answered:
+/// - 9: this node has no open end of such a stream;
+/// - 5: the caller is its source, or has joined it;
+/// - 8: the caller isn't its peer, names another source, or isn't at home here;
+/// - 7: its chunks have another size;
+/// - 0: the stream is joined.
 pub fn join_stream(
     alloc: Global,
     site: &Site,

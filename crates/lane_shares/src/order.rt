@@ -1,4 +1,4 @@
-// The rule of the table, and the names of its steps.
+// The invariant of a lane's table, and the steps on it.
 ghost use Rattle.std.specs.Prelude.{ℕ, ◌-◌};
 ghost use Rattle.lane_shares.specs.Views.{issuer, with_amount, part, joined, spent};
 ghost use Rattle.lane_shares.specs.Rule.{Orderly};
@@ -8,7 +8,7 @@ use crate::view::View;
 use atomic_table::{Join, Play, Split, TableRule};
 use std::marker::{Brand, PhantomData};
 
-/// The rule of a lane's table.
+/// The invariant of a lane's table, and its first share.
 pub struct Order;
 
 impl TableRule<(), View, (u64, u64)> for Order {
@@ -17,21 +17,21 @@ impl TableRule<(), View, (u64, u64)> for Order {
     ghost first = { λ key. issuer key.0 key.0 key.1 };
 }
 
-/// Bytes are issued.
+/// The step by which the issuer issues bytes.
 pub struct Issue;
 
 impl Play<(), View> for Issue {
     ghost then = { grown };
 }
 
-/// How many bytes are issued?
+/// The step that reads how many bytes are issued.
 pub struct Look;
 
 impl Play<(), View> for Look {
     ghost then = { looked };
 }
 
-/// The amount of a new share. Each call of a program picks it.
+/// The amount of a new share. Each call of `split` picks it.
 pub trait Portion {
     ghost portion: { ℕ };
 }
@@ -40,7 +40,7 @@ impl Portion for Brand {
     ghost portion = { 0 };
 }
 
-/// A share gives a new one a part of its amount.
+/// The step by which a share gives a part of its amount to a new share.
 pub struct Cut<J> {
     portion: PhantomData<J>,
 }
@@ -51,7 +51,7 @@ impl<J: Portion> Split<View> for Cut<J> {
     ghost right = { λ v. part v J.portion };
 }
 
-/// A share takes in another.
+/// The step by which a share takes over the amount of another, which is then used up.
 pub struct Both;
 
 impl Join<View> for Both {

@@ -1,12 +1,11 @@
-// A part of the bytes issued.
 ghost use Rattle.std.specs.Prelude.{◌≡◌, []};
 
 use crate::view::View;
 
-/// A seat of the table.
+/// A share's place in the lane's table.
 pub type Place = atomic_table::Seat<(), View>;
 
-/// A part of the bytes that were issued.
+/// A share of the bytes issued on a lane.
 #[derive(Drop)]
 pub struct Share {
     pub(crate) place: Place,
@@ -18,7 +17,7 @@ pub struct Share {
 impl Share {
     ghost use Rattle.lane_shares.specs.Names.{knows};
 
-    /// How many bytes it has.
+    /// How many of the issued bytes this share counts.
     pub fn amount(&self) -> u64
         ensures { result ≡ (knows self.now).amount }
     {

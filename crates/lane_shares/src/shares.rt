@@ -1,4 +1,4 @@
-// What shares of one lane have in common.
+// The table that all shares of one lane use.
 ghost use Rattle.std.specs.Prelude.{◌≡◌, ◌+◌, ◌-◌, ◌<◌, ◌≤◌, ◌^◌, IfOk, [], true, false};
 
 use crate::order::{Both, Cut, Issue, Look, Order, Portion};
@@ -9,8 +9,9 @@ use qkd_base::Memory;
 use std::alloc::Global;
 use std::marker::Brand;
 
-/// The count of the bytes issued on one lane, at most a cap, as shares of many threads. The amounts of all shares add up to
-/// it, those of shares that were dropped too. One share is the issuer: it alone raises the count, so it knows it.
+/// The count of the bytes issued on one lane, at most a cap, divided into shares that threads hold. The amounts of all shares
+/// add up to the count, where the shares that were dropped still count. One share is the issuer. It alone raises the count, so
+/// it knows the count.
 #[derive(Drop)]
 pub struct Shares {
     table: Table<(), View, (u64, u64), Order, Global>,
@@ -21,7 +22,8 @@ impl Shares {
     ghost use Rattle.lane_shares.specs.Views.{issuer, issuer_with, with_amount, part, joined};
     ghost use Rattle.lane_shares.specs.Names.{lane_cap, knows, Fits};
 
-    /// The count at `total` bytes, all of them the issuer's share, and their cap. It alone takes memory.
+    /// Opens the count at `total` bytes, under the cap `cap`. The issuer's share has all of them. No other call allocates
+    /// memory.
     pub fn open(alloc: Global, total: u64, cap: u64) -> Result<(Shares, Share), Memory>
         requires { total ≤ cap }
         ensures { IfOk result (λ t. Fits t.0 t.1 × (lane_cap t.0 ≡ cap) × (knows t.1 ≡ issuer total total cap)) }
@@ -31,7 +33,7 @@ impl Shares {
         Ok((Shares { table }, Share { place, amount }))
     }
 
-    /// Issues `n` more bytes, to the issuer. The sum is at most the cap.
+    /// Issues `n` more bytes to the issuer. The new count must be at most the cap.
     pub fn issue(&self, share: &mut Share, n: u64)
         requires fits { Fits self.now share.old }
         requires issuer { (knows share.old).issues ≡ true }
@@ -43,7 +45,7 @@ impl Shares {
         share.amount += n;
     }
 
-    /// A new share of `n` bytes, which the old one then lacks. It isn't the issuer.
+    /// Moves `n` bytes of a share to a new share, which isn't the issuer.
     pub fn split(&self, share: &mut Share, n: u64) -> Share
         requires fits { Fits self.now share.old }
         requires amount { n ≤ (knows share.old).amount }
@@ -54,7 +56,7 @@ impl Shares {
         self.cut::<Brand>(share, n)
     }
 
-    // The same, where the step's name tells the part.
+    // `split`, where a type parameter names the amount of the new share.
     fn cut<J: Portion>(&self, share: &mut Share, n: u64) -> Share
         requires fits { Fits self.now share.old }
         requires portion { n ≡ J.portion }
@@ -68,7 +70,7 @@ impl Shares {
         Share { place, amount: n }
     }
 
-    /// Takes in another share, which isn't the issuer, with its amount.
+    /// Adds the amount of another share, which isn't the issuer, to this one. The other share is used up.
     pub fn join(&self, share: &mut Share, other: Share)
         requires fits { Fits self.now share.old × Fits self.now other }
         requires other { (knows other).issues ≡ false }
@@ -81,7 +83,8 @@ impl Shares {
         share.amount += amount;
     }
 
-    /// How many bytes are issued: at least the share's amount and at most the cap, and for the issuer exactly its number.
+    /// How many bytes are issued: at least the share's amount and at most the cap. For the issuer it is exactly the number that
+    /// it knows.
     pub fn look(&self, share: &mut Share) -> u64
         requires fits { Fits self.now share.old }
         ensures fits { Fits self.now share.new }

@@ -1,4 +1,4 @@
--- The bytes of a lane, by block and place in the block.
+-- Each byte of a lane, found by its block and its place in the block.
 use Rattle.std.proofs.Common.{◌≡◌, ℕ, zero, suc, ◌+◌, ◌-◌, ◌*◌, ◌/◌, ◌%◌, ◌<◌, ◌≤◌, List, [], ◌∷◌, ◌++◌, length, get_or, set, take, drop, refl, sym, ap, ◌∙◌, arith, length-append}
 use Rattle.std.specs.List.{AllByRecursion}
 use Rattle.std.proofs.lemmas.List.{get_or_append_left, get_or-append_right, get_or-drop, take_more, take_more_set, length-drop}
@@ -10,7 +10,7 @@ use Rattle.link_segments.specs.Lanes.{first_place, AreBlocks}
 abbrev Whole : List (List ℕ) → Type 0
 Whole bs = AllByRecursion (λ b. length b ≡ 1024) bs
 
--- two blocks more
+-- two more blocks give each lane one more
 half_more : (n : ℕ) → 1024 * ((2 + n) / 2) ≡ 1024 + 1024 * (n / 2)
 half_more n = omega arith
 
@@ -34,7 +34,7 @@ pub lane_length : (way : Way) (bs : List (List ℕ)) → AreBlocks bs → length
 lane_length Up bs w = len_up bs w.whole
 lane_length Down bs w = len_down bs w.whole
 
--- a lane has its bytes block by block: those of its block q follow those of its first q blocks
+-- block q of a lane comes after the lane's first q blocks, so it begins at byte 1024 * q
 at_up : (bs : List (List ℕ)) (q r : ℕ) → Whole bs → r < 1024 → 2 * q < length bs → get_or (lane_octets Up bs) (1024 * q + r) 0 ≡ get_or (get_or bs (2 * q) []) r 0
 unfolding lane_octets
 at_up [] q r w small lt = absurd (omega arith)
@@ -64,7 +64,7 @@ lane_at Up bs q r w small lt =
     rw e (at_up bs q r w.whole small (omega arith))
 lane_at Down bs q r w small lt = at_down bs q r w.whole small lt
 
--- the block of a byte of a lane is there
+-- each received byte of a lane lies in a received block
 pub block_there : (way : Way) (bs : List (List ℕ)) (place : ℕ) → AreBlocks bs → place < length (lane_octets way bs) → 2 * (place / 1024) + first_place way < length bs
 block_there Up bs place w lt =
     let len : length (lane_octets Up bs) ≡ lane_len Up (length bs) = lane_length Up bs w in

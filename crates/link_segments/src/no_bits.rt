@@ -1,11 +1,11 @@
-// A lane that is too short.
+// The error of a lane that has too few bytes.
 use std::error::Error;
 use std::fmt;
 
 /// The lane has fewer bytes than were asked for.
 #[derive(Clone, Copy, Debug, PartialEq, Eq)]
 pub struct NoBits {
-    /// The bytes received.
+    /// How many bytes of the lane were received.
     pub have: u64,
 }
 

@@ -1,4 +1,4 @@
-// A link's blocks at one of its ends.
+// The blocks that one end of a link received.
 ghost use Rattle.std.specs.Prelude.{◌≡◌, ◌+◌, ◌<◌, ◌≤◌, ◌↔◌, [], ◌∷◌, ◌++◌, length, take, drop, IsOk, OnOk, OnErr, IfErr};
 ghost use Rattle.qkd_base.specs.LaneBytes.{lane_octets, lane_len};
 ghost use Rattle.link_segments.specs.Lanes.{first_place, AreBlocks, Refuses};
@@ -9,8 +9,8 @@ use std::alloc::Global;
 use std::marker::Model;
 
 /// The blocks of 1,024 bytes that one end of a link received, at most 1,024 of them. Both ends receive the same list
-/// from the link's device (SECOQC quantum point-to-point link). Its even blocks, in order, are the lane Up, its odd ones
-/// the lane Down; the first 8 bytes of a lane are its hash key.
+/// from the link's device (SECOQC quantum point-to-point link). The even blocks, in order, are the bytes of the lane
+/// Up, and the odd ones those of the lane Down. The first 8 bytes of a lane are its hash key.
 #[derive(Debug, Drop)]
 pub struct Segments {
     blocks: Vec<[u8; 1024]>,
@@ -27,7 +27,7 @@ impl Model for Segments {
     ghost invariant = { λ s. AreBlocks s.blocks.items };
 }
 
-// The place of a lane's first block.
+// The place of a lane's first block: 0 for Up, 1 for Down.
 fn first_place(way: Way) -> usize
     ensures { result ≡ first_place way }
 {
@@ -37,7 +37,7 @@ fn first_place(way: Way) -> usize
     }
 }
 
-// Copies a part of a lane.
+// Copies the bytes of a lane from an offset on.
 fn copy_lane(blocks: &[[u8; 1024]], way: Way, off: usize, into: &mut [u8])
     requires blocks { AreBlocks blocks.now }
     requires reach { off + length into.old ≤ length (lane_octets way blocks.now) }
@@ -51,7 +51,7 @@ fn copy_lane(blocks: &[[u8; 1024]], way: Way, off: usize, into: &mut [u8])
 }
 
 impl Segments {
-    /// No blocks. It takes no memory.
+    /// No blocks. No memory is allocated.
     pub fn new(alloc: Global) -> Self
         ensures { result ≡ record { blocks = []; spare = 0 } }
     {
@@ -60,7 +60,7 @@ impl Segments {
         }
     }
 
-    /// Makes room for so many more blocks. An `Err` changes nothing.
+    /// Makes room for `more` further blocks. An `Err` changes nothing.
     pub fn room(&mut self, more: u32) -> Result<(), Memory>
         ensures blocks { self.new.blocks ≡ self.old.blocks }
         ensures ok { OnOk result (more ≤ self.new.spare) }
@@ -70,8 +70,8 @@ impl Segments {
         Ok(())
     }
 
-    /// Takes the link's next block, the one whose number is the number of blocks held. Where there is room for it, it
-    /// takes no memory.
+    /// Takes the link's next block, whose number is the number of blocks held. If there is room for it, no memory is
+    /// allocated.
     pub fn take_block(&mut self, number: u32, bytes: &[u8; 1024]) -> Result<(), TakeRefusal>
         ensures taken { OnOk result ((length self.old.blocks < 1024) × (number ≡ length self.old.blocks)
             × (self.new.blocks ≡ self.old.blocks ++ bytes.now ∷ []) × (self.old.spare ≤ self.new.spare + 1)) }
@@ -93,7 +93,7 @@ impl Segments {
     pub fn blocks(&self) -> &[[u8; 1024]]
         ensures blocks { result.now ≡ self.now.blocks }
 
-        // What holds of them at any time.
+        // The invariant of the blocks.
         ensures whole { AreBlocks self.now.blocks }
     {
         &self.blocks

@@ -6,14 +6,14 @@ use std::alloc::AllocError;
 use std::error::Error;
 use std::fmt;
 
-/// Why a block isn't taken. The lanes are as before.
+/// Why a block isn't taken. The lanes are unchanged.
 #[derive(Clone, Copy, Debug, PartialEq, Eq)]
 pub enum TakeRefusal {
-    /// The link has all of its 1,024 blocks.
+    /// The end already holds all of the link's 1,024 blocks.
     Full,
-    /// Another block is the next one: the one of this number.
+    /// The block isn't the next one, which is the block of this number.
     OutOfOrder(u32),
-    /// Want of memory.
+    /// Memory ran out.
     Memory,
 }
 

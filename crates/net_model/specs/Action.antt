@@ -1,4 +1,4 @@
--- What may happen in a network, what the outside answers, and what comes of it.
+-- The actions of a network: what may happen, what the outside answers, and the outcome.
 use Rattle.std.specs.Prelude.{ℕ, Bool, true, false, List, Option}
 use Rattle.qkd_base.specs.declared.lane.Lane.{Lane}
 use Rattle.net_model.specs.declared.event.Event.{Event}
@@ -6,8 +6,8 @@ use Rattle.net_model.specs.declared.reply.Reply.{Reply}
 use Rattle.net_model.specs.declared.reply.Reply.TheVariants.{Memory, NoRandom, Stopped}
 use Rattle.net_model.specs.World.{Transmission}
 
--- what the outside answers in an action: all that was asked for, want of memory, or a fault of the node's entropy, of its disk
--- or the lane's wire, or of the link's device
+-- what the outside answers in an action: it did all that was asked; memory ran out; or there was a fault of the node's
+-- entropy, of its disk or the lane's wire, or of the link's device
 pub data Environment : Type 0 where
   Ok : Environment
   OutOfMemory : Environment
@@ -15,9 +15,10 @@ pub data Environment : Type 0 where
   IoFault : Environment
   DeviceFault : Environment
 
--- What the outside answers to a start: the disk was read, and the batch in doubt was on it or not; it was read, and had the checkpoint of a
--- start before it that was stopped, with that batch or without; a fault of the disk, and whether a checkpoint had been made, with the batch
--- or without; want of memory; or a disk whose first start was stopped in its header.
+-- What the outside answers to a start. Recovers: the disk was read; `committed` says whether the batch in doubt was on
+-- it. Resumes: the disk was read, and had the checkpoint of an earlier start that was stopped, with the batch in doubt
+-- or without it. Interrupted: the disk failed; `checkpointed` says whether a checkpoint had been made, and whether it
+-- had the batch. NoMemory: memory ran out. Foreign: the disk's first start was stopped while it wrote the header.
 pub data Recovery : Type 0 where
   Recovers : (committed : Bool) → Recovery
   Resumes : (committed : Bool) → Recovery
@@ -31,60 +32,63 @@ pub data Image : Type 0 where
   Kept : Image
   Torn : Image
 
--- a fault that a disk is armed with: all calls fail from this one on, or this one fails; calls count from 1
+-- a fault with which a disk is armed: from this call on all calls fail, or only this call fails; calls are counted from
+-- 1
 pub data Fault : Type 0 where
   Cut : (call : ℕ) (image : Image) → Fault
   Fail : (call : ℕ) → Fault
 
 pub data Action : Type 0 where
-  -- a manager's life
+  -- the life of a manager
   Start : (node : ℕ) (recovery : Recovery) → Action
   Crash : (node : ℕ) → Action
   Arm : (node : ℕ) (fault : Fault) → Action
-  -- a link goes up or down; one end takes the next block of its device
+  -- a link goes up or down; one end of a link takes the next block of its device
   SetLink : (link : ℕ) (up : Bool) → Action
   TakeBlock : (node link : ℕ) (environment : Environment) → Action
-  -- a manager is asked an event
+  -- a manager is asked to handle an event
   Ask : (node : ℕ) (event : Event) (environment : Environment) → Action
-  -- an order gets the next bytes of its lane; a frame is put on its lane's wire; a manager notes what became of its frames
+  -- an order gets the next bytes of its lane; a frame is put on its lane's wire; a manager notes what became of its
+  -- frames
   Allocate : (transmission : Transmission) → Action
   Transmit : (lane : Lane) (frame : ℕ) (environment : Environment) → Action
   Complete : (node : ℕ) → Action
-  -- a frame of a wire comes to the lane's receiver, as it is or with one bit changed, or octets do that anybody made
+  -- the lane's receiver gets a frame of the wire, as it is or with one bit changed, or octets that anybody could have
+  -- made
   Deliver : (lane : Lane) (number : ℕ) (environment : Environment) → Action
   Flip : (lane : Lane) (number bit : ℕ) (environment : Environment) → Action
   Forge : (lane : Lane) (octets : List ℕ) (environment : Environment) → Action
-  -- want of memory before anybody was asked
+  -- memory runs out before anybody is asked
   WantMemory : Action
 
 pub data Outcome : Type 0 where
   Replies : (reply : Reply) → Outcome
-  -- of a start
+  -- outcomes of a start
   Started : Outcome
   WasUp : Outcome
   StartStopped : Outcome
   StartMemory : Outcome
   ForeignAt : (place : ℕ) → Outcome
-  -- of a crash, an arming and a link
+  -- outcomes of a crash, of an arming, and of a link that goes up or down
   Crashed : Outcome
   WasDown : Outcome
   Armed : Outcome
   LinkSet : Outcome
-  -- of a block
+  -- outcomes of taking a block
   NoBlock : Outcome
   DeviceFailed : Outcome
-  -- of frames
+  -- outcomes for frames
   Allocated : (offset : ℕ) → Outcome
   Put : (number : ℕ) → Outcome
   Unsent : (for_memory : Bool) → Outcome
   NoFrame : (count : ℕ) → Outcome
   NoBit : (bits : ℕ) → Outcome
-  -- a frame that nobody put has a right tag: the run ends
+  -- octets that nobody put on the wire have a right tag: the run ends
   ForgedMatch : Outcome
-  -- what isn't there, which an enabled action never meets
+  -- the object of the action doesn't exist; this never happens to an enabled action
   Nothing : Outcome
 
--- each answer of the outside but Ok shows in the outcome
+-- each answer of the outside other than Ok is visible in the outcome
 abbrev pub is_shown : Environment → Outcome → Bool
 is_shown Ok outcome = true
 is_shown OutOfMemory (Replies Memory) = true

@@ -1,5 +1,5 @@
--- A block of lines that several workers do at once is one run: each manager's history in order of node, then the claims, then the
--- puts, then the notes.
+-- A block of lines, done by several workers at once, is one run. In this run the managers' histories come first, in
+-- order of node, and then the claims, the puts and the notes.
 use Rattle.std.specs.Prelude.{◌≡◌, ℕ, ◌+◌, ◌*◌, ◌==◌, ◌&&◌, nat_le, Bool, true, false, List, [], ◌∷◌, ◌++◌, length, map, count_by, Option, Some, None, if◌then◌else◌}
 use Rattle.std.specs.List.{list_all, flat_map}
 use Rattle.qkd_base.specs.Lane.{way_number, lane_eq}
@@ -13,13 +13,13 @@ use Rattle.net_model.specs.Events.{is_lane}
 use Rattle.net_model.specs.Action.{Environment, Ok, OutOfMemory, IoFault, Action, Ask, Allocate, Transmit, Complete, Deliver}
 use Rattle.net_model.specs.Step.{run, IsRun}
 
--- a list is a merge of lists: each keeps its order
+-- a list merges several lists: it has all of their items, and keeps the order of each
 pub data IsMerge {A : Type 0} : List (List A) → List A → Type 0 where
   Done : (parts : List (List A)) → list_all (λ p. length p == 0) parts ≡ true → IsMerge parts []
   Next : (before after : List (List A)) (x : A) (rest out : List A) →
       IsMerge (before ++ rest ∷ after) out → IsMerge (before ++ (x ∷ rest) ∷ after) (x ∷ out)
 
--- the events that a line of a block may ask
+-- the events that a line of a block may ask of a manager
 abbrev pub is_block_event : Event → Bool
 is_block_event (Fill m s bits count) = true
 is_block_event (Feed stream count) = true
@@ -35,7 +35,7 @@ is_block_event (FillGroup m slaves bits count) = true
 is_block_event (EncGroup m slaves n bits) = true
 is_block_event _ = false
 
--- what a line of a block asks of this manager
+-- the actions that a line of a block asks of manager v
 abbrev pub is_turn_of : Site → ℕ → Action → Bool
 is_turn_of s v (Ask u event environment) = (u == v) && is_block_event event
 is_turn_of s v (Deliver l number environment) = receiver s l == v
@@ -44,7 +44,8 @@ is_turn_of s v _ = false
 abbrev pub lane_number : Lane → ℕ
 lane_number l = 2 * l.link + way_number l.way
 
--- lane by lane; within a lane the order is that of offsets and of wire numbers, since each claim and each put takes the next
+-- The lanes are in order. Offsets and wire numbers within a lane are in order anyway, since each claim takes the next
+-- bytes and each put the next number.
 abbrev pub is_by_lane : List Lane → Bool
 is_by_lane [] = true
 is_by_lane (l ∷ []) = true
@@ -54,7 +55,7 @@ abbrev pub with_lane : Lane → Option (List Lane) → Option (List Lane)
 with_lane l None = None
 with_lane l (Some ls) = Some (l ∷ ls)
 
--- the lanes of claims, and those of puts
+-- the lanes of the claims, and the lanes of the puts
 abbrev pub claim_lanes : List Action → Option (List Lane)
 claim_lanes [] = Some []
 claim_lanes (Allocate t ∷ rest) = with_lane t.lane (claim_lanes rest)
@@ -69,7 +70,7 @@ abbrev pub are_by_lane : Option (List Lane) → Bool
 are_by_lane None = false
 are_by_lane (Some ls) = is_by_lane ls
 
--- the parts of a block: one history for each node, in order of node, the claims and the puts
+-- the parts of a block: a history for each node, in order of node, then the claims, then the puts
 pub record Parts : Type 0 where
   pub histories : List (List Action)
   pub claims : List Action
@@ -81,16 +82,16 @@ all_histories p = flat_map (λ h. h) p.histories
 abbrev pub completions : Network → List Action
 completions net = map (λ v. Complete v) (count_up net.site.nodes)
 
--- the run of a block
+-- the actions of a block as one run
 unfoldable pub block_actions : Network → Parts → List Action
 block_actions net p = all_histories p ++ p.claims ++ p.puts ++ completions net
 
--- each manager's turns, made by themselves from the world at the block's start
+-- each manager's history is a run of its own that begins with the world at the block's start
 abbrev pub AreChains : Network → World → ℕ → List (List Action) → Type 0
 AreChains net w v [] = Unit {0}
 AreChains net w v (h ∷ hs) = (list_all (is_turn_of net.site v) h ≡ true) × IsRun net w h × AreChains net w (v + 1) hs
 
--- what claims take of a lane's orders, and puts of what may be put there
+-- the orders of a lane that are claimed, and the frames that are put on it
 abbrev pub claimed_on : Lane → List Action → List Transmission
 claimed_on l [] = []
 claimed_on l (Allocate t ∷ rest) = if lane_eq t.lane l then t ∷ claimed_on l rest else claimed_on l rest
@@ -101,7 +102,7 @@ put_on l [] = []
 put_on l (Transmit k j environment ∷ rest) = if lane_eq k l then j ∷ put_on l rest else put_on l rest
 put_on l (_ ∷ rest) = put_on l rest
 
--- a wire takes a frame, or refuses it for a fault or for want of memory
+-- the answers of a wire: it takes the frame, or it refuses it, for a fault or since memory ran out
 abbrev pub is_wire_answer : Environment → Bool
 is_wire_answer Ok = true
 is_wire_answer OutOfMemory = true
@@ -116,7 +117,8 @@ abbrev pub is_put : Site → Action → Bool
 is_put s (Transmit l j environment) = is_lane s l && is_wire_answer environment
 is_put s _ = false
 
--- After the histories each order is claimed once, lane by lane, and after these each frame that may be put is put once, lane by lane.
+-- After the histories, each order is claimed once, lane by lane. Then each frame that may be put is put once, lane by
+-- lane.
 pub record IsBlock (net : Network) (w : World) (p : Parts) : Type 0 where
   pub nodes : length p.histories ≡ net.site.nodes
   pub chains : AreChains net w 0 p.histories
@@ -129,6 +131,7 @@ pub record IsBlock (net : Network) (w : World) (p : Parts) : Type 0 where
   pub put : (l : Lane) (j : ℕ) →
       count_by (λ i. i == j) (put_on l p.puts) ≡ count_by (λ (o : Outgoing). o.frame == j) ((run net w (all_histories p ++ p.claims)).outgoing l)
 
--- The whole is then a run from the block's start: no turn of a block looks at another manager, at a claim or at a put.
+-- All of a block is then one run from the block's start: no manager's turn depends on another manager, on a claim or on
+-- a put.
 abbrev pub BlockIsRun : Network → World → Parts → Type 0
 BlockIsRun net w p = IsBlock net w p → IsRun net w (block_actions net p)

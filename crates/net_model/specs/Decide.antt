@@ -1,4 +1,5 @@
--- A manager's decision on each event, by what it knows: which durable changes, what it then keeps, and which answer.
+-- A manager's decision on each event, from what it knows: the durable changes, the new state of its life, and the
+-- answer.
 use Rattle.std.specs.Prelude.{ℕ, ◌*◌, ◌/◌, ◌==◌, Bool, List, [], ◌∷◌, if◌then◌else◌}
 use Rattle.net_model.specs.declared.event.Event.{Event}
 use Rattle.net_model.specs.declared.event.Event.TheVariants.{Block, Fill, Feed, Plan, Heard, Enc, Dec, Status, Open, Join, Get, Close, Show, Ledger, FillGroup, EncGroup, Note}
@@ -18,7 +19,8 @@ use Rattle.net_model.specs.Relay.{receive}
 use Rattle.net_model.specs.Plan.{plan}
 use Rattle.net_model.specs.Show.{show, counted_of}
 
--- A frame by what opening it gives. No network hands a manager octets with a right tag that are no payload.
+-- The decision on a frame, from the result of opening it. In no network does a manager get octets with a right tag that
+-- are no payload.
 abbrev pub received_frame : Site → View → Lane → Opened → Decision
 received_frame site v l (Opens offset payload) = Does (receive site v l offset payload)
 received_frame site v l (Rejected reply) = Refuses reply
@@ -45,7 +47,7 @@ decide site frames up v random (EncGroup m slaves n bits) = enc_group site v m s
 decide site frames up v random (Note placings) =
     Does (record { batch = []; volatile = complete v.acked v.volatile placings; orders = []; repeats = []; reply = Noted })
 
--- the random octets that an event draws
+-- how many random octets an event draws
 unfoldable pub random_need : View → Event → ℕ
 random_need v (Fill m s bits count) = (bits / 8) * count
 random_need v (FillGroup m slaves bits count) = (bits / 8) * count

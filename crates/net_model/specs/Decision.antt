@@ -1,4 +1,5 @@
--- What a manager decides on an event: to refuse it, or an effect that is made durable, noted and answered at once.
+-- What a manager decides on an event. It refuses the event, or it decides on an effect, which is made durable, noted
+-- and answered as one.
 use Rattle.std.specs.Prelude.{ℕ, ◌+◌, ◌==◌, max, Bool, List, [], ◌∷◌, Option, Some, None, if◌then◌else◌}
 use Rattle.std.specs.List.{list_any}
 use Rattle.qkd_base.specs.Name.{Name}
@@ -10,7 +11,8 @@ use Rattle.net_model.specs.Table.{PartOf, part_of, name_of, has_fact, is_stored_
 use Rattle.net_model.specs.World.{Entry, Transmission, Volatile}
 use Rattle.net_model.specs.View.{View}
 
--- durable changes, what one life then keeps, what is to be sent for the first time and again, and the answer
+-- the durable changes, the new state of the manager's life, the frames to be sent for the first time and again, and the
+-- answer
 pub record Effect : Type 0 where
   pub batch : List Record
   pub volatile : Volatile
@@ -22,14 +24,14 @@ pub data Decision : Type 0 where
   Refuses : (reply : Reply) → Decision
   Does : (effect : Effect) → Decision
 
--- an answer that changes nothing, and one that goes with durable changes alone
+-- an effect that is only an answer, and one that is an answer with durable changes
 abbrev pub answers : View → Reply → Decision
 answers v reply = Does (record { batch = []; volatile = v.volatile; orders = []; repeats = []; reply = reply })
 
 abbrev pub makes : View → List Record → Reply → Decision
 makes v batch reply = Does (record { batch = batch; volatile = v.volatile; orders = []; repeats = []; reply = reply })
 
--- names: those of one node count up from 1 over all kinds, group keys included
+-- The counts of a node's names. They rise from 1 over all kinds of names, those of group keys included.
 
 abbrev pub count_if : ℕ → Name → ℕ
 count_if me n = if n.node == me then n.count else 0
@@ -52,6 +54,6 @@ fresh_name v kind more = record { node = v.me; kind = kind; count = next_count v
 abbrev pub knows : View → Name → Bool
 knows v n = has_fact v.facts n
 
--- a Stored note about a name is known: at its origin the key, chunk or part is confirmed
+-- a Stored note about this name is known; at the origin it confirms the key, chunk or part
 abbrev pub is_confirmed : View → Name → Bool
 is_confirmed v n = list_any (is_stored_about n) v.facts

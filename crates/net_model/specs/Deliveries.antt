@@ -1,4 +1,4 @@
--- What replies hand out: which key, to whom, with which bytes.
+-- Deliveries: which key a reply hands out, to whom, with which bytes.
 use Rattle.std.specs.Prelude.{◌≡◌, ℕ, List, [], ◌∷◌, ◌++◌, ◌&&◌, ◌||◌, Bool, true, map, find, slice_get, Option, Some, None}
 use Rattle.qkd_base.specs.Name.{Name, name_eq}
 use Rattle.net_model.specs.declared.event.Event.{Event}
@@ -27,7 +27,8 @@ abbrev pub chunk_delivery : ℕ → List ℕ → Option Fact → List Delivery
 chunk_delivery sae bytes None = []
 chunk_delivery sae bytes (Some f) = record { name = name_of f; sae = sae; bytes = bytes } ∷ []
 
--- What the reply to an event hands out, by the facts that the manager knows. A chunk is named by its stream and index.
+-- What the reply to an event hands out, from the facts that the manager knows. A chunk is identified by its stream and
+-- its index.
 abbrev pub delivered : List Fact → Event → Reply → List Delivery
 delivered facts (Enc m s n bits) (Handed keys) = map (to_one m) keys
 delivered facts (Dec s m names) (Handed keys) = map (to_one s) keys
@@ -48,7 +49,7 @@ deliveries net w (a ∷ rest) = let out = step net w a in of_step net w a out.1 
 abbrev pub is_of_name : Name → Fact → Bool
 is_of_name n f = (is_single f && name_eq (name_of f) n) || is_part_of n f
 
--- a delivery has the bytes of each fact of its name, and there is one
+-- there is a fact of the delivery's name, and each such fact has the delivery's bytes
 pub record IsTrueDelivery (facts : List Fact) (d : Delivery) : Type 0 where
   pub name : Name
   pub fact : Fact
@@ -56,17 +57,17 @@ pub record IsTrueDelivery (facts : List Fact) (d : Delivery) : Type 0 where
   pub is : is_of_name d.name fact ≡ true
   pub bytes : (m : Name) (f : Fact) → fact_at facts m ≡ Some f → is_of_name d.name f ≡ true → d.bytes ≡ bytes_of f
 
--- the pairs that were handed out
+-- the pairs of a name and an application that were handed out
 abbrev pub pairs_of : List Delivery → List (Name × ℕ)
 pairs_of ds = map (λ (d : Delivery). (d.name, d.sae)) ds
 
--- a list stands in another, in order
+-- the first list is a subsequence of the second
 pub data IsWithin {A : Type 0} : List A → List A → Type 0 where
   Empty : (ys : List A) → IsWithin [] ys
   Next : (x : A) (xs ys : List A) → IsWithin xs ys → IsWithin (x ∷ xs) (x ∷ ys)
   Skip : (y : A) (xs ys : List A) → IsWithin xs ys → IsWithin xs (y ∷ ys)
 
--- all that replies handed out so far was marked, each pair once, and with the bytes of its name
+-- all that replies handed out so far was marked, each pair at most once, and had the bytes of its name
 pub record AreTrueDeliveries (w : World) (ds : List Delivery) : Type 0 where
   pub marked : IsWithin (pairs_of ds) w.durable.handed
   pub once : PairsDiffer (pairs_of ds)

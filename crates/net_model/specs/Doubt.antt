@@ -1,4 +1,5 @@
--- What a batch in doubt rests on: each of its records may be made in the world as it is, whatever others do meanwhile.
+-- The premises of a batch in doubt. Each of its records may be made in the world as it is, whatever other managers do
+-- in the meantime.
 use Rattle.std.specs.Prelude.{◌≡◌, ◌≢◌, ℕ, ◌<◌, ◌≤◌, true, false, List, [], ◌∷◌, Some, None, ◌⊎◌}
 use Rattle.qkd_base.specs.Name.{Name, IsName, has}
 use Rattle.qkd_base.specs.declared.lane.Lane.{Lane}
@@ -16,7 +17,7 @@ use Rattle.net_model.specs.Records.{apply_record}
 use Rattle.net_model.specs.Knowledge.{IsEntitled, IsOn, PredecessorKnows, IsAdjacent, IsTargetOf, chunks_known}
 use Rattle.net_model.specs.Handings.{MayHave}
 
--- a fact of the table that the node before it knows
+-- a fact of the table that the node before this one on the route knows
 pub record MayBeReceived (facts : List Fact) (known : ℕ → List Name) (v : ℕ) (f : Fact) : Type 0 where
   pub there : fact_at facts (name_of f) ≡ Some f
   pub on : IsOn (route_of f) v
@@ -29,8 +30,8 @@ abbrev pub MayNote : List Fact → (ℕ → List Name) → ℕ → Fact → Type
 MayNote facts known v (Stored note about route) = IsTargetOf v (fact_at facts about) × (has (known v) about ≡ true) × NoStoredBy v facts about
 MayNote facts known v _ = Unit {0}
 
--- A new part beside the facts that its node made: its group key's name is the node's own and no fact's, and other parts of that key have
--- its bytes and its master, and other slaves.
+-- A new part, compared with the facts that its node made. Its group key's name is one of the node's own names, and no
+-- fact has it. Other parts of this key have the same bytes and the same master, and other slaves.
 pub record IsPartAmong (facts : List Fact) (v : ℕ) (f : Fact) (p : PartOf) : Type 0 where
   pub mine : p.key.node ≡ v
   pub name : IsName p.key
@@ -40,7 +41,7 @@ pub record IsPartAmong (facts : List Fact) (v : ℕ) (f : Fact) (p : PartOf) : T
   pub master : (m : Name) (g : Fact) (q : PartOf) → m.node ≡ v → fact_at facts m ≡ Some g → part_of g ≡ Some q → q.key ≡ p.key → q.master ≡ p.master
   pub slave : (m : Name) (g : Fact) (q : PartOf) → m.node ≡ v → fact_at facts m ≡ Some g → part_of g ≡ Some q → q.key ≡ p.key → q.slave ≢ p.slave
 
--- a new fact of the node's own
+-- a new fact that this node makes
 pub record MayBeMade (s : Site) (facts : List Fact) (known : ℕ → List Name) (handed : List (Name × ℕ)) (v : ℕ) (f : Fact) : Type 0 where
   pub formed : IsWellFormedFact f
   pub ranged : IsRangedFact f
@@ -50,15 +51,15 @@ pub record MayBeMade (s : Site) (facts : List Fact) (known : ℕ → List Name) 
   pub on : IsOn (route_of f) v
   pub entitled : IsEntitled s facts f
   pub note : MayNote facts known v f
-  -- no group key of this node has its name
+  -- no group key of this node has the fact's name
   pub unused : (m : Name) (g : Fact) (p : PartOf) → m.node ≡ v → fact_at facts m ≡ Some g → part_of g ≡ Some p → p.key ≢ name_of f
-  -- a chunk has its stream's next index
+  -- a chunk has the next index of its stream
   pub next : (stream : Name) (index : ℕ) → is_chunk_at stream index f ≡ true → index ≡ chunks_known facts (known v) stream
   pub part : (p : PartOf) → part_of f ≡ Some p → IsPartAmong facts v f p
-  -- no part comes to a group key that was handed out here
+  -- no part is added to a group key that was handed out here
   pub unhanded : (p : PartOf) → part_of f ≡ Some p → (sae : ℕ) → s.home sae ≡ v → was_handed handed p.key sae ≡ false
 
--- the blocks taken at a node's end of a link
+-- how many blocks the node's end of a link took
 abbrev pub blocks_of_end : Site → Durable → ℕ → ℕ → ℕ
 blocks_of_end s d v link = d.blocks (outgoing_lane s v link)
 
@@ -75,7 +76,7 @@ abbrev pub MayReplay : Site → Durable → ℕ → List Record → Type 0
 MayReplay s d v [] = Unit {0}
 MayReplay s d v (r ∷ rs) = MayApply s d v r × MayReplay s (apply_record s v r d) v rs
 
--- facts and knowledge only grow, and what is the node's own stays
+-- The table and what nodes know only grow. What belongs to node v is unchanged.
 pub record ExtendsOf (s : Site) (v : ℕ) (facts facts' : List Fact) (known known' : ℕ → List Name) (handed handed' : List (Name × ℕ))
     (lease lease' blocks blocks' : Lane → ℕ) : Type 0 where
   pub grows : (n : Name) (f : Fact) → fact_at facts n ≡ Some f → fact_at facts' n ≡ Some f

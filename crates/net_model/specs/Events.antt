@@ -1,4 +1,5 @@
--- Which events a manager may be asked: the ranges of their numbers, and links and lanes that join the node.
+-- The events that a manager may be asked to handle: their numbers are in range, and their links and lanes end at the
+-- node.
 use Rattle.std.specs.Prelude.{ℕ, ◌^◌, ◌==◌, ◌&&◌, nat_lt, nat_le, Bool, true, List, [], ◌∷◌, length}
 use Rattle.std.specs.List.{list_all}
 use Rattle.qkd_base.specs.Name.{Name, kind_eq}
@@ -10,7 +11,7 @@ use Rattle.net_model.specs.declared.placing.Placing.{Placing}
 use Rattle.net_model.specs.Site.{Site, sender, receiver, is_incident}
 use Rattle.net_model.specs.Streams.{is_size}
 
--- 1 to 128
+-- a count is from 1 to 128
 abbrev pub is_count : ℕ → Bool
 is_count n = nat_le 1 n && nat_le n 128
 
@@ -20,7 +21,7 @@ is_name n = nat_lt n.node 16 && nat_le 1 n.count && nat_lt n.count (2 ^ 48)
 abbrev pub is_stream : Name → Bool
 is_stream n = is_name n && kind_eq n.kind StreamKind
 
--- two to five applications in order of number, so all different
+-- the applications are in rising order of number, so they are all different
 abbrev pub is_rising : List ℕ → Bool
 is_rising [] = true
 is_rising (s ∷ []) = true
@@ -32,11 +33,11 @@ are_slaves ss = nat_le 2 (length ss) && nat_le (length ss) 5 && is_rising ss
 abbrev pub is_lane : Site → Lane → Bool
 is_lane site l = nat_lt l.link site.links
 
--- the number of octets of a frame
+-- the number of a frame's octets is from 25 to 585
 abbrev pub is_frame_size : ℕ → Bool
 is_frame_size n = nat_le 25 n && nat_le n 585
 
--- what the event names is in range and joins the node
+-- the numbers of the event are in range, and its links and lanes end at the node
 unfoldable pub is_valid_event : Site → ℕ → Event → Bool
 is_valid_event site v (Block link number bytes) = nat_lt link site.links && is_incident site v link && (length bytes == 1024)
 is_valid_event site v (Fill m s bits count) = is_size bits && is_count count

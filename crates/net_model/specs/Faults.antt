@@ -9,7 +9,7 @@ abbrev pub is_interrupted : Recovery → Bool
 is_interrupted (Interrupted checkpointed) = true
 is_interrupted _ = false
 
--- the disk of a node failed in it
+-- the disk of this node failed in the action
 abbrev pub is_disk_fault : Site → ℕ → Action → Bool
 is_disk_fault s v (Start u recovery) = (u == v) && is_interrupted recovery
 is_disk_fault s v (TakeBlock u link environment) = (u == v) && is_io_fault environment
@@ -31,7 +31,7 @@ abbrev pub is_wire_fault : Lane → Action → Bool
 is_wire_fault l (Transmit k frame environment) = lane_eq k l && is_io_fault environment
 is_wire_fault l _ = false
 
--- how often a run met them: at most as often as that object's own count of faults rose
+-- How many faults of a kind are in a run. The object's own count of faults rose at least as often.
 unfoldable pub disk_faults : Site → ℕ → List Action → ℕ
 disk_faults s v actions = count_by (is_disk_fault s v) actions
 
@@ -48,6 +48,6 @@ abbrev pub fault_armed : ℕ → Action → Option Fault
 fault_armed v (Arm u fault) = if u == v then Some fault else None
 fault_armed v _ = None
 
--- the faults that a node's disk was armed with, in order
+-- the faults with which a node's disk was armed, in order
 unfoldable pub armings : ℕ → List Action → List Fault
 armings v actions = filter_map (fault_armed v) actions

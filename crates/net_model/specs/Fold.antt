@@ -1,4 +1,4 @@
--- What records make of a manager's view: after an event, and when a journal is read back.
+-- How records change a manager's view: after an event, and when a journal is read back.
 use Rattle.std.specs.Prelude.{ℕ, ◌+◌, ◌==◌, ◌&&◌, ◌||◌, nat_lt, nat_le, Bool, false, List, [], ◌∷◌, ◌++◌, length, map, filter, if◌then◌else◌}
 use Rattle.std.specs.List.{list_any}
 use Rattle.qkd_base.specs.Name.{Name, name_eq}
@@ -17,7 +17,7 @@ use Rattle.net_model.specs.Needed.{is_owed, masked}
 use Rattle.net_model.specs.Records.{keyed_lease}
 use Rattle.net_model.specs.Decision.{Effect}
 
--- the next block of a link; the first of the outgoing lane brings its hash key
+-- a port after the next block of its link; the outgoing lane's first block brings its hash key
 abbrev pub with_block : ℕ → ℕ → List ℕ → Port → Port
 with_block link number bytes p =
     if (p.lane.link == link) && (number == length p.blocks) && nat_lt number 1024 then
@@ -38,7 +38,7 @@ owes v n = list_any (λ f. name_eq (name_of f) n && is_owed v f) v.facts
 abbrev pub is_end_of : View → Fact → Bool
 is_end_of v f = (origin f == v.me) || (target f == v.me)
 
--- the application may have got the key, chunk or group key of this name by this fact
+-- with this fact, the application may have got the key, chunk or group key of this name
 abbrev pub is_handed_by : Name → ℕ → Fact → Bool
 is_handed_by n sae (Key name master slave route bytes) = name_eq name n && ((master == sae) || (slave == sae))
 is_handed_by n sae (Chunk name stream index route bytes) = name_eq name n
@@ -49,11 +49,11 @@ abbrev pub is_stream_of : Name → Fact → Bool
 is_stream_of n (Open stream source peer size route) = name_eq stream n
 is_stream_of n _ = false
 
--- a pair is marked once
+-- a pair of a name and an application is marked only once
 abbrev pub marked : List (Name × ℕ) → Name → ℕ → List (Name × ℕ)
 marked pairs n sae = if was_handed pairs n sae then pairs else pairs ++ (n, sae) ∷ []
 
--- one record. It changes nothing where it doesn't fit
+-- the view after one record; a record that doesn't fit changes nothing
 unfoldable pub view_record : Record → View → View
 view_record (Block link number bytes) v = record v { ports = map (with_block link number bytes) v.ports }
 view_record (Lease lane end) v = record v { ports = map (with_lease lane end) v.ports }
@@ -67,14 +67,14 @@ unfoldable pub view_records : List Record → View → View
 view_records [] v = v
 view_records (r ∷ rs) v = view_records rs (view_record r v)
 
--- the view after a batch
+-- the view after the records of a batch
 abbrev pub view_batch : View → List Record → View
 view_batch v batch = masked (view_records batch v)
 
 abbrev pub on_lane : Lane → List Transmission → List Transmission
 on_lane l ts = filter (λ t. lane_eq t.lane l) ts
 
--- the view after an effect: its batch, what it keeps, and the bytes that its orders plan
+-- the view after an effect: after its batch, with the new state of its life, and with the bytes that its orders plan
 unfoldable pub view_after : View → Effect → View
 view_after v effect =
     let next = view_batch v effect.batch in
@@ -83,7 +83,7 @@ view_after v effect =
       ports = map (λ (p : Port). record p { planned = p.planned + needs v.facts (on_lane p.lane effect.orders) }) next.ports;
     }
 
--- a start: one life's state is gone, and each lane goes on at its leased end
+-- the view after a start: the state of the earlier life is gone, and each lane goes on at the end of its lease
 unfoldable pub view_restarted : View → View
 view_restarted v =
     record v { volatile = no_volatile; ports = map (λ (p : Port). record p { planned = p.lease; recovered = p.lease }) v.ports }
@@ -91,7 +91,7 @@ view_restarted v =
 abbrev pub empty_port : Lane → Port
 empty_port l = record { lane = l; blocks = []; lease = 0; planned = 0; recovered = 0 }
 
--- a manager that has nothing
+-- the view of a manager that knows nothing and has received nothing
 abbrev pub empty_view : Site → ℕ → View
 empty_view site me =
     record {
@@ -108,6 +108,6 @@ abbrev pub view_batches : View → List (List Record) → View
 view_batches v [] = v
 view_batches v (b ∷ bs) = view_batches (view_batch v b) bs
 
--- the manager that a journal's batches give back
+-- the view of the manager that the batches of a journal give back
 unfoldable pub recovered_view : Site → ℕ → List (List Record) → View
 recovered_view site me batches = view_restarted (view_batches (empty_view site me) batches)

@@ -1,4 +1,4 @@
--- When records are well formed.
+-- Well-formed records.
 use Rattle.std.specs.Prelude.{◌≡◌, true, length}
 use Rattle.qkd_base.specs.declared.key_name.NameKind.TheVariants.{Stream as StreamKind}
 use Rattle.net_model.specs.declared.fact.Fact.{Fact}

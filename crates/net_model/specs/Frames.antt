@@ -1,4 +1,4 @@
--- Frames in the world: claimed, put on a wire, and brought to a receiver as they are or changed.
+-- Frames in the world: they are claimed, put on a wire, and delivered to a receiver, unchanged or changed.
 use Rattle.std.specs.Prelude.{ℕ, ◌+◌, ◌*◌, ◌-◌, ◌/◌, ◌%◌, ◌^◌, ◌==◌, ◌&&◌, ◌||◌, not, nat_lt, nat_le, Bool, true, false, List, [], ◌∷◌, ◌++◌, length, find, replicate, slice_get, slice_set, slice_index_or, bit_xor, Option, Some, None, if◌then◌else◌}
 use Rattle.std.specs.List.{list_any}
 use Rattle.qkd_base.specs.Family.{lane_set, number_set}
@@ -19,7 +19,7 @@ use Rattle.net_model.specs.Relay.{receive}
 use Rattle.net_model.specs.Action.{Environment, Outcome, Replies, Allocated, Put, Unsent, NoFrame, NoBit, ForgedMatch, Nothing, is_no_memory, is_io_fault}
 use Rattle.net_model.specs.Handle.{perform}
 
--- the lane bytes that the sender and the receiver have received
+-- the bytes of a lane that its sender has received, and those that its receiver has
 abbrev pub octets_sent : Network → World → Lane → List ℕ
 octets_sent net w l = lane_octets l.way (first_blocks (net.device l.link) (w.durable.blocks l))
 
@@ -35,7 +35,7 @@ abbrev pub frame_octets : Network → World → Lane → Option Allocation → L
 frame_octets net w l None = []
 frame_octets net w l (Some a) = sealed net w l a.offset (payload w.durable.facts a.item)
 
--- claiming
+-- ---- claims
 
 abbrev pub without : Transmission → List Transmission → List Transmission
 without t [] = []
@@ -44,7 +44,7 @@ without t (x ∷ xs) = if transmission_eq t x then xs else x ∷ without t xs
 abbrev pub is_unclaimed : World → Transmission → Bool
 is_unclaimed w t = list_any (transmission_eq t) (w.unclaimed t.lane)
 
--- an order gets the lane's next bytes, as many as it needs; its frame may then be put
+-- An order gets the next bytes of its lane, as many as it needs. Its frame may then be put on the wire.
 unfoldable pub allocate : World → Transmission → World × Outcome
 allocate w t =
     let l = t.lane in
@@ -59,7 +59,7 @@ allocate w t =
       Allocated offset,
     )
 
--- putting
+-- ---- puts
 
 abbrev pub outgoing_of : ℕ → List Outgoing → Option Outgoing
 outgoing_of j os = find (λ o. o.frame == j) os
@@ -87,7 +87,7 @@ placing_of net w l o number =
       frame = room_octets frame;
     }
 
--- what may be put is put or refused, and its sender notes it next
+-- A frame that may be put is put on the wire or refused by it. Its sender notes this next.
 abbrev pub put : Network → World → Lane → Outgoing → List ℕ → Option ℕ → World
 put net w l o wire number =
     let v = sender net.site l in
@@ -106,14 +106,14 @@ transmit_one net w l environment (Some o) =
 unfoldable pub transmit : Network → World → Lane → ℕ → Environment → World × Outcome
 transmit net w l j environment = transmit_one net w l environment (outgoing_of j (w.outgoing l))
 
--- receiving
+-- ---- deliveries
 
 abbrev pub receive_item : Network → World → Lane → ℕ → Environment → Option Payload → World × Outcome
 receive_item net w l offset environment None = (w, Nothing)
 receive_item net w l offset environment (Some p) =
     perform net w (receiver net.site l) 0 environment (receive net.site (view_of net w (receiver net.site l)) l offset p)
 
--- a frame of the lane comes to its receiver, which must have the lane bytes for it
+-- a frame is delivered to the receiver of its lane, which must have the lane bytes for it
 unfoldable pub deliver_frame : Network → World → Lane → Environment → Option Allocation → World × Outcome
 deliver_frame net w l environment None = (w, Nothing)
 deliver_frame net w l environment (Some a) =
@@ -134,7 +134,7 @@ octets_eq [] (y ∷ ys) = false
 octets_eq (x ∷ xs) [] = false
 octets_eq (x ∷ xs) (y ∷ ys) = (x == y) && octets_eq xs ys
 
--- what opening octets that nobody put gives: their refusal, or the run's end
+-- what opening octets that nobody put on the wire gives: a refusal, or the end of the run
 abbrev pub unmatched : World → Opened → World × Outcome
 unmatched w (Opens offset p) = (w, ForgedMatch)
 unmatched w (Rejected reply) = (w, Replies reply)
@@ -146,12 +146,12 @@ tampered_or_put net w l octets environment None =
     if not (w.up (receiver net.site l)) then (w, Replies Down)
     else unmatched w (net.sealing.unseal l (octets_received net w l) octets)
 
--- octets come to a receiver. Where they stand on the lane's wire they count as that frame
+-- Octets are delivered to a receiver. If a frame on the lane's wire has the same octets, they count as this frame.
 unfoldable pub tampered : Network → World → Lane → List ℕ → Environment → World × Outcome
 tampered net w l octets environment =
     tampered_or_put net w l octets environment (find (λ j. octets_eq (frame_octets net w l (slice_get (w.frames l) j)) octets) (w.wire l))
 
--- bit b is bit 7 - b mod 8 of octet b / 8, with bit 7 the highest
+-- Octets with one bit flipped. Bit b is bit 7 - b mod 8 of octet b / 8, and bit 7 is the highest bit of an octet.
 abbrev pub with_flipped : List ℕ → ℕ → List ℕ
 with_flipped octets bit = slice_set octets (bit / 8) (bit_xor (slice_index_or octets (bit / 8) 0) (2 ^ (7 - bit % 8)))
 

@@ -1,4 +1,5 @@
--- Group keys: one key for a master and several slaves, each of whom gets it as a part (ETSI GS QKD 014, additional slaves).
+-- Group keys: one key for a master and several slaves. Each slave gets it as a part of its own (ETSI GS QKD 014,
+-- additional slaves).
 use Rattle.std.specs.Prelude.{ℕ, zero, suc, ◌+◌, ◌*◌, ◌/◌, ◌==◌, ◌&&◌, not, nat_lt, Bool, true, false, List, [], ◌∷◌, ◌++◌, length, map, filter, find, take, drop, count_by, Option, Some, None, if◌then◌else◌}
 use Rattle.std.specs.List.{list_all}
 use Rattle.qkd_base.specs.Name.{Name}
@@ -23,14 +24,14 @@ abbrev pub is_part_from : ℕ → ℕ → Option PartOf → Bool
 is_part_from m bits None = false
 is_part_from m bits (Some p) = (p.master == m) && (8 * length p.bytes == bits)
 
--- the parts are for these slaves, in order
+-- the parts are for these slaves, in this order
 abbrev pub same_slaves : List Fact → List ℕ → Bool
 same_slaves [] [] = true
 same_slaves [] (t ∷ ts) = false
 same_slaves (s ∷ ss) [] = false
 same_slaves (s ∷ ss) (t ∷ ts) = goes_to t (part_of s) && same_slaves ss ts
 
--- a group key of this master, slaves and size that the master hasn't got, ready or not
+-- a group key of this master, these slaves and this size that was not handed to the master, whether or not it is ready
 abbrev pub is_unhanded_group : View → ℕ → List ℕ → ℕ → Name → Bool
 is_unhanded_group v m slaves bits n =
     let parts = parts_of v.facts n in
@@ -39,24 +40,24 @@ is_unhanded_group v m slaves bits n =
 unfoldable pub unhanded_group : View → ℕ → List ℕ → ℕ → ℕ
 unhanded_group v m slaves bits = count_by (is_unhanded_group v m slaves bits) (own_names v)
 
--- a group key is ready where all its parts are confirmed
+-- a group key is ready if all its parts are confirmed
 abbrev pub is_group_ready : View → Name → Bool
 is_group_ready v n = list_all (λ f. is_confirmed v (name_of f)) (parts_of v.facts n)
 
--- in order of name
+-- the ready group keys that were not handed to the master, in order of name
 unfoldable pub group : View → ℕ → List ℕ → ℕ → List Name
 group v m slaves bits = filter (λ n. is_unhanded_group v m slaves bits n && is_group_ready v n) (own_names v)
 
 abbrev pub group_bytes : View → List Name → List (Name × List ℕ)
 group_bytes v ns = map (λ n. (n, bytes_or_none (find (is_part_of n) v.facts))) ns
 
--- the parts of one key, from a count on: one for each slave with its route
+-- the parts of one group key, one for each slave with its route; their names count up from a given count
 abbrev pub new_parts : View → Name → ℕ → List (ℕ × List ℕ) → List ℕ → ℕ → List Record
 new_parts v key m [] bytes more = []
 new_parts v key m (slave ∷ slaves) bytes more =
     Learned (Part (fresh_name v KeyKind more) key m slave.0 slave.1 bytes) ∷ new_parts v key m slaves bytes (more + 1)
 
--- so many group keys: each takes the next count, and its parts take the counts after it
+-- k new group keys: each takes the next count of the node, and its parts take the counts after it
 abbrev pub new_groups : View → ℕ → List (ℕ × List ℕ) → ℕ → List ℕ → ℕ → ℕ → List Record
 new_groups v m slaves size random more zero = []
 new_groups v m slaves size random more (suc k) =
@@ -68,7 +69,7 @@ with_route s None rest = None
 with_route s (Some route) None = None
 with_route s (Some route) (Some rest) = Some ((s, route) ∷ rest)
 
--- a route to each slave's home, if all have one
+-- a route to the home of each slave, or None if one of them has none
 abbrev pub routes_to : Site → (ℕ → Bool) → ℕ → List ℕ → Option (List (ℕ × List ℕ))
 routes_to site up me [] = Some []
 routes_to site up me (s ∷ ss) = with_route s (route site up me (site.home s)) (routes_to site up me ss)

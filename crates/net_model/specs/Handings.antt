@@ -1,4 +1,5 @@
--- Who has got which key: each at most once, entitled ones alone, and a master or source only what its target has confirmed.
+-- Who got which key. Each application gets a key at most once, and only if it is entitled to it. A master or source
+-- gets it only after the key's target confirmed it.
 use Rattle.std.specs.Prelude.{◌≡◌, ℕ, Bool, true, false, List, [], ◌∷◌, Some, ◌⊎◌}
 use Rattle.qkd_base.specs.Name.{Name, has}
 use Rattle.net_model.specs.declared.fact.Fact.{Fact}
@@ -10,7 +11,7 @@ abbrev pub PairsDiffer : List (Name × ℕ) → Type 0
 PairsDiffer [] = Unit {0}
 PairsDiffer (h ∷ hs) = (was_handed hs h.0 h.1 ≡ false) × PairsDiffer hs
 
--- a Stored note about it is known at a node
+-- the node knows a Stored note about this name
 pub record KnowsStored (facts : List Fact) (known : List Name) (n : Name) : Type 0 where
   pub note : Name
   pub fact : Fact
@@ -18,13 +19,13 @@ pub record KnowsStored (facts : List Fact) (known : List Name) (n : Name) : Type
   pub about : is_stored_about n fact ≡ true
   pub knows : has known note ≡ true
 
--- what is handed by its own name
+-- a key or a chunk, which is handed out under its own name
 abbrev pub is_single : Fact → Bool
 is_single (Key name master slave route bytes) = true
 is_single (Chunk name stream index route bytes) = true
 is_single _ = false
 
--- an application is an end of a key or chunk that its home knows; a master or source only where it is ready
+-- The application is an end of a key or chunk that its home knows. For a master or source, the key is also confirmed.
 pub record MayHaveOne (s : Site) (facts : List Fact) (known : ℕ → List Name) (n : Name) (sae : ℕ) : Type 0 where
   pub fact : Fact
   pub there : fact_at facts n ≡ Some fact
@@ -32,7 +33,7 @@ pub record MayHaveOne (s : Site) (facts : List Fact) (known : ℕ → List Name)
   pub knows : has (known (s.home sae)) n ≡ true
   pub is_end : ((sae_at facts true fact ≡ Some sae) × KnowsStored facts (known (s.home sae)) n) ⊎ (sae_at facts false fact ≡ Some sae)
 
--- a part of a group key
+-- p is the name of a part of the group key n
 pub record IsPart (facts : List Fact) (n p : Name) : Type 0 where
   pub fact : Fact
   pub part : PartOf
@@ -40,7 +41,8 @@ pub record IsPart (facts : List Fact) (n p : Name) : Type 0 where
   pub is : part_of fact ≡ Some part
   pub key : part.key ≡ n
 
--- the master has a group key only where all its parts are known and confirmed, a slave where its own part is known
+-- A master may have a group key if its home knows all parts, and a Stored note of each. A slave may have it if its home
+-- knows the slave's part.
 pub record MayHaveGroup (s : Site) (facts : List Fact) (known : ℕ → List Name) (n : Name) (sae : ℕ) : Type 0 where
   pub name : Name
   pub one : IsPart facts n name

@@ -1,4 +1,5 @@
--- How a manager's decision becomes a change of the world: refused, out of memory, journal full, without entropy, stopped or committed.
+-- How a manager's decision changes the world. The event is refused, memory runs out, the journal is full, the entropy
+-- fails, the manager is stopped, or the effect is committed.
 use Rattle.std.specs.Prelude.{ℕ, suc, ◌+◌, ◌*◌, ◌^◌, ◌==◌, ◌&&◌, ◌||◌, not, nat_lt, Bool, true, false, List, [], ◌∷◌, ◌++◌, map, filter, None, if◌then◌else◌}
 use Rattle.std.specs.List.{list_all}
 use Rattle.qkd_base.specs.Lane.{lane_eq}
@@ -21,18 +22,18 @@ use Rattle.net_model.specs.Decision.{Decision, Refuses, Does, Effect}
 use Rattle.net_model.specs.Decide.{decide, random_need}
 use Rattle.net_model.specs.Action.{Environment, Outcome, Replies, NoBlock, DeviceFailed, is_no_memory, is_entropy_fault, is_io_fault, is_device_fault}
 
--- a count past 2 ^ 48 - 1 has no name, and an index past 2 ^ 32 - 1 no place in a payload
+-- a record can be encoded only if the count of its name is below 2 ^ 48, and the index of a chunk below 2 ^ 32
 abbrev pub is_numbered : Record → Bool
 is_numbered (Learned (Chunk name stream index route bytes)) = nat_lt name.count (2 ^ 48) && nat_lt index (2 ^ 32)
 is_numbered (Learned f) = nat_lt (name_of f).count (2 ^ 48)
 is_numbered _ = true
 
--- new orders stand after older ones. With none it computes to what was there
+-- new orders are appended to a lane's older ones; without new orders, the term reduces to the older ones
 abbrev pub with_orders : List Transmission → (Lane → List Transmission) → Lane → List Transmission
 with_orders [] unclaimed l = unclaimed l
 with_orders (t ∷ ts) unclaimed l = unclaimed l ++ filter (λ (x : Transmission). lane_eq x.lane l) (t ∷ ts)
 
--- the number of the frame at an offset
+-- the number of the frame at an offset of its lane
 abbrev pub frame_at : List Allocation → ℕ → ℕ
 frame_at [] offset = 0
 frame_at (a ∷ rest) offset = if a.offset == offset then 0 else suc (frame_at rest offset)
@@ -45,7 +46,7 @@ with_repeats [] frames outgoing l = outgoing l
 with_repeats (e ∷ es) frames outgoing l =
     outgoing l ++ map (outgoing_repeat (frames l)) (filter (λ x. lane_eq x.transmission.lane l) (e ∷ es))
 
--- an effect takes place whole
+-- an effect is committed as a whole
 unfoldable pub commit : Site → World → ℕ → ℕ → Effect → World
 commit site w v octets effect =
     record w {
@@ -57,7 +58,7 @@ commit site w v octets effect =
       outgoing = with_repeats effect.repeats w.frames w.outgoing;
     }
 
--- the disk failed in it: the manager is down, what was drawn stays drawn, and its batch is in doubt
+-- The disk failed in the event. The manager is down, its batch is in doubt, and the octets that were drawn stay drawn.
 unfoldable pub stopped : World → ℕ → ℕ → Effect → World
 stopped w v octets effect =
     record w {
@@ -80,7 +81,7 @@ abbrev pub resolve : Network → World → ℕ → ℕ → Environment → Decis
 resolve net w v octets environment (Refuses reply) = (w, Replies reply)
 resolve net w v octets environment (Does effect) = perform net w v octets environment effect
 
--- a manager that isn't up answers down. The decision is made over the octets that come next, if they do
+-- A manager that isn't up answers Down. Otherwise its decision uses the next octets of the entropy, if these exist.
 unfoldable pub handle : Network → World → ℕ → Event → Environment → World × Outcome
 handle net w v event environment =
     let view = view_of net w v in
@@ -90,12 +91,12 @@ handle net w v event environment =
     (decide net.site net.sealing w.link_up view (octets_from (net.entropy v).octet (w.drawn v) octets) event)
     else (w, Replies Down)
 
--- the blocks taken at a node's end of a link
+-- how many blocks the node's end of a link took
 abbrev pub blocks_at : Network → World → ℕ → ℕ → ℕ
 blocks_at net w v link = w.durable.blocks (outgoing_lane net.site v link)
 
--- the next block of a device: whether it is there and comes is found before the manager is asked, but a down manager and a full link
--- come first
+-- A node takes the next block of a device. Whether the device gives the block is decided before the manager is asked,
+-- but after a manager that is down and a link that is full were refused.
 unfoldable pub take_block : Network → World → ℕ → ℕ → Environment → World × Outcome
 take_block net w v link environment =
     let number = blocks_at net w v link in

@@ -1,4 +1,4 @@
--- What every action keeps: the conserved properties of the network.
+-- The invariant of the network, which every action keeps.
 use Rattle.std.specs.Prelude.{◌≡◌, ℕ, ◌+◌, ◌<◌, ◌≤◌, Bool, true, false, List, [], ◌∷◌, ◌⊎◌, length, slice_get, Some, None, if◌then◌else◌}
 use Rattle.qkd_base.specs.Name.{Name}
 use Rattle.qkd_base.specs.declared.lane.Lane.{Lane}
@@ -15,7 +15,8 @@ use Rattle.net_model.specs.Doubt.{MayReplay}
 use Rattle.net_model.specs.Drawn.{AreDrawn}
 use Rattle.net_model.specs.Windows.{IsVolatile, IsPlaced, IsPosted}
 
--- said of just the families that it looks at, so that a world which differs elsewhere keeps it by the same proof
+-- The invariant, stated of just those parts of the world that it depends on. Two worlds that agree in these parts keep
+-- it by the same proof.
 pub record InvariantOf (s : Site) (facts : List Fact) (handed : List (Name × ℕ)) (known acked : ℕ → List Name)
     (own : Lane → List Owner) (lease : Lane → ℕ) (frames : Lane → List Allocation) (unclaimed : Lane → List Transmission) (received : Lane → ℕ) : Type 0 where
   pub owned : (l : Lane) → IsOwned facts (own l) (frames l) (received l)
@@ -32,24 +33,24 @@ pub record InvariantOf (s : Site) (facts : List Fact) (handed : List (Name × �
 abbrev pub Invariant : Site → Durable → (Lane → List Allocation) → (Lane → List Transmission) → Type 0
 Invariant s d frames unclaimed = InvariantOf s d.facts d.handed d.known d.acked d.own d.lease frames unclaimed (received d)
 
--- the durable part once the batches in doubt of some nodes are made
+-- the durable state after the batches in doubt of some nodes are made durable
 abbrev pub with_doubts : Site → World → (ℕ → Bool) → List ℕ → Durable → Durable
 with_doubts s w made [] d = d
 with_doubts s w made (v ∷ vs) d = with_doubts s w made vs (if made v then replay s v (w.in_doubt v).batch d else d)
 
--- nothing before the first start, then at least a header and a gate, and never past the limit
+-- a journal is empty before the first start; afterwards it has at least a header and a gate, and is within the limit
 abbrev pub IsJournal : Journal → Type 0
 IsJournal j = (j.length' ≡ 0) ⊎ ((17 ≤ j.length') × (j.length' ≤ journal_limit) × (j.start < j.length'))
 
--- what is in doubt has its room in the journal, unless a checkpoint has settled it
+-- a journal has room for the batch in doubt, unless a checkpoint has settled it
 abbrev pub HasRoomFor : Journal → InDoubt → Type 0
 HasRoomFor j d = d.checkpointed ≡ None → j.length' + added_len j.version d.batch ≤ journal_limit
 
 pub record Conserved (net : Network) (w : World) : Type 0 where
   pub now : Invariant net.site w.durable w.frames w.unclaimed
-  -- what is in doubt may be made, whatever others do meanwhile
+  -- a batch in doubt may still be made, whatever other managers do in the meantime
   pub doubts : (v : ℕ) → MayReplay net.site w.durable v (w.in_doubt v).batch
-  -- only a manager that is down has a batch in doubt, and it keeps nothing of its life
+  -- only a manager that is down has a batch in doubt, and it keeps no state of its life
   pub doubtful : (v : ℕ) → w.up v ≡ true → w.in_doubt v ≡ no_doubt
   pub resting : (v : ℕ) → w.up v ≡ false → w.volatile v ≡ no_volatile
   pub volatile : (v : ℕ) → IsVolatile net w v (w.volatile v)
@@ -61,5 +62,6 @@ pub record Conserved (net : Network) (w : World) : Type 0 where
   pub doubt_room : (v : ℕ) → HasRoomFor (w.journal v) (w.in_doubt v)
   pub drawn : AreDrawn net w
   pub few_blocks : (l : Lane) → w.durable.blocks l ≤ 1024
-  -- what a start gave up is at most what is owned, so at most what is planned: a manager's own count adds up
+  -- The bytes that a start gave up are owned, so they are planned. A manager's own count of its bytes therefore adds
+  -- up.
   pub recovered : (l : Lane) → w.recovered l ≤ length (w.durable.own l)

@@ -1,4 +1,4 @@
--- What a frame carries, by name, and what it spends.
+-- Items: what a frame carries, by name, and how many lane bytes it spends.
 use Rattle.std.specs.Prelude.{ℕ, ◌+◌, Bool, false, List, Option, Some, None}
 use Rattle.qkd_base.specs.Name.{Name, name_eq}
 use Rattle.net_model.specs.declared.fact.Fact.{Fact}
@@ -22,7 +22,7 @@ abbrev pub item_name : Item → Name
 item_name (DataItem n) = n
 item_name (AckItem n) = n
 
--- an acknowledgement is known by the received offset that it answers
+-- an acknowledgement is an item with the received offset that it answers
 abbrev pub item_of : Option ℕ → Name → Item
 item_of None n = DataItem n
 item_of (Some x) n = AckItem n
@@ -35,7 +35,7 @@ abbrev pub data_payload : Option Fact → Option Payload
 data_payload None = None
 data_payload (Some f) = Some (Data f)
 
--- what is spelled: a fact by the table
+-- the payload of an item; that of a fact is looked up in the table
 abbrev pub payload : List Fact → Item → Option Payload
 payload facts (DataItem n) = data_payload (fact_at facts n)
 payload facts (AckItem n) = Some (Ack n)
@@ -44,6 +44,6 @@ abbrev pub len_or_zero : Option Payload → ℕ
 len_or_zero None = 0
 len_or_zero (Some p) = payload_len p
 
--- the lane bytes that it spends: one for each octet, and 8 that mask the tag
+-- how many lane bytes an item spends: one for each octet of its payload, and 8 that mask the tag
 abbrev pub need : List Fact → Item → ℕ
 need facts item = len_or_zero (payload facts item) + 8

@@ -1,4 +1,5 @@
--- The bytes of a lane: received by its sender, unused, spent by the hash key and frames, burnt at starts.
+-- The bytes of a lane that its sender received: unused ones, those spent by the hash key and by frames, and those burnt
+-- at starts.
 use Rattle.std.specs.Prelude.{◌-◌, Bool, true, false, length, count_by}
 use Rattle.qkd_base.specs.declared.lane.Lane.{Lane}
 use Rattle.net_model.specs.declared.counts.Counts4.{Counts4}
@@ -14,7 +15,7 @@ is_burnt HashKey = false
 is_burnt (Frame j) = false
 is_burnt Burnt = true
 
--- received = unused + spent + burnt, since a lane owns no more than it received
+-- received is the sum of unused, spent and burnt, since no more bytes of a lane are owned than were received
 unfoldable pub ledger : World → Lane → Counts4
 ledger w l =
     record {

@@ -1,5 +1,5 @@
--- What a network must be for the definitions to hold their promises: a site in its limits, frames that open as they were sealed, and
--- devices and entropies that give octets.
+-- The premises of the promises: a site within its limits, frames that open as they were sealed, and devices and
+-- entropies that give octets.
 use Rattle.std.specs.Prelude.{◌≡◌, ◌≢◌, ℕ, ◌<◌, ◌≤◌, true}
 use Rattle.net_model.specs.OctetSequence.{OctetSequence}
 use Rattle.net_model.specs.Sealing.{IsSealing}
@@ -19,7 +19,7 @@ pub record IsAllowed (s : Site) (first last : ℕ) : Type 0 where
   pub last_home : s.home last < s.nodes
   pub apart : s.home first ≢ s.home last
 
--- at most 16 nodes, 32 links and one link for each pair of nodes
+-- at most 16 nodes and 32 links, with at most one link for each pair of nodes
 pub record IsSite (s : Site) : Type 0 where
   pub nodes : s.nodes ≤ 16
   pub links : s.links ≤ 32

@@ -1,4 +1,4 @@
--- The ranges of a payload's parts, which a value of the program has by its type.
+-- The ranges of a payload's parts. In the program, the types of these parts ensure them.
 use Rattle.std.specs.Prelude.{◌≡◌, ℕ, ◌<◌, ◌^◌, nat_lt, true, List}
 use Rattle.std.specs.List.{list_all}
 use Rattle.qkd_base.specs.Name.{IsName}
@@ -11,7 +11,7 @@ use Rattle.net_model.specs.declared.payload.Payload.TheVariants.{Data, Ack}
 abbrev pub IsOctets : List ℕ → Type 0
 IsOctets bytes = list_all (λ b. nat_lt b 256) bytes ≡ true
 
--- 2 to 9 different nodes
+-- a route has 2 to 9 different nodes
 abbrev pub IsRoute : List ℕ → Type 0
 IsRoute route = (is_route route ≡ true) × (are_nodes route ≡ true)
 

@@ -21,16 +21,16 @@ abbrev pub is_some_of : Option ℕ → ℕ → Bool
 is_some_of None n = false
 is_some_of (Some m) n = m == n
 
--- the facts whose route has a node right after this one, and that it hasn't acknowledged
+-- the facts that go from this node to node `to`, and that `to` has not acknowledged
 unfoldable pub owed : View → ℕ → List Name
 owed v to = map name_of (filter (λ f. is_some_of (next_after (route_of f) v.me) to && not (has v.acked (name_of f))) v.facts)
 
--- the target of a key, chunk or part notes that it came
+-- the target of a key, chunk or part makes a Stored note of its arrival
 abbrev pub stored_note : View → Fact → List Record
 stored_note v f =
     if is_secret f && (target f == v.me) then Learned (Stored (fresh_name v NoteKind 0) (name_of f) (reverse (route_of f))) ∷ [] else []
 
--- a fact that is new is recorded; new or not, it is acknowledged
+-- a new fact is recorded; each fact, new or not, is acknowledged
 unfoldable pub receive_fact : View → Lane → ℕ → Fact → Effect
 receive_fact v l offset f =
     let is_new = not (knows v (name_of f)) in
@@ -42,7 +42,7 @@ receive_fact v l offset f =
       reply = HeardFact is_new (kind_of f) (name_of f);
     }
 
--- an acknowledgement is taken where its fact is owed to that neighbour; it is never acknowledged itself
+-- an acknowledgement counts if its fact is owed to that neighbour; it is itself never acknowledged
 unfoldable pub receive_ack : View → Lane → ℕ → Name → Effect
 receive_ack v l from n =
     let is_new = has (owed v from) n in
@@ -54,7 +54,7 @@ receive_ack v l from n =
       reply = HeardFact is_new 3 n;
     }
 
--- a payload came on a lane at an offset
+-- the effect of a payload that came on a lane at an offset
 abbrev pub receive : Site → View → Lane → ℕ → Payload → Effect
 receive site v l offset (Data f) = receive_fact v l offset f
 receive site v l offset (Ack n) = receive_ack v l (sender site l) n

@@ -23,7 +23,7 @@ origin_state given ready = if given then Given else if ready then Ready else Mad
 abbrev pub target_state : Bool → Held
 target_state given = if given then Given else Kept
 
--- a key or a chunk
+-- what is shown of a key or a chunk
 abbrev pub shown_one : View → Fact → Reply
 shown_one v f =
     if origin f == v.me then Shown (origin_state (has_it v (name_of f) (sae_at v.facts true f)) (is_confirmed v (name_of f))) (needed_bytes v f)
@@ -42,20 +42,20 @@ abbrev pub bytes_shown : View → Option Fact → List ℕ
 bytes_shown v None = []
 bytes_shown v (Some f) = bytes_of f
 
--- at the targets of parts: given where each slave here has the key
+-- what is shown at the targets of parts: Given if each slave here has got the key
 abbrev pub shown_at_target : View → List Fact → Reply
 shown_at_target v [] = Shown Absent []
 shown_at_target v (p ∷ ps) =
     Shown (target_state (list_all (λ f. slave_has v (part_of f)) (p ∷ ps))) (bytes_shown v (find (is_needed v) (p ∷ ps)))
 
--- a group key, by its parts
+-- what is shown of a group key, from its parts
 abbrev pub shown_group : View → Name → List Fact → Reply
 shown_group v n [] = Shown Absent []
 shown_group v n (p ∷ ps) =
     if origin p == v.me then Shown (origin_state (master_has v (part_of p)) (is_group_ready v n)) (needed_bytes v p)
     else shown_at_target v (filter (λ f. target f == v.me) (p ∷ ps))
 
--- a part's own name is shown between its ends alone
+-- a part is shown under its own name only at the relays between its ends
 abbrev pub shown_part : View → Fact → Reply
 shown_part v f = if (origin f == v.me) || (target f == v.me) then Shown Absent [] else Shown Relayed (needed_bytes v f)
 
@@ -68,8 +68,8 @@ shown v n _ = shown_group v n (parts_of v.facts n)
 unfoldable pub show : View → Name → Reply
 show v n = shown v n (fact_at v.facts n)
 
--- A manager's own count of a lane: what it has planned is spent, but for the bytes under the lease at its last start, which it counts
--- as burnt, the hash key apart.
+-- A manager's own count of a lane. The bytes below the lease at its last start are burnt, except the 8 of the hash key.
+-- All other planned bytes are spent.
 abbrev pub counted_of : Option Port → Reply
 counted_of None = Counted (record { received = 0; unused = 0; spent = 0; burnt = 0 })
 counted_of (Some p) =

@@ -1,11 +1,11 @@
--- What never changes: the nodes, the links between them, and the applications.
+-- The site, which never changes: the nodes, the links between them, and the applications.
 use Rattle.std.specs.Prelude.{ℕ, zero, suc, ◌==◌, ◌||◌, Bool, List, [], ◌∷◌, ◌++◌, filter, map, if◌then◌else◌}
 use Rattle.qkd_base.specs.declared.lane.Way.{Way}
 use Rattle.qkd_base.specs.declared.lane.Way.TheVariants.{Up, Down}
 use Rattle.qkd_base.specs.declared.lane.Lane.{Lane}
 
--- nodes and links count from 0. A link has a lower and a higher node, an application a home, and a pair of
--- applications a master or source and a slave or peer
+-- Nodes and links are numbered from 0. A link has a lower and a higher node, an application has a home, and a pair of
+-- applications is a master or source with a slave or peer.
 pub record Site : Type 0 where
   pub nodes : ℕ
   pub links : ℕ
@@ -14,7 +14,8 @@ pub record Site : Type 0 where
   pub home : ℕ → ℕ
   pub allowed : ℕ → ℕ → Bool
 
--- one of two, by the way: what is at the end that a lane of this way leaves
+-- chooses by the way of a lane: the first value if the lane leaves the link's low end, the second if it leaves the high
+-- end
 abbrev pub of_way : {A : Type 0} → Way → A → A → A
 of_way Up low high = low
 of_way Down low high = high
@@ -25,7 +26,7 @@ sender s l = of_way l.way (s.low l.link) (s.high l.link)
 abbrev pub receiver : Site → Lane → ℕ
 receiver s l = of_way l.way (s.high l.link) (s.low l.link)
 
--- 0 to n - 1
+-- the numbers from 0 to n - 1
 abbrev pub count_up : ℕ → List ℕ
 count_up zero = []
 count_up (suc n) = count_up n ++ n ∷ []
@@ -33,7 +34,7 @@ count_up (suc n) = count_up n ++ n ∷ []
 abbrev pub lane_of : ℕ → Way → Lane
 lane_of link way = record { link = link; way = way }
 
--- the way of a link that leaves a node
+-- the way of the lane by which a link leaves a node
 abbrev pub outgoing_way : Site → ℕ → ℕ → Way
 outgoing_way s v link = if s.low link == v then Up else Down
 

@@ -1,4 +1,4 @@
--- Starts: a journal is read back, what was in doubt is settled, and each lane goes on at its leased end.
+-- Starts: a journal is read back, the batch in doubt is settled, and each lane goes on at the end of its lease.
 use Rattle.std.specs.Prelude.{ℕ, ◌-◌, ◌==◌, ◌&&◌, ◌||◌, not, Bool, true, false, List, ◌++◌, length, replicate, is_none, Option, Some, None, if◌then◌else◌}
 use Rattle.qkd_base.specs.Family.{number_set}
 use Rattle.qkd_base.specs.declared.lane.Lane.{Lane}
@@ -10,11 +10,12 @@ use Rattle.net_model.specs.Records.{replay}
 use Rattle.net_model.specs.Journal.{added_len, is_nil, is_blank, new_journal, extended, checkpoint_need, is_checkpoint_due, checkpointed, recovered_journal}
 use Rattle.net_model.specs.Action.{Recovery, Recovers, Resumes, Interrupted, NoMemory, Foreign, Outcome, Started, WasUp, StartStopped, StartMemory, ForeignAt}
 
--- the batch in doubt is made durable or not
+-- the durable state after the batch in doubt is settled: it was made durable, or it was not
 abbrev pub resolved_durable : Site → World → ℕ → Bool → Durable
 resolved_durable site w v committed = if committed then replay site v (w.in_doubt v).batch w.durable else w.durable
 
--- the journal as it is read: a first start makes one, and a batch in doubt adds its octets once
+-- The journal as a start reads it. A first start makes a new one. A batch in doubt that was made durable adds its
+-- octets.
 abbrev pub resolved_journal : World → ℕ → Bool → Journal
 resolved_journal w v committed =
     if is_blank (w.journal v) then new_journal
@@ -23,19 +24,19 @@ resolved_journal w v committed =
 abbrev pub resolved : Site → World → ℕ → Bool → World
 resolved site w v committed = record w { durable = resolved_durable site w v committed; journal = number_set w.journal v (resolved_journal w v committed) }
 
--- the octets of the checkpoint that a start over this world makes
+-- the octets of the checkpoint that a start in this world makes
 abbrev pub need_at : Network → World → ℕ → ℕ
 need_at net w v = checkpoint_need (view_of net w v)
 
--- the bytes up to the leased end, but those that are owned, are given up
+-- all bytes below the leased end that nobody owns are given up
 abbrev pub burnt_to : ℕ → List Owner → List Owner
 burnt_to lease own = own ++ replicate (lease - length own) Burnt
 
--- a lane of the network leaves this node
+-- a lane of the network that leaves this node
 abbrev pub leaves : Site → ℕ → Lane → Bool
 leaves site v l = is_lane site l && (sender site l == v)
 
--- a manager is up again, with nothing but what its journal says; a checkpoint is made where one is due
+-- A manager is up again, with just what its journal tells. If a checkpoint is due, it is made.
 unfoldable pub restarted : Network → World → ℕ → World
 restarted net w v =
     record w {
@@ -48,8 +49,8 @@ restarted net w v =
       volatile = number_set w.volatile v no_volatile;
     }
 
--- A stopped start leaves the manager down. A checkpoint that it had made stays, and settles what is in doubt. Where it tells of none a
--- later start may find one all the same; and on a blank disk it may leave a header that is no header.
+-- A start that is stopped leaves the manager down. If it had made a checkpoint, this stays, and settles the batch in
+-- doubt. If it reported none, a later start may still find one. On a blank disk it may leave an incomplete header.
 abbrev pub interrupted_start : Network → World → ℕ → Option Bool → World
 interrupted_start net w v None = record w { interrupted = number_set w.interrupted v true }
 interrupted_start net w v (Some committed) =
@@ -59,7 +60,8 @@ interrupted_start net w v (Some committed) =
       in_doubt = number_set w.in_doubt v (record (w.in_doubt v) { checkpointed = Some committed });
     }
 
--- A start that finds the checkpoint of a stopped one goes on from what that one left. It may make a checkpoint of its own.
+-- A start that finds the checkpoint of a stopped one goes on from the journal that this one left. It may make a further
+-- checkpoint.
 abbrev pub recovers : Network → World → ℕ → Recovery → World × Outcome
 recovers net w v (Recovers committed) = (restarted net (resolved net.site w v committed) v, Started)
 recovers net w v (Resumes committed) = (restarted net (resolved net.site (interrupted_start net w v (Some committed)) v committed) v, Started)
@@ -70,24 +72,24 @@ recovers net w v Foreign = (w, ForeignAt 16)
 unfoldable pub start : Network → World → ℕ → Recovery → World × Outcome
 start net w v recovery = if w.up v then (w, WasUp) else recovers net w v recovery
 
--- which answers a start may get
+-- which answers about a batch in doubt are possible
 
 abbrev pub agrees : Option Bool → Bool → Bool → Bool
 agrees None has_batch committed = not committed || has_batch
 agrees (Some true) has_batch committed = committed
 agrees (Some false) has_batch committed = not committed
 
--- a batch in doubt is committed only where there is one, and as a checkpoint that was made has it
+-- a batch in doubt is committed only if there is one; if a checkpoint was made, the answer is what the checkpoint has
 abbrev pub may_resolve : InDoubt → Bool → Bool
 may_resolve d committed = agrees d.checkpointed (not (is_nil d.batch)) committed
 
--- a stopped start made a checkpoint only where one was due
+-- a stopped start made a checkpoint only if one was due
 abbrev pub may_checkpoint : Network → World → ℕ → Bool → Bool
 may_checkpoint net w v committed =
     let next = resolved net.site w v committed in
     not (is_blank (w.journal v)) && is_checkpoint_due (next.journal v) (need_at net next v)
 
--- a checkpoint that nobody told of is found only where a start that told of none was stopped
+-- a start may find a checkpoint that was not reported only after a stopped start that reported none
 unfoldable pub may_recover : Network → World → ℕ → Recovery → Bool
 may_recover net w v (Recovers committed) = may_resolve (w.in_doubt v) committed
 may_recover net w v (Resumes committed) = w.interrupted v && may_resolve (w.in_doubt v) committed && may_checkpoint net w v committed
@@ -96,7 +98,7 @@ may_recover net w v (Interrupted (Some committed)) = may_resolve (w.in_doubt v) 
 may_recover net w v NoMemory = true
 may_recover net w v Foreign = is_blank (w.journal v) && w.interrupted v
 
--- a manager that is up asks its disk nothing
+-- a manager that is up asks nothing of its disk when it is started
 abbrev pub is_plain : Recovery → Bool
 is_plain (Recovers false) = true
 is_plain _ = false

@@ -1,4 +1,4 @@
--- The step of the network: what each action makes of the world, and when it may happen. A run is a list of actions.
+-- The step of the network: how each action changes the world, and when it may happen. A run is a list of actions.
 use Rattle.std.specs.Prelude.{◌≡◌, ℕ, ◌&&◌, nat_lt, nat_le, Bool, true, false, List, [], ◌∷◌, length, is_some, if◌then◌else◌}
 use Rattle.std.specs.List.{list_all}
 use Rattle.qkd_base.specs.Family.{number_set}
@@ -17,7 +17,7 @@ use Rattle.net_model.specs.Start.{start, may_recover, is_plain}
 abbrev pub crash : World → ℕ → World × Outcome
 crash w v = if w.up v then (record w { up = number_set w.up v false; volatile = number_set w.volatile v no_volatile }, Crashed) else (w, WasDown)
 
--- a manager notes what became of its frames, and a down one in vain
+-- a manager notes what became of its frames; if it is down, it notes nothing
 abbrev pub complete_node : Network → World → ℕ → World × Outcome
 complete_node net w v =
     let out = handle net w v (Note (w.placings v)) Ok in
@@ -38,17 +38,17 @@ step net w (Flip l number bit environment) = flip net w l number bit environment
 step net w (Forge l octets environment) = tampered net w l octets environment
 step net w WantMemory = (w, Replies Memory)
 
--- when an action may happen
+-- ---- when an action may happen
 
--- all orders of a node are claimed and put
+-- all orders of a node are claimed, and all its frames are put
 abbrev pub is_sent : Network → World → ℕ → Bool
 is_sent net w v = list_all (λ l. is_nil (w.unclaimed l) && is_nil (w.outgoing l)) (outgoing_lanes net.site v)
 
--- and their ends noted
+-- all orders of a node are claimed, all its frames are put, and their placings are noted
 abbrev pub is_quiet : Network → World → ℕ → Bool
 is_quiet net w v = is_sent net w v && is_nil (w.placings v)
 
--- blocks, frames and placings come to a manager by actions of their own
+-- blocks, frames and placings reach a manager by actions of their own
 abbrev pub is_asked : Event → Bool
 is_asked (Block link number bytes) = false
 is_asked (Heard l bytes) = false
@@ -76,14 +76,14 @@ is_enabled net w (Flip l number bit environment) = is_lane net.site l
 is_enabled net w (Forge l octets environment) = is_lane net.site l && nat_le 1 (length octets) && nat_le (length octets) 600 && list_all (λ b. nat_lt b 256) octets
 is_enabled net w WantMemory = true
 
--- it may happen, and what the outside answered shows
+-- the action may happen, and the answer of the outside is visible in the outcome
 abbrev pub is_step : Network → World → Action → Bool
 is_step net w action = is_enabled net w action && is_shown (environment_of action) (step net w action).1
 
 abbrev pub IsStep : Network → World → Action → Type 0
 IsStep net w action = is_step net w action ≡ true
 
--- runs
+-- ---- runs
 
 unfoldable pub run : Network → World → List Action → World
 run net w [] = w

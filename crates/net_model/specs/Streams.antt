@@ -16,19 +16,19 @@ use Rattle.net_model.specs.View.{View}
 use Rattle.net_model.specs.Decision.{Decision, Refuses, answers, makes, fresh_name, is_confirmed}
 use Rattle.net_model.specs.Pools.{is_entitled}
 
--- 64 to 4,096 bits in steps of 8
+-- the size of a key: 64 to 4,096 bits in steps of 8
 abbrev pub is_size : ℕ → Bool
 is_size bits = nat_le 64 bits && nat_le bits 4096 && (bits % 8 == 0)
 
--- a status alone
+-- a reply that is only a status
 abbrev pub only_status : ℕ → Reply
 only_status n = Stream n None 0 []
 
--- the application's end of a stream is here and isn't closed
+-- the application's end of a stream is at this node and isn't closed
 abbrev pub has_end : Site → View → Name → ℕ → Bool
 has_end site v stream sae = (site.home sae == v.me) && not (was_handed v.closed stream sae)
 
--- the stream, where this node has an end of it that isn't closed
+-- the stream, if one of its ends is at this node and isn't closed
 abbrev pub open_end : Site → View → Option Fact → Option Fact
 open_end site v (Some (Open stream source peer size route)) =
     if has_end site v stream source || has_end site v stream peer then Some (Open stream source peer size route) else None
@@ -37,11 +37,12 @@ open_end site v _ = None
 abbrev pub stream_here : Site → View → Name → Option Fact
 stream_here site v n = open_end site v (fact_at v.facts n)
 
--- the peer's Joined note is known here
+-- this node knows the peer's Joined note
 abbrev pub has_joined : View → Name → Bool
 has_joined v n = list_any (is_joined_about n) v.facts
 
--- open, at the source's home: 8 not allowed or not at home, 7 size, 4 no route, 1 opened and not joined yet
+-- Open, at the home of the source. Status 8: not allowed, or not at home here. 7: a wrong size. 4: no route. 1: the
+-- stream is open, and its peer hasn't joined yet.
 
 abbrev pub opened : View → ℕ → ℕ → ℕ → Option (List ℕ) → Decision
 opened v source peer bits None = answers v (only_status 4)
@@ -54,8 +55,8 @@ open_stream site up v source peer bits =
     else if not (is_size bits) then answers v (only_status 7)
     else opened v source peer bits (route site up v.me (site.home peer))
 
--- join: 9 no such stream open here, 5 by the source or by a peer that has joined, 8 by others or not at the peer's home, 7 another
--- size, 0 joined
+-- Join. Status 9: no such stream is open here. 5: the caller is the source, or a peer that has joined already. 8: the
+-- caller is neither, or the peer is not at home here. 7: another size than the stream's. 0: joined.
 abbrev pub joins : Site → View → ℕ → ℕ → ℕ → Option Fact → Decision
 joins site v caller other bits (Some (Open stream source peer size route)) =
     if (caller == source) || ((caller == peer) && has_joined v stream) then answers v (only_status 5)
@@ -67,8 +68,8 @@ joins site v caller other bits _ = answers v (only_status 9)
 unfoldable pub join_stream : Site → View → ℕ → ℕ → Name → ℕ → Decision
 join_stream site v caller other stream bits = joins site v caller other bits (stream_here site v stream)
 
--- the common part of get and close: 9 where no such stream is open here, or its peer here hasn't joined; 8 where the caller is
--- neither end here
+-- What get and close have in common. Status 9: no such stream is open here, or its peer, at home here, hasn't joined.
+-- 8: the caller is not an end of the stream that is at home here.
 abbrev pub at_end : Site → View → ℕ → Option Fact → (Name → ℕ → Decision) → Decision
 at_end site v caller (Some (Open stream source peer size route)) then' =
     if (site.home peer == v.me) && not (has_joined v stream) then answers v (only_status 9)
@@ -87,7 +88,8 @@ is_chunk_at s i _ = false
 abbrev pub chunk_at : View → Name → ℕ → Option Fact
 chunk_at v s i = find (is_chunk_at s i) v.facts
 
--- 10 given already, 2 not confirmed to the source or not known to the peer, 0 with the bytes
+-- Status 10: the chunk was already given. 2: it isn't confirmed to the source, or the peer's node doesn't know it. 0:
+-- the chunk's bytes are given.
 abbrev pub gives_chunk : View → ℕ → ℕ → Bool → Option Fact → Decision
 gives_chunk v caller index at_source None = answers v (only_status 2)
 gives_chunk v caller index at_source (Some f) =
@@ -95,7 +97,7 @@ gives_chunk v caller index at_source (Some f) =
     else if at_source && not (is_confirmed v (name_of f)) then answers v (only_status 2)
     else makes v (Handed (name_of f) caller ∷ []) (Stream 0 None index (bytes_of f))
 
--- 3 where the source hasn't learned that the peer joined
+-- status 3: the source's node doesn't know yet that the peer joined
 unfoldable pub get_chunk : Site → View → ℕ → Name → ℕ → Decision
 get_chunk site v caller stream index =
     at_end site v caller (stream_here site v stream) (λ s source.
@@ -106,14 +108,14 @@ unfoldable pub close_stream : Site → View → ℕ → Name → Decision
 close_stream site v caller stream =
     at_end site v caller (stream_here site v stream) (λ s source. makes v (Closed s caller ∷ []) (only_status 0))
 
--- feed: chunks with the next indexes from 0
+-- Feed: new chunks of a stream, with consecutive indexes from 0.
 
 abbrev pub new_chunks : View → Name → List ℕ → ℕ → ℕ → List ℕ → ℕ → ℕ → List Record
 new_chunks v stream route size next random more zero = []
 new_chunks v stream route size next random more (suc k) =
     Learned (Chunk (fresh_name v KeyKind more) stream (next + more) route (take size random)) ∷ new_chunks v stream route size next (drop size random) (more + 1) k
 
--- the chunks that the source hasn't got
+-- how many chunks the source hasn't got
 abbrev pub waiting : View → Name → ℕ → ℕ
 waiting v stream source = count_by (λ f. is_chunk_of stream f && not (was_handed v.handed (name_of f) source)) v.facts
 
@@ -131,7 +133,7 @@ fed_stream site up v count random _ = Refuses UnknownStream
 unfoldable pub feed : Site → (ℕ → Bool) → View → Name → ℕ → List ℕ → Decision
 feed site up v stream count random = fed_stream site up v count random (fact_at v.facts stream)
 
--- the octets of one chunk of a stream
+-- the octets of each chunk of a stream
 abbrev pub chunk_size : Option Fact → ℕ
 chunk_size (Some (Open stream source peer size route)) = size
 chunk_size _ = 0

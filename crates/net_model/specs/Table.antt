@@ -1,4 +1,4 @@
--- The table of all facts: found by name, added to and never changed.
+-- The table of all facts. A fact is found by its name, and facts are added but never changed.
 use Rattle.std.specs.Prelude.{ℕ, ◌==◌, ◌&&◌, Bool, true, false, List, [], ◌∷◌, ◌++◌, length, find, filter, filter_map, replicate, is_some, Option, Some, None, if◌then◌else◌}
 use Rattle.std.specs.List.{list_any}
 use Rattle.qkd_base.specs.Name.{Name, name_eq}
@@ -28,7 +28,7 @@ origin f = first_of (route_of f)
 abbrev pub target : Fact → ℕ
 target f = last_of (route_of f)
 
--- what has bytes that are handed out
+-- the facts whose bytes are handed out to applications
 abbrev pub is_secret : Fact → Bool
 is_secret (Key name master slave route bytes) = true
 is_secret (Chunk name stream index route bytes) = true
@@ -44,21 +44,21 @@ bytes_of _ = []
 abbrev pub zeros_for : List ℕ → List ℕ
 zeros_for bytes = replicate (length bytes) 0
 
--- the same fact with zeros for its bytes
+-- the fact with zeros in place of its bytes
 abbrev pub without_bytes : Fact → Fact
 without_bytes (Key name master slave route bytes) = Key name master slave route (zeros_for bytes)
 without_bytes (Chunk name stream index route bytes) = Chunk name stream index route (zeros_for bytes)
 without_bytes (Part name key master slave route bytes) = Part name key master slave route (zeros_for bytes)
 without_bytes f = f
 
--- the fact of a name: the first one, so what stands after it in the list never changes the answer
+-- The fact of a name. It is the first in the list, so facts that are appended never change the answer.
 abbrev pub fact_at : List Fact → Name → Option Fact
 fact_at facts n = find (λ f. name_eq (name_of f) n) facts
 
 abbrev pub has_fact : List Fact → Name → Bool
 has_fact facts n = is_some (fact_at facts n)
 
--- the table with one more fact, unless its name is there
+-- the table with one more fact, unless it has one of that name
 abbrev pub learned : List Fact → Fact → List Fact
 learned facts f = if has_fact facts (name_of f) then facts else facts ++ f ∷ []
 
@@ -66,7 +66,7 @@ learned facts f = if has_fact facts (name_of f) then facts else facts ++ f ∷ [
 abbrev pub facts_of : List Fact → List Name → List Fact
 facts_of facts ns = filter_map (fact_at facts) ns
 
--- what a part says of its group key
+-- the group key of a part, its master and slave, and its bytes
 pub record PartOf : Type 0 where
   pub key : Name
   pub master : ℕ
@@ -98,23 +98,24 @@ abbrev pub is_joined_about : Name → Fact → Bool
 is_joined_about n (Joined note about route) = name_eq about n
 is_joined_about n _ = false
 
--- a pair of a name and an application is in the list
+-- the list has this pair of a name and an application
 abbrev pub was_handed : List (Name × ℕ) → Name → ℕ → Bool
 was_handed handed n sae = list_any (λ h. name_eq h.0 n && (h.1 == sae)) handed
 
--- the application at the first or at the last node of a stream
+-- the application at the first or at the last node of a stream's route
 abbrev pub stream_end : Bool → Option Fact → Option ℕ
 stream_end at_first (Some (Open stream source peer size route)) = Some (if at_first then source else peer)
 stream_end at_first _ = None
 
--- the application at the first or at the last node of a key, chunk or part; a chunk's stands in its stream
+-- The application at the first or at the last node of the route of a key, chunk or part. That of a chunk is found in
+-- its stream.
 abbrev pub sae_at : List Fact → Bool → Fact → Option ℕ
 sae_at facts at_first (Key name master slave route bytes) = Some (if at_first then master else slave)
 sae_at facts at_first (Chunk name stream index route bytes) = stream_end at_first (fact_at facts stream)
 sae_at facts at_first (Part name key master slave route bytes) = Some (if at_first then master else slave)
 sae_at facts at_first _ = None
 
--- the kind octet of its spelling
+-- the kind octet of a fact as it is encoded
 abbrev pub kind_of : Fact → ℕ
 kind_of (Key name master slave route bytes) = 1
 kind_of (Stored note about route) = 2

@@ -1,4 +1,4 @@
--- What a manager knows: its own facts and marks, its end of each link, and what one life keeps.
+-- The view of a manager: its own facts and marks, its ends of its links, and the state of its life.
 use Rattle.std.specs.Prelude.{ℕ, ◌==◌, List, [], length, filter, find, Option, Some, None}
 use Rattle.qkd_base.specs.Name.{Name}
 use Rattle.qkd_base.specs.declared.lane.Lane.{Lane}
@@ -7,8 +7,8 @@ use Rattle.net_model.specs.Site.{Site}
 use Rattle.qkd_base.specs.LaneBytes.{lane_len, lane_octets}
 use Rattle.net_model.specs.World.{Volatile}
 
--- One end of a link: the lane that leaves it, the blocks taken here, the leased end and the planned end of that lane, and
--- the lease at the last start.
+-- A port is a node's end of a link. It has the lane that leaves the node, the blocks taken here, the leased and the
+-- planned end of this lane, and the lease at the last start.
 pub record Port : Type 0 where
   pub lane : Lane
   pub blocks : List (List ℕ)
@@ -16,8 +16,8 @@ pub record Port : Type 0 where
   pub planned : ℕ
   pub recovered : ℕ
 
--- All is lists and numbers. Facts are in order of learning, with zeros for the bytes that the node needs no more; handings
--- are those of applications at home here; ports are in order of link.
+-- A view consists of lists and numbers. Facts are in the order in which they were learned, and bytes that the node no
+-- longer needs are zeros. Handings are those of applications at home here. Ports are in order of link.
 pub record View : Type 0 where
   pub me : ℕ
   pub facts : List Fact
@@ -27,11 +27,11 @@ pub record View : Type 0 where
   pub ports : List Port
   pub volatile : Volatile
 
--- the bytes received of the lane that leaves, and of the lane that comes
+-- how many bytes of the outgoing lane were received, and how many of the incoming one
 abbrev pub received_of : Port → ℕ
 received_of p = lane_len p.lane.way (length p.blocks)
 
--- the bytes of the lane that comes
+-- the bytes of the incoming lane
 abbrev pub incoming_octets : Lane → Option Port → List ℕ
 incoming_octets l None = []
 incoming_octets l (Some p) = lane_octets l.way p.blocks
@@ -44,6 +44,6 @@ abbrev pub blocks_of : Option Port → ℕ
 blocks_of None = 0
 blocks_of (Some p) = length p.blocks
 
--- the handings of the applications that are at home at a node
+-- what was handed to the applications that are at home at a node
 abbrev pub handed_at : Site → ℕ → List (Name × ℕ) → List (Name × ℕ)
 handed_at s v hs = filter (λ h. s.home h.1 == v) hs

@@ -1,4 +1,5 @@
--- What one life keeps: entries are frames of the node's lanes, and each received frame has one acknowledgement.
+-- What one life of a manager keeps. Each entry is a frame of one of the node's lanes, and each received frame has at
+-- most one acknowledgement.
 use Rattle.std.specs.Prelude.{◌≡◌, ℕ, ◌==◌, ◌&&◌, Bool, true, false, List, [], ◌∷◌, ◌++◌, map, filter_map, slice_get, take, Option, Some, None}
 use Rattle.std.specs.List.{list_any}
 use Rattle.qkd_base.specs.Name.{name_eq}
@@ -13,12 +14,12 @@ use Rattle.net_model.specs.Frames.{frame_octets}
 use Rattle.net_model.specs.Events.{is_lane}
 use Rattle.net_model.specs.Knowledge.{IsAdjacent}
 
--- it stands on the wire, if it has a number there
+-- the frame is on the wire under this number, if it has one
 abbrev pub IsOnWire : List ℕ → ℕ → Option ℕ → Type 0
 IsOnWire wire j None = Unit {0}
 IsOnWire wire j (Some n) = slice_get wire n ≡ Some j
 
--- an acknowledgement is what has a received offset
+-- a transmission is an acknowledgement exactly if it has a received offset
 abbrev pub IsShaped : Transmission → Type 0
 IsShaped t = t.item ≡ item_of t.received_offset (item_name t.item)
 
@@ -32,7 +33,7 @@ pub record IsEntry (net : Network) (w : World) (v : ℕ) (e : Entry) : Type 0 wh
   pub octets : e.frame ≡ frame_octets net w e.transmission.lane (Some (record { offset = e.offset; item = e.transmission.item }))
   pub wire : IsOnWire (w.wire e.transmission.lane) number e.number
 
--- what became of a frame: it is a frame of a lane that leaves the node, with its octets and its number on the wire
+-- a placing is that of a frame of a lane that leaves the node, with its octets and its number on the wire
 pub record IsPlaced (net : Network) (w : World) (v : ℕ) (p : Placing) : Type 0 where
   pub site : is_lane net.site p.lane ≡ true
   pub lane : sender net.site p.lane ≡ v
@@ -41,7 +42,7 @@ pub record IsPlaced (net : Network) (w : World) (v : ℕ) (p : Placing) : Type 0
   pub octets : take p.length p.frame.octets ≡ frame_octets net w p.lane (Some (record { offset = p.offset; item = item_of p.ack_of p.name }))
   pub wire : IsOnWire (w.wire p.lane) number p.number
 
--- what is ordered and what may be put on a lane is a transmission on that lane
+-- the orders and the frames of a lane are transmissions on this lane
 pub record IsPosted (l : Lane) (unclaimed : List Transmission) (outgoing : List Outgoing) : Type 0 where
   pub ordered : (n : ℕ) (t : Transmission) → slice_get unclaimed n ≡ Some t → (t.lane ≡ l) × IsShaped t
   pub put : (n : ℕ) (o : Outgoing) → slice_get outgoing n ≡ Some o → (o.transmission.lane ≡ l) × IsShaped o.transmission
@@ -51,7 +52,7 @@ pub record IsPending (net : Network) (w : World) (v : ℕ) (a : PendingAck) : Ty
   pub lane : receiver net.site a.lane ≡ v
   pub fact : IsAdjacent w.durable.facts w.durable.known v (sender net.site a.lane) v a.name
 
--- places of lanes
+-- the list has this offset of this lane
 
 abbrev pub has_place : List (Lane × ℕ) → Lane × ℕ → Bool
 has_place ps q = list_any (λ p. lane_eq p.0 q.0 && (p.1 == q.1)) ps
@@ -67,13 +68,13 @@ abbrev pub answered_at : Lane → Option ℕ → Option (Lane × ℕ)
 answered_at l None = None
 answered_at l (Some offset) = Some (reverse_lane l, offset)
 
--- the places of the received frames that are answered or will be
+-- the lanes and offsets of received frames whose acknowledgement was sent or is pending
 abbrev pub answered : Volatile → List (Lane × ℕ)
 answered vol =
     map (λ (a : PendingAck). (a.lane, a.offset)) vol.pending_acks ++
     filter_map (λ (e : Entry). answered_at e.transmission.lane e.transmission.received_offset) vol.window
 
--- a transmission that acknowledges is a pending acknowledgement
+-- the transmission is this pending acknowledgement
 abbrev pub is_same_ack : Transmission → PendingAck → Bool
 is_same_ack t a = is_pending_of t a && name_eq a.name (item_name t.item)
 

@@ -1,4 +1,4 @@
--- The world: what all managers, lanes, wires and disks of a network are at one moment.
+-- The world: the state of all managers, lanes, wires and disks of a network at one moment.
 use Rattle.std.specs.Prelude.{ℕ, ◌+◌, Bool, true, false, List, [], ◌∷◌, length, Option, None}
 use Rattle.qkd_base.specs.Name.{Name}
 use Rattle.qkd_base.specs.declared.lane.Lane.{Lane}
@@ -12,31 +12,33 @@ use Rattle.qkd_base.specs.LaneBytes.{lane_len}
 use Rattle.net_model.specs.OctetSequence.{OctetSequence}
 use Rattle.net_model.specs.Sealing.{Sealing}
 
--- what a network is given once: its site, its frames, and what the device of each link and the entropy of each node give
+-- what a network has from the start: its site, its frames, and what the device of each link and the entropy of each
+-- node give
 pub record Network : Type 0 where
   pub site : Site
   pub sealing : Sealing
   pub device : ℕ → OctetSequence
   pub entropy : ℕ → OctetSequence
 
--- who owns a lane byte: the hash key, a frame by its number, or nobody any more
+-- the owner of a lane byte: the hash key, a frame by its number, or nobody, since it was burnt
 pub data Owner : Type 0 where
   HashKey : Owner
   Frame : (number : ℕ) → Owner
   Burnt : Owner
 
--- a frame's place on its lane, and what it carries
+-- where a frame is on its lane, and what it carries
 pub record Allocation : Type 0 where
   pub offset : ℕ
   pub item : Item
 
--- something to be sent on a lane; an acknowledgement has the received offset that it answers
+-- what is sent on a lane; an acknowledgement has the offset at which its frame was received
 pub record Transmission : Type 0 where
   pub lane : Lane
   pub item : Item
   pub received_offset : Option ℕ
 
--- what was sent and may be sent again: its place, its number on the wire if it has one, its age in ticks, its octets
+-- a frame that was sent and may be sent again: its offset, its number on the wire if it has one, its age in ticks,
+-- whether it is due, and its octets
 pub record Entry : Type 0 where
   pub transmission : Transmission
   pub offset : ℕ
@@ -45,7 +47,8 @@ pub record Entry : Type 0 where
   pub due : Bool
   pub frame : List ℕ
 
--- an acknowledgement not yet sent: the lane and offset at which its frame was received
+-- an acknowledgement that was not sent yet: the lane and the offset at which its frame was received, and its fact's
+-- name
 pub record PendingAck : Type 0 where
   pub lane : Lane
   pub offset : ℕ
@@ -55,29 +58,30 @@ pub record PendingAck : Type 0 where
 pub record Volatile : Type 0 where
   pub window : List Entry
   pub pending_acks : List PendingAck
-  -- ordered, and its placing isn't noted yet
+  -- the orders whose placing isn't noted yet
   pub awaiting : List Transmission
 
 abbrev pub no_volatile : Volatile
 no_volatile = record { window = []; pending_acks = []; awaiting = [] }
 
--- What the records of batches change, and claims. Each family is a field of its own, so that an update of one leaves the
--- others as they are.
+-- What records of batches and claims change. Each family is a field of its own, so an update of one doesn't touch the
+-- others.
 pub record Durable : Type 0 where
-  -- per lane: the blocks taken at its sender's end, the owners of its first bytes, and the end below which bytes may be claimed
+  -- for each lane: the blocks taken at its sender, the owners of its first bytes, and the end below which bytes may be
+  -- claimed
   pub blocks : Lane → ℕ
   pub own : Lane → List Owner
   pub lease : Lane → ℕ
-  -- of the network: all facts, and which application got which key
+  -- for the whole network: all facts, and which application got which key
   pub facts : List Fact
   pub handed : List (Name × ℕ)
-  -- per node: the names that it knows, those that the next node acknowledged, its closed ends of streams
+  -- for each node: the names that it knows, those that the next node acknowledged, and its closed ends of streams
   pub known : ℕ → List Name
   pub acked : ℕ → List Name
   pub closed : ℕ → List (Name × ℕ)
 
--- A node's journal: its length, 0 before its first start; the place and generation of the live area, whether that was ever
--- moved by a checkpoint, and the version in which its records are spelled.
+-- A node's journal: its length, which is 0 before the first start; the place and the generation of the live area;
+-- whether a checkpoint ever moved this area; and the version of its records.
 pub record Journal : Type 0 where
   pub length' : ℕ
   pub start : ℕ
@@ -88,7 +92,8 @@ pub record Journal : Type 0 where
 abbrev pub no_journal : Journal
 no_journal = record { length' = 0; start = 0; generation = 0; moved = false; version = 2 }
 
--- The batch of a stopped event, which is durable or not; and, once a stopped start made a checkpoint, whether that had it.
+-- The batch of a stopped event, which may or may not be durable. If a stopped start made a checkpoint, `checkpointed`
+-- says whether this has the batch.
 pub record InDoubt : Type 0 where
   pub batch : List Record
   pub checkpointed : Option Bool
@@ -96,7 +101,7 @@ pub record InDoubt : Type 0 where
 abbrev pub no_doubt : InDoubt
 no_doubt = record { batch = []; checkpointed = None }
 
--- a frame that may be put on its lane's wire: one just allocated, or a repeat
+-- a frame that may be put on its lane's wire: a new one or a repeat
 pub record Outgoing : Type 0 where
   pub frame : ℕ
   pub transmission : Transmission
@@ -105,16 +110,16 @@ pub record Outgoing : Type 0 where
 pub record World : Type 0 where
   pub durable : Durable
   pub link_up : ℕ → Bool
-  -- per lane: the frames ever claimed, the numbers of those on the wire, the orders not yet claimed, what may be put on
-  -- the wire, and the lease at the last start of the sender
+  -- for each lane: all frames claimed so far, the numbers of those on the wire, the orders not yet claimed, the frames
+  -- that may be put, and the lease at the sender's last start
   pub frames : Lane → List Allocation
   pub wire : Lane → List ℕ
   pub unclaimed : Lane → List Transmission
   pub outgoing : Lane → List Outgoing
   pub recovered : Lane → ℕ
-  -- per node: whether its manager is up, how many octets its entropy gave, its journal, whether a start that told of no
-  -- checkpoint was stopped since the last that succeeded, what is in doubt, what one life keeps, and what became of its
-  -- frames since the last note
+  -- for each node: whether its manager is up, how many octets its entropy gave, its journal, whether a start was
+  -- stopped and reported no checkpoint since the last start that succeeded, the batch in doubt, the state of its life,
+  -- and the placings that it has not noted yet
   pub up : ℕ → Bool
   pub drawn : ℕ → ℕ
   pub journal : ℕ → Journal
@@ -123,23 +128,23 @@ pub record World : Type 0 where
   pub volatile : ℕ → Volatile
   pub placings : ℕ → List Placing
 
--- the lane bytes that the sender and the receiver have received
+-- how many bytes of a lane its sender has received, and how many its receiver has
 abbrev pub received : Durable → Lane → ℕ
 received d l = lane_len l.way (d.blocks l)
 
 abbrev pub received_there : Durable → Lane → ℕ
 received_there d l = lane_len l.way (d.blocks (reverse_lane l))
 
--- what transmissions need
+-- how many lane bytes these transmissions need
 abbrev pub needs : List Fact → List Transmission → ℕ
 needs facts [] = 0
 needs facts (t ∷ ts) = need facts t.item + needs facts ts
 
--- the lane bytes claimed or ordered
+-- how many bytes of a lane are claimed or ordered
 abbrev pub planned : World → Lane → ℕ
 planned w l = length (w.durable.own l) + needs w.durable.facts (w.unclaimed l)
 
--- the world before any start: nothing is there, all managers are down, all links up
+-- the world before any start: nothing was received or made, all managers are down, and all links are up
 unfoldable pub first : World
 first =
     record {

@@ -1,12 +1,10 @@
-// The bytes of a lane.
-
 /// The bytes of one lane at its sender: `received = unused + spent + burnt`.
 #[derive(Clone, Copy, Debug, PartialEq, Eq)]
 pub struct Counts4 {
     pub received: u64,
     pub unused: u64,
-    /// The hash key, and what frames use.
+    /// The bytes of the hash key, and those that frames use.
     pub spent: u64,
-    /// What a restart gave up.
+    /// The bytes that a restart gave up.
     pub burnt: u64,
 }

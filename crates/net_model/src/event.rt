@@ -1,8 +1,9 @@
-// What a manager is asked.
+// The events that a manager is asked to handle.
 use crate::Placings;
 use qkd_base::{KeyName, Lane, LinkNo, Names, Octets, SaeNo, Saes};
 
-/// One event of a key manager (KME). Sizes in bits are 64 to 4,096 in steps of 8, counts and numbers of keys 1 to 128.
+/// An event that a key manager (KME) is asked to handle. Sizes are in bits, from 64 to 4,096 in steps of 8. Counts and
+/// numbers of keys are from 1 to 128.
 #[derive(Debug, Drop)]
 pub enum Event {
     /// The next block of a link, 1,024 octets, came to this end.
@@ -18,12 +19,12 @@ pub enum Event {
         bits: u16,
         count: u16,
     },
-    /// Make chunks for a stream.
+    /// Make chunks of a stream.
     Feed {
         stream: KeyName,
         count: u16,
     },
-    /// Say what goes out now.
+    /// Say which frames are to be sent now.
     Plan,
     /// A frame came on a lane.
     Heard {
@@ -72,7 +73,7 @@ pub enum Event {
         caller: SaeNo,
         stream: KeyName,
     },
-    /// Show an operator what this node has of a key.
+    /// Show an operator what this node holds of a key.
     Show {
         name: KeyName,
     },
@@ -80,7 +81,7 @@ pub enum Event {
     Ledger {
         lane: Lane,
     },
-    /// Make group keys for 2 to 5 slaves, in order of number.
+    /// Make group keys for 2 to 5 slaves, which are in order of number.
     FillGroup {
         master: SaeNo,
         slaves: Saes,
@@ -94,7 +95,7 @@ pub enum Event {
         number: u16,
         bits: u16,
     },
-    /// What became of the frames of the plans so far.
+    /// Note what became of the frames of the plans so far.
     Note {
         placings: Placings,
     },

@@ -1,11 +1,11 @@
-// What the nodes of the network know.
+// Facts, which the nodes of the network know.
 use qkd_base::{KeyName, Memory, Octets, Replica, Route, SaeNo};
 
-/// Something that a node makes once and that is relayed along a route, hop by hop (SECOQC trusted repeaters). Its name
-/// is unique in the network. Bytes are 8 to 512 octets.
+/// A fact is something that a node makes once and that is relayed along a route, hop by hop (SECOQC trusted repeaters).
+/// Its name is unique in the network. Its bytes, if it has any, are 8 to 512 octets.
 #[derive(Debug, Drop)]
 pub enum Fact {
-    /// A key of a pool: for the master at the route's first node and the slave at its last (ETSI GS QKD 014).
+    /// A key of a pool, for the master at the route's first node and the slave at its last one (ETSI GS QKD 014).
     Key {
         name: KeyName,
         master: SaeNo,
@@ -21,13 +21,13 @@ pub enum Fact {
         route: Route,
         bytes: Octets,
     },
-    /// The target's word that a key, chunk or part has come there, relayed back.
+    /// A note of the target that a key, chunk or part has arrived there. It is relayed back to the origin.
     Stored {
         note: KeyName,
         about: KeyName,
         route: Route,
     },
-    /// A stream of chunks of so many octets (ETSI GS QKD 004, OPEN_CONNECT by the source).
+    /// A stream of chunks of `size` octets each (ETSI GS QKD 004, OPEN_CONNECT by the source).
     Open {
         stream: KeyName,
         source: SaeNo,
@@ -35,7 +35,8 @@ pub enum Fact {
         length: u16,
         route: Route,
     },
-    /// The peer's word that it takes part in a stream, relayed back (ETSI GS QKD 004, OPEN_CONNECT by the peer).
+    /// A note of the peer that it takes part in a stream. It is relayed back to the source's home (ETSI GS QKD 004,
+    /// OPEN_CONNECT by the peer).
     Joined {
         note: KeyName,
         about: KeyName,

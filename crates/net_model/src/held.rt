@@ -1,11 +1,9 @@
-// Where a key stands at a node.
-
-/// What a node has of a key or chunk, as an operator is shown it.
+/// The state of a key or chunk at a node, as an operator is shown it.
 #[derive(Clone, Copy, Debug, PartialEq, Eq)]
 pub enum Held {
-    /// The node knows none of that name.
+    /// The node knows no key or chunk of that name.
     Absent,
-    /// The node is an end, and its application has got it.
+    /// The node is an end of it, and the application there has got it.
     Given,
     /// The node made it, and its target has confirmed it.
     Ready,
@@ -13,6 +11,6 @@ pub enum Held {
     Made,
     /// The node is its target.
     Kept,
-    /// The node stands between its ends.
+    /// The node is a relay between its ends.
     Relayed,
 }

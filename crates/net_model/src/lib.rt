@@ -12,8 +12,6 @@ mod record;
 mod repeat;
 mod reply;
 mod short_of;
-#[cfg(test)]
-mod tests;
 
 pub use counts::Counts4;
 pub use event::Event;

@@ -1,19 +1,19 @@
-// What a plan orders for the first time.
+// What a plan orders to be sent for the first time.
 use crate::Payload;
 use qkd_base::{Items, Lane, Memory, Replica};
 
-/// A payload to be sent on a lane for the first time.
+/// An order: a payload that is to be sent on a lane for the first time.
 #[derive(Debug, Drop)]
 pub struct Order {
     pub lane: Lane,
-    /// The offset that the plan foresees. The lane's own claim fixes it.
+    /// The offset that the plan foresees. The lane's claim decides it.
     pub offset: u64,
-    /// For an acknowledgement the offset at which its frame was received.
+    /// For an acknowledgement, the offset at which its frame was received.
     pub ack_of: Option<u64>,
     pub payload: Payload,
 }
 
-/// Orders in order.
+/// A list of orders.
 pub type Orders = Items<Order>;
 
 impl Replica for Order {

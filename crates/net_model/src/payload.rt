@@ -1,16 +1,16 @@
-// What a frame carries.
+// The payloads of frames.
 ghost use Rattle.std.specs.Prelude.{◌≡◌, ◌≤◌, ◌↔◌, IsTrue, length};
 ghost use Rattle.net_model.specs.Facts.{fact_len, payload_len, IsSize, IsWellFormed, IsWellFormedFact};
 
 use crate::Fact;
 use qkd_base::{KeyName, Memory, NameKind, Octets, Replica};
 
-/// What one frame says to the other end of its link.
+/// What one frame tells the other end of its link.
 #[derive(Debug, Drop)]
 pub enum Payload {
-    /// A fact, for the next node of its route.
+    /// A fact, sent to the next node of its route.
     Data(Fact),
-    /// The acknowledgement of the fact of this name, to the node that sent it.
+    /// The acknowledgement of the fact of this name, sent to the node from which it came.
     Ack(KeyName),
 }
 
@@ -23,7 +23,7 @@ impl Replica for Payload {
     }
 }
 
-// Whether the octets of a key, a chunk or a part are 8 to 512.
+// Whether the bytes of a key, a chunk or a part are 8 to 512 octets.
 fn has_size(bytes: &Octets) -> bool
     ensures { IsTrue result ↔ IsSize (length bytes.now) }
 {
@@ -31,7 +31,7 @@ fn has_size(bytes: &Octets) -> bool
     8 <= size && size <= 512
 }
 
-// Whether a fact's names are of the kinds that they must have, and its lengths in their range.
+// Whether the names of a fact have the right kinds, and its bytes the right sizes.
 fn is_formed(fact: &Fact) -> bool
     ensures { IsTrue result ↔ IsWellFormedFact fact.now }
 {
@@ -63,8 +63,8 @@ fn is_formed(fact: &Fact) -> bool
     }
 }
 
-/// Whether a payload is well formed: its names have the kinds and its bytes and chunk lengths the sizes that its
-/// kind asks for. Every other payload has no spelling.
+/// Whether a payload is well formed: its names have the right kinds, and its bytes and chunk lengths the right sizes.
+/// No other payload can be encoded.
 pub fn well_formed(payload: &Payload) -> bool
     ensures { IsTrue result ↔ IsWellFormed payload.now }
 {
@@ -74,7 +74,7 @@ pub fn well_formed(payload: &Payload) -> bool
     }
 }
 
-/// The number of octets in which a fact is spelled, at most 561.
+/// The number of octets of an encoded fact, at most 561.
 pub fn fact_size(fact: &Fact) -> u16
     requires { IsWellFormedFact fact.now }
     ensures length { result ≡ fact_len fact.now }
@@ -90,7 +90,7 @@ pub fn fact_size(fact: &Fact) -> u16
     }
 }
 
-/// The number of octets in which a payload is spelled, at most 561.
+/// The number of octets of an encoded payload, at most 561.
 pub fn spelled_len(payload: &Payload) -> u16
     requires { IsWellFormed payload.now }
     ensures length { result ≡ payload_len payload.now }

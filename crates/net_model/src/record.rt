@@ -1,11 +1,11 @@
-// What a journal keeps.
+// The records of a journal.
 use crate::Fact;
 use qkd_base::{Items, KeyName, Lane, LinkNo, Memory, Octets, Replica, SaeNo};
 
-/// One durable change of one node.
+/// A record: one durable change of one node.
 #[derive(Debug, Drop)]
 pub enum Record {
-    /// The next block of a link, 1,024 octets, came to this end. Blocks count from 0.
+    /// The next block of a link, 1,024 octets, came to this end. Blocks are numbered from 0.
     Block {
         link: LinkNo,
         number: u32,
@@ -16,11 +16,11 @@ pub enum Record {
         lane: Lane,
         end: u64,
     },
-    /// A fact is known.
+    /// The node knows this fact.
     Learned {
         fact: Fact,
     },
-    /// The next node on the fact's route has acknowledged it.
+    /// The next node of the fact's route has acknowledged it.
     Acked {
         name: KeyName,
     },
@@ -34,13 +34,13 @@ pub enum Record {
         stream: KeyName,
         sae: SaeNo,
     },
-    /// A fact is known whose bytes are needed no more; zeros stand for them.
+    /// The node knows this fact and no longer needs its bytes, which are zeros here.
     Bare {
         fact: Fact,
     },
 }
 
-/// Records in order.
+/// A list of records.
 pub type Records = Items<Record>;
 
 impl Replica for Record {

@@ -1,22 +1,22 @@
-// What a plan sends again.
+// What a plan orders to be sent again.
 use qkd_base::{FrameOctets, Items, KeyName, Lane, Memory, Replica};
 
-/// A frame to be put on its lane's wire once more, with the same octets.
+/// A repeat: a frame that is to be put on its lane's wire once more, with the same octets.
 #[derive(Debug, Drop)]
 pub struct Repeat {
     pub lane: Lane,
     pub offset: u64,
-    /// Its number on the wire when it was put there last, none where the wire never took it.
+    /// The frame's number on the wire when it was last put there. `None` if the wire never took it.
     pub number: Option<u64>,
     pub name: KeyName,
-    /// For an acknowledgement the offset at which its frame was received.
+    /// For an acknowledgement, the offset at which its frame was received.
     pub ack_of: Option<u64>,
     /// The number of the frame's octets, 25 to 585.
     pub length: u16,
     pub frame: FrameOctets,
 }
 
-/// Repeats in order.
+/// A list of repeats.
 pub type Repeats = Items<Repeat>;
 
 impl Replica for Repeat {

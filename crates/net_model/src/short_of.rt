@@ -1,4 +1,4 @@
-// A lane that has too few bytes.
+// A lane that has too few bytes for its next order.
 use qkd_base::{Items, Lane, Memory, Replica};
 
 /// The first order of a lane for which the bytes received don't suffice: `used + need > received`.
@@ -10,7 +10,7 @@ pub struct ShortOf {
     pub received: u64,
 }
 
-/// Shorts in order.
+/// A list of lanes that have too few bytes.
 pub type Shorts = Items<ShortOf>;
 
 impl Replica for ShortOf {

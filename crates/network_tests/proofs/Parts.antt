@@ -7,8 +7,8 @@ use Rattle.disk_model.specs.MemForm.{MemForm, images_of}
 use Rattle.disk_model.specs.Images.{Only}
 use Rattle.net_model.specs.OctetSequence.{sequence_of}
 use Rattle.source_devices.specs.Forms.{DeviceForm, EntropyForm, WireForm}
-use Rattle.qkd_network.specs.Passed.{IsNew}
-use Rattle.qkd_network.specs.Passed.{Bench}
+use Rattle.net_world.specs.New.{IsNew}
+use Rattle.net_world.specs.declared.bench.Bench.{Bench}
 use Rattle.network_tests.specs.Fresh.{AreOctets, IsBlank}
 
 pub of_places : (octets : List ℕ) → ((i : ℕ) → i < length octets → get_or octets i 0 < 256) → AreOctets octets

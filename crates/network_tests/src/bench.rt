@@ -1,7 +1,7 @@
 // New benches in memory.
 ghost use Rattle.std.specs.Prelude.{◌≡◌, [], IfOk, length};
 ghost use Rattle.std.specs.List.{All};
-ghost use Rattle.qkd_network.specs.Passed.{IsNew};
+ghost use Rattle.net_world.specs.New.{IsNew};
 ghost use Rattle.network_tests.specs.Fresh.{AreOctets, IsBlank};
 
 use disk_model::{Disk, MemDisk};

@@ -1,56 +1,53 @@
-// Sources and sinks that fail, and input that has no end.
+// Sources and sinks that fail.
 use crate::bench::FirstParts;
 use crate::run::{ONE_WORKER, ROOM, over, source};
-use crate::script::{BASE, Lines, Script};
-use edge_io::{MemSink, MemSource, ReadSource};
-use qkd_base::Memory;
+use edge_io::{MemSink, MemSource};
 use qkd_network::Status;
 use source_devices::Wire;
-use std::alloc::Global;
-use std::io;
 use std::test::Fail;
 
-const DELIVERY: Lines = &[
-    ("fill alice bob 256 1", "made 1 {K1}"),
-    (
-        "settle 10",
-        "tick A new 1 again 0\n\
-         sent 0 up 0 8 58\n\
-         pass 0 up 0 taken key {K1}\n\
-         tick B new 2 again 0\n\
-         sent 0 down 0 8 17\n\
-         sent 0 down 1 33 36\n\
-         pass 0 down 0 taken ack {K1}\n\
-         pass 0 down 1 taken stored {N1}\n\
-         tick A new 1 again 0\n\
-         sent 0 up 1 74 17\n\
-         pass 0 up 1 taken ack {N1}",
-    ),
-    (
-        "http A GET /api/v1/keys/bob/enc_keys HTTP/1.1\r\nX-SAE-ID: alice\r\n\r\n",
-        "http A 200 {\"keys\":[{\"key\":\"AAECAwQFBgcICQoLDA0ODxAREhMUFRYXGBkaGxwdHh8=\",\"key_ID\":\"{K1}\"}]}",
-    ),
-    (
-        "http B POST /api/v1/keys/alice/dec_keys HTTP/1.1\r\nX-SAE-ID: bob\r\nContent-Length: 63\r\n\r\n{\"key_IDs\":[{\"key_ID\":\"{K1}\"}]}",
-        "http B 200 {\"keys\":[{\"key\":\"AAECAwQFBgcICQoLDA0ODxAREhMUFRYXGBkaGxwdHh8=\",\"key_ID\":\"{K1}\"}]}",
-    ),
-];
+// A key, which the master gets by GET /api/v1/keys/bob/enc_keys, and the slave by POST /api/v1/keys/alice/dec_keys.
+const DELIVERY: &str = "node A\n\
+    node B\n\
+    link A B\n\
+    sae alice A\n\
+    sae bob B\n\
+    allow alice bob\n\
+    bits 0 both 2\n\
+    fill alice bob 256 1\n\
+    settle 10\n\
+    http A 474554202f6170692f76312f6b6579732f626f622f656e635f6b65797320485454502f312e310d0a582d5341452d49443a20616c6963650d0a0d0a\n\
+    http B 504f5354202f6170692f76312f6b6579732f616c6963652f6465635f6b65797320485454502f312e310d0a582d5341452d49443a20626f620d0a436f6e74656e742d4c656e6774683a2036330d0a0d0a7b226b65795f494473223a5b7b226b65795f4944223a2230303030303030302d303030302d383030302d383030302d303030303030303030303031227d5d7d\n\
+    end\n";
 
-fn push_many(text: &mut String, letter: char, count: usize) -> Result<(), Memory> {
-    for _ in 0..count {
-        text.push(letter)?;
-    }
-    Ok(())
-}
+const REPORT: &str = "7 bits 0 low 0\n\
+    7 bits 0 high 0\n\
+    7 bits 0 low 1\n\
+    7 bits 0 high 1\n\
+    8 made 1 00000000-0000-8000-8000-000000000001\n\
+    9 tick A new 1 again 0\n\
+    9 sent 0 up 0 8 58\n\
+    9 pass 0 up 0 taken key 00000000-0000-8000-8000-000000000001\n\
+    9 tick B new 2 again 0\n\
+    9 sent 0 down 0 8 17\n\
+    9 sent 0 down 1 33 36\n\
+    9 pass 0 down 0 taken ack 00000000-0000-8000-8000-000000000001\n\
+    9 pass 0 down 1 taken stored 00000000-0000-8001-8002-000000000001\n\
+    9 tick A new 1 again 0\n\
+    9 sent 0 up 1 74 17\n\
+    9 pass 0 up 1 taken ack 00000000-0000-8001-8002-000000000001\n\
+    10 http A 200 {\"keys\":[{\"key\":\"AAECAwQFBgcICQoLDA0ODxAREhMUFRYXGBkaGxwdHh8=\",\"key_ID\":\"00000000-0000-8000-8000-000000000001\"}]}\n\
+    11 http B 200 {\"keys\":[{\"key\":\"AAECAwQFBgcICQoLDA0ODxAREhMUFRYXGBkaGxwdHh8=\",\"key_ID\":\"00000000-0000-8000-8000-000000000001\"}]}\n";
 
 #[test]
 fn each_read_fails(rt: HostRuntime) -> Result<(), Fail> {
     let alloc = rt.alloc();
-    let script = Script::of(alloc, &[BASE, DELIVERY])?;
     let mut text = String::from_str(alloc, "#")?;
-    push_many(&mut text, 'x', 20000)?;
+    for _ in 0..20000u32 {
+        text.push('x')?;
+    }
     text.push('\n')?;
-    text.push_str(script.text.as_str())?;
+    text.push_str(DELIVERY)?;
     let mut faults = 0;
     for call in 0..100u64 {
         let octets = text.as_bytes().to_vec(alloc)?;
@@ -74,11 +71,10 @@ fn each_read_fails(rt: HostRuntime) -> Result<(), Fail> {
 #[test]
 fn each_write_fails(rt: HostRuntime) -> Result<(), Fail> {
     let alloc = rt.alloc();
-    let script = Script::of(alloc, &[BASE, DELIVERY])?;
     let mut report = String::new(alloc);
     let mut call = 0u64;
-    for line in script.report.as_str().split('\n') {
-        let mut source = source(alloc, script.text.as_str())?;
+    for line in REPORT.split('\n') {
+        let mut source = source(alloc, DELIVERY)?;
         let mut sink = MemSink::new(alloc, ROOM, vec![in alloc; call]?)?;
         let first = FirstParts::new(alloc, 2)?;
         let (status, _bench) = over(&rt, alloc, ONE_WORKER, first, &mut source, &mut sink)?;
@@ -97,102 +93,42 @@ fn each_write_fails(rt: HostRuntime) -> Result<(), Fail> {
     Ok(())
 }
 
-// A settle's lines are written as things are done: behind one that can't be written no later frame is put. Frames are those up and down.
+// A write that fails, and how many frames were put up and down then.
+const SETTLED: &[(u64, u64, u64)] = &[(5, 1, 0), (7, 1, 0), (8, 1, 2), (12, 1, 2), (13, 2, 2)];
+
+// A settle's lines are written as things are done: behind one that can't be written no later frame is put.
 #[test]
 fn a_settle_ends_where_its_line_fails(rt: HostRuntime) -> Result<(), Fail> {
     let alloc = rt.alloc();
-    let script = Script::of(alloc, &[BASE, DELIVERY])?;
-    for (call, up, down) in [
-        (5u64, 1u64, 0u64),
-        (7, 1, 0),
-        (8, 1, 2),
-        (12, 1, 2),
-        (13, 2, 2),
-    ] {
-        let mut source = source(alloc, script.text.as_str())?;
-        let mut sink = MemSink::new(alloc, ROOM, vec![in alloc; call]?)?;
+    for (call, up, down) in SETTLED {
+        let mut source = source(alloc, DELIVERY)?;
+        let mut sink = MemSink::new(alloc, ROOM, vec![in alloc; *call]?)?;
         let first = FirstParts::new(alloc, 2)?;
         let (status, bench) = over(&rt, alloc, ONE_WORKER, first, &mut source, &mut sink)?;
         assert_eq!(rt; status, Status::WriteFault, "write {call}");
         let wire = bench.wires.first().ok_or("no wire")?;
-        assert_eq!(rt; wire.count(), up, "write {call}");
+        assert_eq!(rt; wire.count(), *up, "write {call}");
         let wire = bench.wires.get(1).ok_or("no wire")?;
-        assert_eq!(rt; wire.count(), down, "write {call}");
+        assert_eq!(rt; wire.count(), *down, "write {call}");
     }
     Ok(())
 }
+
+// So much room of a sink, and how many octets it takes.
+const ROOMS: &[(usize, usize)] = &[(0, 0), (14, 0), (15, 15), (30, 15), (31, 31), (62, 62)];
 
 // A sink that is full takes the lines that fit.
 #[test]
 fn a_sink_is_full(rt: HostRuntime) -> Result<(), Fail> {
     let alloc = rt.alloc();
-    let script = Script::of(alloc, &[BASE, DELIVERY])?;
-    for (room, taken) in [(0, 0), (14, 0), (15, 15), (30, 15), (31, 31), (62, 62)] {
-        let mut source = source(alloc, script.text.as_str())?;
-        let mut sink = MemSink::new(alloc, room, Vec::new(alloc))?;
+    for (room, taken) in ROOMS {
+        let mut source = source(alloc, DELIVERY)?;
+        let mut sink = MemSink::new(alloc, *room, Vec::new(alloc))?;
         let first = FirstParts::new(alloc, 2)?;
         let (status, _bench) = over(&rt, alloc, ONE_WORKER, first, &mut source, &mut sink)?;
         assert_eq!(rt; status, Status::WriteFault, "room {room}");
-        let wanted = script.report.as_bytes().get(..taken);
+        let wanted = REPORT.as_bytes().get(..*taken);
         assert_eq!(rt; Some(sink.taken()), wanted, "room {room}");
-    }
-    Ok(())
-}
-
-// Gives the letter a without end.
-#[derive(Drop)]
-struct Endless;
-
-impl io::Read for Endless {
-    fn read(&mut self, into: &mut [u8]) -> io::Result<usize> {
-        into.fill(b'a');
-        Ok(into.len())
-    }
-}
-
-#[test]
-fn input_has_no_end(rt: HostRuntime) -> Result<(), Fail> {
-    let alloc = rt.alloc();
-    let mut source = ReadSource::new(Endless);
-    let mut sink = MemSink::new(alloc, ROOM, Vec::new(alloc))?;
-    let first = FirstParts::new(alloc, 2)?;
-    let (status, _bench) = over(&rt, alloc, ONE_WORKER, first, &mut source, &mut sink)?;
-    assert_eq!(rt; status, Status::BadLine(1));
-    assert!(rt; sink.taken().is_empty());
-    Ok(())
-}
-
-// Comments of so many octets and their ends, a last one of so many more, and `end`.
-fn comments(alloc: Global, lines: usize, length: usize, more: usize) -> Result<String, Memory> {
-    let mut line = String::new(alloc);
-    push_many(&mut line, '#', length)?;
-    line.push('\n')?;
-    let mut text = String::new(alloc);
-    for _ in 0..lines {
-        text.push_str(line.as_str())?;
-    }
-    push_many(&mut text, '#', more)?;
-    text.push_str("\nend\n")?;
-    Ok(text)
-}
-
-// A line has 150,000 octets at most, and a scenario 4,194,304.
-#[test]
-fn lengths_have_limits(rt: HostRuntime) -> Result<(), Fail> {
-    let alloc = rt.alloc();
-    for (lines, length, more, status) in [
-        (0, 1, 150000, Status::Done),
-        (0, 1, 150001, Status::BadLine(1)),
-        (2, 9, 150001, Status::BadLine(3)),
-        (4095, 1023, 1019, Status::Done),
-        (4095, 1023, 1029, Status::BadLine(4096)),
-    ] {
-        let text = comments(alloc, lines, length, more)?;
-        let mut source = source(alloc, text.as_str())?;
-        let mut sink = MemSink::new(alloc, ROOM, Vec::new(alloc))?;
-        let first = FirstParts::new(alloc, 2)?;
-        let (found, _bench) = over(&rt, alloc, ONE_WORKER, first, &mut source, &mut sink)?;
-        assert_eq!(rt; found, status, "{lines} lines, {more} octets");
     }
     Ok(())
 }

@@ -1,9 +1,10 @@
 // Workers that are held, to see that several are at work at once.
 use crate::bench::{FirstParts, octets};
-use crate::blocks::{forty, hands_all};
 use crate::run::{ROOM, held_over, source};
 use edge_io::{Gate, MemSink};
+use qkd_base::Memory;
 use qkd_network::Status;
+use std::alloc::Global;
 use std::sync::atomic::{AtomicU64, Ordering};
 use std::test::Fail;
 
@@ -39,6 +40,34 @@ impl Gate for Ahead {
     }
 
     fn seal(&self, _link: u8, _offset: u64) {}
+}
+
+// Forty keys that are ready at both ends, and a block in which the master takes each.
+fn forty(alloc: Global) -> Result<String, Memory> {
+    let mut text = String::from_str(
+        alloc,
+        "node A\nnode B\nlink A B\nsae alice A\nsae bob B\nallow alice bob\nbits 0 both 8\nfill alice bob 256 40\nsettle 10\ntogether\n",
+    )?;
+    for _ in 0..40u8 {
+        text.push_str("enc A alice bob 1 256\n")?;
+    }
+    text.push_str("apart\nend\n")?;
+    Ok(text)
+}
+
+// Whether the lines of a report that hand keys hand those of count 1 to 40, one after another.
+fn hands_all(alloc: Global, report: &str) -> Result<bool, Memory> {
+    let mut count = 0u32;
+    for line in report.split('\n') {
+        if let Some((_, keys)) = line.split_once(" keys ") {
+            count = count.saturating_add(1);
+            let name = format!(in alloc; "00000000-0000-8000-8000-{count:012x} ")?;
+            if !keys.starts_with(name.as_str()) {
+                return Ok(false);
+            }
+        }
+    }
+    Ok(count == 40)
 }
 
 #[test]
@@ -94,7 +123,14 @@ impl Gate for BothSeal {
 }
 
 // One key on its way, and a block in which two workers tick its node.
-const TWO_TICKS: &str = "fill alice bob 256 1\n\
+const TWO_TICKS: &str = "node A\n\
+    node B\n\
+    link A B\n\
+    sae alice A\n\
+    sae bob B\n\
+    allow alice bob\n\
+    bits 0 both 8\n\
+    fill alice bob 256 1\n\
     together\n\
     tick A\n\
     fill alice bob 256 1\n\
@@ -109,12 +145,9 @@ fn two_workers_seal_at_once(rt: HostRuntime) -> Result<(), Fail> {
         sealing: AtomicU64::new(0),
         was_in_vain: AtomicU64::new(0),
     };
-    let text = format!(in alloc;
-        "node A\nnode B\nlink A B\nsae alice A\nsae bob B\nallow alice bob\nbits 0 both 8\n{TWO_TICKS}"
-    )?;
     let mut first = FirstParts::new(alloc, 8)?;
     first.drawn = octets(alloc, 64)?;
-    let mut source = source(alloc, text.as_str())?;
+    let mut source = source(alloc, TWO_TICKS)?;
     let mut sink = MemSink::new(alloc, ROOM, Vec::new(alloc))?;
     let (status, _bench) = held_over(&rt, alloc, &gate, "run 2", first, &mut source, &mut sink)?;
     let report = String::from_utf8_lossy(alloc, sink.taken())?;

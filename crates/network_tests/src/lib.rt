@@ -1,18 +1,11 @@
-//! Tests of the top call: scenarios over a bench in memory, and what is reported of them.
+//! Tests of the top call that want what no stored run can say (`examples/runs` has those that can): sources, sinks, devices, entropies and
+//! wires that fail, workers that are held, ports in memory, and the octets of disks and wires.
 #![tactic(auto)]
 
 #[cfg(test)]
 mod bench;
 #[cfg(test)]
-mod blocks;
-#[cfg(test)]
 mod bounds;
-#[cfg(test)]
-mod clients;
-#[cfg(test)]
-mod crashes;
-#[cfg(test)]
-mod cuts;
 #[cfg(test)]
 mod edges;
 #[cfg(test)]
@@ -22,36 +15,10 @@ mod frames;
 #[cfg(test)]
 mod gates;
 #[cfg(test)]
-mod groups;
-#[cfg(test)]
-mod handings;
-#[cfg(test)]
-mod http;
-#[cfg(test)]
 mod journals;
-#[cfg(test)]
-mod keys;
-#[cfg(test)]
-mod ledgers;
-#[cfg(test)]
-mod links;
-#[cfg(test)]
-mod marks;
-#[cfg(test)]
-mod merges;
 #[cfg(test)]
 mod outside;
 #[cfg(test)]
-mod relays;
-#[cfg(test)]
-mod repeats;
-#[cfg(test)]
 mod run;
 #[cfg(test)]
-mod script;
-#[cfg(test)]
 mod serves;
-#[cfg(test)]
-mod streams;
-#[cfg(test)]
-mod veils;

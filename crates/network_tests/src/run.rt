@@ -1,8 +1,7 @@
 // One run of the top call.
-ghost use Rattle.port_doors.specs.Doors.{AreFresh};
+ghost use Rattle.kme_serve.specs.Doors.{AreFresh};
 
-use crate::bench::{FirstParts, TestBench, is_whole, new_bench};
-use crate::script::{Lines, Script};
+use crate::bench::{FirstParts, TestBench, new_bench};
 use edge_io::{Gate, Listener, MemPorts, MemSink, MemSource, OpenGate, Ports, Source};
 use qkd_base::{Items, Memory, Text, Texts};
 use qkd_network::{Status, network};
@@ -106,69 +105,4 @@ pub fn run<R: Threads + Wait + Sync>(
         report,
         bench,
     })
-}
-
-/// Notes the first line in which what was found differs from what is wanted.
-pub fn note(
-    alloc: Global,
-    case: &str,
-    found: &str,
-    wanted: &str,
-    wrong: &mut String,
-) -> Result<(), Memory> {
-    let mut lines = found.split('\n');
-    for want in wanted.split('\n') {
-        let line = lines.next().unwrap_or("(no line)");
-        if line != want {
-            let said = format!(in alloc; "{case}: {line}, and not {want}\n")?;
-            wrong.push_str(said.as_str())?;
-            return Ok(());
-        }
-    }
-    if found.len() > wanted.len() {
-        wrong.push_str(case)?;
-        wrong.push_str(": more lines\n")?;
-    }
-    Ok(())
-}
-
-/// Notes where a run with these parts ends otherwise, reports otherwise, or keeps a part.
-pub fn compare_with<R: Threads + Wait + Sync>(
-    rt: &R,
-    alloc: Global,
-    case: &str,
-    script: &Script,
-    first: FirstParts,
-    status: Status,
-    wrong: &mut String,
-) -> Result<(), Memory> {
-    let outcome = run(rt, alloc, script.text.as_str(), first)?;
-    if !is_whole(&outcome.bench) {
-        wrong.push_str(case)?;
-        wrong.push_str(": a part is missing\n")?;
-    }
-    if outcome.status != status {
-        let said = format!(in alloc; "{case}: {}, and not {status}\n", outcome.status)?;
-        wrong.push_str(said.as_str())?;
-    }
-    note(
-        alloc,
-        case,
-        outcome.report.as_str(),
-        script.report.as_str(),
-        wrong,
-    )
-}
-
-/// Notes where the lines are reported otherwise.
-pub fn compare<R: Threads + Wait + Sync>(
-    rt: &R,
-    alloc: Global,
-    case: &str,
-    parts: &[Lines],
-    wrong: &mut String,
-) -> Result<(), Memory> {
-    let script = Script::of(alloc, parts)?;
-    let first = FirstParts::new(alloc, 8)?;
-    compare_with(rt, alloc, case, &script, first, Status::Done, wrong)
 }

@@ -3,7 +3,6 @@ ghost use Rattle.std.specs.Prelude.{◌≡◌, [], IfOk};
 
 use crate::bench::{FirstParts, is_whole};
 use crate::run::{ROOM, over_ports, source};
-use crate::script::{BASE, Lines, Script};
 use edge_io::{
     Ended, MemConnection, MemListener, MemPorts, MemQueue, MemSink, MemSocket, OpenGate,
 };
@@ -35,12 +34,12 @@ struct Row {
     written: &'static [&'static [&'static str]],
 }
 
-/// A request for one key.
-pub const GET: &str =
+// A request for one key.
+const GET: &str =
     "GET /api/v1/keys/bob/enc_keys?number=1&size=256 HTTP/1.1\r\nHost: kme-a.example\r\nUser-Agent: curl/8.5.0\r\nAccept: */*\r\nX-SAE-ID: alice\r\n\r\n";
 
-/// The response with the first key, and that with the second.
-pub const FIRST: &str =
+// The response with the first key, and that with the second.
+const FIRST: &str =
     "HTTP/1.1 200 OK\r\nContent-Type: application/json\r\nContent-Length: 113\r\nConnection: keep-alive\r\n\r\n{\"keys\":[{\"key\":\"AAECAwQFBgcICQoLDA0ODxAREhMUFRYXGBkaGxwdHh8=\",\"key_ID\":\"00000000-0000-8000-8000-000000000001\"}]}";
 
 const SECOND: &str =
@@ -201,11 +200,10 @@ fn compare<R: Threads + Wait + Sync>(
     rt: &R,
     alloc: Global,
     row: &Row,
-    text: &str,
     report: &str,
     wrong: &mut String,
 ) -> Result<(), Memory> {
-    let mut source = source(alloc, text)?;
+    let mut source = source(alloc, row.text)?;
     let mut sink = MemSink::new(alloc, ROOM, row.write_fails.to_vec(alloc)?)?;
     let mut ports = ports(alloc, row.sockets, row.open_fails)?;
     let first = FirstParts::new(alloc, 8)?;
@@ -234,7 +232,7 @@ fn compare<R: Threads + Wait + Sync>(
         let said = format!(in alloc;
             "{} {:?}: {status}, {} of {:?} came back, {taken:?}\n",
             row.words,
-            text,
+            row.text,
             ports.back().len(),
             ports.asked()
         )?;
@@ -248,44 +246,54 @@ fn each_port_is_opened_once_and_comes_back(rt: HostRuntime) -> Result<(), Fail> 
     let alloc = rt.alloc();
     let mut wrong = String::new(alloc);
     for row in ROWS {
-        compare(&rt, alloc, row, row.text, row.report, &mut wrong)?;
+        compare(&rt, alloc, row, row.report, &mut wrong)?;
     }
     assert_eq!(rt; wrong.as_str(), "");
     Ok(())
 }
 
-/// Two keys for alice and bob.
-pub const KEYS: Lines = &[
-    ("fill alice bob 256 2", "made 2 {K1}"),
-    (
-        "settle 10",
-        "tick A new 2 again 0\n\
-         sent 0 up 0 8 58\n\
-         sent 0 up 1 74 58\n\
-         pass 0 up 0 taken key {K1}\n\
-         pass 0 up 1 taken key {K2}\n\
-         tick B new 4 again 0\n\
-         sent 0 down 0 8 17\n\
-         sent 0 down 1 33 17\n\
-         sent 0 down 2 58 36\n\
-         sent 0 down 3 102 36\n\
-         pass 0 down 0 taken ack {K1}\n\
-         pass 0 down 1 taken ack {K2}\n\
-         pass 0 down 2 taken stored {N1}\n\
-         pass 0 down 3 taken stored {N2}\n\
-         tick A new 2 again 0\n\
-         sent 0 up 2 140 17\n\
-         sent 0 up 3 165 17\n\
-         pass 0 up 2 taken ack {N1}\n\
-         pass 0 up 3 taken ack {N2}",
-    ),
-];
+// Two keys for alice and bob, and the report of that.
+const KEYS: &str = "node A\n\
+    node B\n\
+    link A B\n\
+    sae alice A\n\
+    sae bob B\n\
+    allow alice bob\n\
+    bits 0 both 2\n\
+    fill alice bob 256 2\n\
+    settle 10\n\
+    end\n";
 
-// The keys go to two connections of one worker, and then there is none that waits.
+const KEYS_REPORT: &str = "7 bits 0 low 0\n\
+    7 bits 0 high 0\n\
+    7 bits 0 low 1\n\
+    7 bits 0 high 1\n\
+    8 made 2 00000000-0000-8000-8000-000000000001\n\
+    9 tick A new 2 again 0\n\
+    9 sent 0 up 0 8 58\n\
+    9 sent 0 up 1 74 58\n\
+    9 pass 0 up 0 taken key 00000000-0000-8000-8000-000000000001\n\
+    9 pass 0 up 1 taken key 00000000-0000-8000-8000-000000000002\n\
+    9 tick B new 4 again 0\n\
+    9 sent 0 down 0 8 17\n\
+    9 sent 0 down 1 33 17\n\
+    9 sent 0 down 2 58 36\n\
+    9 sent 0 down 3 102 36\n\
+    9 pass 0 down 0 taken ack 00000000-0000-8000-8000-000000000001\n\
+    9 pass 0 down 1 taken ack 00000000-0000-8000-8000-000000000002\n\
+    9 pass 0 down 2 taken stored 00000000-0000-8001-8002-000000000001\n\
+    9 pass 0 down 3 taken stored 00000000-0000-8001-8002-000000000002\n\
+    9 tick A new 2 again 0\n\
+    9 sent 0 up 2 140 17\n\
+    9 sent 0 up 3 165 17\n\
+    9 pass 0 up 2 taken ack 00000000-0000-8001-8002-000000000001\n\
+    9 pass 0 up 3 taken ack 00000000-0000-8001-8002-000000000002\n";
+
+// The keys go to two connections of one worker, and then there is none that waits. The report is what stands behind that of the keys.
 const HANDED: &[Row] = &[
     Row {
         words: "serve 1 2 9000",
-        text: "",
+        text: KEYS,
         sockets: &[(9000, &[(&[GET, GET], &[])])],
         open_fails: &[],
         write_fails: &[],
@@ -296,7 +304,7 @@ const HANDED: &[Row] = &[
     },
     Row {
         words: "serve 1 3 9000",
-        text: "",
+        text: KEYS,
         sockets: &[(9000, &[(&[GET, GET], &[])])],
         open_fails: &[],
         write_fails: &[],
@@ -311,17 +319,9 @@ const HANDED: &[Row] = &[
 fn connections_get_keys(rt: HostRuntime) -> Result<(), Fail> {
     let alloc = rt.alloc();
     let mut wrong = String::new(alloc);
-    let script = Script::of(alloc, &[BASE, KEYS])?;
     for row in HANDED {
-        let report = format!(in alloc; "{}{}", script.report, row.report)?;
-        compare(
-            &rt,
-            alloc,
-            row,
-            script.text.as_str(),
-            report.as_str(),
-            &mut wrong,
-        )?;
+        let report = format!(in alloc; "{KEYS_REPORT}{}", row.report)?;
+        compare(&rt, alloc, row, report.as_str(), &mut wrong)?;
     }
     assert_eq!(rt; wrong.as_str(), "");
     Ok(())

@@ -1,6 +1,7 @@
 ghost use Rattle.std.specs.Prelude.{◌<◌, ◌≡◌};
 
 use crate::cases::holds;
+use key_uuid::{from_uuid, to_uuid};
 use qkd_base::{
     Dues, FrameOctets, Items, KeyName, Lane, LinkNo, Lists, Memory, NameKind, NodeNo, Octets,
     PoolNo, Replica, Route, SaeNo, Text, Texts, Way,
@@ -53,8 +54,8 @@ fn is_spelled(name: KeyName, text: &str) -> bool {
         return false;
     };
     let mut buffer = Uuid::encode_buffer();
-    *name.to_uuid().hyphenated().encode_lower(&mut buffer) == *text
-        && KeyName::from_uuid(uuid) == Some(name)
+    *to_uuid(name).hyphenated().encode_lower(&mut buffer) == *text
+        && from_uuid(uuid) == Some(name)
         && KeyName::from_octets(&name.to_octets()) == Some(name)
 }
 
@@ -83,7 +84,7 @@ const NO_NAMES: [&str; 6] = [
 // Whether that is a UUID, and no name.
 fn is_refused(text: &str) -> bool {
     match Uuid::parse_str(text) {
-        Ok(uuid) => KeyName::from_uuid(uuid).is_none(),
+        Ok(uuid) => from_uuid(uuid).is_none(),
         Err(_) => false,
     }
 }

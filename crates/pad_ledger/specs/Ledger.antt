@@ -1,7 +1,9 @@
--- The bytes of a lane at its sender, counted from the front: used ones, then those up to the end, then the other received ones.
+-- The bytes of a lane at its sender. From the front they are: the used ones, those that may be claimed up to the end,
+-- and the other received ones.
 use Rattle.std.specs.Prelude.{ℕ, ◌+◌, ◌≤◌, ◌<◌, ◌^◌, ◌==◌, if◌then◌else◌}
 
--- how many are used, up to where they may be claimed, how many were received, and how many of the used ones are burnt
+-- how many bytes are used, the end up to which bytes may be claimed, how many were received, and how many of the used
+-- bytes are burnt
 pub record Ledger : Type 0 where
   pub used : ℕ
   pub end : ℕ
@@ -14,11 +16,11 @@ pub record IsLedger (l : Ledger) : Type 0 where
   pub end : l.end ≤ l.received
   pub received : l.received < 2 ^ 32
 
--- claimed bytes: the place of the first, and their number
+-- claimed bytes: the place of the first, and how many they are
 pub record Range : Type 0 where
   pub start : ℕ
   pub len : ℕ
 
--- With more bytes received. The first 8 of a lane are its hash key, and so are used.
+-- The ledger after more bytes are received. The first 8 bytes of a lane are its hash key, so they are used at once.
 abbrev pub received_more : Ledger → ℕ → Ledger
 received_more l n = if l.received == 0 then record { used = 8; end = 8; received = n; burnt = l.burnt } else record l { received = l.received + n }

@@ -1,15 +1,12 @@
-//! Who owns the bytes of a lane: claims in order, each exactly once.
+//! The ledger of a lane's bytes at its sender: claims take the bytes in order, and each byte at most once.
 #![tactic(auto)]
 
 mod counts;
 mod pad_ledger;
 mod pad_range;
 mod short;
-#[cfg(test)]
-mod tests;
 
 pub use counts::Counts;
 pub use pad_ledger::PadLedger;
 pub use pad_range::PadRange;
-pub use qkd_base;
 pub use short::Short;

@@ -1,4 +1,4 @@
-// The claims of one lane.
+// The claims of a lane's bytes.
 ghost use Rattle.std.specs.Prelude.{◌≡◌, ◌+◌, ◌-◌, ◌<◌, ◌≤◌, ◌==◌, ◌^◌, ◌↔◌, IsOk, IfOk, IfErr, if◌then◌else◌};
 ghost use Rattle.pad_ledger.specs.Ledger.{Ledger, received_more, IsLedger};
 
@@ -6,8 +6,8 @@ use crate::pad_range::range_of;
 use crate::{Counts, PadRange, Short};
 use std::marker::Model;
 
-/// The bytes of one lane at its sender: how many were received, up to which end they may be claimed, and how many are
-/// used. Claims follow each other from the front, so no byte is claimed twice. The first 8 bytes are the hash key.
+/// The bytes of one lane at its sender: how many were received, the end up to which they may be claimed, and how many
+/// are used. Claims follow one another from the front, so no byte is claimed twice. The first 8 bytes are the hash key.
 #[derive(Debug, Drop)]
 pub struct PadLedger {
     used: u64,
@@ -27,7 +27,7 @@ impl Model for PadLedger {
 }
 
 impl PadLedger {
-    /// A lane of which nothing was received.
+    /// A lane of which no byte was received.
     pub fn new() -> Self
         ensures { result ≡ record { used = 0; end = 0; received = 0; burnt = 0 } }
     {
@@ -39,7 +39,7 @@ impl PadLedger {
         }
     }
 
-    /// More bytes were received. With the first ones the hash key's 8 are used.
+    /// Notes that more bytes were received. The first 8 bytes of the lane are its hash key, so they are used at once.
     pub fn receive(&mut self, n: u64)
         requires first { 8 ≤ n }
         requires fits { self.old.received + n < 2 ^ 32 }
@@ -52,7 +52,7 @@ impl PadLedger {
         self.received += n;
     }
 
-    /// Lets claims go on up to a later end, once that end is durable.
+    /// Lets claims go up to a later end, once this end is durable.
     pub fn raise(&mut self, end: u64)
         requires later { self.old.end ≤ end }
         requires received { end ≤ self.old.received }
@@ -79,8 +79,8 @@ impl PadLedger {
         Ok(range)
     }
 
-    /// Gives up the bytes from the last claim to the end, as a restart does: which of them were claimed before it
-    /// isn't known.
+    /// Gives up the bytes from the last claim to the end. A restart does so, since it isn't known which of them were
+    /// claimed before it.
     pub fn burn_to_end(&mut self)
         ensures { self.new ≡ record self.old { used = self.old.end; burnt = self.old.burnt + (self.old.end - self.old.used) } }
     {
@@ -88,7 +88,7 @@ impl PadLedger {
         self.used = self.end;
     }
 
-    /// Gives up the bytes of a claim, which then mask nothing.
+    /// Gives up the bytes of a claim. They mask nothing then.
     pub fn burn(&mut self, range: PadRange)
         requires claimed { range.start + range.len ≤ self.old.used }
         requires unspent { self.old.burnt + range.len ≤ self.old.used }
@@ -98,7 +98,7 @@ impl PadLedger {
         range.spend();
     }
 
-    /// The bytes by what became of them. They add up to those received.
+    /// Counts the bytes by what became of them. The counts add up to the bytes received.
     pub fn counts(&self) -> Counts
         ensures counts { result ≡ record { received = self.now.received; unused = self.now.received - self.now.used; spent = self.now.used - self.now.burnt; burnt = self.now.burnt } }
         ensures sum { result.received ≡ result.unused + result.spent + result.burnt }

@@ -1,10 +1,11 @@
-// Lane bytes that were claimed.
+// Bytes of a lane that were claimed.
 ghost use Rattle.std.specs.Prelude.{◌≡◌, ◌+◌, ◌<◌, ◌^◌};
 
 use std::marker::Model;
 
-/// Bytes of a lane that were claimed and may mask one frame. It can't be copied and can't be dropped: [`PadRange::spend`]
-/// and the ledger's `burn` are its only ends, so no byte masks twice (one-time pad; Wegman and Carter 1981, section 4).
+/// Bytes of a lane that were claimed and may mask one frame. The value can't be copied or dropped. Only
+/// [`PadRange::spend`] and the ledger's `burn` consume it, so no byte masks twice (one-time pad; Wegman and Carter
+/// 1981, section 4).
 #[derive(Debug)]
 pub struct PadRange {
     start: u64,
@@ -22,7 +23,7 @@ impl Model for PadRange {
     ghost invariant = { λ r. r.start + r.size < 2 ^ 32 };
 }
 
-// The range of these bytes. Only a ledger makes one.
+// The range of these bytes. Only a ledger calls this.
 pub(crate) fn range_of(start: u64, size: u64) -> PadRange
     requires { start + size < 2 ^ 32 }
     ensures { result ≡ record { start = start; len = size } }
@@ -31,7 +32,7 @@ pub(crate) fn range_of(start: u64, size: u64) -> PadRange
 }
 
 impl PadRange {
-    /// The offset of its first byte in the lane.
+    /// The offset in the lane of the range's first byte.
     pub fn start(&self) -> u64
         ensures start { result ≡ self.now.start }
         ensures below { self.now.start + self.now.len < 2 ^ 32 }
@@ -39,7 +40,7 @@ impl PadRange {
         self.start
     }
 
-    /// How many bytes it has.
+    /// How many bytes the range has.
     pub fn len(&self) -> u64
         ensures len { result ≡ self.now.len }
         ensures below { self.now.start + self.now.len < 2 ^ 32 }
@@ -47,7 +48,7 @@ impl PadRange {
         self.size
     }
 
-    /// Ends the range, whose bytes have masked a frame.
+    /// Ends the range after its bytes have masked a frame.
     pub fn spend(self) {
         let PadRange { start: _, size: _ } = self;
     }

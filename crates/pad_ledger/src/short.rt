@@ -1,13 +1,13 @@
-// A claim that the bytes don't reach for.
+// The error of a claim for which there are too few bytes.
 use std::error::Error;
 use std::fmt;
 
-/// The bytes under the end don't reach for a claim.
+/// There are too few bytes before the end for the claim.
 #[derive(Clone, Copy, Debug, PartialEq, Eq)]
 pub struct Short {
-    /// Where the claim would begin.
+    /// The place where the claim would begin.
     pub used: u64,
-    /// The end under which it has to stay.
+    /// The end that the claim must not pass.
     pub end: u64,
 }
 

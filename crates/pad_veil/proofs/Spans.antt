@@ -1,4 +1,4 @@
--- Frames that meet, and the first one that is refused.
+-- Frames that overlap, and the first frame that is refused.
 use Rattle.std.proofs.Common.{◌≡◌, ℕ, zero, suc, ◌+◌, ◌-◌, ◌<◌, ◌≤◌, max, Bool, true, false, List, [], ◌∷◌, ◌++◌, length, take, drop, get_or, Option, Some, None, refl, sym, ap, ◌∙◌, arith}
 use Rattle.std.specs.Prelude.{nat_lt, nat_le, ◌||◌, ◌==◌, not, if◌then◌else◌}
 use Rattle.std.specs.List.{All, between, list_any}
@@ -19,7 +19,7 @@ same_tests true b f g = sym (f refl)
 same_tests false true f g = g refl
 same_tests false false f g = refl
 
--- ---- bytes that two frames spend
+-- ---- bytes that two frames both spend
 
 spent_from : (f : SealedFrame) (x : ℕ) → f.offset ≤ x → x < end_of f → spends x f ≡ true
 spent_from f x low high = and_from (nat_le f.offset x) (nat_lt x (end_of f)) (le-leb f.offset x low) (lt-ltb x (end_of f) high)
@@ -38,7 +38,7 @@ meet_from f g x h k =
     let d = spent_high g x k in
     and_from (nat_lt f.offset (end_of g)) (nat_lt g.offset (end_of f)) (lt-ltb f.offset (end_of g) (omega (arith, a, d))) (lt-ltb g.offset (end_of f) (omega (arith, b, c)))
 
--- the greater of the two offsets
+-- If two frames overlap, both spend the byte at the greater of their offsets.
 pub common : (f g : SealedFrame) → meet f g ≡ true → (x : ℕ) × (spends x f ≡ true) × (spends x g ≡ true)
 common f g h =
     let both = and_parts (nat_lt f.offset (end_of g)) (nat_lt g.offset (end_of f)) h in
@@ -50,7 +50,7 @@ common f g h =
 abbrev pub is_it : Bool → Bool
 is_it b = b
 
--- a mark among a frame's bytes
+-- One of the frame's bytes is marked exactly if the frame overlaps an earlier one.
 pub met : (f : SealedFrame) (earlier : List SealedFrame) (spent : List Bool) → end_of f ≤ length spent → Marks earlier spent → All (λ g. end_of g ≤ length spent) earlier
     → list_any is_it (between f.offset (end_of f) spent) ≡ list_any (meet f) earlier
 met f earlier spent within marks inside =
@@ -77,7 +77,7 @@ met f earlier spent within marks inside =
     let is : f.offset + k ≡ byte.0 = omega (arith, low) in
     list_any_at is_it part k false (omega (arith, size, low, high)) (get_or-between spent f.offset (end_of f) k false (omega (arith, low, high)) ∙ ap (λ (n : ℕ). get_or spent n false) is ∙ marked))
 
--- ---- faults
+-- ---- faults of a single frame
 
 first_none : (a b c : Bool) (x y z : VeilRefusal) → (if a then Some x else if b then Some y else if c then Some z else None) ≡ None → (a ≡ false) × (b ≡ false) × (c ≡ false)
 first_none true b c x y z h = cc
@@ -92,7 +92,7 @@ both_none : (a b : Option VeilRefusal) → option_or a b ≡ None → (a ≡ Non
 both_none None b h = (refl, h)
 both_none (Some x) b h = cc
 
--- a frame with no fault after these
+-- The frame has no fault after these earlier frames.
 pub record Passes (size : ℕ) (earlier : List SealedFrame) (f : SealedFrame) : Type 0 where
   pub equal : length f.old ≡ length f.new
   pub low : 8 ≤ f.offset
@@ -180,7 +180,7 @@ apart_where size frames h = (apart_from size [] frames h).0
 pub none_where : (size : ℕ) (frames : List SealedFrame) → LieApart size frames → first_fault size frames ≡ None
 none_where size frames h = from_apart size [] frames h (λ k d le. refl)
 
--- ---- one frame on
+-- ---- the loop over the frames, one frame further
 
 pub next_passes : (size : ℕ) (frames : List SealedFrame) (i : ℕ) (f : SealedFrame) → i < length frames → f ≡ get_or frames i f → fault_of size (take i frames) f ≡ None
     → fault_after size (take (i + 1) frames) (drop (i + 1) frames) ≡ fault_after size (take i frames) (drop i frames)

@@ -1,4 +1,4 @@
--- What exchanging payloads leaves of a lane, and that it leaves the frames.
+-- Exchanging payloads in a lane leaves the other bytes as they are, and leaves the frames as they are.
 use Rattle.std.proofs.Common.{◌≡◌, ℕ, zero, suc, ◌+◌, ◌-◌, ◌<◌, ◌≤◌, ◌⊎◌, inl, inr, ⊎_elim, false, List, [], ◌∷◌, ◌++◌, length, take, drop, get_or, set, refl, sym, ap, ◌∙◌, arith, length-append, length-drop}
 use Rattle.std.specs.Prelude.{bit_xor, nat_lt}
 use Rattle.std.specs.List.{All}
@@ -15,13 +15,13 @@ use Rattle.pad_veil.specs.declared.sealed_frame.SealedFrame.{SealedFrame}
 use Rattle.pad_veil.specs.Faults.{end_of, meet, LieApart}
 use Rattle.pad_veil.specs.Veil.{relaid, exchanged, veil, pads_of, IsVeil, Fits}
 
--- ---- octets laid over bytes
+-- ---- octets xored onto bytes
 
 pub masked_none : (bytes : List ℕ) → masked bytes [] ≡ bytes
 masked_none [] = refl
 masked_none (b ∷ bs) = ap (λ (l : List ℕ). b ∷ l) (masked_none bs)
 
--- one more octet is laid over
+-- One more octet is xored onto its byte.
 pub masked_more : (bytes octets : List ℕ) (i : ℕ) → i < length octets → i < length bytes
     → set (masked bytes (take i octets)) i (bit_xor (get_or (masked bytes (take i octets)) i 0) (get_or octets i 0)) ≡ masked bytes (take (suc i) octets)
 masked_more [] octets i lt le = absurd (omega arith)
@@ -44,7 +44,7 @@ take-masked (suc n) (b ∷ bs) (o ∷ os) = ap (λ (l : List ℕ). bit_xor b o �
 refit_one : (o n p : ℕ) → bit_xor o p ≡ bit_xor n (bit_xor (bit_xor p o) n)
 refit_one o n p = sym (xor_comm n (bit_xor (bit_xor p o) n) ∙ xor_assoc (bit_xor p o) n n ∙ ap (bit_xor (bit_xor p o)) (xor_self n) ∙ xor_zero_r (bit_xor p o) ∙ xor_comm p o)
 
--- the new octets are masked to what the old ones were
+-- The new payload, masked by the exchanged bytes, is the old payload masked by the old bytes.
 refit : (old new pads : List ℕ) → length old ≡ length new → length old ≤ length pads → masked old pads ≡ masked new (masked (masked pads old) new)
 refit [] [] pads e le = refl
 refit [] (n ∷ ns) pads e le = absurd (omega arith)
@@ -55,7 +55,7 @@ refit (o ∷ os) (n ∷ ns) (p ∷ ps) e le =
     let rest = refit os ns ps (omega (arith, e)) (omega (arith, le)) in
     cc
 
--- ---- one payload exchanged
+-- ---- the bytes of one payload exchanged
 
 record Room (f : SealedFrame) (bytes : List ℕ) : Type 0 where
   equal : length f.old ≡ length f.new
@@ -81,7 +81,7 @@ pub length-exchanged : (f : SealedFrame) (bytes : List ℕ) → f.offset ≤ len
 length-exchanged f bytes le =
     omega (arith, length-append (take f.offset bytes) (relaid f (drop f.offset bytes)), length-masked (masked (drop f.offset bytes) f.old) f.new, length-masked (drop f.offset bytes) f.old, length-take-le f.offset bytes le, length-drop f.offset bytes)
 
--- so many bytes from here on stand before the payload's or after them
+-- The `size` bytes from `at` on lie before the bytes of the frame's payload or behind them.
 abbrev Beside : ℕ → ℕ → SealedFrame → Type 0
 Beside at size f = (at + size ≤ f.offset) ⊎ (f.offset + length f.old ≤ at)
 
@@ -100,12 +100,12 @@ pads_relaid f bytes r =
 
 -- ---- a frame over an exchanged payload
 
--- a frame whose parts stay
+-- If the hash key and the bytes of a frame stay, the frame stays.
 same_spell : (lane : Lane) (offset : ℕ) (a b payload : List ℕ) → take 8 (drop 0 a) ≡ take 8 (drop 0 b) → take (length payload + 8) (drop offset a) ≡ take (length payload + 8) (drop offset b) → spell lane offset a payload ≡ spell lane offset b payload
 same_spell lane offset a b payload key pads =
     ap (λ (l : List ℕ). framed lane offset (from_be_bytes w64 l) (drop offset a) payload) key ∙ same_framed lane offset (hash_key b) (drop offset a) (drop offset b) payload pads
 
--- a frame whose masked payload and tag's mask stay
+-- If the masked payload and the mask of the tag stay, the frame stays.
 same_masks : (lane : Lane) (offset key : ℕ) (a b old new : List ℕ) → length old ≡ length new → masked old a ≡ masked new b → drop (length old) a ≡ drop (length new) b → framed lane offset key a old ≡ framed lane offset key b new
 unfolding framed
 same_masks lane offset key a b old new e m d =
@@ -122,13 +122,13 @@ fits_itself f bytes r lane =
     ∙ ap (λ (l : List ℕ). framed lane f.offset (hash_key bytes) l f.new) (sym (exchanged_from f bytes r))
     ∙ ap (λ (l : List ℕ). framed lane f.offset (from_be_bytes w64 l) (drop f.offset (exchanged f bytes)) f.new) (sym key)
 
--- ---- all payloads exchanged
+-- ---- the bytes of all payloads exchanged
 
 apart_cases : (f g : SealedFrame) → meet f g ≡ false → (end_of f ≤ g.offset) ⊎ (end_of g ≤ f.offset)
 apart_cases f g h =
     ⊎_elim (λ e. inr (ltb-false f.offset (end_of g) e)) (λ e. inl (ltb-false g.offset (end_of f) e)) (and_cases (nat_lt f.offset (end_of g)) (nat_lt g.offset (end_of f)) h)
 
--- what a frame spends lies beside the payload of one that it doesn't meet
+-- If two frames don't overlap, the bytes that one spends lie beside the payload bytes of the other.
 beside_met : (f g : SealedFrame) (at size : ℕ) → f.offset ≡ at → size ≤ length f.old + 8 → meet f g ≡ false → Beside at size g
 beside_met f g at size e le h = ⊎_elim (λ k. inl (omega (arith, e, le, k))) (λ k. inr (omega (arith, e, k))) (apart_cases f g h)
 
@@ -219,7 +219,7 @@ is_veil bytes frames h = record {
   len = length-veil bytes frames h;
 }
 
--- ---- there is one
+-- ---- only one list of bytes is a veil
 
 abbrev Out : ℕ → SealedFrame → Type 0
 Out x f = (x < f.offset) ⊎ (f.offset + length f.old ≤ x)

@@ -1,4 +1,4 @@
-// Exchanging payloads.
+// How the bytes of payloads are exchanged.
 ghost use Rattle.std.specs.Prelude.{◌≡◌, ◌≤◌, length};
 ghost use Rattle.hop_frames.specs.Frame.{masked};
 ghost use Rattle.pad_veil.specs.Faults.{LieApart, end_of};
@@ -6,7 +6,7 @@ ghost use Rattle.pad_veil.specs.Veil.{exchanged, veil};
 
 use crate::SealedFrame;
 
-/// Lays octets over the first bytes, each by xor (one-time pad). Laid over them once more, they are taken off.
+/// Xors octets onto the first bytes (one-time pad). Doing so twice gives the bytes back.
 pub fn lay_over(bytes: &mut [u8], octets: &[u8])
     requires { length octets.now ≤ length bytes.old }
     ensures { bytes.new ≡ masked bytes.old octets.now }
@@ -16,7 +16,7 @@ pub fn lay_over(bytes: &mut [u8], octets: &[u8])
     }
 }
 
-// Exchanges the payload of one frame.
+// Exchanges the bytes of one frame's payload.
 fn exchange(lane: &mut [u8], frame: &SealedFrame)
     requires equal { length frame.now.old ≡ length frame.now.new }
     requires room { end_of frame.now ≤ length lane.old }
@@ -27,7 +27,7 @@ fn exchange(lane: &mut [u8], frame: &SealedFrame)
     lay_over(pads, frame.new.as_slice());
 }
 
-// Exchanges the payload of each frame.
+// Exchanges the bytes of each frame's payload.
 pub fn exchange_all(lane: &mut [u8], frames: &[SealedFrame])
     requires { LieApart (length lane.old) frames.now }
     ensures { lane.new ≡ veil lane.old frames.now }

@@ -1,4 +1,4 @@
-// Finding the first frame that is refused.
+// How the first frame with a fault is found.
 ghost use Rattle.std.specs.Prelude.{◌≡◌, ◌↔◌, ◌≤◌, ◌<◌, ◌^◌, List, length, ◌∷◌, [], ◌++◌, IsTrue};
 ghost use Rattle.std.specs.List.{All, list_any};
 ghost use Rattle.pad_veil.specs.declared.sealed_frame.SealedFrame.{SealedFrame as FrameValue};
@@ -7,26 +7,26 @@ ghost use Rattle.pad_veil.specs.Faults.{end_of, meet, Marks, fault_of, first_fau
 use crate::{SealedFrame, VeilRefusal};
 use std::alloc::Global;
 
-// How many bytes are a lane's hash key.
+// The number of bytes of a lane's hash key.
 const KEY_LEN: u64 = 8;
 
-// How many bytes mask a frame's tag.
+// The number of bytes that mask a frame's tag.
 const TAG_LEN: usize = 8;
 
-// Whether the frame stands behind the hash key and ends in a lane of so many bytes.
+// Whether a frame begins behind the hash key and ends within a lane of `size` bytes.
 fn is_inside(frame: &SealedFrame, size: usize) -> bool
     ensures { IsTrue result ↔ ((8 ≤ frame.now.offset) × (end_of frame.now ≤ size)) }
 {
     let offset = frame.offset;
     let len = frame.old.len();
-    // The lane's length is lessened, since the frame's end may pass the greatest number.
+    // The test subtracts from the lane's length, since the frame's end may be above 2^64 - 1.
     KEY_LEN <= offset
         && TAG_LEN <= size
         && len <= size - TAG_LEN
         && offset <= (size - TAG_LEN - len) as u64
 }
 
-// The first byte that a frame spends, and the one after its last.
+// The first byte that a frame spends, and the byte behind its last one.
 fn ends(frame: &SealedFrame) -> (usize, usize)
     requires { end_of frame.now < 2 ^ 64 }
     ensures start { result.0 ≡ frame.now.offset }
@@ -36,7 +36,7 @@ fn ends(frame: &SealedFrame) -> (usize, usize)
     (start, start + frame.old.len() + TAG_LEN)
 }
 
-// Whether an earlier frame spends a byte of this one, where each byte that they spend is marked.
+// Whether a byte of this frame is marked. The bytes that earlier frames spend are marked.
 fn is_met(frame: &SealedFrame, spent: &[bool]) -> bool
     requires { end_of frame.now ≤ length spent.now }
     ensures { (earlier : List FrameValue) → Marks earlier spent.now → All (λ f. end_of f ≤ length spent.now) earlier → result ≡ list_any (meet frame.now) earlier }
@@ -45,7 +45,7 @@ fn is_met(frame: &SealedFrame, spent: &[bool]) -> bool
     is_any(&spent[start..end])
 }
 
-// Whether a byte is marked.
+// Whether any byte is marked.
 fn is_any(spent: &[bool]) -> bool
     ensures { result ≡ list_any (λ byte. byte) spent.now }
 {
@@ -61,7 +61,7 @@ fn spend(spent: &mut [bool], frame: &SealedFrame)
     spent[start..end].fill(true);
 }
 
-// The fault of a frame, given its place and the marks of the bytes that the earlier ones spend.
+// The fault of the frame at a place, if it has one. The bytes that earlier frames spend are marked.
 fn fault_of(frame: &SealedFrame, place: usize, spent: &[bool]) -> Option<VeilRefusal>
     ensures { (earlier : List FrameValue) → length earlier ≡ place → Marks earlier spent.now → All (λ f. end_of f ≤ length spent.now) earlier → result ≡ fault_of (length spent.now) earlier frame.now }
 {
@@ -77,8 +77,8 @@ fn fault_of(frame: &SealedFrame, place: usize, spent: &[bool]) -> Option<VeilRef
     None
 }
 
-// The fault of the first frame that has one, given a mark for each byte of the lane, none of them set. With the marks the
-// time goes with the bytes that the frames spend, and not with pairs of frames.
+// The fault of the first frame that has one. At the beginning no byte of the lane is marked. Because of the marks, the time
+// grows with the bytes that the frames spend, and not with the number of pairs of frames.
 fn first_fault(spent: &mut [bool], frames: &[SealedFrame]) -> Option<VeilRefusal>
     requires { Marks [] spent.old }
     ensures { result ≡ first_fault (length spent.old) frames.now }
@@ -92,7 +92,7 @@ fn first_fault(spent: &mut [bool], frames: &[SealedFrame]) -> Option<VeilRefusal
     None
 }
 
-// Refuses the first frame that has a fault on a lane of so many bytes.
+// Refuses the first frame that has a fault on a lane of `size` bytes.
 pub fn refuse(alloc: Global, size: usize, frames: &[SealedFrame]) -> Result<(), VeilRefusal>
     ensures { Refuses (first_fault size frames.now) result }
 {

@@ -1,13 +1,13 @@
-// Laws of veils, for lanes and frames that no code holds.
+// The laws of veils, stated for lanes and frames as values.
 ghost use Rattle.std.specs.Prelude.{◌≡◌, ◌↔◌, ℕ, List, length, None, IsTrue};
 ghost use Rattle.std.specs.List.{All};
 ghost use Rattle.pad_veil.specs.declared.sealed_frame.SealedFrame.{SealedFrame as FrameValue};
 ghost use Rattle.pad_veil.specs.Faults.{spends, meet, first_fault, LieApart};
 ghost use Rattle.pad_veil.specs.Veil.{veil, IsVeil, Fits};
 
-/// Every key fits the wires: over the veil of a lane, frames that lie apart are with their new payloads, octet for octet, what
-/// they are over the lane with their old ones. The veil is the one list whose bytes are so changed. Frames lie apart exactly
-/// where none is refused, and two frames meet exactly where they spend one byte.
+/// Each wire fits other payloads as well. If frames lie apart, the frames of their new payloads over the lane's veil are,
+/// octet for octet, the frames of their old payloads over the lane. Only one list of bytes is such a veil. Frames lie apart
+/// exactly if none has a fault. Two frames overlap exactly if they both spend some byte.
 pub fn law_every_key_fits()
     ensures fits { (bytes : List ℕ) (frames : List FrameValue) → LieApart (length bytes) frames → All (Fits bytes (veil bytes frames)) frames }
     ensures bytes { (bytes : List ℕ) (frames : List FrameValue) → LieApart (length bytes) frames → IsVeil bytes frames (veil bytes frames) }

@@ -1,14 +1,14 @@
-// A frame whose payload is exchanged.
+// Frames whose payloads are exchanged.
 use qkd_base::{Items, Octets};
 
-/// A frame on a lane, by what it was sealed from, with another payload to stand in the old one's place.
+/// A frame of a lane: its offset, the payload that was sealed, and another payload of the same length.
 #[derive(Debug, Drop)]
 pub struct SealedFrame {
-    /// The place in the lane of the first byte that masks the payload.
+    /// The offset in the lane of the first byte that masks the payload.
     pub offset: u64,
     /// The octets of the payload that was sealed.
     pub old: Octets,
-    /// The octets of the other payload, as many.
+    /// The octets of the other payload. There are as many.
     pub new: Octets,
 }
 

@@ -1,4 +1,4 @@
-// The veil of a lane.
+// The veil of a lane: other bytes under which its frames carry other payloads.
 ghost use Rattle.std.specs.Prelude.{◌≡◌, length, IfOk};
 ghost use Rattle.std.specs.List.{All};
 ghost use Rattle.pad_veil.specs.Faults.{first_fault, Refuses, LieApart};
@@ -10,7 +10,7 @@ use crate::{Sealed, SealedFrame, VeilRefusal};
 use qkd_base::Octets;
 use std::alloc::{AllocError, Global};
 
-// The veil of a lane, given that no frame is refused.
+// The veil of a lane, if no frame has a fault.
 fn veil_of(alloc: Global, lane: &[u8], frames: &[SealedFrame]) -> Result<Octets, AllocError>
     requires { LieApart (length lane.now) frames.now }
     ensures { IfOk result (λ answer. answer ≡ veil lane.now frames.now) }
@@ -20,19 +20,19 @@ fn veil_of(alloc: Global, lane: &[u8], frames: &[SealedFrame]) -> Result<Octets,
     Ok(Octets::from_vec(answer))
 }
 
-/// The bytes of a lane under which each frame has its new payload, and is on the wire what it was with the old one: each
-/// byte that masks a payload is xored with the old octet and the new one, and no other byte changes. So a wire fits the one
-/// payload as well as the other (one-time pad).
+/// The veil of a lane: the bytes under which each frame has its new payload and is, octet for octet, what it was with its old
+/// one. Each byte that masks a payload is xored with the old octet and with the new one, and no other byte changes. So a wire
+/// fits one payload as well as the other (one-time pad).
 ///
-/// `lane` are the lane's bytes from its first one on, of which the first 8 are its hash key. The first frame that has a
-/// fault is refused, with its place among the frames, counted from 0, and its first fault:
+/// `lane` has the lane's bytes from the first one on, of which the first 8 are the hash key. The first frame with a fault is
+/// refused. The error gives its place among the frames, counted from 0, and its first fault:
 ///
-/// - `Unequal`, where its payloads differ in length;
-/// - `Outside`, where its offset is below 8, or offset, length and the tag's 8 bytes pass the lane;
-/// - `Overlap`, where its bytes with the tag's meet those of an earlier frame.
+/// - `Unequal`: its payloads differ in length.
+/// - `Outside`: its offset is below 8, or its payload and the 8 bytes of its tag pass the end of the lane.
+/// - `Overlap`: it spends a byte that an earlier frame spends, for its payload or its tag.
 ///
-/// `Memory` may come in place of any answer. The time goes with the bytes of the lane and of the payloads, and the call
-/// takes a byte for each byte of the lane beside the answer's.
+/// In place of any result the error may be `Memory`: memory ran out. The time grows with the bytes of the lane and of the
+/// payloads. The call needs one byte of memory for each byte of the lane, beside the bytes that it returns.
 pub fn veiled(alloc: Global, lane: &[u8], frames: &Sealed) -> Result<Octets, VeilRefusal>
     ensures refused { Refuses (first_fault (length lane.now) frames.now) result }
     ensures veil { IfOk result (λ answer. answer ≡ veil lane.now frames.now) }

@@ -1,4 +1,4 @@
-// Why payloads aren't exchanged.
+// Errors of exchanging payloads.
 ghost use Rattle.std.specs.Prelude.{◌≡◌};
 ghost use Rattle.pad_veil.specs.declared.veil_refusal.VeilRefusal.TheVariants.{Memory};
 
@@ -6,17 +6,17 @@ use std::alloc::AllocError;
 use std::error::Error;
 use std::fmt;
 
-/// Why the payloads of frames aren't exchanged. Each but `Memory` says the place of its frame among the frames, counted
-/// from 0: the first one that has a fault, and its first fault.
+/// Why the payloads of frames were not exchanged. Each error but `Memory` gives the place of the first frame with a fault,
+/// counted from 0, and is that frame's first fault.
 #[derive(Clone, Copy, Debug, PartialEq, Eq)]
 pub enum VeilRefusal {
     /// The two payloads differ in length.
     Unequal(usize),
-    /// The frame begins in the lane's hash key, its first 8 bytes, or its payload and tag pass the lane's end.
+    /// The frame begins within the lane's first 8 bytes, its hash key, or ends past the end of the lane.
     Outside(usize),
     /// A byte that masks the frame's payload or tag masks that of an earlier frame too.
     Overlap(usize),
-    /// Want of memory.
+    /// Memory ran out.
     Memory,
 }
 

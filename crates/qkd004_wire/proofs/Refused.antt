@@ -1,4 +1,4 @@
--- What a report tells of a reply that is no answer with a status.
+-- The item that a report has for a refused call.
 use Rattle.std.proofs.Common.{◌≡◌, ℕ, List, Option, Some, None, is_some, refl}
 use Rattle.std.specs.Prelude.{if◌then◌else◌}
 use Rattle.std.specs.Option.{option_map}
@@ -6,8 +6,8 @@ use Rattle.qkd_base.specs.Name.{Name}
 use Rattle.net_model.specs.declared.reply.Reply.{Reply}
 use Rattle.net_model.specs.declared.reply.Reply.TheVariants as replies
 use Rattle.net_model.specs.Action.{Replies}
-use Rattle.scenario_lines.specs.declared.stream_call.StreamCall.{StreamCall}
-use Rattle.report_items.specs.declared.item.Item.TheVariants as items
+use Rattle.run_types.specs.declared.stream_call.StreamCall.{StreamCall}
+use Rattle.run_types.specs.declared.item.Item.TheVariants as items
 use Rattle.run_model.specs.Refusals.{refused_by}
 use Rattle.run_model.specs.Outcomes.{stream_items}
 use Rattle.qkd004_wire.specs.Answer.{first_item, told_of}

@@ -1,4 +1,4 @@
-// Answer lines.
+// The lines that answer stream calls.
 ghost use Rattle.std.specs.Prelude.{◌≡◌, Some, None, IfOk, IsSome, is_some, if◌then◌else◌};
 ghost use Rattle.std.specs.Option.{option_map};
 ghost use Rattle.run_model.specs.Refusals.{refused_by};
@@ -7,11 +7,11 @@ ghost use Rattle.qkd004_wire.specs.Answer.{call_of, told, answer_line};
 
 use net_model::{Event, Reply};
 use qkd_base::{Items, KeyName, Memory, Octets, Replica};
-use report_items::{Chunk, Item, Refusal, StreamAnswer};
-use report_writer::item_text;
+use report_text::item_text;
+use run_types::{Chunk, Item, Refusal, StreamAnswer};
 use std::alloc::Global;
 
-/// The refusal that a reply is, as a report words it.
+/// The refusal by which a report words a reply, if the reply is a refusal.
 pub fn refusal_of(reply: &Reply) -> Option<Refusal>
     ensures { result ≡ refused_by reply.now }
 {
@@ -38,7 +38,7 @@ pub fn refusal_of(reply: &Reply) -> Option<Refusal>
     }
 }
 
-// The chunk at an index, where there is one.
+// The chunk at an index. Without bytes there is none.
 fn chunk_in(index: u32, bytes: &Octets) -> Result<Option<Chunk>, Memory>
     ensures { IfOk result (λ chunk. chunk ≡ chunk_in index bytes.now) }
 {
@@ -49,7 +49,7 @@ fn chunk_in(index: u32, bytes: &Octets) -> Result<Option<Chunk>, Memory>
     Ok(Some(Chunk { index, bytes }))
 }
 
-// The answer with this status to the call that an event is.
+// The answer, with this status, to the call of an event. Other events have none.
 fn answer_to(
     event: &Event,
     status: u8,
@@ -72,7 +72,7 @@ fn answer_to(
     }
 }
 
-// Whether an event is a call.
+// Whether an event is a stream call.
 fn is_call(event: &Event) -> bool
     ensures { result ≡ is_some (call_of event.now) }
 {
@@ -82,7 +82,7 @@ fn is_call(event: &Event) -> bool
     )
 }
 
-// What a report tells of a reply to a call that is a refusal.
+// The item that a report has for a call that is refused.
 fn refused_call(event: &Event, reply: &Reply) -> Option<Item>
     ensures { result ≡ (if is_some (call_of event.now) then option_map Item.Refused (refused_by reply.now) else None) }
 {
@@ -96,7 +96,7 @@ fn refused_call(event: &Event, reply: &Reply) -> Option<Item>
     }
 }
 
-// What a report tells of the reply to a call.
+// The item that a report has for the reply to a call.
 #[tactic(auto, unfolding(crate::specs::Answer::told))]
 fn told(event: &Event, reply: &Reply) -> Result<Option<Item>, Memory>
     ensures { IfOk result (λ item. item ≡ told event.now reply.now) }
@@ -115,8 +115,8 @@ fn told(event: &Event, reply: &Reply) -> Result<Option<Item>, Memory>
     }
 }
 
-/// The line that answers a call of streams, without its end, where the event is one and the reply is an answer to it or a
-/// refusal that a report words.
+/// The line that answers a stream call, without its end. The event must be such a call, and the reply an answer to it or a
+/// refusal that a report words. The only error is that memory runs out.
 pub fn answer_line(alloc: Global, event: &Event, reply: &Reply) -> Result<Octets, Memory>
     requires { IsSome (told event.now reply.now) }
     ensures { IfOk result (λ text. answer_line event.now reply.now ≡ Some text) }

@@ -1,7 +1,7 @@
-// Call lines.
+// The lines of stream calls, read as events.
 ghost use Rattle.std.specs.Prelude.{◌≡◌, ◌≤◌, length};
 ghost use Rattle.std.specs.Option.{option_map};
-ghost use Rattle.scenario_reader.specs.Words.{words_of};
+ghost use Rattle.scenario_text.specs.Words.{words_of};
 ghost use Rattle.run_model.specs.Turn.{event_of};
 ghost use Rattle.qkd004_wire.specs.Call.{call_in, fitting, place_behind, bad_place, Calls};
 
@@ -9,11 +9,11 @@ use crate::BadCall;
 use crate::field::{Field, fields_of, fits};
 use declared_site::Site;
 use net_model::Event;
-use scenario_lines::StreamCall;
-use scenario_reader::call;
-use scenario_reader::words::{begins_blank, ends_blank, word};
+use run_types::StreamCall;
+use scenario_text::call;
+use scenario_text::words::{begins_blank, ends_blank, word};
 
-/// The event that a call asks a manager for.
+/// The event by which a manager is asked for a call.
 pub fn event_of(call: StreamCall) -> Event
     ensures { result ≡ event_of call }
 {
@@ -43,7 +43,7 @@ pub fn event_of(call: StreamCall) -> Event
     }
 }
 
-// The call that a line is.
+// The call of a line, if the line is one.
 #[tactic(auto, unfolding(crate::specs::Call::call_in))]
 fn call_in(site: &Site, line: &[u8]) -> Option<StreamCall>
     ensures { result ≡ call_in site.now line.now }
@@ -55,7 +55,7 @@ fn call_in(site: &Site, line: &[u8]) -> Option<StreamCall>
     call(site, first, rest)
 }
 
-// How many words fit the fields, from the first one on.
+// How many leading words fit their fields.
 fn fitting(site: &Site, fields: &[Field], words: &[u8]) -> usize
     ensures count { result ≡ fitting site.now fields.now (words_of words.now) }
     ensures within { result ≤ length fields.now }
@@ -89,7 +89,7 @@ fn bad_place(site: &Site, line: &[u8]) -> usize
     }
 }
 
-// The place behind a first word that begins calls of these fields.
+// The place behind a first word, if calls that begin with it have these fields.
 fn place_behind(site: &Site, fields: &[Field], words: &[u8]) -> usize
     requires { length fields.now ≤ 4 }
     ensures { result ≡ place_behind site.now fields.now (words_of words.now) }
@@ -101,9 +101,10 @@ fn place_behind(site: &Site, fields: &[Field], words: &[u8]) -> usize
     }
 }
 
-/// The event that a line asks for: `OPEN_CONNECT ID ID - BITS` (source, peer), `OPEN_CONNECT ID ID STREAM BITS` (caller,
-/// source), `GET_KEY ID STREAM INDEX` or `CLOSE ID STREAM`, with declared applications, words separated by spaces, and
-/// no end of line. A size that no stream may have is answered by a status, and is no fault of the line. It takes no memory.
+/// Reads the line of a stream call as the event that it asks for (ETSI GS QKD 004 V2.1.1, clause 6). A line is
+/// `OPEN_CONNECT ID ID - BITS` (source, peer), `OPEN_CONNECT ID ID STREAM BITS` (caller, source), `GET_KEY ID STREAM INDEX`
+/// or `CLOSE ID STREAM`. Its applications are declared, spaces separate its words, and it has no end of line. A size that no
+/// stream may have is no error here: the call is answered by a status. The call allocates nothing.
 pub fn read_call(line: &[u8], site: &Site) -> Result<Event, BadCall>
     ensures { Calls site.now line.now result }
 {

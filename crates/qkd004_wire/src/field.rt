@@ -1,13 +1,13 @@
-// What stands behind the first word of a call.
+// The fields of a stream call, behind its first word.
 ghost use Rattle.std.specs.Prelude.{◌≡◌, ◌≤◌, length};
 ghost use Rattle.qkd004_wire.specs.Call.{fields_of, fits};
 
 use declared_site::Site;
-use scenario_reader::words::{number, number_in};
-use scenario_reader::{sae, stream};
+use scenario_text::words::{number, number_in};
+use scenario_text::{sae, stream};
 
-/// A word of a call: a declared application, the stream that is joined or a hyphen where one is opened, a stream, bits
-/// below 65,536, or an index below 2^32.
+/// A field of a call: a declared application, a hyphen (to open a stream) or the stream to join, a stream, bits below
+/// 65,536, or an index below 2^32.
 #[derive(Clone, Copy, Debug, PartialEq, Eq)]
 pub enum Field {
     Application,
@@ -17,7 +17,7 @@ pub enum Field {
     Index,
 }
 
-/// The words of a call that begins with this one.
+/// The fields of a call that begins with this word. Other words have none.
 #[tactic(auto, unfolding(crate::specs::Call::fields_of))]
 pub fn fields_of(first: &[u8]) -> &'static [Field]
     ensures fields { result.now ≡ fields_of first.now }
@@ -39,7 +39,7 @@ pub fn fields_of(first: &[u8]) -> &'static [Field]
     }
 }
 
-/// Whether a word fits.
+/// Whether a word fits a field.
 #[tactic(auto, unfolding(crate::specs::Call::fits))]
 pub fn fits(site: &Site, field: Field, word: &[u8]) -> bool
     ensures { result ≡ fits site.now field word.now }

@@ -1,4 +1,4 @@
--- What a request asks for, from the answers of the steps.
+-- What a request asks for, from the results of the steps.
 use Rattle.std.proofs.Common.{◌≡◌, ℕ, Bool, List, Option, Some, Result, refl, sym, ap, ◌∙◌, subst, codes}
 use Rattle.std.specs.Str.{bytes_eq}
 use Rattle.net_model.specs.declared.event.Event.{Event}

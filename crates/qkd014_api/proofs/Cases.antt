@@ -47,7 +47,7 @@ slave_within g node resource caller other pair e =
     middle false false true e = absurd cc
     middle false false false e = absurd cc
 
--- an event is asked for with a slave that is there
+-- The slave of an event that a request asks for is one of the applications.
 pub asks_for : (g : Grants) (node : ℕ) (q : HttpRequest) (event : Event) → asked g node q ≡ Ok event → (master : ℕ) × (slave : ℕ) × (slave < length g.saes) × AsksFor g q master slave event
 unfolding asked
 asks_for g node q event e =

@@ -1,4 +1,4 @@
--- What follows where a chain gives something.
+-- What follows if a chain of optional values gives a value.
 use Rattle.std.proofs.Common.{◌≡◌, Bool, true, false, Option, Some, None, Result, Ok, Err, refl, ap}
 use Rattle.std.specs.Prelude.{if◌then◌else◌, unwrap_or, ok_or}
 use Rattle.std.specs.Option.{option_and_then, option_map}

@@ -50,7 +50,7 @@ no-object body error faults.MandatoryRefused cause bad = absurd cause
 no-object body error faults.BadKeyId cause bad = absurd cause
 no-object body error faults.BadKeyIds cause bad = absurd cause
 
--- what is asked of a text alone
+-- A test for UTF-8 that a text passes may be left out.
 pub text-only : {A : Type 0} (bytes : List ℕ) (o : Option A) → IsUtf8 bytes → o ≡ (if is_utf8 bytes then o else None)
 text-only bytes o text = let holds : is_utf8 bytes ≡ true = is_utf8-from_IsUtf8 bytes text in rw holds refl
 

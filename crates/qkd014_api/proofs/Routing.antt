@@ -1,4 +1,4 @@
--- Routes that were inserted.
+-- The routes after each insertion.
 use Rattle.std.proofs.Common.{◌≡◌, Result, Ok, Err, refl}
 use Rattle.matchit.specs.Route.{Scan}
 use Rattle.matchit.specs.Router.{RouteOf, InsertsRead}

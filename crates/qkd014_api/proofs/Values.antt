@@ -5,7 +5,7 @@ use Rattle.qkd014_api.specs.Queries.{text_of, values_among, one_of}
 use Rattle.qkd014_api.specs.declared.query.Given.{Given}
 use Rattle.qkd014_api.specs.declared.query.Given.TheVariants.{Absent, Once, Often}
 
--- what was found, with more values behind it
+-- what was found so far, and more values after it
 abbrev pub with_more : Given → List (List ℕ) → Given
 with_more Absent vs = one_of vs
 with_more (Once v) vs = one_of (v ∷ vs)
@@ -16,7 +16,7 @@ with_more-none Absent = refl
 with_more-none (Once v) = refl
 with_more-none Often = refl
 
--- what is found with one value more
+-- what was found so far, and one more value
 abbrev pub one_more : Given → List ℕ → Given
 one_more Absent v = Once v
 one_more (Once w) v = Often

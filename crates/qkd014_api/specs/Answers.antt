@@ -10,14 +10,14 @@ use Rattle.sae_entitlements.specs.Grants.{Grants, id_of, home_of}
 use Rattle.http_front.specs.declared.response.HttpResponse.{HttpResponse}
 use Rattle.qkd014_api.specs.Texts.{message_body, keys_body, status_body}
 
--- a status and a body
+-- an HTTP status and a body
 abbrev pub Answer : Type 0
 Answer = ℕ × List ℕ
 
 abbrev pub message : ℕ → List ℕ → Option Answer
 message status text = Some (status, message_body text)
 
--- a message about the key at a place
+-- a message about the key at a place of the request
 abbrev pub at_place : ℕ → List ℕ → Option Answer
 at_place place text = message 400 (codes "key " ++ decimal place ++ text)
 
@@ -51,7 +51,7 @@ abbrev pub status_answer : List (List ℕ) → Grants → Event → ℕ → Opti
 status_answer nodes g (events.Status master slave) count = pool_answer count (end_of nodes g master) (end_of nodes g slave)
 status_answer nodes g _ count = None
 
--- the answer to a reply to an event, where there is one
+-- the answer to a reply to an event, if there is one
 abbrev pub answer_of : List (List ℕ) → Grants → Event → Reply → Option Answer
 answer_of nodes g event (replies.Handed keys) = Some (200, keys_body keys)
 answer_of nodes g event (replies.ReadyCount count) = status_answer nodes g event count

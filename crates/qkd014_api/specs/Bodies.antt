@@ -1,4 +1,4 @@
--- The parameters of a body, a JSON object (RFC 8259) as serde_json reads it.
+-- The parameters of a body, which is a JSON object (RFC 8259) as serde_json parses it.
 use Rattle.std.specs.Prelude.{◌≡◌, ℕ, Bool, true, false, ◌==◌, ◌||◌, ◌&&◌, nat_lt, nat_eq, if◌then◌else◌, List, [], ◌∷◌, ◌++◌, length, Option, Some, None, Result, Ok, Err, codes, unwrap_or, ok_or, is_some}
 use Rattle.std.specs.Option.{option_and_then, option_map}
 use Rattle.std.specs.List.{list_any}
@@ -23,7 +23,7 @@ use Rattle.qkd014_api.specs.declared.fault.CallFault.TheVariants as faults
 abbrev pub only_object : Data → Option Data
 only_object d = if is_some (as_object d) then Some d else None
 
--- the object that octets are
+-- the object that octets spell
 unfoldable pub object_in : List ℕ → Option Data
 object_in body = if is_utf8 body then option_and_then only_object (read body) else None
 
@@ -36,7 +36,7 @@ abbrev pub IsObject : List ℕ → Result Value CallFault → Type 0
 IsObject body (Ok value) = object_in body ≡ Some (view value)
 IsObject body (Err e) = IsNoObject body e
 
--- want of memory is no fault of a body
+-- the fault for a parser's error: memory ran out, or else the body is bad
 abbrev pub IsCause : Error → CallFault → Type 0
 IsCause error faults.BadBody = ¬ (IsMemory error)
 IsCause error faults.Memory = IsMemory error
@@ -64,7 +64,7 @@ has_none None = false
 has_none (Some no_items) = true
 has_none (Some (item d ds)) = false
 
--- a member is absent or an empty array
+-- The member is absent or an empty array.
 abbrev pub is_unasked : Option Data → Bool
 is_unasked None = true
 is_unasked (Some d) = has_none (as_array d)
@@ -75,15 +75,15 @@ is_blank d = is_unasked (get (codes "extension_mandatory") d)
 abbrev pub is_among : List ℕ → ℕ → Bool
 is_among slaves slave = list_any (λ s. nat_eq s slave) slaves
 
--- a slave that is not among those so far, of which there are at most 4
+-- a slave that isn't among the slaves so far, of which there are at most 4
 abbrev pub new_slave : List ℕ → ℕ → Option ℕ
 new_slave slaves slave = if nat_lt 4 (length slaves) || is_among slaves slave then None else Some slave
 
--- a further slave
+-- one more slave
 abbrev pub another : Grants → List ℕ → Data → Option ℕ
 another g slaves d = option_and_then (new_slave slaves) (option_and_then (find_sae g.saes) (as_str d))
 
--- slaves and those of an array behind them
+-- the given slaves, followed by those of an array
 abbrev pub chosen : Grants → List ℕ → Items → Option (List ℕ)
 chosen g slaves no_items = Some slaves
 chosen g slaves (item d ds) = option_and_then (λ slave. chosen g (slaves ++ slave ∷ []) ds) (another g slaves d)
@@ -92,13 +92,13 @@ abbrev pub chosen_of : Grants → List ℕ → Option Data → Option (List ℕ)
 chosen_of g slaves None = Some slaves
 chosen_of g slaves (Some d) = option_and_then (chosen g slaves) (as_array d)
 
--- the first slave and the additional ones
+-- the first slave, followed by the additional ones
 abbrev pub slaves_in : Grants → ℕ → Data → Result (List ℕ) CallFault
 slaves_in g first d = ok_or (chosen_of g (first ∷ []) (get (codes "additional_slave_SAE_IDs") d)) faults.SlavesRefused
 
--- ---- names
+-- ---- key names
 
--- the name that stands for a UUID that is none, which no key has
+-- the name for a UUID that spells no key name; no key has this name
 abbrev pub no_key : Name
 no_key = record { node = 0; kind = Note; count = 1 }
 
@@ -111,14 +111,14 @@ name_told text = option_map name_of (parsed text)
 abbrev pub named : Data → Option Name
 named d = option_and_then name_told (option_and_then as_str (get (codes "key_ID") d))
 
--- a name more, where there are fewer than 128
+-- one more name, if there are fewer than 128
 abbrev pub new_name : List Name → Name → Option Name
 new_name names name = if nat_lt (length names) 128 then Some name else None
 
 abbrev pub another_name : List Name → Data → Option Name
 another_name names d = option_and_then (new_name names) (named d)
 
--- names and those of an array behind them
+-- the given names, followed by those of an array
 abbrev pub names_on : List Name → Items → Option (List Name)
 names_on names no_items = Some names
 names_on names (item d ds) = option_and_then (λ name. names_on (names ++ name ∷ []) ds) (another_name names d)
@@ -127,7 +127,7 @@ abbrev pub some_names : List Name → Option (List Name)
 some_names [] = None
 some_names (n ∷ ns) = Some (n ∷ ns)
 
--- 1 to 128 names
+-- 1 to 128 key names
 abbrev pub key_ids_in : Data → Result (List Name) CallFault
 key_ids_in d =
     ok_or (option_and_then some_names (option_and_then (names_on []) (option_and_then as_array (get (codes "key_IDs") d)))) faults.BadKeyIds

@@ -1,4 +1,4 @@
--- Which event a request asks for, or what is wrong with it, first things first (ETSI GS QKD 014 V1.1.1, section 5).
+-- Which event a request asks for, or the first thing that is wrong with it (ETSI GS QKD 014 V1.1.1, section 5).
 use Rattle.std.specs.Prelude.{◌≡◌, ℕ, zero, suc, Bool, true, false, ◌==◌, ◌&&◌, nat_lt, if◌then◌else◌, List, [], ◌∷◌, ◌++◌, length, Option, Some, None, Result, Ok, Err, codes, ok_or}
 use Rattle.std.specs.Option.{option_and_then}
 use Rattle.std.specs.Str.{bytes_eq, is_utf8}
@@ -32,7 +32,7 @@ Err e >>= f = Err e
 abbrev pub sae_of : Grants → List ℕ → Option ℕ
 sae_of g id = if is_utf8 id then find_sae g.saes id else None
 
--- keys are asked for by their master, and then by their slave
+-- the master and the slave: at status and enc_keys the caller is the master, at dec_keys the slave
 abbrev pub roles : Resource → (caller other : ℕ) → ℕ × ℕ
 roles Status caller other = (caller, other)
 roles EncKeys caller other = (caller, other)
@@ -44,15 +44,15 @@ allowed_pair g p = if nat_lt p.0 (length g.saes) && nat_lt p.1 (length g.saes) &
 abbrev pub at_home : ℕ → ℕ → ℕ → Option ℕ
 at_home node caller home = if home == node then Some caller else None
 
--- the master and the slave, where the caller is at home at the node and the pair is allowed
+-- the master and the slave, if the caller is at home at the node and the pair is allowed
 abbrev pub pair_of : Grants → (node : ℕ) → Resource → (caller other : List ℕ) → Option (ℕ × ℕ)
 pair_of g node resource caller other =
     option_and_then (λ c. option_and_then (λ o. allowed_pair g (roles resource c o)) (sae_of g other))
     (option_and_then (λ c. option_and_then (at_home node c) (home_of g c)) (sae_of g caller))
 
--- ---- what is asked
+-- ---- what is asked for
 
--- those among the applications that are below a number, in order
+-- the applications below a number that are in the list, in order
 unfoldable pub ordered_below : ℕ → List ℕ → List ℕ
 ordered_below zero saes = []
 ordered_below (suc n) saes = ordered_below n saes ++ (if is_among saes n then n ∷ [] else [])
@@ -68,7 +68,7 @@ enc_by_query query master slave = do
   bits ← ok_or (size_given (one_of (values_in (codes "size") query))) faults.BadSize
   Ok (events.Enc master slave number bits)
 
--- an empty body stands for an object without members
+-- An empty body counts as an object without members.
 abbrev pub body_or_blank : List ℕ → List ℕ
 body_or_blank body = if length body == 0 then codes "{}" else body
 
@@ -80,7 +80,7 @@ enc_by_body g body master slave = do
   slaves ← slaves_in g slave d
   if is_blank d then enc_of master slave slaves number bits else Err faults.MandatoryRefused
 
--- the name in a query's only value
+-- the name that the only value in a query spells
 abbrev pub name_given : Given → Option Name
 name_given Absent = None
 name_given (Once text) = name_told text
@@ -104,7 +104,7 @@ event_for g EncKeys true q master slave = enc_by_body g q.body master slave
 event_for g DecKeys false q master slave = dec_by_query (query_in q.target) master slave
 event_for g DecKeys true q master slave = dec_by_body q.body master slave
 
--- A request at a node: its resource first, then its caller, then the pair, then the rest.
+-- The event of a request at a node. The resource is checked first, then the caller, then the pair, then the rest.
 unfoldable pub asked : Grants → (node : ℕ) → HttpRequest → Result Event CallFault
 asked g node q = do
   resource ← ok_or (resource_at (path_in q.target) q.method) faults.UnknownResource
@@ -132,12 +132,12 @@ fault_message faults.BadKeyId = codes "bad key_ID"
 fault_message faults.BadKeyIds = codes "bad key_IDs"
 fault_message faults.Memory = []
 
--- a fault is answered by its status and message, unless memory ran out
+-- A fault is answered by its status and message, unless memory ran out.
 abbrev pub IsAnswered : CallFault → (close : Bool) → CallRefusal → Type 0
 IsAnswered fault close refusals.Memory = Unit {0}
 IsAnswered fault close (refusals.Answer response) = response ≡ error_response (fault_status fault) (fault_message fault) close
 
--- the event that is asked for; or its fault is answered, unless memory ran out
+-- The result is the event that the request asks for, or the answer to the request's fault, unless memory ran out.
 abbrev pub IsCalled : Result Event CallFault → (close : Bool) → Result Event CallRefusal → Type 0
 IsCalled means close (Ok event) = means ≡ Ok event
 IsCalled means close (Err refusals.Memory) = Unit {0}

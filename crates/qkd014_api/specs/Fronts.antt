@@ -1,11 +1,11 @@
--- The messages of what the front refuses.
+-- The messages for what the HTTP front refuses.
 use Rattle.std.specs.Prelude.{◌≡◌, ℕ, true, List, Option, Some, None, codes}
 use Rattle.http_front.specs.declared.response.HttpResponse.{HttpResponse}
 use Rattle.qkd014_api.specs.Texts.{error_response}
 use Rattle.http_front.specs.declared.refusal.FrontRefusal.{FrontRefusal}
 use Rattle.http_front.specs.declared.refusal.FrontRefusal.TheVariants.{NoRequest, BadHead, TooManyHeaders, HeadTooLong, Chunked, NoLength, BadLength, BodyTooLong, EndOfInput, ReadFault, Memory}
 
--- no response goes where no request began, nor after a fault, nor for want of memory
+-- the message for a refusal; there is none if no request began, after a fault of the source, or if memory ran out
 abbrev pub front_message : FrontRefusal → Option (List ℕ)
 front_message NoRequest = None
 front_message BadHead = Some (codes "bad request head")
@@ -19,7 +19,7 @@ front_message EndOfInput = Some (codes "input ended")
 front_message ReadFault = None
 front_message Memory = None
 
--- the response with a message, behind which the connection closes
+-- the response with a message, after which the connection closes
 abbrev pub IsFrontResponse : Option (List ℕ) → HttpResponse → Type 0
 IsFrontResponse None response = ⊥
 IsFrontResponse (Some text) response = response ≡ error_response 400 text true

@@ -1,4 +1,4 @@
--- What a call gives for octets: what they mean, or their fault, unless memory ran out.
+-- What a call returns for octets: what they mean, or their fault, unless memory ran out.
 use Rattle.std.specs.Prelude.{◌≡◌, Result, Ok, Err}
 use Rattle.qkd014_api.specs.declared.fault.CallFault.{CallFault}
 use Rattle.qkd014_api.specs.declared.fault.CallFault.TheVariants as faults

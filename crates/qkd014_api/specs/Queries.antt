@@ -26,7 +26,7 @@ one_of [] = Absent
 one_of (v ∷ []) = Once v
 one_of (v ∷ w ∷ vs) = Often
 
--- the number, the size that is asked for; a parameter that is repeated is refused
+-- the number and the size that are asked for; a repeated parameter is refused
 abbrev pub number_given : Given → Option ℕ
 number_given Absent = Some 1
 number_given (Once v) = option_and_then number_at (decimal_of v)

@@ -1,4 +1,4 @@
--- The resources of the interface (ETSI GS QKD 014 V1.1.1, section 5), as matchit's routes.
+-- The resources of the interface (ETSI GS QKD 014 V1.1.1, section 5), as routes of the library matchit.
 use Rattle.std.specs.Prelude.{ℕ, ◌+◌, ◌-◌, Bool, ◌&&◌, ◌||◌, ◌==◌, not, if◌then◌else◌, List, [], ◌∷◌, length, take, drop, Option, Some, None, Result, Ok, Err, codes}
 use Rattle.std.specs.Option.{option_map, option_and_then}
 use Rattle.std.specs.List.{prefix_len}
@@ -14,7 +14,7 @@ use Rattle.qkd014_api.specs.declared.resource.Resource.TheVariants.{Status, EncK
 
 -- ---- targets
 
--- where the query of a target begins, or its end
+-- the index of the `?` in a target, or the target's length
 abbrev pub mark_of : List ℕ → ℕ
 mark_of target = prefix_len (λ b. not (b == 63)) target
 
@@ -24,13 +24,13 @@ path_in target = take (mark_of target) target
 abbrev pub query_in : List ℕ → List ℕ
 query_in target = drop (mark_of target + 1) target
 
--- how many octets stand behind the application in a path
+-- how many octets of a path follow the application's ID
 abbrev pub tail_len : Resource → ℕ
 tail_len Status = 7
 tail_len EncKeys = 9
 tail_len DecKeys = 9
 
--- what stands between `/api/v1/keys/` and the resource's own part
+-- the part of a path between `/api/v1/keys/` and the resource's own part
 abbrev pub sae_part : List ℕ → Resource → List ℕ
 sae_part path resource = take (length path - (13 + tail_len resource)) (drop 13 path)
 
@@ -39,7 +39,7 @@ sae_part path resource = take (length path - (13 + tail_len resource)) (drop 13 
 abbrev pub Routes : Type 0
 Routes = RowsOf (RouteOf Resource)
 
--- rows with one more route
+-- the routes with one more route inserted
 abbrev pub routed : Result Scan InsertError → Resource → Routes → Routes
 routed (Ok s) resource rows = placed (s.pattern, route_from s resource) rows
 routed (Err e) resource rows = rows
@@ -54,7 +54,7 @@ routes =
 abbrev pub route_of : List ℕ → Option Resource
 route_of path = if is_utf8 path then option_map (λ (r : RouteOf Resource). r.value) (first routes path) else None
 
--- its methods
+-- the methods that a resource serves
 abbrev pub serves : Resource → List ℕ → Bool
 serves Status method = bytes_eq method (codes "GET")
 serves EncKeys method = bytes_eq method (codes "GET") || bytes_eq method (codes "POST")

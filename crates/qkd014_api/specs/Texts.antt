@@ -1,4 +1,5 @@
--- The JSON texts of ETSI GS QKD 014 V1.1.1 (section 6): compact, with members in order of their bytes.
+-- The JSON texts of ETSI GS QKD 014 V1.1.1 (section 6): without white space, and with members in the order of their names'
+-- bytes.
 use Rattle.std.specs.Prelude.{ℕ, Bool, true, false, if◌then◌else◌, List, [], ◌∷◌, ◌++◌, codes}
 use Rattle.std.specs.Fmt.{decimal}
 use Rattle.uuid.specs.Text.{lower, hyphenated_text}
@@ -23,7 +24,7 @@ unfoldable pub key_text : Name → List ℕ → List ℕ
 key_text name bytes =
     codes "{\"key\":\"" ++ encode_of standard bytes ++ codes "\",\"key_ID\":\"" ++ hyphenated_text lower (octets_of name) ++ codes "\"}"
 
--- a comma stands before each key but the first
+-- A comma stands before each key except the first.
 abbrev pub comma_text : Bool → List ℕ
 comma_text later = if later then codes "," else []
 
@@ -36,14 +37,14 @@ keys_body keys = codes "{\"keys\":[" ++ keys_text false keys ++ codes "]}"
 
 -- ---- status
 
--- a text between quotation marks, escaped where it needs to be
+-- a quoted text with JSON escapes where they are needed
 unfoldable pub quoted_text : List ℕ → List ℕ
 quoted_text text = compact_text (string text)
 
 unfoldable pub master_label : List ℕ
 master_label = codes "{\"key_size\":256,\"master_SAE_ID\":"
 
--- the limits of this interface, and what stands before the slave
+-- the limits of this interface, up to the slave's ID
 unfoldable pub slave_label : List ℕ
 slave_label = codes ",\"max_SAE_ID_count\":4,\"max_key_count\":4096,\"max_key_per_request\":128,\"max_key_size\":4096,\"min_key_size\":64,\"slave_SAE_ID\":"
 

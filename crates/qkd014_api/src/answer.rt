@@ -1,4 +1,4 @@
-// The response to a manager's reply.
+// Making the response to a manager's reply.
 ghost use Rattle.std.specs.Prelude.{◌≡◌, IfOk};
 ghost use Rattle.std.specs.Option.{option_map};
 ghost use Rattle.qkd014_api.specs.Answers.{answer_of, status_answer, refused_answer, end_of, IsResponse};
@@ -13,7 +13,7 @@ use qkd_base::{Memory, SaeNo};
 use std::alloc::Global;
 
 impl Api {
-    /// The response that answers a manager's reply to an event. A reply that has none gets want of memory, so that the
+    /// The response to a manager's reply to an event. For a reply without a response it returns `Memory`, so that the
     /// connection ends.
     pub fn response_of(
         &self,
@@ -38,7 +38,7 @@ impl Api {
         }
     }
 
-    // The response that tells a status.
+    // The response that tells the status of a pool.
     fn status(
         &self,
         alloc: Global,
@@ -68,7 +68,7 @@ impl Api {
         })
     }
 
-    // The ID of an application, and its node's name.
+    // The ID of an application, and the name of its node.
     fn end(&self, sae: SaeNo) -> Option<(&str, &str)>
         ensures { option_map (λ e. (e.0.now, e.1.now)) result ≡ end_of self.now.nodes self.now.entitlements sae }
     {

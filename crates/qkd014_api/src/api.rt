@@ -1,16 +1,14 @@
-// What the interface knows of its network.
 ghost use Rattle.std.specs.Prelude.{◌≡◌, IfOk};
 ghost use Rattle.qkd014_api.specs.Resources.{routes};
 
 use crate::resource::Resource;
 use declared_site::Site;
-use declared_site::sae_entitlements::Entitlements;
 use matchit::Router;
 use qkd_base::{Memory, Replica, Texts};
+use sae_entitlements::Entitlements;
 use std::alloc::Global;
 
-/// The delivery interface of the key managers of a site: the names of its nodes, and its applications with the pairs that
-/// are allowed.
+/// The key delivery interface of the managers of a site: the names of its nodes, and its applications with the allowed pairs.
 #[derive(Drop)]
 pub struct Api {
     pub nodes: Texts,
@@ -20,7 +18,7 @@ pub struct Api {
 }
 
 impl Api {
-    /// The interface of a site.
+    /// Makes the interface of a site.
     pub fn new(alloc: Global, site: &Site) -> Result<Self, Memory>
         ensures nodes { IfOk result (λ api. api.nodes ≡ site.now.nodes) }
         ensures entitlements { IfOk result (λ api. api.entitlements ≡ site.now.entitlements) }
@@ -36,7 +34,7 @@ impl Api {
     }
 }
 
-// The routes.
+// Makes the routes.
 fn router(alloc: Global) -> Result<Router<Resource>, Memory>
     ensures { IfOk result (λ router. router ≡ routes) }
 {

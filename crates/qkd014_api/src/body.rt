@@ -1,4 +1,4 @@
-// Parameters in a body.
+// The parameters in a request's body.
 ghost use Rattle.std.specs.Prelude.{◌≡◌, ok_or};
 ghost use Rattle.serde_json.specs.Find.{as_array};
 ghost use Rattle.serde_json.specs.View.{view, items_view};
@@ -8,14 +8,15 @@ ghost use Rattle.qkd014_api.specs.Gives.{Gives};
 
 use crate::fault::CallFault;
 use crate::query::{key_number, key_size};
-use declared_site::sae_entitlements::Entitlements;
-use qkd_base::uuid::Uuid;
+use key_uuid::from_uuid;
 use qkd_base::{KeyName, NameKind, Names, NodeNo, SaeNo, Saes};
+use sae_entitlements::Entitlements;
 use serde_json::error::Category;
 use serde_json::{Error, Value};
 use std::alloc::Global;
+use uuid::Uuid;
 
-/// The object that a body is.
+/// Parses a body that must be a JSON object.
 pub(crate) fn object(alloc: Global, body: &[u8]) -> Result<Value, CallFault>
     ensures { IsObject body.now result }
 {
@@ -31,7 +32,7 @@ pub(crate) fn object(alloc: Global, body: &[u8]) -> Result<Value, CallFault>
     }
 }
 
-// Why a body isn't read: it is no JSON, or memory is wanting.
+// Why a body was refused: it is no JSON, or memory ran out.
 fn unreadable(error: &Error) -> CallFault
     ensures { IsCause error.now result }
 {
@@ -41,7 +42,7 @@ fn unreadable(error: &Error) -> CallFault
     }
 }
 
-/// The number of keys that an object asks for: 1 to 128, or 1.
+/// The number of keys that an object asks for: 1 to 128. Without the member it is 1.
 pub(crate) fn number(object: &Value) -> Option<u16>
     ensures { result ≡ number_in (view object.now) }
 {
@@ -51,7 +52,7 @@ pub(crate) fn number(object: &Value) -> Option<u16>
     }
 }
 
-/// The size in bits that an object asks for: 64 to 4,096 in steps of 8, or 256.
+/// The size in bits that an object asks for: 64 to 4,096 in steps of 8. Without the member it is 256.
 pub(crate) fn size(object: &Value) -> Option<u16>
     ensures { result ≡ size_in (view object.now) }
 {
@@ -61,7 +62,7 @@ pub(crate) fn size(object: &Value) -> Option<u16>
     }
 }
 
-/// Whether no extension is mandatory: the member is absent or an empty array.
+/// Whether the object asks for no mandatory extension: the member is absent or an empty array.
 pub(crate) fn asks_no_extension(object: &Value) -> bool
     ensures { result ≡ is_blank (view object.now) }
 {
@@ -81,7 +82,7 @@ fn is_empty(value: &Value) -> bool
     }
 }
 
-/// The slaves that an object asks for beside a first one, at most 4, behind that one.
+/// The first slave, followed by the slaves that an object asks for in addition, at most 4.
 pub(crate) fn slaves(
     alloc: Global,
     entitlements: &Entitlements,
@@ -99,7 +100,7 @@ pub(crate) fn slaves(
     choose(entitlements, slaves, items.as_slice())
 }
 
-// Slaves, and those of an array behind them.
+// The given slaves, followed by those of an array.
 fn choose(entitlements: &Entitlements, first: Saes, items: &[Value]) -> Result<Saes, CallFault>
     ensures { Gives (ok_or (chosen entitlements.now first (items_view items.now)) faults.SlavesRefused) result }
 {
@@ -113,7 +114,7 @@ fn choose(entitlements: &Entitlements, first: Saes, items: &[Value]) -> Result<S
     Ok(slaves)
 }
 
-// A further slave.
+// Reads one more slave.
 fn another(entitlements: &Entitlements, slaves: &[SaeNo], item: &Value) -> Option<SaeNo>
     ensures { result ≡ another entitlements.now slaves.now (view item.now) }
 {
@@ -126,7 +127,7 @@ fn another(entitlements: &Entitlements, slaves: &[SaeNo], item: &Value) -> Optio
     }
 }
 
-/// The names that an object asks for, 1 to 128.
+/// The 1 to 128 key names that an object asks for.
 pub(crate) fn key_ids(alloc: Global, object: &Value) -> Result<Names, CallFault>
     ensures { Gives (key_ids_in (view object.now)) result }
 {
@@ -140,7 +141,7 @@ pub(crate) fn key_ids(alloc: Global, object: &Value) -> Result<Names, CallFault>
     Ok(names)
 }
 
-// Names, and those of an array behind them.
+// The given names, followed by those of an array.
 fn listed(first: Names, items: &[Value]) -> Result<Names, CallFault>
     ensures { Gives (ok_or (names_on first (items_view items.now)) faults.BadKeyIds) result }
 {
@@ -154,7 +155,7 @@ fn listed(first: Names, items: &[Value]) -> Result<Names, CallFault>
     Ok(names)
 }
 
-// A further name.
+// Reads one more name.
 fn another_name(names: &[KeyName], item: &Value) -> Option<KeyName>
     ensures { result ≡ another_name names.now (view item.now) }
 {
@@ -162,7 +163,7 @@ fn another_name(names: &[KeyName], item: &Value) -> Option<KeyName>
     if names.len() < 128 { Some(name) } else { None }
 }
 
-// The name of one object.
+// The name in one object of the array.
 fn key_id(item: &Value) -> Option<KeyName>
     ensures { result ≡ named (view item.now) }
 {
@@ -170,12 +171,13 @@ fn key_id(item: &Value) -> Option<KeyName>
     name(text)
 }
 
-/// The name that the text of a UUID tells. A UUID that is no name stands for one that no key has: the first note of node 0.
+/// The key name that the text of a UUID spells. A UUID that spells no key name gives the first note of node 0, which is no
+/// key's name.
 pub(crate) fn name(text: &str) -> Option<KeyName>
     ensures { result ≡ name_told text.now }
 {
     match Uuid::parse_str(text) {
-        Ok(uuid) => match KeyName::from_uuid(uuid) {
+        Ok(uuid) => match from_uuid(uuid) {
             Some(name) => Some(name),
             None => KeyName::new(NodeNo::new(0)?, NameKind::Note, 1),
         },

@@ -1,4 +1,4 @@
-// Which event a request asks for.
+// Finding the event that a request asks for.
 ghost use Rattle.std.specs.Prelude.{◌≡◌, codes};
 ghost use Rattle.std.specs.Option.{option_map};
 ghost use Rattle.std.specs.Str.{bytes_eq};
@@ -39,7 +39,7 @@ impl Api {
         }
     }
 
-    // The same, with what is wrong.
+    // The event that a request asks for, or what is wrong with the request.
     #[tactic(auto, unfolding(crate::specs::Calls::asked))]
     fn ask(&self, alloc: Global, node: NodeNo, request: &HttpRequest) -> Result<Event, CallFault>
         ensures { Gives (asked self.now.entitlements node request.now) result }
@@ -60,7 +60,7 @@ impl Api {
         self.event(alloc, resource, posts, request, pair.0, pair.1)
     }
 
-    // The event at a resource, for a pair that is allowed.
+    // The event that a request to a resource asks for, for a pair that is allowed.
     fn event(
         &self,
         alloc: Global,
@@ -92,7 +92,7 @@ impl Api {
         }
     }
 
-    // The resource of a path that serves a method.
+    // The resource of a path, if it serves the method.
     fn resource(&self, path: &[u8], method: &[u8]) -> Option<Resource>
         ensures { result ≡ resource_at path.now method.now }
     {
@@ -114,7 +114,7 @@ impl Api {
         }
     }
 
-    // The same of a text.
+    // The resource of a path that is a text.
     fn route_of_text(&self, path: &str) -> Option<Resource>
         ensures { result ≡ option_map (λ (r : RouteOf Resource). r.value) (first routes path.now) }
     {
@@ -137,7 +137,7 @@ impl Api {
         }
     }
 
-    // The master and the slave, where the caller is at home at the node and the pair is allowed.
+    // The master and the slave, if the caller is at home at the node and the pair is allowed.
     fn pair(
         &self,
         node: NodeNo,

@@ -1,4 +1,4 @@
-// Key containers.
+// Encoding key containers.
 ghost use Rattle.std.specs.Prelude.{◌≡◌, ◌++◌, false, IfOk, OnOk};
 ghost use Rattle.std.specs.String.{string_bytes};
 ghost use Rattle.uuid.specs.Text.{lower, hyphenated_text};
@@ -8,17 +8,18 @@ ghost use Rattle.qkd_base.specs.Name.{octets_of};
 ghost use Rattle.qkd014_api.specs.Texts.{comma_text, keys_body, key_text, keys_text};
 
 use base64::engine::general_purpose::STANDARD;
-use qkd_base::uuid::Uuid;
+use key_uuid::to_uuid;
 use qkd_base::{KeyName, Keys, Memory, Octets};
 use std::alloc::Global;
+use uuid::Uuid;
 
-// The octets of a body round its keys.
+// The octets of a container around its keys.
 const BODY_FRAME: usize = 11;
 
-// The most octets of a key round its base64: 23 of marks and labels, and 36 of the name.
+// The most octets of a key around its base64: 23 of punctuation and labels, and 36 of the name.
 const KEY_FRAME: usize = 59;
 
-/// The body that hands keys (ETSI GS QKD 014 V1.1.1, Key container).
+/// Encodes the keys that are handed out (ETSI GS QKD 014 V1.1.1, Key container).
 #[tactic(auto, unfolding(crate::specs::Texts::keys_body))]
 pub(crate) fn keys_body(alloc: Global, keys: &Keys) -> Result<Octets, Memory>
     ensures { IfOk result (λ body. body ≡ keys_body keys.now) }
@@ -30,7 +31,7 @@ pub(crate) fn keys_body(alloc: Global, keys: &Keys) -> Result<Octets, Memory>
     Ok(Octets::from_vec(body.into_bytes()))
 }
 
-// How much room the body is given at once: enough where no key is longer than the first.
+// The memory that a container gets at first: enough if no key is longer than the first one.
 fn room(keys: &[(KeyName, Octets)]) -> usize {
     let base64 = match keys.first() {
         Some(key) => (key.1.len() / 3 + 1).saturating_mul(4),
@@ -40,7 +41,7 @@ fn room(keys: &[(KeyName, Octets)]) -> usize {
     keys.len().saturating_mul(each).saturating_add(BODY_FRAME)
 }
 
-// Each key in order.
+// Appends all keys in order.
 fn listed(keys: &[(KeyName, Octets)], body: &mut String) -> Result<(), Memory>
     ensures { OnOk result (string_bytes body.new ≡ string_bytes body.old ++ keys_text false keys.now) }
 {
@@ -50,7 +51,7 @@ fn listed(keys: &[(KeyName, Octets)], body: &mut String) -> Result<(), Memory>
     Ok(())
 }
 
-// One key, which is the first, or a later one.
+// Appends one key, and before it a comma unless it is the first.
 #[tactic(auto, unfolding(crate::specs::Texts::key_text))]
 fn one(later: bool, name: KeyName, bytes: &[u8], body: &mut String) -> Result<(), Memory>
     ensures { OnOk result (string_bytes body.new ≡ string_bytes body.old ++ (comma_text later ++ key_text name bytes.now)) }
@@ -64,14 +65,14 @@ fn one(later: bool, name: KeyName, bytes: &[u8], body: &mut String) -> Result<()
     Ok(())
 }
 
-// What stands before a key.
+// What stands before a key: a comma, or nothing before the first one.
 fn comma(later: bool) -> &'static str
     ensures { result.now ≡ comma_text later }
 {
     if later { "," } else { "" }
 }
 
-// Bytes in base64 (RFC 4648, section 4).
+// Appends bytes in base64 (RFC 4648, section 4).
 fn encoded(bytes: &[u8], body: &mut String) -> Result<(), Memory>
     ensures { OnOk result (string_bytes body.new ≡ string_bytes body.old ++ encode_of standard bytes.now) }
 {
@@ -79,12 +80,12 @@ fn encoded(bytes: &[u8], body: &mut String) -> Result<(), Memory>
     Ok(())
 }
 
-// A name as the text of its UUID.
+// Appends a name as the text of its UUID.
 fn identified(name: KeyName, body: &mut String) -> Result<(), Memory>
     ensures { OnOk result (string_bytes body.new ≡ string_bytes body.old ++ hyphenated_text lower (octets_of name)) }
 {
     let mut buffer = Uuid::encode_buffer();
-    let uuid = name.to_uuid();
+    let uuid = to_uuid(name);
     let form = uuid.hyphenated();
     let text = form.encode_lower(&mut buffer);
     body.push_str(text)?;

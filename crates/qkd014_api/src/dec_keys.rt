@@ -1,4 +1,4 @@
-// Keys for their slave (ETSI GS QKD 014 V1.1.1, Get key with key IDs).
+// Requests of a slave for its keys (ETSI GS QKD 014 V1.1.1, Get key with key IDs).
 ghost use Rattle.qkd014_api.specs.Gives.{Gives};
 ghost use Rattle.qkd014_api.specs.Calls.{dec_by_query, dec_by_body};
 
@@ -9,7 +9,7 @@ use net_model::Event;
 use qkd_base::{Names, SaeNo};
 use std::alloc::Global;
 
-/// The key that a query names.
+/// The event that asks for the key that a query names.
 pub(crate) fn dec_by_query(
     alloc: Global,
     query: &[u8],
@@ -31,7 +31,7 @@ pub(crate) fn dec_by_query(
     })
 }
 
-/// The keys that a body names.
+/// The event that asks for the keys that a body names.
 pub(crate) fn dec_by_body(
     alloc: Global,
     body: &[u8],

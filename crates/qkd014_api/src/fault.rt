@@ -3,16 +3,16 @@ use http_front::HttpResponse;
 use qkd_base::Memory;
 use std::alloc::AllocError;
 
-/// Why a request is not taken to a manager.
+/// Why a request doesn't reach a manager.
 #[derive(Debug, Drop)]
 pub enum CallRefusal {
-    /// It is answered at once.
+    /// The request is answered at once.
     Answer(HttpResponse),
-    /// Memory is wanting.
+    /// Out of memory.
     Memory,
 }
 
-/// What is wrong with a request. The cases are tried in this order, but for those of bodies, which come before those of
+/// What is wrong with a request. The cases are tried in this order, except that the faults of a body come before those of
 /// parameters.
 #[derive(Clone, Copy, Debug, PartialEq, Eq)]
 pub enum CallFault {
@@ -33,7 +33,7 @@ impl CallFault {
     ghost use Rattle.std.specs.Prelude.{◌≡◌};
     ghost use Rattle.qkd014_api.specs.Calls.{fault_status, fault_message};
 
-    /// The status of its answer.
+    /// The HTTP status of the answer to this fault.
     pub(crate) fn status(self) -> u16
         ensures { result ≡ fault_status self }
     {
@@ -43,7 +43,7 @@ impl CallFault {
         }
     }
 
-    /// The message of its answer; want of memory has none.
+    /// The message of the answer to this fault. Out of memory has none.
     pub(crate) fn text(self) -> &'static str
         ensures { result.now ≡ fault_message self }
     {

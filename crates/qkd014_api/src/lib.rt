@@ -1,4 +1,4 @@
-//! ETSI GS QKD 014 over HTTP: which event of a key manager a request asks for, and the response that answers its reply.
+//! ETSI GS QKD 014 over HTTP: which event of a key manager a request asks for, and the response to the manager's reply.
 #![tactic(auto)]
 
 mod answer;
@@ -15,8 +15,5 @@ mod resource;
 mod status;
 
 pub use api::Api;
-pub use declared_site;
 pub use fault::CallRefusal;
-pub use http_front;
 pub use message::front_response;
-pub use net_model;

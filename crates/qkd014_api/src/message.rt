@@ -1,4 +1,4 @@
-// Error messages.
+// Responses that carry an error message.
 ghost use Rattle.std.specs.Prelude.{◌≡◌, ◌++◌, IfOk, codes};
 ghost use Rattle.std.specs.Option.{option_map};
 ghost use Rattle.std.specs.Fmt.{decimal};
@@ -10,11 +10,11 @@ use itoa::Buffer;
 use qkd_base::{Memory, Octets};
 use std::alloc::Global;
 
-// The most octets of an error's body: 14 round the message, and 33 of the longest message.
+// The most octets of an error's body: 14 around the message, and 33 of the longest message.
 const ERROR_ROOM: usize = 47;
 
-/// The response to a connection whose octets begin no request; the connection closes behind it. A refusal that has none
-/// gets want of memory, so that the connection ends.
+/// The response to octets that begin no request, after which the connection closes. For a refusal without a response it returns
+/// `Memory`, so that the connection ends.
 pub fn front_response(alloc: Global, refusal: &FrontRefusal) -> Result<HttpResponse, Memory>
     ensures { IfOk result (IsFrontResponse (front_message refusal.now)) }
 {
@@ -24,7 +24,7 @@ pub fn front_response(alloc: Global, refusal: &FrontRefusal) -> Result<HttpRespo
     }
 }
 
-// Its message.
+// The message for a refusal, if there is one.
 fn message(refusal: &FrontRefusal) -> Option<&'static str>
     ensures { option_map (λ text. text.now) result ≡ front_message refusal.now }
 {
@@ -40,7 +40,7 @@ fn message(refusal: &FrontRefusal) -> Option<&'static str>
     }
 }
 
-/// A response of an error.
+/// A response with an error message.
 #[tactic(auto, unfolding(crate::specs::Texts::message_body))]
 pub(crate) fn error(
     alloc: Global,
@@ -55,7 +55,7 @@ pub(crate) fn error(
     ended(body, status, close)
 }
 
-/// A response of an error whose message has a number.
+/// A response with an error message that contains a number.
 #[tactic(auto, unfolding(crate::specs::Texts::message_body))]
 pub(crate) fn numbered_error(
     alloc: Global,
@@ -75,7 +75,7 @@ pub(crate) fn numbered_error(
     ended(body, status, close)
 }
 
-// What stands before a message.
+// The beginning of an error's body, up to its message.
 fn begun(alloc: Global) -> Result<Octets, Memory>
     ensures { IfOk result (λ body. body ≡ codes "{\"message\":\"") }
 {
@@ -84,7 +84,7 @@ fn begun(alloc: Global) -> Result<Octets, Memory>
     Ok(body)
 }
 
-// The response of a body that lacks what stands behind its message.
+// Ends an error's body after its message, and makes the response.
 fn ended(body: Octets, status: u16, close: bool) -> Result<HttpResponse, Memory>
     ensures { IfOk result (λ response. response ≡ record { status = status; body = body ++ codes "\"}"; close = close }) }
 {

@@ -1,4 +1,4 @@
-// Parameters in a query.
+// The parameters in a query.
 ghost use Rattle.std.specs.Prelude.{◌≡◌, IfOk, length};
 ghost use Rattle.std.specs.Cow.{cow_str_bytes};
 ghost use Rattle.std.specs.Str.{bytes_eq};
@@ -11,7 +11,7 @@ use http_front::decimal;
 use qkd_base::{Memory, Text};
 use std::alloc::Global;
 
-/// What a query has of a parameter.
+/// How often a parameter stands in a query, and its value if it stands there once.
 #[derive(Debug, Drop)]
 pub(crate) enum Given {
     Absent,
@@ -19,7 +19,7 @@ pub(crate) enum Given {
     Often,
 }
 
-/// What a query has of a parameter.
+/// Looks for a parameter in a query.
 pub(crate) fn parameter(alloc: Global, query: &[u8], name: &str) -> Result<Given, Memory>
     ensures { IfOk result (λ g. g ≡ one_of (values_in name.now query.now)) }
 {
@@ -36,7 +36,7 @@ pub(crate) fn parameter(alloc: Global, query: &[u8], name: &str) -> Result<Given
     Ok(found)
 }
 
-// Whether octets stand for a text.
+// Whether encoded octets stand for a text.
 #[tactic(auto, unfolding(crate::specs::Queries::text_of))]
 fn stands_for(alloc: Global, octets: &[u8], text: &str) -> Result<bool, Memory>
     ensures { IfOk result (λ same. same ≡ bytes_eq (text_of octets.now) text.now) }
@@ -45,7 +45,7 @@ fn stands_for(alloc: Global, octets: &[u8], text: &str) -> Result<bool, Memory>
     Ok(decoded.as_str() == text)
 }
 
-// A decoded text.
+// Decodes octets to a text.
 #[tactic(auto, unfolding(crate::specs::Queries::text_of))]
 fn text(alloc: Global, octets: &[u8]) -> Result<Text, Memory>
     ensures { IfOk result (λ t. t ≡ text_of octets.now) }
@@ -55,7 +55,7 @@ fn text(alloc: Global, octets: &[u8]) -> Result<Text, Memory>
     Ok(Text::from_string(string))
 }
 
-/// The number of keys that is asked for: 1 to 128, or 1.
+/// The number of keys that a query asks for: 1 to 128. Without the parameter it is 1.
 pub(crate) fn number(given: &Given) -> Option<u16>
     ensures { result ≡ number_given given.now }
 {
@@ -66,7 +66,7 @@ pub(crate) fn number(given: &Given) -> Option<u16>
     }
 }
 
-/// The size in bits that is asked for: 64 to 4,096 in steps of 8, or 256.
+/// The size in bits that a query asks for: 64 to 4,096 in steps of 8. Without the parameter it is 256.
 pub(crate) fn size(given: &Given) -> Option<u16>
     ensures { result ≡ size_given given.now }
 {
@@ -77,7 +77,7 @@ pub(crate) fn size(given: &Given) -> Option<u16>
     }
 }
 
-/// A number of keys.
+/// Accepts a number of keys from 1 to 128.
 pub(crate) fn key_number(number: u64) -> Option<u16>
     ensures { result ≡ number_at number }
 {
@@ -88,7 +88,7 @@ pub(crate) fn key_number(number: u64) -> Option<u16>
     }
 }
 
-/// A size in bits.
+/// Accepts a size in bits from 64 to 4,096 in steps of 8.
 pub(crate) fn key_size(size: u64) -> Option<u16>
     ensures { result ≡ size_at size }
 {

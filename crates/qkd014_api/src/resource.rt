@@ -1,8 +1,7 @@
-// The resources of the interface.
 ghost use Rattle.std.specs.Prelude.{◌≡◌, ◌≤◌, length};
 ghost use Rattle.qkd014_api.specs.Resources.{mark_of, path_in, query_in, sae_part};
 
-/// A resource of ETSI GS QKD 014 V1.1.1, section 5.
+/// A resource of the interface (ETSI GS QKD 014 V1.1.1, section 5).
 #[derive(Clone, Copy, Debug, PartialEq, Eq)]
 pub(crate) enum Resource {
     Status,
@@ -10,13 +9,13 @@ pub(crate) enum Resource {
     DecKeys,
 }
 
-// The octets of a path before the part that names an application, and behind it.
+// How many octets of a path stand before the application's ID: those of `/api/v1/keys/`.
 const FRONT: usize = 13;
 
 impl Resource {
     ghost use Rattle.qkd014_api.specs.Resources.{serves, tail_len};
 
-    // How many octets stand behind the application.
+    // How many octets of a path follow the application's ID.
     fn tail(self) -> usize
         ensures { result ≡ tail_len self }
     {
@@ -26,7 +25,7 @@ impl Resource {
         }
     }
 
-    /// Whether a method is served.
+    /// Whether the resource serves a method.
     pub(crate) fn serves(self, method: &[u8]) -> bool
         ensures { result ≡ serves self method.now }
     {
@@ -34,7 +33,7 @@ impl Resource {
     }
 }
 
-// Where the query of a target begins, or its end.
+// The index of the `?` in a target, or the target's length.
 fn mark(target: &[u8]) -> usize
     ensures place { result ≡ mark_of target.now }
     ensures within { result ≤ length target.now }
@@ -54,7 +53,7 @@ pub(crate) fn path(target: &[u8]) -> &[u8]
     &target[..mark(target)]
 }
 
-/// The part of a target behind `?`.
+/// The part of a target after `?`.
 pub(crate) fn query(target: &[u8]) -> &[u8]
     ensures { result.now ≡ query_in target.now }
 {
@@ -66,7 +65,7 @@ pub(crate) fn query(target: &[u8]) -> &[u8]
     }
 }
 
-/// The part of a path that names an application.
+/// The part of a path that is an application's ID.
 pub(crate) fn sae_part(path: &[u8], resource: Resource) -> &[u8]
     ensures { result.now ≡ sae_part path.now resource }
 {

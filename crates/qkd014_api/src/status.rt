@@ -1,4 +1,4 @@
-// The status of the pool of a pair.
+// The status of a pool: the keys that are ready for a master and a slave.
 ghost use Rattle.std.specs.Prelude.{◌≡◌, ◌++◌, IfOk, OnOk};
 ghost use Rattle.std.specs.String.{string_bytes};
 ghost use Rattle.qkd014_api.specs.Texts.{quoted_text, master_label, slave_label, source_label, count_label, target_label, status_body};
@@ -8,7 +8,7 @@ use qkd_base::{Memory, Octets};
 use serde_json::Value;
 use std::alloc::Global;
 
-// The room of a body: 219 octets of labels and a number, and four names of at most 64 octets between quotation marks.
+// The memory for a body: 219 octets of labels and a number, and four quoted names of at most 64 octets.
 const STATUS_ROOM: usize = 483;
 
 /// What a status tells: the master and the slave with their nodes, and how many keys of 256 bits are ready.
@@ -21,7 +21,7 @@ pub(crate) struct Pool<'a> {
     pub count: u32,
 }
 
-/// The body that tells a status (ETSI GS QKD 014 V1.1.1, Status).
+/// Encodes a status (ETSI GS QKD 014 V1.1.1, Status).
 pub(crate) fn status_body(alloc: Global, pool: &Pool) -> Result<Octets, Memory>
     ensures { IfOk result (λ body. body ≡ status_body pool.now.master.now pool.now.slave.now pool.now.source.now pool.now.target.now pool.now.count) }
 {
@@ -41,7 +41,7 @@ pub(crate) fn status_body(alloc: Global, pool: &Pool) -> Result<Octets, Memory>
     Ok(body)
 }
 
-// A text as JSON (RFC 8259, section 7).
+// A text as a JSON string (RFC 8259, section 7).
 #[tactic(auto, unfolding(crate::specs::Texts::quoted_text))]
 fn quoted(alloc: Global, text: &str) -> Result<String, Memory>
     ensures { IfOk result (λ json. string_bytes json ≡ quoted_text text.now) }
@@ -51,7 +51,7 @@ fn quoted(alloc: Global, text: &str) -> Result<String, Memory>
     Ok(json)
 }
 
-// What stands before each of its parts.
+// The label before each part of a status.
 
 #[tactic(auto, unfolding(crate::specs::Texts::master_label))]
 fn master_label() -> &'static [u8]

@@ -1,4 +1,4 @@
--- The name of octets is the only candidate.
+-- If octets spell a name, it is their candidate.
 use Rattle.std.proofs.Common.{◌≡◌, ℕ, ◌<◌, ◌^◌, ◌&&◌, List, ◌++◌, drop, replicate, Bool, true, if◌then◌else◌, Option, Some, None, refl, sym, ap, ◌∙◌, arith}
 use Rattle.std.specs.Prelude.{IfSome}
 use Rattle.std.proofs.lemmas.Slice.Eq.{bytes_eq-Decides}

@@ -1,4 +1,4 @@
--- Ends and reversals of routes.
+-- The first and last nodes of routes, and reversed routes.
 use Rattle.std.proofs.Common.{◌≡◌, ◌≢◌, ℕ, zero, suc, ◌+◌, ◌-◌, ◌<◌, ◌≤◌, ◌==◌, ◌&&◌, ◌||◌, not, nat_lt, List, [], ◌∷◌, ◌++◌, length, take, drop, reverse, get_or, Some, None, Bool, true, refl, sym, ap, ◌∙◌, arith, length-append, replicate}
 use Rattle.std.proofs.lemmas.List.{reverse-append, length-reverse, length-replicate, length-take, get_or-take, drop-replicate}
 use Rattle.std.proofs.Math.Seq.{take-append_seam, drop-append_seam}
@@ -100,7 +100,7 @@ behind_after [] v d h is = absurd (omega (arith, h))
 behind_after (x ∷ []) v d h is = absurd (omega (arith, h))
 behind_after (x ∷ y ∷ ns) v d h is = grind (arith, is)
 
--- what a search along a route learns at each node
+-- the rules for one step of a search along a route
 pub ruleset after_steps = (none_after, here_after, behind_after)
 
 pub first_at : (ns : List ℕ) (d : ℕ) → 1 ≤ length ns → d ≡ get_or ns 0 d → d ≡ first_of ns

@@ -1,10 +1,10 @@
--- The lanes of a link, and what tells them apart.
+-- Lanes: their places, their equality, and the opposite direction.
 use Rattle.std.specs.Prelude.{ℕ, ◌+◌, ◌*◌, Bool, true, false, ◌==◌, ◌&&◌}
 use Rattle.qkd_base.specs.declared.lane.Way.{Way}
 use Rattle.qkd_base.specs.declared.lane.Way.TheVariants.{Up, Down}
 use Rattle.qkd_base.specs.declared.lane.Lane.{Lane}
 
--- the octet of a way
+-- the octet that stands for a way: up or down
 abbrev pub way_number : Way → ℕ
 way_number Up = 0
 way_number Down = 1

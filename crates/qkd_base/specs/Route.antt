@@ -2,7 +2,7 @@
 use Rattle.std.specs.Prelude.{◌≡◌, ℕ, ◌-◌, ◌≤◌, ◌==◌, ◌&&◌, not, nat_lt, nat_le, Bool, true, List, [], ◌∷◌, ◌++◌, length, take, drop, replicate, Option, Some, None, if◌then◌else◌}
 use Rattle.std.specs.List.{list_any, list_all}
 
--- no number comes twice
+-- no number occurs twice
 abbrev pub is_distinct : List ℕ → Bool
 is_distinct [] = true
 is_distinct (n ∷ ns) = not (list_any (λ m. m == n) ns) && is_distinct ns
@@ -10,7 +10,7 @@ is_distinct (n ∷ ns) = not (list_any (λ m. m == n) ns) && is_distinct ns
 abbrev pub is_route : List ℕ → Bool
 is_route ns = nat_le 2 (length ns) && nat_le (length ns) 9 && is_distinct ns
 
--- each is the number of a node
+-- each number is that of a node, so below 16
 abbrev pub are_nodes : List ℕ → Bool
 are_nodes ns = list_all (λ n. nat_lt n 16) ns
 
@@ -23,13 +23,13 @@ last_of [] = 0
 last_of (v ∷ []) = v
 last_of (v ∷ w ∷ vs) = last_of (w ∷ vs)
 
--- the node right after this one
+-- the node that comes directly after node v
 abbrev pub next_after : List ℕ → ℕ → Option ℕ
 next_after [] v = None
 next_after (a ∷ []) v = None
 next_after (a ∷ b ∷ rest) v = if a == v then Some b else next_after (b ∷ rest) v
 
--- fixed room for a route: what stands after it repeats its first node
+-- an array of nine that holds a route of `size` nodes: the places after the route repeat its first node
 pub record IsRoom (room : List ℕ) (size : ℕ) : Type 0 where
   pub whole : length room ≡ 9
   pub within : size ≤ 9

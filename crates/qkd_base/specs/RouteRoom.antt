@@ -1,4 +1,4 @@
--- A route gives its fixed room back.
+-- The array that holds a route, computed from the route.
 use Rattle.std.specs.Prelude.{◌≡◌, ℕ, ◌-◌, ◌≤◌, List, [], ◌∷◌, ◌++◌, length, take, replicate, true, zero, suc, refl}
 use Rattle.std.proofs.Common.{arith, ap, sym, ◌∙◌}
 use Rattle.std.proofs.lemmas.List.{length-take, take-append-drop}
@@ -8,7 +8,7 @@ use Rattle.qkd_base.specs.Route.{IsRoom, room_of, is_route, first_of}
 abbrev pub inside_of : List ℕ → Inside
 inside_of ns = record { room = room_of ns; size = length ns }
 
--- the fields of a route
+-- a route's two fields: its array and its size
 abbrev pub inside : List ℕ → ℕ → Inside
 inside room size = record { room = room; size = size }
 

@@ -1,6 +1,6 @@
-// Room for a frame.
+// A buffer for a frame.
 
-/// Fixed room for the octets of one frame: at most 585 are used, and the rest says nothing.
+/// A buffer for the octets of one frame. A frame has at most 585 octets, and the buffer's other octets mean nothing.
 #[derive(Clone, Copy, Debug)]
 pub struct FrameOctets {
     pub octets: [u8; 600],
@@ -9,7 +9,7 @@ pub struct FrameOctets {
 impl FrameOctets {
     ghost use Rattle.std.specs.Prelude.{◌≡◌, replicate};
 
-    /// Room that is all zero.
+    /// A buffer of zeros.
     pub fn new() -> Self
         ensures { result.octets ≡ replicate 600 0 }
     {

@@ -12,28 +12,29 @@ pub struct Items<T> {
     items: Vec<T>,
 }
 
-/// Bytes.
+/// A list of bytes.
 pub type Octets = Items<u8>;
 
-/// Byte lists.
+/// A list of byte lists.
 pub type Lists = Items<Octets>;
 
-/// Texts.
+/// A list of texts.
 pub type Texts = Items<Text>;
 
-/// Names.
+/// A list of names.
 pub type Names = Items<KeyName>;
 
-/// Names with their bytes.
+/// A list of keys, each a name with its bytes.
 pub type Keys = Items<(KeyName, Octets)>;
 
-/// Applications.
+/// A list of applications.
 pub type Saes = Items<SaeNo>;
 
-/// Acknowledgements that are due: the offset at which a frame was received, and the name of its fact.
+/// A list of acknowledgements that are due. Each is the offset at which a frame was received, with the name of the
+/// frame's fact.
 pub type Dues = Items<(u64, KeyName)>;
 
-/// Header fields: name and value.
+/// A list of header fields, each a name with its value.
 pub type Fields = Items<(Octets, Octets)>;
 
 impl<T> Model for Items<T> {
@@ -45,7 +46,7 @@ impl<T> Model for Items<T> {
 }
 
 impl<T> Items<T> {
-    /// The empty list. It takes no memory.
+    /// The empty list. No memory is allocated.
     pub fn new(alloc: Global) -> Self
         ensures { result ≡ [] }
     {
@@ -54,14 +55,14 @@ impl<T> Items<T> {
         }
     }
 
-    /// The list of a `Vec`. It takes no memory.
+    /// The list of a `Vec`'s items. No memory is allocated.
     pub fn from_vec(items: Vec<T>) -> Self
         ensures { result ≡ items.items }
     {
         Items { items }
     }
 
-    /// The `Vec` of a list. It takes no memory.
+    /// The `Vec` of a list's items. No memory is allocated.
     pub fn into_vec(self) -> Vec<T>
         ensures { result.items ≡ self }
     {
@@ -83,7 +84,7 @@ impl<T> Items<T> {
         self.items.len()
     }
 
-    /// Whether there is none.
+    /// Whether the list is empty.
     pub fn is_empty(&self) -> bool
         ensures { result ≡ (length self.now == 0) }
     {

@@ -5,9 +5,8 @@ ghost use Rattle.qkd_base.specs.Name.{Name, IsName, octets_of, kind_number, name
 
 use crate::NodeNo;
 use std::marker::Model;
-use uuid::Uuid;
 
-/// What a name is given to.
+/// What a name stands for.
 #[derive(Clone, Copy, Debug, PartialEq, Eq, PartialOrd, Ord, Hash)]
 pub enum NameKind {
     Key,
@@ -15,8 +14,8 @@ pub enum NameKind {
     Note,
 }
 
-/// The name of a key, a stream or a note: the node that gave it, the kind, and a count of that node, from 1 to
-/// 2^48 - 1. It is a UUID of version 8 (RFC 9562 section 5.8). Contracts see it as the record of its parts.
+/// The name of a key, a stream or a note. It consists of the node that gave it, its kind, and that node's count, from 1
+/// to 2^48 - 1. Its octets are a UUID of version 8 (RFC 9562 section 5.8). Contracts see it as the record of its parts.
 #[derive(Clone, Copy, Debug, PartialEq, Eq, Hash)]
 pub struct KeyName {
     node: NodeNo,
@@ -37,7 +36,7 @@ impl Model for KeyName {
     ghost inverse = { λ n. record { node = n.node; kind = n.kind; count = n.count } };
 }
 
-// The octet of a kind.
+// The octet that stands for a kind.
 fn kind_octet(kind: NameKind) -> u8
     ensures { result ≡ kind_number kind }
 {
@@ -48,7 +47,7 @@ fn kind_octet(kind: NameKind) -> u8
     }
 }
 
-// The kind of an octet.
+// The kind that an octet stands for.
 fn kind_at(octet: u8) -> Option<NameKind>
     ensures is { IfSome result (λ kind. octet ≡ kind_number kind) }
     ensures all { (kind : NameKindValue) → octet ≡ kind_number kind → result ≡ Some kind }
@@ -61,7 +60,7 @@ fn kind_at(octet: u8) -> Option<NameKind>
     }
 }
 
-// The count in the last 6 octets.
+// The count, which the last 6 octets hold.
 fn count_at(octets: &[u8; 16]) -> u64
     ensures { (n : Name) → IsName n → octets.now ≡ octets_of n → result ≡ n.count }
 {
@@ -69,7 +68,7 @@ fn count_at(octets: &[u8; 16]) -> u64
     u64::from_be_bytes([0, 0, a, b, c, d, e, f])
 }
 
-// The name whose octets these are, if they are those of a name.
+// The name that these octets spell. For octets that spell no name, any answer may come.
 fn named_by(octets: &[u8; 16]) -> Option<KeyName>
     ensures { (n : Name) → IsName n → octets.now ≡ octets_of n → result ≡ Some n }
 {
@@ -78,7 +77,7 @@ fn named_by(octets: &[u8; 16]) -> Option<KeyName>
     KeyName::new(node, kind, count_at(octets))
 }
 
-// The name whose octets these are.
+// The name that these octets spell, or `None` if they spell none.
 fn name_of(octets: &[u8; 16]) -> Option<KeyName>
     ensures is { IfSome result (λ n. IsName n × (octets.now ≡ octets_of n)) }
     ensures all { (n : Name) → IsName n → octets.now ≡ octets_of n → result ≡ Some n }
@@ -92,11 +91,11 @@ fn name_of(octets: &[u8; 16]) -> Option<KeyName>
 }
 
 impl KeyName {
-    /// The name of these parts, where the count is from 1 to 2^48 - 1.
+    /// The name of these parts. `None` if the count is 0, or 2^48 or more.
     pub fn new(node: NodeNo, kind: NameKind, count: u64) -> Option<Self>
         ensures { result ≡ (if nat_le 1 count && nat_lt count (2 ^ 48) then Some (record { node = node; kind = kind; count = count }) else None) }
     {
-        // That it is a node's number is what it says.
+        // For the proof: a node's number is below 16.
         let _holds = node.get();
         if 1 <= count && count < 1 << 48 {
             Some(KeyName { node, kind, count })
@@ -113,7 +112,7 @@ impl KeyName {
         self.node
     }
 
-    /// What the name is given to.
+    /// What the name stands for.
     pub fn kind(self) -> NameKind
         ensures kind { result ≡ self.kind }
         ensures named { IsName self }
@@ -140,29 +139,12 @@ impl KeyName {
         [0, 0, 0, 0, 0, 0, 128, node, 128, kind, a, b, c, d, e, f]
     }
 
-    /// The name as a UUID, whose text is the hyphenated lower-case form.
-    pub fn to_uuid(self) -> Uuid
-        ensures octets { result ≡ octets_of self }
-        ensures named { IsName self }
-    {
-        Uuid::from_bytes(self.to_octets())
-    }
-
-    /// The name of these octets. Any other layout than that of a name is refused.
+    /// The name that these octets spell. `None` if they don't have the layout of a name.
     pub fn from_octets(octets: &[u8; 16]) -> Option<Self>
         ensures is { IfSome result (λ n. IsName n × (octets.now ≡ octets_of n)) }
         ensures all { (n : Name) → IsName n → octets.now ≡ octets_of n → result ≡ Some n }
         ensures name { result ≡ name_at octets.now }
     {
         name_of(octets)
-    }
-
-    /// The name of a UUID. Any other layout than that of a name is refused.
-    pub fn from_uuid(uuid: Uuid) -> Option<Self>
-        ensures is { IfSome result (λ n. IsName n × (uuid ≡ octets_of n)) }
-        ensures all { (n : Name) → IsName n → uuid ≡ octets_of n → result ≡ Some n }
-        ensures name { result ≡ name_at uuid }
-    {
-        KeyName::from_octets(&uuid.into_bytes())
     }
 }

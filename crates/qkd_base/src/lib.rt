@@ -1,3 +1,5 @@
+//! Base types: numbers of nodes, links and applications, lanes, key names, routes, lists, texts, and the out-of-memory
+//! error.
 #![tactic(auto)]
 
 mod frame_octets;
@@ -25,4 +27,3 @@ pub use replica::Replica;
 pub use route::Route;
 pub use sae_no::SaeNo;
 pub use text::Text;
-pub use uuid;

@@ -22,7 +22,7 @@ impl Model for LinkNo {
 }
 
 impl LinkNo {
-    /// The link of this number, where it is below 32.
+    /// The link of this number. `None` if the number is 32 or more.
     pub fn new(number: u8) -> Option<Self>
         ensures { result ≡ (if nat_lt number 32 then Some number else None) }
     {

@@ -1,9 +1,9 @@
-// Want of memory.
+// The error for memory that ran out.
 use std::alloc::{AllocError, AllocFailed};
 use std::error::Error;
 use std::fmt;
 
-/// Want of memory, as an error of its own. A call that answers it has changed nothing, unless it says otherwise.
+/// Memory ran out. A call that fails with this error has changed nothing, unless its comment says otherwise.
 #[derive(Clone, Copy, Debug, PartialEq, Eq)]
 pub struct Memory;
 

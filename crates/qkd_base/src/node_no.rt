@@ -22,7 +22,7 @@ impl Model for NodeNo {
 }
 
 impl NodeNo {
-    /// The node of this number, where it is below 16.
+    /// The node of this number. `None` if the number is 16 or more.
     pub fn new(number: u8) -> Option<Self>
         ensures { result ≡ (if nat_lt number 16 then Some number else None) }
     {

@@ -1,7 +1,7 @@
 // A pool of keys.
 use crate::SaeNo;
 
-/// The keys of one master for one slave of one size in bits.
+/// A pool: the keys of one master for one slave, all of one size in bits.
 #[derive(Clone, Copy, Debug, PartialEq, Eq, PartialOrd, Ord, Hash)]
 pub struct PoolNo {
     pub master: SaeNo,

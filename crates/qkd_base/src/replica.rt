@@ -1,11 +1,11 @@
-// Copies that may want memory.
+// Copies, which fail if memory runs out.
 ghost use Rattle.std.specs.Prelude.{◌≡◌, IfOk};
 
 use crate::Memory;
 
-/// A value of which an equal one can be made, where memory is there.
+/// A value that can be copied. Making the copy fails if memory runs out.
 pub trait Replica: Sized {
-    /// An equal value.
+    /// A copy, which is equal to the value.
     fn copy(&self) -> Result<Self, Memory>
         ensures { IfOk result (λ same. same ≡ self.now) };
 }

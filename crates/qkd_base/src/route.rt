@@ -5,7 +5,8 @@ ghost use Rattle.qkd_base.specs.Route.{is_distinct, is_route, are_nodes, first_o
 use crate::NodeNo;
 use std::marker::Model;
 
-/// The way of a fact: 2 to 9 different nodes, so 1 to 8 links. Contracts see it as the list of their numbers.
+/// The nodes over which a fact goes: 2 to 9 different nodes, so 1 to 8 links. Contracts see it as the list of the
+/// nodes' numbers.
 #[derive(Clone, Copy, Debug)]
 pub struct Route {
     room: [NodeNo; 9],
@@ -29,7 +30,7 @@ impl Model for Route {
     ghost inverse_ok = { same_inside };
 }
 
-// Whether no node comes twice.
+// Whether no node occurs twice.
 fn are_distinct(nodes: &[NodeNo]) -> bool
     ensures { result ≡ is_distinct nodes.now }
 {
@@ -41,17 +42,17 @@ fn are_distinct(nodes: &[NodeNo]) -> bool
     true
 }
 
-// Each number of a node is in its range.
+// For proofs alone: each node's number is below 16.
 fn in_range(nodes: &[NodeNo])
     ensures { are_nodes nodes.now ≡ true }
 {
     for node in nodes {
-        // That it is a node's number is what it says.
+        // For the proof: a node's number is below 16.
         let _holds = node.get();
     }
 }
 
-// A route in its fixed room.
+// Makes the route of these nodes. In its array, the places after them repeat the first node.
 fn in_room(nodes: &[NodeNo]) -> Route
     requires route { is_route nodes.now ≡ true }
     requires in_range { are_nodes nodes.now ≡ true }
@@ -64,7 +65,7 @@ fn in_room(nodes: &[NodeNo]) -> Route
 }
 
 impl Route {
-    /// The route through these nodes, where they are 2 to 9 and all different.
+    /// The route over these nodes. `None` unless they are 2 to 9 nodes, all different.
     pub fn new(nodes: &[NodeNo]) -> Option<Self>
         ensures { result ≡ (if is_route nodes.now then Some nodes.now else None) }
     {
@@ -76,7 +77,7 @@ impl Route {
         Some(in_room(nodes))
     }
 
-    /// The nodes in order.
+    /// The nodes of the route in order.
     pub fn as_slice(&self) -> &[NodeNo]
         ensures nodes { result.now ≡ self.now }
         ensures route { is_route self.now ≡ true }
@@ -85,7 +86,7 @@ impl Route {
         &self.room[..self.size]
     }
 
-    /// The same nodes from last to first.
+    /// The route back: the same nodes from last to first.
     pub fn reversed(&self) -> Self
         ensures { result ≡ reverse self.now }
     {
@@ -95,7 +96,7 @@ impl Route {
         in_room(nodes)
     }
 
-    /// The node right after this one, if this one stands on the route and isn't its last.
+    /// The node directly after this one. `None` if this one is the route's last node, or isn't on the route.
     #[tactic(auto, using(crate::proofs::Routes::after_steps))]
     pub fn next_after(&self, node: NodeNo) -> Option<NodeNo>
         ensures { result ≡ next_after self.now node }
@@ -110,14 +111,14 @@ impl Route {
         None
     }
 
-    /// The origin.
+    /// The origin: the first node.
     pub fn first(&self) -> NodeNo
         ensures { result ≡ first_of self.now }
     {
         self.room[0]
     }
 
-    /// The target.
+    /// The target: the last node.
     pub fn last(&self) -> NodeNo
         ensures { result ≡ last_of self.now }
     {

@@ -22,7 +22,7 @@ impl Model for SaeNo {
 }
 
 impl SaeNo {
-    /// The application (SAE) of this number, where it is below 256.
+    /// The application (SAE) of this number. `None` if the number is 256 or more.
     pub fn new(number: u16) -> Option<Self>
         ensures { result ≡ (if nat_lt number 256 then Some number else None) }
     {

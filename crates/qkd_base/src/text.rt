@@ -1,4 +1,4 @@
-// A text.
+// Texts in public types.
 ghost use Rattle.std.specs.Prelude.{◌≡◌, IfOk};
 ghost use Rattle.std.specs.String.{string_bytes};
 
@@ -21,14 +21,14 @@ impl Model for Text {
 }
 
 impl Text {
-    /// The text of a string.
+    /// The text that a string holds.
     pub fn from_string(string: String) -> Self
         ensures { result ≡ string_bytes string }
     {
         Text { string }
     }
 
-    /// The string of a text.
+    /// The text as a string.
     pub fn into_string(self) -> String
         ensures { string_bytes result ≡ self }
     {
@@ -36,7 +36,7 @@ impl Text {
         string
     }
 
-    /// The text as it is read.
+    /// The text as a `&str`.
     pub fn as_str(&self) -> &str
         ensures { result.now ≡ self.now }
     {

@@ -1,17 +1,17 @@
--- What was read to the end, or past the limit, means what all of the input means.
+-- What was read to the end, or past the limit, has the same meaning as all of the input.
 use Rattle.std.proofs.Common.{◌≡◌, ℕ, ◌+◌, ◌<◌, List, [], ◌++◌, length, take, refl, ap, ◌∙◌, inl, inr, arith}
 use Rattle.std.specs.Prelude.{◌⊎◌, Option, None, Some}
 use Rattle.std.proofs.lemmas.List.{take-append-le, append-nil}
-use Rattle.scenario_reader.specs.Line.{nothing_read}
-use Rattle.scenario_reader.specs.Text.{meaning_of, text_limit, parts_from, parts_of}
-use Rattle.source_answers.specs.Inputs.{ReadsWhole, IsInput}
+use Rattle.scenario_text.specs.Line.{nothing_read}
+use Rattle.scenario_text.specs.Text.{meaning_of, text_limit, parts_from, parts_of}
+use Rattle.qkd_network.specs.Inputs.{ReadsWhole, IsInput}
 
--- no more than one octet past the limit is looked at
+-- the meaning depends on no more than one octet past the limit
 same_front : (bytes rest : List ℕ) → (rest ≡ []) ⊎ (text_limit < length bytes) → take (text_limit + 1) (bytes ++ rest) ≡ take (text_limit + 1) bytes
 same_front bytes rest (inl none) = ap (λ (r : List ℕ). take (text_limit + 1) (bytes ++ r)) none ∙ ap (take (text_limit + 1)) (append-nil bytes)
 same_front bytes rest (inr long) = take-append-le (text_limit + 1) bytes rest (omega (arith, long))
 
--- the input that was read from
+-- the input whose beginning was read
 pub record Read (left : Option (List ℕ)) (bytes : List ℕ) : Type 0 where
   pub input : List ℕ
   pub input_is : IsInput left input

@@ -4,13 +4,13 @@ use Rattle.std.specs.Prelude.{◌⊎◌, Option, Result, Ok, Err}
 use Rattle.run_lines.specs.Reporting.{InLines}
 use Rattle.run_lines.specs.declared.stop.Stop.{Stop}
 use Rattle.run_lines.specs.declared.stop.Stop.TheVariants as stops
-use Rattle.bench_veils.specs.Passed.{ended}
-use Rattle.bench_serves.specs.Serving.{ended as served_end}
-use Rattle.bench_serves.specs.declared.stop.ServeStop.{ServeStop}
-use Rattle.bench_serves.specs.declared.stop.ServeStop.TheVariants as serves
+use Rattle.net_world.specs.Running.{ended}
+use Rattle.net_serve.specs.BenchServing.{ended as served_end}
+use Rattle.net_serve.specs.declared.stop.ServeStop.{ServeStop}
+use Rattle.net_serve.specs.declared.stop.ServeStop.TheVariants as serves
 use Rattle.qkd_network.specs.Lines.{LinesUpTo}
 
--- beside the one of two that holds
+-- a fact about lines may be added to the second of two cases
 pub with_lines : (A R L : Type 0) → A ⊎ R → L → A ⊎ (R × L)
 with_lines A R L (inl a) lines = inl a
 with_lines A R L (inr r) lines = inr (r, lines)

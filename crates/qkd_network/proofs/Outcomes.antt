@@ -1,23 +1,23 @@
--- What is done with a source that was read.
+-- The results of a source that was read.
 use Rattle.std.proofs.Common.{◌≡◌, ℕ, List, refl, ap, ◌∙◌, inl, inr}
 use Rattle.std.specs.Prelude.{◌⊎◌, Option, Result, Ok, Err}
-use Rattle.scenario_lines.specs.declared.scenario.Scenario.{Scenario}
-use Rattle.scenario_reader.specs.Text.{meaning_of}
+use Rattle.run_types.specs.declared.scenario.Scenario.{Scenario}
+use Rattle.scenario_text.specs.Text.{meaning_of}
 use Rattle.run_lines.specs.declared.stop.Stop.{Stop}
 use Rattle.run_lines.specs.declared.stop.Stop.TheVariants as stops
 use Rattle.run_model.specs.Course.{Words, Run, Load}
 use Rattle.run_model.specs.Load.{load_scenario}
 use Rattle.run_model.specs.Headline as headline
-use Rattle.bench_veils.specs.Passed.{ended, WasLeft}
-use Rattle.bench_serves.specs.Serving.{ended as served_end, WasLeft as WasNotServed}
-use Rattle.bench_serves.specs.declared.stop.ServeStop.{ServeStop}
-use Rattle.bench_serves.specs.declared.stop.ServeStop.TheVariants as serves
-use Rattle.bench_veils.specs.Passed.{Bench}
+use Rattle.net_world.specs.Running.{ended, WasLeft}
+use Rattle.net_serve.specs.BenchServing.{ended as served_end, WasLeft as WasNotServed}
+use Rattle.net_serve.specs.declared.stop.ServeStop.{ServeStop}
+use Rattle.net_serve.specs.declared.stop.ServeStop.TheVariants as serves
+use Rattle.net_world.specs.declared.bench.Bench.{Bench}
 use Rattle.qkd_network.specs.Codes.{status_of, served_as, answered_as}
-use Rattle.word_forms.specs.Forms.{Runs, asked_by}
-use Rattle.source_answers.specs.Inputs.{ReadsWhole}
-use Rattle.source_answers.specs.declared.ended.Ended.{Ended}
-use Rattle.source_answers.specs.declared.ended.Ended.TheVariants as ends
+use Rattle.qkd_network.specs.Forms.{Runs, asked_by}
+use Rattle.qkd_network.specs.Inputs.{ReadsWhole}
+use Rattle.qkd_network.specs.declared.ended.Ended.{Ended}
+use Rattle.qkd_network.specs.declared.ended.Ended.TheVariants as ends
 use Rattle.qkd_network.specs.Outcome.{HasScenario, HasRun, HasLoaded, HasCome, IsUnread, RunOutcome, ScenarioOutcome, outside}
 use Rattle.qkd_network.specs.declared.status.Status.{Status}
 use Rattle.qkd_network.specs.declared.status.Status.TheVariants.{Done, Usage, BadLine, ReadFault, WriteFault, ForgedMatch, Memory, ListenFault}
@@ -49,7 +49,7 @@ module _ {S : Type 0} (left : S → Option (List ℕ)) (Ran : Words → Scenario
     ran before after given back (Err (stops.Forged line)) (inl l) = absurd (let wrong : Err (stops.Forged line) ≡ Err stops.Memory = l.0 in cc)
     ran before after given back (Err (stops.Forged line)) (inr runs) = inl (has_run (headline.ForgedMatch line) runs)
 
--- ---- what a source had
+-- ---- the scenario of a source
 
 pub scenario_read : (left rest : Option (List ℕ)) (bytes : List ℕ) (scenario : Scenario) → ReadsWhole left rest bytes → meaning_of bytes ≡ Ok scenario → HasScenario left rest scenario
 scenario_read left rest bytes scenario read means =
@@ -61,7 +61,7 @@ line_refused left rest bytes line read refused =
     let r = read_of left rest bytes read in
     ((bytes, read), record { input = r.input; input_is = r.input_is; refused = r.means ∙ refused })
 
--- ---- a scenario with which more is done
+-- ---- a scenario that is run and then veiled or served
 
 module _ {S : Type 0} (left : S → Option (List ℕ)) (Came : Scenario → headline.Stop → Type 0) (old new : S) where
   pub scenario_unread : {W B : Type 0} (status : Status) (sink : W) (bench : B) → IsUnread status (left old) (left new) → ScenarioOutcome left Came status old new sink sink bench bench
@@ -102,7 +102,7 @@ module _ {S : Type 0} (left : S → Option (List ℕ)) (Came : Scenario → head
     serve_ran before after given back (Err (serves.Stopped (stops.Forged line))) (inl l) = absurd (let wrong : Err (serves.Stopped (stops.Forged line)) ≡ Err (serves.Stopped stops.Memory) = l.0 in cc)
     serve_ran before after given back (Err (serves.Stopped (stops.Forged line))) (inr came) = has_come (headline.ForgedMatch line) came
 
-  -- beside ports that were not touched
+  -- the ports were not touched
   pub beside_ports : {W B P : Type 0} (status : Status) (before after : W) (given back : B) (ports : P) → ScenarioOutcome left Came status old new before after given back →
       ScenarioOutcome left Came status old new before after (outside given ports) (outside back ports)
   beside_ports Done before after given back ports h = h
@@ -148,7 +148,7 @@ module _ {S : Type 0} (left : S → Option (List ℕ)) (Ran : Words → Scenario
   loaded before after given back (Err (stops.Forged line)) (inl l) = absurd (let wrong : Err (stops.Forged line) ≡ Err stops.Memory = l.0 in cc)
   loaded before after given back (Err (stops.Forged line)) (inr runs) = inr (has_loaded (headline.ForgedMatch line) runs)
 
--- only a run whose port or listener failed has that status
+-- only a failed port or listener gives this status
 pub listening : {T : Type 0} (ended : Result T ServeStop) → served_as ended ≡ ListenFault → ended ≡ Err serves.Listen
 listening (Ok done) h = absurd (cc h)
 listening (Err (serves.Stopped stops.WriteFault)) h = absurd (cc h)
@@ -156,7 +156,7 @@ listening (Err (serves.Stopped stops.Memory)) h = absurd (cc h)
 listening (Err (serves.Stopped (stops.Forged line))) h = absurd (cc h)
 listening (Err serves.Listen) h = refl
 
--- where an answer is no read fault, the status is none
+-- if an answer is no read fault, the status is none
 pub answered_calm : (A : Type 0) (ended : Ended) (status : Status) → status ≡ answered_as ended → (ended ≡ ends.ReadFault) ⊎ A → (status ≡ ReadFault) ⊎ A
 answered_calm A ended status is (inl fault) = inl (is ∙ ap answered_as fault)
 answered_calm A ended status is (inr calm) = inr calm

@@ -1,13 +1,13 @@
--- The exit status and the words on standard error of each end.
+-- The exit status of each end of the program, and its text on standard error.
 use Rattle.std.specs.Prelude.{ℕ, List, [], ◌++◌, Result, Ok, Err}
 use Rattle.std.specs.Fmt.{decimal}
 use lib.Chars.{codes}
 use Rattle.run_lines.specs.declared.stop.Stop.{Stop}
 use Rattle.run_lines.specs.declared.stop.Stop.TheVariants as stops
-use Rattle.bench_serves.specs.declared.stop.ServeStop.{ServeStop}
-use Rattle.bench_serves.specs.declared.stop.ServeStop.TheVariants as serves
-use Rattle.source_answers.specs.declared.ended.Ended.{Ended}
-use Rattle.source_answers.specs.declared.ended.Ended.TheVariants as ends
+use Rattle.net_serve.specs.declared.stop.ServeStop.{ServeStop}
+use Rattle.net_serve.specs.declared.stop.ServeStop.TheVariants as serves
+use Rattle.qkd_network.specs.declared.ended.Ended.{Ended}
+use Rattle.qkd_network.specs.declared.ended.Ended.TheVariants as ends
 use Rattle.qkd_network.specs.declared.status.Status.{Status}
 use Rattle.qkd_network.specs.declared.status.Status.TheVariants.{Done, Usage, BadLine, ReadFault, WriteFault, ForgedMatch, Memory, ListenFault}
 
@@ -31,14 +31,14 @@ said_of (ForgedMatch n) = codes "forged frame at line " ++ decimal n
 said_of Memory = codes "out of memory"
 said_of ListenFault = codes "listen fault"
 
--- that of a run
+-- the status of a run
 abbrev pub status_of : {T : Type 0} → Result T Stop → Status
 status_of (Ok done) = Done
 status_of (Err stops.WriteFault) = WriteFault
 status_of (Err stops.Memory) = Memory
 status_of (Err (stops.Forged line)) = ForgedMatch line
 
--- that of a run whose managers are then served
+-- the status of a run whose managers are then served
 abbrev pub served_as : {T : Type 0} → Result T ServeStop → Status
 served_as (Ok done) = Done
 served_as (Err (serves.Stopped stops.WriteFault)) = WriteFault
@@ -46,7 +46,7 @@ served_as (Err (serves.Stopped stops.Memory)) = Memory
 served_as (Err (serves.Stopped (stops.Forged line))) = ForgedMatch line
 served_as (Err serves.Listen) = ListenFault
 
--- that of an answer
+-- the status of an answer
 abbrev pub answered_as : Ended → Status
 answered_as ends.Done = Done
 answered_as (ends.BadLine n) = BadLine n

@@ -1,4 +1,6 @@
+pub mod Forms
+pub mod Answers
+pub mod Inputs
 pub mod Codes
 pub mod Outcome
-pub mod Passed
 pub mod Lines

@@ -1,55 +1,63 @@
-// The top call.
+// The top call of the program.
 ghost use Rattle.std.specs.Prelude.{◌≡◌, ◌⊎◌, IsSome};
 ghost use Rattle.std.specs.List.{All};
 ghost use Rattle.qkd_base.specs.Faults.{Rose};
-ghost use Rattle.port_doors.specs.Doors.{AreFresh, IsListenFault, PortsTold, telling};
-ghost use Rattle.bench_veils.specs.Passed.{IsWhole};
-ghost use Rattle.bench_veils.specs.Passed.{IsNew};
-ghost use Rattle.bench_veils.specs.Passed.{HasHeadlines};
-ghost use Rattle.bench_serves.specs.Serving.{HasServedHeadlines};
-ghost use Rattle.bench_veils.specs.Veiling.{HasVeiled};
+ghost use Rattle.kme_serve.specs.Doors.{AreFresh, IsListenFault, PortsTold, telling};
+ghost use Rattle.net_world.specs.Laid.{IsWhole};
+ghost use Rattle.net_world.specs.New.{IsNew};
+ghost use Rattle.net_world.specs.Running.{HasHeadlines};
+ghost use Rattle.net_serve.specs.BenchServing.{HasServedHeadlines};
+ghost use Rattle.net_world.specs.Veiling.{HasVeiled};
 ghost use Rattle.run_model.specs.Course.{Serve};
 ghost use Rattle.qkd_network.specs.Lines.{WroteLines};
 ghost use Rattle.qkd_network.specs.Outcome.{AsksServe, Outcome, outside};
 ghost use Rattle.qkd_network.specs.declared.status.Status.TheVariants.{ReadFault, WriteFault, ListenFault};
 
-use crate::Status;
 use crate::reading::scenario_in;
 use crate::serve::serve;
 use crate::veil::veil;
-use bench_loads::run_load;
-use bench_veils::bench_runs::run_scenario;
-use bench_veils::world_bench::Bench;
+use crate::{Form, Status, answer_audit, answer_bound, read_form};
 use disk_model::Disk;
 use edge_io::{Gate, Listener, Ports, Sink, Source};
+use net_world::{Bench, run_load, run_scenario};
 use qkd_base::Texts;
-use source_answers::{answer_audit, answer_bound};
 use source_devices::{Device, Entropy, Wire};
 use std::alloc::Global;
 use std::sync::Wait;
 use std::thread::Threads;
-use word_forms::{Form, read_form};
 
-/// Does what the words ask for. For `run` it reads a scenario from the source to its end, runs it over a new bench, its blocks by so
-/// many workers, and writes its report to the sink, a line at a time. For `serve` it does the same, and then each worker serves so many
-/// connections to the manager of a node, at the node's own port (ETSI GS QKD 014); last it writes how many were served. For `load` it
-/// runs the generated load of so many rounds, and writes its ledgers and how many keys it handed out; the source is not touched. For
-/// `veil` it reads a scenario and runs it as for `run 1`, with no report; then it puts the complement of each key under the wires, which
-/// stay as they are, and writes how many different frames there are and how many lane bytes differ. For `bound` it reads keys from the
-/// source, and writes how many of them give the hashes of two different texts a difference, behind how many can. For `audit` it reads a
-/// scenario and the report of a run of it, and writes what the audit says. The bench is not touched by these two, and the ports by
-/// `serve` alone.
+/// Does what the words ask for.
 ///
-/// Whatever it is called with, the answer says what was done. On `Usage` that word is the first that fits no form, and nothing was
-/// touched. On `BadLine` that line is the first that is refused; nothing is judged before the source was read to its end or past the
-/// limit of a scenario, and sink, bench and ports are as they were. A read that failed is not tried again: the source's count of faults
-/// rose on `ReadFault`, and is as it was otherwise. On `Done`, `WriteFault`, `ForgedMatch`, `Memory` and `ListenFault` the headline
-/// holds of the run, whole or up to where it ended: of the report that the sink took, a line a piece, of the frames on the wires, of what stands on the
-/// disks, of keys and of lane bytes, of faults and of armings; for `veil` of all but the report, and every other key fits the wires; of
-/// an answer about keys or of the veil's line the sink took the whole line, or a first part, and at a forged match nothing. For `serve`
-/// the run goes on with what connections asked, each of which got the responses to its requests; each port was asked for once, and the
-/// listeners came back. `ListenFault` says that a port or a listener failed: the sink took the report of all lines, and no more.
-/// `Memory` may also come before the first line, with sink, bench and ports untouched. The bench has all its parts back at the end.
+/// - `run`: reads a scenario from the source to its end, and runs it over a new bench. The given number of workers do its blocks. The
+///   report goes to the sink, one line at a time.
+/// - `serve`: does the same. Then each worker serves the given number of connections with the manager of a node, at the node's own port
+///   (ETSI GS QKD 014). Last it writes the number of connections served.
+/// - `load`: runs the generated load of the given number of rounds, and writes its ledgers and the number of keys that it handed out. The
+///   source is not touched.
+/// - `veil`: reads a scenario and runs it like `run 1`, without a report. Then it complements each key in the frames and keeps the wires
+///   the same. It writes the number of different frames and the number of lane bytes that change.
+/// - `bound`: reads keys from the source. It writes the bound on the number of keys that give the hashes of two different texts a
+///   difference, and how many of the read keys do.
+/// - `audit`: reads a scenario and the report of a run of it, and writes the verdict of the audit.
+///
+/// `bound` and `audit` do not touch the bench. Only `serve` touches the ports.
+///
+/// The status says what was done:
+///
+/// - `Usage`: this word is the first that fits no form. Nothing was touched.
+/// - `BadLine`: this line is the first that is refused. The source was read to its end, or past the limit of a scenario. Sink, bench and
+///   ports are as they were.
+/// - `ReadFault`: the source's count of faults rose, and a failed read is not tried again. With every other status the count is as it was.
+/// - `Done`, `WriteFault`, `ForgedMatch`, `Memory` and `ListenFault`: if there was a run, its headline holds, whole or up to where the run
+///   ended. It tells of the report that the sink took, one line a piece, of the frames on the wires, of what the disks hold, of keys and
+///   of lane bytes, of faults and of armings.
+/// - `ListenFault` says that a port or a listener failed. The sink took the report of all lines, and no more.
+/// - `Memory` may also come before the first line. Then sink, bench and ports are untouched.
+///
+/// For `veil` the headline holds except for the report, and the wires fit every other key. The sink took the whole line of `veil`, `bound`
+/// or `audit`, or a prefix of it; at a forged match it took nothing. For `serve` the run goes on with what connections asked, and each
+/// connection got the responses to its requests. Each port was asked for once, and the listeners came back. The bench has all its parts
+/// back at the end.
 pub fn network<
     R: Threads + Wait + Sync,
     S: Source,

@@ -1,20 +1,19 @@
-// A scenario is read from a source.
+// Reading a scenario from a source.
 ghost use Rattle.std.specs.Prelude.{◌≡◌, ◌⊎◌, IfOk, IsErrOf, MatchResult};
 ghost use Rattle.qkd_base.specs.Faults.{Rose};
-ghost use Rattle.run_acts.specs.Runnable.{IsRunnable};
+ghost use Rattle.run_ops.specs.Runnable.{IsRunnable};
 ghost use Rattle.qkd_network.specs.Outcome.{HasScenario, IsUnread};
 ghost use Rattle.qkd_network.specs.declared.status.Status.TheVariants.{ReadFault};
 
-use crate::Status;
+use crate::{ReadRefusal, Status, read_all};
 use edge_io::Source;
-use law_fits::law_read_commands_fit;
-use scenario_lines::Scenario;
-use scenario_reader::{ScenarioRefusal, read_scenario};
-use source_answers::{ReadRefusal, read_all};
+use law_run::law_read_commands_fit;
+use run_types::Scenario;
+use scenario_text::{ScenarioRefusal, read_scenario};
 use std::alloc::Global;
 
-/// Reads a source to its end, or past the limit of a scenario, and the scenario that it has, which can be run; or the status says why there
-/// is none.
+/// Reads a source to its end, or past the limit of a scenario, and parses its scenario, which can be run. `Err` has the status that says
+/// why there is no scenario.
 pub fn scenario_in<S: Source>(alloc: Global, source: &mut S) -> Result<Scenario, Status>
     ensures read { MatchResult result (HasScenario (S.left source.old) (S.left source.new)) (λ status. IsUnread status (S.left source.old) (S.left source.new)) }
     ensures runnable { IfOk result (λ scenario. IsRunnable scenario) }

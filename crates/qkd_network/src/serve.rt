@@ -1,11 +1,11 @@
-// The managers of a scenario, served.
+// Running a scenario, and serving its managers.
 ghost use Rattle.std.specs.Prelude.{◌≡◌, ◌⊎◌, ◌≤◌, IsSome};
 ghost use Rattle.std.specs.List.{All};
 ghost use Rattle.qkd_base.specs.Faults.{Rose};
-ghost use Rattle.port_doors.specs.Doors.{AreFresh, IsListenFault, PortsTold, telling};
-ghost use Rattle.bench_veils.specs.Passed.{IsWhole};
-ghost use Rattle.bench_veils.specs.Passed.{IsNew};
-ghost use Rattle.bench_serves.specs.Serving.{HasServedHeadlines};
+ghost use Rattle.kme_serve.specs.Doors.{AreFresh, IsListenFault, PortsTold, telling};
+ghost use Rattle.net_world.specs.Laid.{IsWhole};
+ghost use Rattle.net_world.specs.New.{IsNew};
+ghost use Rattle.net_serve.specs.BenchServing.{HasServedHeadlines};
 ghost use Rattle.run_model.specs.Course.{Serve};
 ghost use Rattle.qkd_network.specs.Lines.{WroteLines};
 ghost use Rattle.qkd_network.specs.Outcome.{ScenarioOutcome, outside};
@@ -13,16 +13,16 @@ ghost use Rattle.qkd_network.specs.declared.status.Status.TheVariants.{ReadFault
 
 use crate::Status;
 use crate::reading::scenario_in;
-use bench_serves::run_serve;
-use bench_veils::world_bench::Bench;
 use disk_model::Disk;
 use edge_io::{Gate, Listener, Ports, Sink, Source};
+use net_serve::run_serve;
+use net_world::Bench;
 use source_devices::{Device, Entropy, Wire};
 use std::alloc::Global;
 use std::sync::Wait;
 use std::thread::Threads;
 
-// Reads a scenario from the source, runs it over a new bench, and serves its managers over the ports from this one on.
+// Reads a scenario from the source, runs it over a new bench, and serves its managers over the ports from the given one on.
 pub(crate) fn serve<
     R: Threads + Wait + Sync,
     S: Source,

@@ -1,7 +1,7 @@
 // How the program ended.
-use bench_serves::ServeStop;
+use crate::Ended;
+use net_serve::ServeStop;
 use run_lines::Stop;
-use source_answers::Ended;
 use std::fmt;
 
 /// How the program ended.
@@ -9,17 +9,17 @@ use std::fmt;
 pub enum Status {
     /// The whole report was written.
     Done,
-    /// The words are no form; this one, from 0, is the first that fits none, or their number if one is missing.
+    /// The words fit no form. The number is the index (from 0) of the first word that fits none, or the number of words if one is missing.
     Usage(usize),
-    /// This line, from 1, is the first that is refused.
+    /// The first line that is refused, counted from 1.
     BadLine(u32),
     /// The source failed.
     ReadFault,
     /// The sink failed.
     WriteFault,
-    /// At this line a frame that nobody sent had the tag of the lane's next bytes. The run ended there.
+    /// At this line a frame that nobody sent had the valid tag for the lane's next bytes. The run ended there.
     ForgedMatch(u32),
-    /// Memory was wanting.
+    /// Memory ran out.
     Memory,
     /// A port or a listener failed.
     ListenFault,
@@ -29,7 +29,7 @@ impl Status {
     ghost use Rattle.std.specs.Prelude.{◌≡◌};
     ghost use Rattle.qkd_network.specs.Codes.{code_of, status_of, served_as, answered_as};
 
-    /// The exit status.
+    /// The exit status of the program.
     pub fn code(self) -> u8
         ensures { result ≡ code_of self }
     {
@@ -45,7 +45,7 @@ impl Status {
         }
     }
 
-    // That of a run.
+    // The status of a run.
     pub(crate) fn of_run(ended: Result<(), Stop>) -> Self
         ensures { result ≡ status_of ended }
     {
@@ -57,7 +57,7 @@ impl Status {
         }
     }
 
-    // That of a run whose managers are then served.
+    // The status of a run whose managers are then served.
     pub(crate) fn of_serve(ended: Result<(), ServeStop>) -> Self
         ensures { result ≡ served_as ended }
     {
@@ -68,7 +68,7 @@ impl Status {
         }
     }
 
-    // That of an answer.
+    // The status of an answer.
     pub(crate) fn of_answer(ended: Ended) -> Self
         ensures { result ≡ answered_as ended }
     {

@@ -2,24 +2,23 @@
 ghost use Rattle.std.specs.Prelude.{◌≡◌, ◌⊎◌};
 ghost use Rattle.std.specs.List.{All};
 ghost use Rattle.qkd_base.specs.Faults.{Rose};
-ghost use Rattle.bench_veils.specs.Passed.{IsWhole};
-ghost use Rattle.bench_veils.specs.Passed.{IsNew};
-ghost use Rattle.bench_veils.specs.Veiling.{HasVeiled};
+ghost use Rattle.net_world.specs.Laid.{IsWhole};
+ghost use Rattle.net_world.specs.New.{IsNew};
+ghost use Rattle.net_world.specs.Veiling.{HasVeiled};
 ghost use Rattle.qkd_network.specs.Outcome.{ScenarioOutcome};
 ghost use Rattle.qkd_network.specs.declared.status.Status.TheVariants.{ReadFault, WriteFault, ListenFault};
 
 use crate::Status;
 use crate::reading::scenario_in;
-use bench_veils::run_veil;
-use bench_veils::world_bench::Bench;
 use disk_model::Disk;
 use edge_io::{Gate, Sink, Source};
+use net_world::{Bench, run_veil};
 use source_devices::{Device, Entropy, Wire};
 use std::alloc::Global;
 use std::sync::Wait;
 use std::thread::Threads;
 
-// Reads a scenario from the source, runs it over a new bench, and veils the wires that it leaves.
+// Reads a scenario from the source, runs it over a new bench, and counts the veil of the wires that it leaves.
 pub(crate) fn veil<
     R: Threads + Wait + Sync,
     S: Source,

@@ -1,4 +1,4 @@
--- Lists of new parts, one more at a time, and what they make of a bench.
+-- Lists of new parts, one at a time, and the bench that they make.
 use Rattle.std.proofs.Common.{◌≡◌, ℕ, ◌+◌, ◌<◌, List, [], length, sym, subst, ◌∙◌, arith}
 use Rattle.disk_model.specs.MemForm.{MemForm, images_of}
 use Rattle.disk_model.specs.Images.{Only}

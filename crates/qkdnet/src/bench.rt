@@ -1,7 +1,7 @@
-// The outside of a run of the program.
+// The disks, wires, devices and entropies of the program's runs.
 ghost use Rattle.std.specs.Prelude.{◌≡◌, IfOk};
 ghost use Rattle.std.specs.List.{All};
-ghost use Rattle.world_bench.specs.New.{IsNew};
+ghost use Rattle.net_world.specs.New.{IsNew};
 ghost use Rattle.qkdnet.specs.Fresh.{AreBlank, AreNumbered, AreSilent};
 ghost use Rattle.source_devices.specs.KeyStream.{device_told, entropy_told};
 
@@ -11,11 +11,11 @@ use qkd_network::Bench;
 use source_devices::{Device, Entropy, GeneratedDevice, GeneratedEntropy, MemWire, Wire};
 use std::alloc::Global;
 
-/// Empty disks and wires in memory, and devices and entropies that give the same octets in each run.
+/// Disks and wires in memory, empty at first, and devices and entropies that give the same octets in each run.
 pub type ProgramBench = Bench<MemDisk, GeneratedDevice, GeneratedEntropy, MemWire>;
 
-/// A new bench, whose disks were never armed. The device of a link is the generated one of the link's number, and the entropy of a node that
-/// of the node's.
+/// A new bench, whose disks were never armed. Each link has the generated device of its number, and each node the generated entropy of its
+/// number.
 pub fn new_bench(alloc: Global) -> Result<ProgramBench, Memory>
     ensures fresh { IfOk result (λ bench. IsNew ⟦<MemDisk as Disk>⟧.is_honest ⟦<MemDisk as Disk>⟧.moment ⟦<MemDisk as Disk>⟧.image ⟦<GeneratedEntropy as Entropy>⟧.left ⟦<GeneratedDevice as Device>⟧.told ⟦<MemWire as Wire>⟧.frames bench) }
     ensures unarmed { IfOk result (λ bench. All (λ k. (⟦<MemDisk as Disk>⟧.armings k).count ≡ 0) bench.disks.items) }

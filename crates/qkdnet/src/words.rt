@@ -1,10 +1,10 @@
-// The words that the program was called with.
+// The words with which the program was called.
 use qkd_base::{Items, Memory, Text, Texts};
 use std::alloc::Global;
 use std::env::{Env, FillError};
 use std::str;
 
-/// What the words ask of the program itself, or the words for the top call.
+/// What the words ask of the program itself (`Help`, `Version`), or the words for `qkd_network`.
 #[derive(Debug, Drop)]
 pub enum Request {
     Help,
@@ -12,13 +12,13 @@ pub enum Request {
     Words(Texts),
 }
 
-// A word that no form has stands for one that is too long or no text.
+// Stands for a word that is too long or no UTF-8 text. It fits no form.
 const FAULTY: &str = "\u{fffd}";
 
-// The octets of the longest word that a form has: a text of 600 octets in hexadecimal digits.
+// The octets of the longest word of a form: a text of 600 octets in hexadecimal digits.
 const WORD_LIMIT: usize = 1200;
 
-// The text of a word's octets.
+// A word's octets as a text.
 fn text(alloc: Global, octets: &[u8]) -> Result<Text, Memory> {
     let string = match str::from_utf8(octets) {
         Ok(word) => String::from_str(alloc, word)?,
@@ -27,7 +27,7 @@ fn text(alloc: Global, octets: &[u8]) -> Result<Text, Memory> {
     Ok(Text::from_string(string))
 }
 
-// The word at a place, if there is one.
+// The word at this index, if there is one.
 fn word_at(rt: &HostRuntime, place: usize) -> Result<Option<Text>, Memory> {
     let mut buffer = [0u8; WORD_LIMIT];
     match rt.arg(place, &mut buffer) {
@@ -37,7 +37,7 @@ fn word_at(rt: &HostRuntime, place: usize) -> Result<Option<Text>, Memory> {
     }
 }
 
-// Whether this is the sole word.
+// Whether `word` is the only word.
 fn is_sole(words: &Texts, word: &str) -> bool {
     match words.get(0) {
         Some(first) => words.len() == 1 && first.as_str() == word,

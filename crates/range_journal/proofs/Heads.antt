@@ -1,4 +1,4 @@
--- The heads of disks.
+-- The head of a journal's disk: 16 octets before the first gate.
 use Rattle.std.proofs.Common.{◌≡◌, ◌≢◌, ◌≤◌, ◌<◌, ◌⊎◌, inl, inr, ℕ, zero, suc, min, Bool, true, false, not, ◌&&◌, ◌==◌, nat_le, List, [], ◌∷◌, ◌++◌, length, get_or, take, drop, refl, sym, ◌∙◌, ap, subst, arith, take-append-drop}
 use Rattle.std.specs.Prelude.{slice_index, Result, Ok, Err, IfOk, IfErr, IsTrue}
 use Rattle.std.specs.Str.{bytes_eq}
@@ -26,7 +26,7 @@ new_name g (suc (suc (suc (suc (suc zero))))) lt = refl
 new_name g (suc (suc (suc (suc (suc (suc zero)))))) lt = refl
 new_name g (suc (suc (suc (suc (suc (suc (suc k))))))) lt = absurd (omega (arith, lt))
 
--- the new head with a gate that isn't open
+-- A disk with the new head and a gate that isn't open has no batches.
 new_stands : (g : ℕ) → g ≢ 1 → StandsFor (new_header ++ g ∷ []) []
 new_stands g shut = inr (
   refl,
@@ -47,7 +47,7 @@ new_is i sure =
     and_parts true false e = absurd (cc e)
     and_parts false b e = absurd (cc e)
 
--- what a blank disk becomes
+-- ---- the images of a blank disk that gets a new head
 
 pub made_new_head : (c i : List ℕ) → IsMadeNew c i → (is_blank i ≡ true) ⊎ ((gate : ℕ) × (i ≡ new_header ++ gate ∷ []))
 made_new_head c i made = elim (cases_Bool (is_new i)) [
@@ -85,13 +85,13 @@ pub if_err : {T E : Type 0} (r : Result T E) (P Q : E → Type 0) → ((x : E) �
 if_err (Ok x) P Q f p = p
 if_err (Err e) P Q f p = f e p
 
--- the header of an opened disk, whose front is that of a content with one
+-- If a disk is opened and its first 16 octets stay, it still has a journal's head.
 pub headed_ok : {K : Type 0} (is_honest : K → Bool) (content : K → List ℕ) (read : List ℕ) (later : Bool) (r : Result (JournalForm K) (JournalRefusal × K)) → is_honest (disk_in r) ≡ later
     → IfOk r (λ j. IsTrue (is_honest j.disk) → take 16 (content j.disk) ≡ take 16 read) → (IsTrue later → IsHeaded read) → IfOk r (λ j. IsTrue (is_honest j.disk) → IsHeaded (take 16 (content j.disk)))
 headed_ok is_honest content read later (Ok j) e front head = λ h. subst IsHeaded (sym (front h)) (headed_front read (head (subst (λ (b : Bool). IsTrue b) e h)))
 headed_ok is_honest content read later (Err x) e front head = front
 
--- a head that was read
+-- the octets that were read from the front of the disk
 module _ (content h : List ℕ) (size : ℕ) (long : size ≡ length content) (seventeen : length h ≡ 17) (front : take (min size 17) h ≡ take (min size 17) content)
     (looks : (nat_le size 17 && not (is_new (take (min size 17) h))) ≡ false) where
   pub not_blank : is_blank content ≡ false

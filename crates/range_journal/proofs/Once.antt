@@ -1,4 +1,4 @@
--- Octets are batches in one way.
+-- Octets stand for at most one list of batches.
 use Rattle.std.proofs.Common.{◌≡◌, ◌≢◌, ◌≤◌, ◌<◌, ◌⊎◌, inl, inr, ℕ, suc, ◌+◌, ◌^◌, Bool, true, false, List, [], ◌∷◌, ◌++◌, length, take, drop, refl, sym, ◌∙◌, ap, subst, arith, append_assoc, length-append, take-append-drop}
 use Rattle.std.specs.Prelude.{slice_index, nat_le, not, ◌&&◌}
 use Rattle.std.specs.Int.{w32, to_be_bytes, from_be_bytes}
@@ -13,11 +13,11 @@ use Rattle.range_journal.specs.Opening.{IsRefusedAt}
 use Rattle.range_journal.specs.Reading.{IsForeign}
 use Rattle.range_journal.proofs.Whole.{one_more_is, short_more}
 
--- a length is spelled in one way
+-- Two lengths with the same four octets are equal.
 word_once : (m n : ℕ) → m < 2 ^ 32 → n < 2 ^ 32 → to_be_bytes w32 m ≡ to_be_bytes w32 n → m ≡ n
 word_once m n a b e = sym (from_be_bytes-to_be_bytes_4 m a) ∙ ap (from_be_bytes w32) e ∙ from_be_bytes-to_be_bytes_4 n b
 
--- what stands behind the same octets
+-- Equal octets have equal octets behind an equal prefix.
 behind_once : (x y z : List ℕ) → x ++ y ≡ x ++ z → y ≡ z
 behind_once x y z e = sym (drop_at x y (length x) refl) ∙ ap (λ (l : List ℕ). drop (length x) l) e ∙ drop_at x z (length x) refl
 
@@ -27,7 +27,7 @@ words m n r s a b e = (
   sym (drop_at (to_be_bytes w32 m) r 4 refl) ∙ ap (λ (l : List ℕ). drop 4 l) e ∙ drop_at (to_be_bytes w32 n) s 4 refl,
 )
 
--- the octets of a body and those behind it
+-- a batch behind its gate (length and body), and the octets behind it
 abbrev batch_then : List ℕ → List ℕ → List ℕ
 batch_then x r = to_be_bytes w32 (length x) ++ (x ++ r)
 
@@ -53,7 +53,7 @@ first_is x y xs ys e = cc
 rest_is : (x y : ℕ) (xs ys : List ℕ) → x ∷ xs ≡ y ∷ ys → xs ≡ ys
 rest_is x y xs ys e = cc
 
--- two lists of batches, each before a gate that isn't open
+-- Two lists of batches are equal if they have the same octets, each up to a gate that isn't open.
 same_batches : (a b : List (List ℕ)) (g h : ℕ) (r s : List ℕ) → AreShort a → AreShort b → g ≢ 1 → h ≢ 1 → spelled a ++ g ∷ r ≡ spelled b ++ h ∷ s → a ≡ b
 same_batches [] [] g h r s sa sb ng nh e = refl
 same_batches [] (y ∷ b) g h r s sa sb ng nh e = absurd (ng (first_is g 1 r _ (e ∙ spelled_then y b (h ∷ s))))
@@ -64,7 +64,7 @@ same_batches (x ∷ a) (y ∷ b) g h r s sa sb ng nh e =
     let later = same_batches a b g h r s (later_short x a sa) (later_short y b sb) ng nh p.1 in
     λ i. p.0 i ∷ later i
 
--- and the gates, and what stands behind them
+-- Two such lists have equal gates behind them, and equal octets behind the gates.
 same_gate : (a b : List (List ℕ)) (g h : ℕ) (r s : List ℕ) → AreShort a → AreShort b → g ≢ 1 → h ≢ 1 → spelled a ++ g ∷ r ≡ spelled b ++ h ∷ s → (a ≡ b) × (g ≡ h) × (r ≡ s)
 same_gate a b g h r s sa sb ng nh e =
     let same = same_batches a b g h r s sa sb ng nh e in
@@ -82,7 +82,7 @@ stands_once front image one other a b =
 pub before_stands : (front image : List ℕ) (batches doubt : List (List ℕ)) → StandsBefore front batches doubt image → Stands front batches image
 before_stands front image batches doubt s = record { gate = s.gate; rest = s.rest; is = s.is; shut = s.shut; short = s.short }
 
--- behind a closed gate anything may be in doubt
+-- If no batch is in doubt, the gate is closed. Then any batch may be taken to be in doubt.
 pub before_any : (front image : List ℕ) (batches doubt : List (List ℕ)) → StandsBefore front batches [] image → StandsBefore front batches doubt image
 before_any front image batches doubt s = record { gate = s.gate; rest = s.rest; is = s.is; shut = s.shut; short = s.short; closed = is_closed s.closed }
   where
@@ -91,7 +91,7 @@ before_any front image batches doubt s = record { gate = s.gate; rest = s.rest; 
     is_closed (inl zero) = inl zero
     is_closed (inr d) = absurd (cc d.2)
 
--- a gate that is being closed
+-- The gate before a batch in doubt is overwritten when the journal is opened.
 module _ (front content image : List ℕ) (batches doubt : List (List ℕ)) (s : StandsBefore front batches doubt content) (h : HasOtherGate (length front) content image) where
   whole : content ≡ front ++ (spelled batches ++ s.gate ∷ s.rest)
   whole = s.is ∙ append_assoc front (spelled batches) (s.gate ∷ s.rest)
@@ -143,7 +143,7 @@ stands_for_once content one other (inl a) (inr b) = absurd (false≢true (sym b.
 stands_for_once content one other (inr a) (inl b) = absurd (false≢true (sym a.0 ∙ b.0))
 stands_for_once content one other (inr a) (inr b) = stands_once (take 16 content) content one other a.2 b.2
 
--- a batch, where none stands whole
+-- Octets that are too few for a batch don't begin with a whole batch.
 no_whole : (x t r : List ℕ) → length x < 2 ^ 32 → r ≡ batch_then x t → (length r < 4) ⊎ LacksBody r → ⊥
 no_whole x t r small e (inl few) = omega (arith, few, ap length e, length-append (to_be_bytes w32 (length x)) (x ++ t), four)
   where
@@ -153,7 +153,7 @@ no_whole x t r small e (inr body) =
     let w = words body.size (length x) body.body (x ++ t) body.short small (sym body.is ∙ e) in
     omega (arith, w.0, ap length w.1, length-append x t, body.few)
 
--- batches before a gate that isn't open, and batches behind which no batch and no gate stands
+-- Batches may end at a gate that isn't open, or else without a gate or with a batch cut off. The same octets can't do both.
 no_stop : (a b : List (List ℕ)) (g : ℕ) (r u : List ℕ) → AreShort a → AreShort b → g ≢ 1 → (u ≡ []) ⊎ LacksBatch u → spelled a ++ g ∷ r ≡ spelled b ++ u → ⊥
 no_stop [] [] g r u sa sb ng (inl none) e = elim_none (e ∙ none)
   where
@@ -172,7 +172,7 @@ no_stop (x ∷ a) (y ∷ b) g r u sa sb ng stop e =
     (rest_is 1 1 _ _ (sym (spelled_then x a (g ∷ r)) ∙ e ∙ spelled_then y b u)) in
     no_stop a b g r u (later_short x a sa) (later_short y b sb) ng stop p.1
 
--- the batches from a start on are there, and nothing is foreign behind it
+-- If a content stands for batches behind a start, no octet there is foreign.
 pub not_foreign : (content : List ℕ) (start place : ℕ) (batches : List (List ℕ)) → Stands (take start content) batches content → IsForeign content start place → ⊥
 not_foreign content start place batches s f =
     let back : drop start content ≡ spelled batches ++ s.gate ∷ s.rest =
@@ -200,7 +200,7 @@ not_refused content batches place (inr s) r = why r.1
     why (inl other) = not_other content place s.1 other
     why (inr foreign) = not_foreign content 16 place batches s.2 foreign.1
 
--- batches behind a header
+-- ---- batches behind a header
 
 few_batches : (batches : List (List ℕ)) → length (spelled batches) ≤ 0 → batches ≡ []
 few_batches [] few = refl
@@ -223,7 +223,7 @@ headed front image long same is = record {
     version (inl one) = inl (at 7 (omega arith) ∙ one)
     version (inr two) = inr (at 7 (omega arith) ∙ two)
 
--- a header stays one where only its octets are kept
+-- The first 16 octets of a content with a journal's head are such a head.
 pub headed_front : (content : List ℕ) → IsHeaded content → IsHeaded (take 16 content)
 headed_front content is = record {
   name = λ k lt. get_or-take 16 content k 0 (omega (arith, lt)) ∙ is.name k lt;

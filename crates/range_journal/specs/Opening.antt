@@ -1,4 +1,4 @@
--- What opening a journal needs and answers.
+-- Opening a journal: what must hold before, and what the result says.
 use Rattle.std.specs.Prelude.{◌≡◌, ◌⊎◌, ◌≤◌, ℕ, Bool, true, false, IsTrue, List, length, Result, Ok, Err, IfOk, IfErr}
 use Rattle.qkd_base.specs.Faults.{Rose}
 use Rattle.disk_model.specs.Images.{Only, AtEachMoment}
@@ -10,7 +10,7 @@ use Rattle.range_journal.specs.Reading.{IsForeign}
 use Rattle.range_journal.specs.declared.refusal.JournalRefusal.{JournalRefusal}
 use Rattle.range_journal.specs.declared.refusal.JournalRefusal.TheVariants.{JournalFull, Memory, Disk, Foreign}
 
--- a disk of so many octets, all of them synced, with room to close a gate
+-- The disk has `size` octets, all synced, and enough allowance to close a gate.
 pub record MayRead (is_honest : Bool) (content : List ℕ) (images : List ℕ → Type 0) (a : Allowance) (start size : ℕ) : Type 0 where
   pub long : IsTrue is_honest → size ≡ length content
   pub durable : IsTrue is_honest → Only content images
@@ -19,12 +19,12 @@ pub record MayRead (is_honest : Bool) (content : List ℕ) (images : List ℕ �
   pub left : 1 ≤ a.left
   pub used : a.used ≤ 10
 
--- the disk, which each answer hands back
+-- the disk that each result hands back
 abbrev pub disk_in : {K : Type 0} → Result (JournalForm K) (JournalRefusal × K) → K
 disk_in (Ok journal) = journal.disk
 disk_in (Err refusal) = refusal.1
 
--- what a synced disk of so many octets needs
+-- The disk has `size` octets, all synced, and enough allowance for a new head.
 pub record MayOpen (is_honest : Bool) (content : List ℕ) (images : List ℕ → Type 0) (a : Allowance) (size : ℕ) : Type 0 where
   pub long : IsTrue is_honest → size ≡ length content
   pub durable : IsTrue is_honest → Only content images
@@ -33,7 +33,7 @@ pub record MayOpen (is_honest : Bool) (content : List ℕ) (images : List ℕ �
   pub left : 17 ≤ a.left
   pub used : a.used ≤ 1
 
--- why a content is no journal's
+-- The content is no journal's, from this place on.
 abbrev pub IsRefusedAt : List ℕ → ℕ → Type 0
 IsRefusedAt content place = (is_blank content ≡ false) × (HasOtherHead content place ⊎ (IsHeaded content × IsForeign content 16 place))
 
@@ -43,17 +43,17 @@ Refuses is_honest content before now Memory = Unit {0}
 Refuses is_honest content before now (JournalFull size need) = ⊥
 Refuses is_honest content before now (Foreign place) = IsTrue is_honest → IsRefusedAt content place
 
--- What a crash leaves while a blank disk gets the head of a new journal: a few octets, which are blank or that head with some gate.
+-- What a crash may leave while a blank disk gets a new head: at most 17 octets, which are blank or the new head with some gate.
 pub record IsMadeNew (content image : List ℕ) : Type 0 where
   pub blank : is_blank content ≡ true
   pub short : length image ≤ 17
 
--- What a crash leaves while a journal of this content is opened: the content; the content with another octet for a gate
--- that was neither open nor 00; or, where it was blank, at most the octets of a new head and a gate.
+-- What a crash may leave while a journal is opened: its content; the content with another octet for a gate that was neither open nor
+-- closed; or, if the disk was blank, at most 17 octets that are blank or the new head with some gate.
 abbrev pub IsOpening : List ℕ → List ℕ → Type 0
 IsOpening content image = IsReadOrClosing 16 content image ⊎ IsMadeNew content image
 
--- The journal is opened over one of the disk's images.
+-- The journal is opened from one of the images that the disk might have after a crash.
 pub record Opens {K : Type 0} (is_honest : K → Bool) (content : K → List ℕ) (moment : K → ℕ) (image : K → ℕ → List ℕ → Type 0) (faults : K → ℕ) (disk : K) (result : Result (JournalForm K) (JournalRefusal × K)) (read : List ℕ) : Type 0 where
   pub was : IsTrue (is_honest disk) → image disk (moment disk) read
   pub opened : IfOk result (λ j. (j.start ≡ 16) × (j.spare ≡ 0) × (IsTrue (is_honest disk) → StandsFor read j.batches))

@@ -1,4 +1,4 @@
--- What reading a journal answers.
+-- Reading the batches of a disk.
 use Rattle.std.specs.Prelude.{◌≡◌, ◌≢◌, ◌⊎◌, ◌≤◌, ◌<◌, ℕ, ◌+◌, ◌^◌, List, ◌∷◌, ◌++◌, length, drop, Bool, IsTrue}
 use Rattle.std.specs.Int.{w32, to_be_bytes}
 use Rattle.qkd_base.specs.Faults.{Rose}
@@ -9,14 +9,14 @@ use Rattle.range_journal.specs.declared.reading.Found.{Found}
 use Rattle.range_journal.specs.declared.reading.Next.{Next}
 use Rattle.range_journal.specs.declared.reading.Next.TheVariants.{Shut, Batch}
 
--- the disk failed, and its count rose, or memory was wanting
+-- The disk failed, and its count of faults rose, or memory ran out.
 abbrev pub IsFaulty : ℕ → ℕ → JournalRefusal → Type 0
 IsFaulty before now Disk = Rose before now
 IsFaulty before now Memory = Unit {0}
 IsFaulty before now (JournalFull size need) = ⊥
 IsFaulty before now (Foreign place) = ⊥
 
--- what stands at a place
+-- what the content has at the place of a gate: a gate that isn't open, or a batch behind an open one
 abbrev pub IsNext : List ℕ → ℕ → Next → Type 0
 IsNext content place (Shut gate) = (gate ≢ 1) × (drop place content ≡ gate ∷ drop (place + 1) content)
 IsNext content place (Batch body) = drop place content ≡ 1 ∷ to_be_bytes w32 (length body) ++ body ++ drop (place + 5 + length body) content
@@ -25,18 +25,18 @@ abbrev pub FitsNext : ℕ → ℕ → Next → Type 0
 FitsNext place size (Shut gate) = (place < size) × (gate ≢ 1)
 FitsNext place size (Batch body) = (place + 5 + length body ≤ size) × (length body < 2 ^ 32)
 
--- no gate stands there, or it is open and no whole batch stands behind it
+-- The content ends before a gate, or the gate is open and no whole batch follows it. The place is that of the missing gate, or of the open one.
 abbrev pub IsForeignAt : List ℕ → ℕ → ℕ → Type 0
 IsForeignAt content place answer = ((length content ≤ place) × (answer ≡ length content)) ⊎ (LacksBatch (drop place content) × (answer ≡ place))
 
--- why nothing could be read there
+-- Why no gate and no batch could be read at the place.
 abbrev pub IsUnread : Bool → List ℕ → ℕ → ℕ → ℕ → JournalRefusal → Type 0
 IsUnread is_honest content place before now Disk = Rose before now
 IsUnread is_honest content place before now Memory = Unit {0}
 IsUnread is_honest content place before now (JournalFull size need) = ⊥
 IsUnread is_honest content place before now (Foreign answer) = IsTrue is_honest → IsForeignAt content place answer
 
--- from a start on the content has these batches, and then that gate
+-- From its start on the content has these batches, and then this gate.
 pub record HasFound (content : List ℕ) (start : ℕ) (found : Found) : Type 0 where
   pub is : drop start content ≡ spelled found.batches.items ++ found.gate ∷ drop (found.place + 1) content
 
@@ -46,7 +46,7 @@ pub record FitsFound (start size : ℕ) (found : Found) : Type 0 where
   pub shut : found.gate ≢ 1
   pub short : AreShort found.batches.items
 
--- From a start on the content has some batches, and then no gate, or an open one without a whole batch behind it.
+-- From its start on the content has some batches, and then no gate, or an open gate without a whole batch behind it.
 pub record IsForeign (content : List ℕ) (start answer : ℕ) : Type 0 where
   pub batches : List (List ℕ)
   pub short : AreShort batches

@@ -1,4 +1,4 @@
-// One batch on a disk.
+// How one batch is written to a disk.
 ghost use Rattle.std.specs.Prelude.{◌≡◌, ◌+◌, ◌-◌, ◌<◌, ◌≤◌, List, ℕ, length, IsTrue, OnOk};
 ghost use Rattle.qkd_base.specs.Faults.{HasCause};
 ghost use Rattle.disk_model.specs.Images.{Only, AtEachMoment};
@@ -8,7 +8,8 @@ ghost use Rattle.range_journal.specs.Durable.{HasRoom};
 use crate::durable::write_synced;
 use disk_model::{Disk, DiskFailed};
 
-/// Writes a block behind a closed gate, the octet before that place, and opens the gate once the block is synced.
+/// Writes a block from a place on, behind a closed gate, and syncs. Then it opens that gate and syncs again. The only error
+/// is that the disk fails.
 pub fn write_batch<K: Disk>(disk: &mut K, place: u64, block: &[u8]) -> Result<(), DiskFailed>
     requires gate { 1 ≤ place }
     requires content { IsTrue (K.is_honest disk.old) → place ≤ length (K.content disk.old) }

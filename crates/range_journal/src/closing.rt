@@ -1,4 +1,4 @@
-// The gate behind the last batch.
+// How the gate behind the last batch is closed.
 ghost use Rattle.std.specs.Prelude.{◌≡◌, ◌≢◌, ◌⊎◌, ◌+◌, ◌<◌, ◌≤◌, ◌∷◌, ◌++◌, List, ℕ, length, drop, take, IsTrue, OnOk};
 ghost use Rattle.qkd_base.specs.Faults.{HasCause};
 ghost use Rattle.disk_model.specs.Images.{Only, AtEachMoment};
@@ -7,7 +7,7 @@ ghost use Rattle.range_journal.specs.Closing.{with_gate, MayClose, IsDoubtful};
 use crate::durable::write_synced;
 use disk_model::{Disk, DiskFailed};
 
-/// Writes 00 over a gate that isn't open, where it isn't 00 already.
+/// Closes a gate that isn't open: writes 00 in its place unless it is 00. The only error is that the disk fails.
 pub fn close<K: Disk>(disk: &mut K, place: u64, gate: u8) -> Result<(), DiskFailed>
     requires { MayClose (K.is_honest disk.old) (K.content disk.old) (K.image disk.old (K.moment disk.old)) (K.allowance disk.old) place gate }
     ensures closed { IsTrue (K.is_honest disk.old) → OnOk result (K.content disk.new ≡ with_gate place 0 (K.content disk.old)) }

@@ -1,4 +1,4 @@
-// A write that is synced.
+// How octets are written and synced.
 ghost use Rattle.std.specs.Prelude.{◌≡◌, ◌+◌, ◌<◌, ◌≤◌, List, ℕ, length, IsTrue, OnOk};
 ghost use Rattle.qkd_base.specs.Faults.{HasCause};
 ghost use Rattle.disk_model.specs.Images.{Torn, Only, AtEachMoment, overlaid};
@@ -8,7 +8,7 @@ ghost use Rattle.range_journal.specs.Durable.{UsesTwo};
 
 use disk_model::{Disk, DiskFailed};
 
-/// Writes over what is there, and past the end, and syncs. Nothing may be unsynced before.
+/// Writes octets from a place on, over the old ones and past the end, and syncs. Before the call all must be synced.
 pub fn write_synced<K: Disk>(disk: &mut K, at: u64, bytes: &[u8]) -> Result<(), DiskFailed>
     requires durable { IsTrue (K.is_honest disk.old) → Only (K.content disk.old) (K.image disk.old (K.moment disk.old)) }
     requires may { MayWrite (K.is_honest disk.old) (K.content disk.old) (K.allowance disk.old) at (length bytes.now) }

@@ -1,4 +1,4 @@
-// A journal that is open.
+// Open journals, and appends to them.
 ghost use Rattle.std.specs.Prelude.{◌≡◌, ◌+◌, ◌-◌, ◌<◌, ◌≤◌, ◌++◌, ◌∷◌, [], List, ℕ, length, take, Some, ◌^◌, nat_lt, false, min, IsTrue, IsOk, IfOk, OnOk, OnErr, vec_len, vec_capacity};
 ghost use Rattle.qkd_base.specs.Faults.{Rose};
 ghost use Rattle.disk_model.specs.Images.{StandsStill, AtEachMoment};
@@ -14,10 +14,10 @@ use qkd_base::{Memory, Octets};
 use std::alloc::Global;
 use std::marker::Model;
 
-/// How many octets a journal may have.
+/// How many octets a journal may have: 32 MiB.
 pub const MOST_OCTETS: u64 = 1 << 25;
 
-/// A journal that is open: its batches, all of them on the disk.
+/// An open journal. All its batches are on the disk.
 #[derive(Drop)]
 pub struct Journal<K: Disk> {
     alloc: Global,
@@ -25,18 +25,18 @@ pub struct Journal<K: Disk> {
     start: u64,
     length: u64,
     batches: Vec<Octets>,
-    // Memory for the next batch.
+    // Memory that is reserved for the next batch.
     kept: Vec<u8>,
     block: Vec<u8>,
     spare: u32,
 }
 
-/// What is left where a batch wasn't added.
+/// Why a batch was not added, and what is left of the journal.
 #[derive(Drop)]
 pub enum Refused<K: Disk> {
-    /// The journal as it was.
+    /// The journal is as it was. Either the batch is too long for it, or memory ran out.
     Kept(JournalRefusal, Journal<K>),
-    /// The disk failed. It is to be opened again.
+    /// The disk failed. Only a new opening of the disk shows whether it has the batch.
     Spent(K),
 }
 
@@ -52,7 +52,7 @@ impl<K: Disk> Model for Journal<K> {
     ghost invariant = { λ j. IsSound (K.is_honest j.disk) (K.content j.disk) (K.image j.disk (K.moment j.disk)) (K.allowance j.disk) j.start j.length j.batches j.kept j.block j.spare };
 }
 
-// Takes the memory for one more batch of so many octets. Without it the disk is as it was.
+// Reserves memory for one more batch of `body` octets. On an error the disk is as it was.
 fn reserve<K: Disk>(
     disk: &mut K,
     batches: &mut Vec<Octets>,
@@ -82,7 +82,7 @@ fn reserve<K: Disk>(
     disk.room(size + body as u64 + 5)
 }
 
-// The same, where the memory may be there already.
+// Reserves memory for one more batch of `body` octets, unless it is already reserved.
 fn prepare<K: Disk>(
     disk: &mut K,
     batches: &mut Vec<Octets>,
@@ -115,7 +115,7 @@ fn prepare<K: Disk>(
     reserve(disk, batches, kept, block, size, body)
 }
 
-// A batch's length, the batch, and a closed gate behind it, in memory that is there.
+// Writes the block of a batch into reserved memory: the batch's length, the batch, and a closed gate.
 fn fill(block: &mut Vec<u8>, batch: &[u8])
     requires empty { vec_len block.old ≡ 0 }
     requires short { length batch.now + 5 ≤ most }
@@ -130,8 +130,8 @@ fn fill(block: &mut Vec<u8>, batch: &[u8])
 }
 
 impl<K: Disk> Journal<K> {
-    /// The journal over a disk that has these batches from that start on, and its closed gate before that place. No
-    /// disk call is made.
+    /// The journal over a disk that has these batches from `start` on. Its closed gate is the octet before `length`. The call
+    /// doesn't use the disk.
     pub fn settled(alloc: Global, disk: K, start: u64, length: u64, batches: Vec<Octets>) -> Self
         requires settled { IsTrue (K.is_honest disk) → IsSettled (K.content disk) (K.image disk (K.moment disk)) start batches.items }
         requires length { length ≡ length_of start batches.items }
@@ -151,21 +151,22 @@ impl<K: Disk> Journal<K> {
         }
     }
 
-    /// The batches in order.
+    /// The batches, in order.
     pub fn batches(&self) -> &[Octets]
         ensures { result.now ≡ self.now.batches }
     {
         self.batches.as_slice()
     }
 
-    /// The place behind the closed gate.
+    /// The place behind the closed gate: the journal's length in octets.
     pub fn length(&self) -> u64
         ensures { result ≡ length_of self.now.start self.now.batches }
     {
         self.length
     }
 
-    /// Adds a batch. At `Ok` it is on the disk.
+    /// Adds a batch. On success the batch is durable. Errors: the journal would be too long, memory runs out, or the disk
+    /// fails.
     pub fn append(mut self, batch: &[u8]) -> Result<Journal<K>, Refused<K>>
         ensures answer { IsAnswer self batch.now result }
         ensures full { is_full result ≡ nat_lt most (length_of self.start self.batches + need_of batch.now) }
@@ -228,7 +229,7 @@ impl<K: Disk> Journal<K> {
         }
     }
 
-    /// Takes the memory for an append of so many octets. It changes nothing else.
+    /// Reserves memory for an append of `body` octets. It changes nothing else. The only error is that memory runs out.
     pub fn room(&mut self, body: u32) -> Result<(), Memory>
         ensures spare { OnOk result ((body ≤ self.new.spare) × (self.old.spare ≤ self.new.spare)) }
         ensures err { OnErr result (self.new ≡ self.old) }
@@ -257,8 +258,8 @@ impl<K: Disk> Journal<K> {
         Ok(())
     }
 
-    /// Takes the disk's memory for writes up to that end by what comes after this journal on its disk. What was taken for
-    /// appends is given up. An `Err` changes nothing.
+    /// Reserves the disk's memory for writes up to `end`, for what its owner writes behind this journal. Memory that was
+    /// reserved for appends is given up. The only error is that memory runs out; then nothing changes.
     pub fn room_to(&mut self, end: u64) -> Result<(), Memory>
         ensures ok { OnOk result (K.allowance self.new.disk ≡ after_room end (K.allowance self.old.disk)) }
         ensures spare { OnOk result (self.new.spare ≡ 0) }
@@ -275,7 +276,7 @@ impl<K: Disk> Journal<K> {
         Ok(())
     }
 
-    /// Arms the disk.
+    /// Arms the disk: sets a fault that comes at a later call.
     pub fn arm(&mut self, arm: Arm)
         requires { (K.armings self.old.disk).count < 2 ^ 32 }
         ensures armings { K.armings self.new.disk ≡ record { count = (K.armings self.old.disk).count + 1; last = Some arm } }
@@ -288,7 +289,7 @@ impl<K: Disk> Journal<K> {
         self.disk.arm(arm);
     }
 
-    /// Gives the disk back.
+    /// Ends the journal, and returns its disk.
     pub fn into_disk(self) -> K
         ensures disk { result ≡ self.disk }
         ensures settled { IsTrue (K.is_honest result) → IsSettled (K.content result) (K.image result (K.moment result)) self.start self.batches }

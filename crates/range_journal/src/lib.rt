@@ -1,5 +1,8 @@
-//! An append-only journal of byte lists on a disk. What a crash at any moment leaves stands for the batches that were
-//! there, or for these with exactly the one that is being added. A gate that isn't closed stands before that batch alone.
+//! An append-only journal of batches on a disk: a crash at any moment leaves each batch whole or not at all.
+//!
+//! Each batch stands behind its gate, one octet. An open gate, 01, says that a whole batch follows. A closed gate, 00, ends the
+//! journal. A crash in an append leaves the batches that were there, or these and the new one. Only before the new batch may
+//! a gate be neither open nor closed.
 #![tactic(auto)]
 
 mod batch;
@@ -12,7 +15,6 @@ mod opening;
 mod reading;
 mod refusal;
 
-pub use disk_model;
 pub use durable::write_synced;
 pub use header::header_fault;
 pub use journal::{Journal, MOST_OCTETS, Refused};
@@ -21,5 +23,4 @@ pub use laws::{
     octets_stand_for_one_list,
 };
 pub use opening::{looks_blank, make_new, open, open_at, open_sized, settle};
-pub use qkd_base;
 pub use refusal::JournalRefusal;

@@ -1,4 +1,4 @@
-// A journal is opened.
+// How a journal is opened.
 ghost use Rattle.std.specs.Prelude.{[], OnOk, true, not, nat_le, ◌&&◌, min, ◌≡◌, ◌≢◌, ◌⊎◌, ◌+◌, ◌<◌, ◌≤◌, ◌∷◌, ◌++◌, List, ℕ, length, drop, take, IsTrue, IfOk, IfErr};
 ghost use Rattle.disk_model.specs.Images.{Only, StandsStill, AtEachMoment};
 ghost use Rattle.range_journal.specs.Batches.{Stands, IsSettled};
@@ -17,8 +17,8 @@ use crate::{Journal, JournalRefusal};
 use disk_model::Disk;
 use std::alloc::Global;
 
-/// Opens the journal that begins at a place of a synced disk of so many octets, which the caller has asked for. It
-/// reads the batches, and closes the gate behind them where that isn't 00.
+/// Opens the journal that begins at `start` on a synced disk of `size` octets. It reads the batches, and closes the gate
+/// behind them unless it is closed. Errors: the disk fails, memory runs out, or the octets are no journal's.
 pub fn open_sized<K: Disk>(
     alloc: Global,
     mut disk: K,
@@ -48,7 +48,7 @@ pub fn open_sized<K: Disk>(
     }
 }
 
-/// Gives a blank disk the head of a new journal.
+/// Gives a blank disk the head of a new journal. The only error is that the disk fails.
 pub fn make_new<K: Disk>(alloc: Global, mut disk: K) -> Result<Journal<K>, (JournalRefusal, K)>
     requires may { MayOpen (K.is_honest disk) (K.content disk) (K.image disk (K.moment disk)) (K.allowance disk) (length (K.content disk)) }
     requires blank { IsTrue (K.is_honest disk) → is_blank (K.content disk) ≡ true }
@@ -68,7 +68,7 @@ pub fn make_new<K: Disk>(alloc: Global, mut disk: K) -> Result<Journal<K>, (Jour
     }
 }
 
-// Reads the front of a disk of so many octets, up to 17 of them.
+// Reads the first octets of a disk of `size` octets, at most 17.
 fn read_head<K: Disk>(disk: &mut K, size: u64) -> Result<[u8; 17], JournalRefusal>
     requires { IsTrue (K.is_honest disk.old) → size ≡ length (K.content disk.old) }
     ensures head { IsTrue (K.is_honest disk.old) → IfOk result (λ h. take (min size 17) h ≡ take (min size 17) (K.content disk.old)) }
@@ -84,14 +84,14 @@ fn read_head<K: Disk>(disk: &mut K, size: u64) -> Result<[u8; 17], JournalRefusa
     }
 }
 
-/// Whether a disk of so many octets that begins with these, of which it needs the first 17, can't have held a batch.
+/// Whether a disk of `size` octets can't have held a batch. `front` are its first octets, up to 17.
 pub fn looks_blank(size: u64, front: &[u8]) -> bool
     ensures { result ≡ (nat_le size 17 && not (is_new_text front.now)) }
 {
     size <= 17 && !is_new(front)
 }
 
-// Opens the journal of a synced disk of so many octets.
+// Opens the journal of a synced disk of `size` octets.
 fn open_synced<K: Disk>(
     alloc: Global,
     mut disk: K,
@@ -125,7 +125,8 @@ fn open_synced<K: Disk>(
     }
 }
 
-/// Revives a disk, makes what a crash left its only image, and answers how many octets it has.
+/// Revives a disk after a crash: makes what the crash left durable, and returns its length in octets. The only error is that
+/// the disk fails.
 pub fn settle<K: Disk>(disk: &mut K) -> Result<u64, JournalRefusal>
     requires { (K.allowance disk.old).used < 16 }
     ensures image { IsTrue (K.is_honest disk.old) → K.image disk.old (K.moment disk.old) (K.content disk.new) }
@@ -149,7 +150,8 @@ pub fn settle<K: Disk>(disk: &mut K) -> Result<u64, JournalRefusal>
     }
 }
 
-/// Opens the journal of a disk, which may have been cut at any moment. A blank disk gets a new one.
+/// Opens the journal of a disk that a crash may have cut off at any moment. A blank disk gets a new journal. Errors: the disk
+/// fails, memory runs out, or the octets are no journal's.
 pub fn open<K: Disk>(alloc: Global, mut disk: K) -> Result<Journal<K>, (JournalRefusal, K)>
     requires { (K.allowance disk).used ≤ 12 }
     ensures reads { (read : List ℕ) × Opens K.is_honest K.content K.moment K.image K.faults disk result read }
@@ -170,8 +172,8 @@ pub fn open<K: Disk>(alloc: Global, mut disk: K) -> Result<Journal<K>, (JournalR
     }
 }
 
-/// Opens the journal that begins at a place of a disk that is synced. It asks for the length, and neither revives the
-/// disk nor makes it new.
+/// Opens the journal that begins at `start` on a synced disk. It asks the disk for its length, but neither revives the disk
+/// nor gives it a head. Errors as for `open`.
 pub fn open_at<K: Disk>(
     alloc: Global,
     mut disk: K,

@@ -1,4 +1,4 @@
-// The batches of a disk, read one after another.
+// How the batches of a disk are read, in order.
 ghost use Rattle.std.specs.Prelude.{◌≡◌, ◌≢◌, ◌⊎◌, ◌+◌, ◌<◌, ◌≤◌, ◌∷◌, ◌++◌, [], List, ℕ, length, drop, take, IsTrue, IfOk, OnErr, IfErr};
 ghost use Rattle.std.specs.Int.{w32, to_be_bytes};
 ghost use Rattle.qkd_base.specs.Faults.{Rose};
@@ -10,7 +10,7 @@ use disk_model::Disk;
 use qkd_base::Octets;
 use std::alloc::Global;
 
-/// What stands at a place where a gate is to stand.
+/// What stands at the place of a gate.
 #[derive(Drop)]
 pub enum Next {
     /// A gate that isn't open.
@@ -19,7 +19,7 @@ pub enum Next {
     Batch(Octets),
 }
 
-/// The batches from a place on, where the gate behind them stands, and that gate, which isn't open.
+/// The batches from a place on, and behind them the first gate that isn't open, with its place.
 #[derive(Drop)]
 pub struct Found {
     pub batches: Vec<Octets>,
@@ -27,7 +27,7 @@ pub struct Found {
     pub gate: u8,
 }
 
-// Reads so many octets into memory of their own.
+// Reads `count` octets into newly allocated memory.
 fn read_octets<K: Disk>(
     alloc: Global,
     disk: &mut K,
@@ -49,7 +49,7 @@ fn read_octets<K: Disk>(
     }
 }
 
-// Reads one octet.
+// Reads a gate, one octet.
 fn read_gate<K: Disk>(disk: &mut K, at: u64) -> Result<u8, JournalRefusal>
     requires { IsTrue (K.is_honest disk.old) → at + 1 ≤ length (K.content disk.old) }
     ensures octet { IsTrue (K.is_honest disk.old) → IfOk result (λ g. drop at (K.content disk.old) ≡ g ∷ drop (at + 1) (K.content disk.old)) }
@@ -63,7 +63,7 @@ fn read_gate<K: Disk>(disk: &mut K, at: u64) -> Result<u8, JournalRefusal>
     }
 }
 
-// The number that four octets spell.
+// Four octets as a number, big-endian.
 fn number_of(octets: &[u8]) -> u32
     requires { length octets.now ≡ 4 }
     ensures { to_be_bytes w32 result ≡ octets.now }
@@ -85,7 +85,7 @@ fn read_length<K: Disk>(disk: &mut K, at: u64) -> Result<u32, JournalRefusal>
     }
 }
 
-// Reads what stands at a place of a disk of so many octets.
+// Reads the gate at a place of a disk of `size` octets, and the batch behind it if the gate is open.
 fn next_batch<K: Disk>(
     alloc: Global,
     disk: &mut K,
@@ -140,7 +140,8 @@ fn read_body<K: Disk>(
     }
 }
 
-/// Reads the batches from a place on, up to the first gate that isn't open.
+/// Reads the batches from `start` on, up to the first gate that isn't open. Errors: the disk fails, memory runs out, or a gate
+/// or a batch is missing.
 pub fn read_batches<K: Disk>(
     alloc: Global,
     disk: &mut K,

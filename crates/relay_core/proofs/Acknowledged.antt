@@ -1,4 +1,4 @@
--- Whether a fact is acknowledged, told by what is owed.
+-- Lemmas on acknowledged facts: how to tell them from the facts that are owed.
 use Rattle.std.proofs.Common.{◌≡◌, ℕ, ◌<◌, ◌≤◌, Bool, true, false, ◌&&◌, List, refl, sym, ◌∙◌, ap, subst, arith, Option, Some, None, ◌⊎◌, inl, inr}
 use Rattle.std.specs.Prelude.{slice_get, is_some, not, IfSome, IfNone, ◌==◌}
 use Rattle.std.specs.Option.{option_eq}
@@ -13,7 +13,7 @@ use Rattle.relay_core.specs.Index.{is_owed_to}
 use Rattle.relay_core.proofs.Firsts.{not_true, none_find}
 use Rattle.relay_core.proofs.Names.{eq_same, eq_from, and_right, name_eq_from}
 
--- what is acknowledged is known
+-- A name of which no fact is known isn't acknowledged.
 pub unknown_unacked : (facts : List Fact) (acked : List Name) (n : Name) → ((m : Name) → has acked m ≡ true → has_fact facts m ≡ true) → IsNoneFrom (λ f. name_eq (name_of f) n) facts 0 → false ≡ has acked n
 unknown_unacked facts acked n known none =
     sym (not_true (has acked n) (λ h.
@@ -26,7 +26,7 @@ named_acked facts acked n place r first h =
     subst (λ (o : Option Fact). IfSome o (λ f. r ≡ has acked (name_of f))) first.there h
     ∙ ap (has acked) (name_eq_from (name_of first.item) n first.passes)
 
--- a fact that ends here is told to nobody
+-- A fact whose route ends at this node is never acknowledged.
 pub ended_unacked : (me : ℕ) (facts : List Fact) (acked : List Name) (place : ℕ) (f : Fact) →
     ((i : ℕ) (g : Fact) → slice_get facts i ≡ Some g → has acked (name_of g) ≡ true → is_some (next_after (route_of g) me) ≡ true) →
     slice_get facts place ≡ Some f → next_after (route_of f) me ≡ None → IfSome (slice_get facts place) (λ g. false ≡ has acked (name_of g))
@@ -62,7 +62,8 @@ sides p q le = by (q == p) refl
     by true e = inl (sym (eq_from q p e), e)
     by false e = inr (apart p q le e, e)
 
--- it is acknowledged, where it isn't the first that is owed to the next node from its place on
+-- To test whether a fact is acknowledged, search the facts owed to its next node from its own place on. The fact is
+-- acknowledged exactly if the search doesn't stop at it.
 pub told_acked : (me : ℕ) (facts : List Fact) (acked : List Name) (place to : ℕ) (f : Fact) (o : Option ℕ) (r : Bool) → slice_get facts place ≡ Some f → next_after (route_of f) me ≡ Some to →
     IfSome o (λ p. IsFirstFrom (is_owed_to me acked to) facts place p) → IfNone o (IsNoneFrom (is_owed_to me acked to) facts place) → r ≡ not (option_eq (λ a b. a == b) o (Some place)) →
     IfSome (slice_get facts place) (λ g. r ≡ has acked (name_of g))

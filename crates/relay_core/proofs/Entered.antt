@@ -1,4 +1,4 @@
--- Facts and their entries.
+-- Lemmas on index entries and the facts that they stand for.
 use Rattle.std.proofs.Common.{◌≡◌, ℕ, zero, suc, ◌+◌, ◌<◌, ◌≤◌, Bool, true, false, ◌&&◌, ◌||◌, List, [], ◌∷◌, refl, sym, ◌∙◌, ap, subst, arith, Option, Some, None, ◌⊎◌, inl, inr}
 use Rattle.std.specs.Prelude.{slice_get, slice_index, ◌/◌, ◌%◌, ◌==◌, not, if◌then◌else◌}
 use Rattle.std.specs.Str.{bytes_eq}
@@ -11,7 +11,7 @@ use Rattle.net_model.specs.declared.fact.Fact.TheVariants.{Key, Chunk, Stored, O
 use Rattle.net_model.specs.Table.{name_of, route_of, is_stored_about, is_joined_about, is_part_of}
 use Rattle.net_model.specs.Streams.{is_chunk_at, is_chunk_of}
 use Rattle.net_model.specs.Relay.{is_some_of}
-use Rattle.ordered_entries.specs.Entries.{has_entry, entry_at}
+use Rattle.ordered_set.specs.Entries.{has_entry, entry_at}
 use Rattle.relay_core.specs.declared.group.Group.{Group}
 use Rattle.relay_core.specs.declared.group.Group.TheVariants.{Named, StoredAbout, JoinedAbout, PartsOf, ChunksAt, OwedTo, ChunksOf}
 use Rattle.relay_core.specs.Index.{belongs, belongs_at, entry_of, name_entry, origin_number, tagged, IsIndex, is_owed_to, second_of, third_of, owed_group, creditor}
@@ -19,7 +19,7 @@ use Rattle.relay_core.specs.Listed.{Grows, GrowsBy, IsOwnGroup, IsPartlyListed, 
 use Rattle.relay_core.proofs.Firsts.{get_within}
 use Rattle.relay_core.proofs.Names.{origin_kind, origin_node, tag_back, number_back, eq_same, eq_from, and_left, and_right, name_eq_from, name_eq_same}
 
--- an entry tells its group and its place
+-- An entry determines its group and its place.
 
 name_back : ℕ → ℕ → Name
 name_back count origin = record { node = origin / 4; kind = kind_of_octet (origin % 4); count = count }
@@ -87,7 +87,7 @@ bytes_same a b e = (bytes_eq-Decides a b).1 e
 bytes_from : (a b : List ℕ) → bytes_eq a b ≡ true → a ≡ b
 bytes_from a b h = (bytes_eq-Decides a b).0 h
 
--- the group's numbers, without a place
+-- The numbers of a group's entry without the place.
 name_front : ℕ → Name → ℕ → List ℕ
 name_front tag n index = n.count ∷ tagged tag (origin_number n) ∷ index ∷ 0 ∷ []
 
@@ -110,7 +110,7 @@ front_is (ChunksAt s i) p = refl
 front_is (OwedTo to) p = refl
 front_is (ChunksOf s) p = refl
 
--- a fact belongs to its own groups and to no other
+-- A fact belongs to its own groups and to no other.
 
 stored_own : (n : Name) (f : Fact) → is_stored_about n f ≡ true → second_of f ≡ Some (StoredAbout n)
 stored_own n (Stored note about route) h = ap (λ (m : Name). Some (StoredAbout m)) (name_eq_from about n h)
@@ -195,7 +195,7 @@ own_belongs me acked f g own = elim own [
   | inr (inr (inr e)) ↦ creditor_belongs me acked f g (has acked (name_of f)) (next_after (route_of f) me) refl refl e
 ]
 
--- the entries of one fact
+-- Each entry of a fact is that of one of its own groups.
 
 or_cases : (a b : Bool) → (a || b) ≡ true → (a ≡ true) ⊎ (b ≡ true)
 or_cases true b h = inl refl
@@ -262,7 +262,7 @@ all_parts old mid next last new f to place a b c d = record {
     behind : (g : Group) → has_entry next (entry_of g place) ≡ true → has_entry new (entry_of g place) ≡ true
     behind g h = grown_kept last new place (owed_group to) (entry_of g place) d (grown_kept next last place (third_of f) (entry_of g place) c h)
 
--- the index with some or all of one more fact's entries
+-- An index stays an index when some or all entries of one more fact are added.
 
 at_same : (me : ℕ) (acked : List Name) (facts : List Fact) (g : Group) (p : ℕ) (f : Fact) → slice_get facts p ≡ Some f → belongs_at me acked g (slice_get facts p) ≡ belongs me acked g f
 at_same me acked facts g p f e = ap (belongs_at me acked g) e

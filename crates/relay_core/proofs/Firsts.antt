@@ -1,4 +1,4 @@
--- What follows from the first item that passes a test.
+-- Lemmas on the first item that passes a test.
 use Rattle.std.proofs.Common.{◌≡◌, ℕ, zero, suc, ◌+◌, ◌<◌, Bool, true, false, cond, ◌||◌, List, [], ◌∷◌, ◌++◌, length, refl, sym, ◌∙◌, ap, arith, Some, None, ◌⊎◌, inl, inr, get_or}
 use Rattle.std.specs.Prelude.{slice_get, find, is_some, if◌then◌else◌}
 use Rattle.std.specs.List.{position_from, list_any}
@@ -13,13 +13,13 @@ get_within [] i x h = cc
 get_within (y ∷ ys) zero x h = omega arith
 get_within (y ∷ ys) (suc i) x h = let lt = get_within ys i x h in omega arith
 
--- an item that was read is there
+-- An item read from inside a list stands at that place.
 pub got : {A : Type 0} (xs : List A) (i : ℕ) (x : A) → i < length xs → x ≡ get_or xs i x → slice_get xs i ≡ Some x
 got [] i x lt e = absurd (omega arith)
 got (y ∷ ys) zero x lt e = ap Some (sym e)
 got (y ∷ ys) (suc i) x lt e = got ys i x (omega arith) e
 
--- one more behind
+-- Items inside a list stay at their places when the list gets longer at its end.
 
 pub get_prefix : {A : Type 0} (xs ys : List A) (i : ℕ) → i < length xs → slice_get (xs ++ ys) i ≡ slice_get xs i
 get_prefix [] ys i h = absurd (omega arith)
@@ -40,7 +40,7 @@ get_push (x ∷ xs) y z (suc i) h = elim (get_push xs y z i h) [
   | inr (e, g) ↦ inr (omega arith, g)
 ]
 
--- the first from the first place on
+-- Where the search starts after the first item, the first item doesn't matter.
 
 shifted : {A : Type 0} (t : A → Bool) (y : A) (ys : List A) (i : ℕ) → IsFirstFrom t (y ∷ ys) 0 (suc i) → (t y ≡ false) × IsFirstFrom t ys 0 i
 shifted t y ys i first = (
@@ -96,7 +96,7 @@ pub none_any : {A : Type 0} (t : A → Bool) (xs : List A) → IsNoneFrom t xs 0
 none_any t [] none = refl
 none_any t (y ∷ ys) none = let s = rest_none t y ys none in ap (λ (b : Bool). b || list_any t ys) s.0 ∙ none_any t ys s.1
 
--- and back: what passes at a place is no less than the first
+-- If an item passes the test, some item of the list passes it.
 
 pub any_at : {A : Type 0} (t : A → Bool) (xs : List A) (i : ℕ) (x : A) → slice_get xs i ≡ Some x → t x ≡ true → list_any t xs ≡ true
 any_at t [] i x g h = cc

@@ -1,4 +1,4 @@
--- A fact without its bytes belongs where it belonged.
+-- Lemmas on facts whose bytes were overwritten: their names, routes and groups stay.
 use Rattle.std.proofs.Common.{◌≡◌, ℕ, zero, suc, ◌≤◌, max, set, true, false, ◌&&◌, List, [], ◌∷◌, length, refl, sym, ◌∙◌, ap, subst, arith, Some}
 use Rattle.std.specs.Prelude.{slice_get, is_some, not, if◌then◌else◌}
 use Rattle.qkd_base.specs.Name.{Name, name_eq, has}
@@ -89,7 +89,7 @@ belongs_stays me acked (OwedTo to) f =
     ∙ ap (λ (n : Name). is_some_of (next_after (route_of f) me) to && not (has acked n)) (name_stays f)
 belongs_stays me acked (ChunksOf s) f = stream_stays s f
 
--- what stands at a place afterwards stood there, with its bytes
+-- The fact at a place after the overwriting has the name and route of the fact that stood there before.
 
 record StoodAt (facts : List Fact) (i : ℕ) (f : Fact) : Type 0 where
   pub old : Fact

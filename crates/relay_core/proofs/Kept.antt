@@ -1,4 +1,4 @@
--- What a node knows, kept by each change; and to whom a fact is owed.
+-- Each change of a node's table keeps its invariant; lemmas on the neighbour to whom a fact is owed.
 use Rattle.std.proofs.Common.{◌<◌, ◌^◌, ◌≡◌, ℕ, suc, ◌+◌, max, Bool, true, false, ◌&&◌, ◌||◌, List, [], ◌∷◌, ◌++◌, length, refl, sym, ◌∙◌, ap, subst, arith, Option, Some, None, ◌⊎◌, inl, inr}
 use Rattle.std.specs.Prelude.{slice_get, find, map, filter, is_some, ◌==◌, not, if◌then◌else◌, IfSome}
 use Rattle.std.specs.List.{list_any}
@@ -15,7 +15,7 @@ use Rattle.relay_core.proofs.Firsts.{get_end, get_push, not_true, find_hits, any
 use Rattle.relay_core.proofs.Names.{last-push, distinct-push, name_eq_from, names_same, eq_same, and_left, and_right}
 use Rattle.relay_core.proofs.Searched.{index_push, index_acked, IsCleared}
 
--- nothing
+-- The empty list has no item.
 
 none_there : {A : Type 0} (i : ℕ) (x : A) → slice_get [] i ≡ Some x → ⊥
 none_there i x h = cc
@@ -38,7 +38,7 @@ pub nothing_known : (me : ℕ) (facts : List Fact) (acked : List Name) (es : Lis
 nothing_known me facts acked es f a e =
     subst (λ (fs : List Fact). IsKnown me fs acked es 0 0) (sym f) (subst (λ (ns : List Name). IsKnown me [] ns es 0 0) (sym a) (subst (λ (l : List (List ℕ)). IsKnown me [] [] l 0 0) (sym e) (nothing me)))
 
--- what is found is somewhere
+-- An item that passes the test is somewhere in the list.
 
 pub record IsSomewhere {A : Type 0} (t : A → Bool) (xs : List A) : Type 0 where
   pub place : ℕ
@@ -62,7 +62,7 @@ known_named facts n d h =
     let at = somewhere (λ f. name_eq (name_of f) n) facts h in
     d.names at.place n (record { fact = at.item; there = at.there; named = name_eq_from (name_of at.item) n at.passes })
 
--- one more fact
+-- Lemmas on the table after one more fact.
 
 pub pushed_known : (facts : List Fact) (f : Fact) (n : Name) → has_fact facts n ≡ true → has_fact (facts ++ f ∷ []) n ≡ true
 pushed_known [] f n h = cc
@@ -92,7 +92,7 @@ known_pushed me facts after acked es new listed now last more f is named fresh e
 pub index_pushed : (me : ℕ) (facts after : List Fact) (acked : List Name) (es : List (List ℕ)) (listed : ℕ) (f : Fact) → IsIndex me acked facts es listed → after ≡ facts ++ f ∷ [] → IsIndex me acked after es listed
 index_pushed me facts after acked es listed f index e = subst (λ (fs : List Fact). IsIndex me acked fs es listed) (sym e) (index_push me acked facts es listed f index)
 
--- a new fact isn't acknowledged, so it is owed to the next node
+-- A fact with a new name isn't acknowledged, so it is owed to the next node on its route.
 pub owed_pushed : (me : ℕ) (facts after : List Fact) (acked : List Name) (listed : ℕ) (f : Fact) (to : Option ℕ) → ((n : Name) → has acked n ≡ true → has_fact facts n ≡ true) →
     has_fact facts (name_of f) ≡ false → after ≡ facts ++ f ∷ [] → to ≡ next_after (route_of f) me → listed + 1 ≡ length after → IfSome (slice_get after listed) (λ g. to ≡ creditor me acked g)
 owed_pushed me facts after acked listed f to known fresh e is whole =
@@ -105,7 +105,7 @@ owed_pushed me facts after acked listed f to known fresh e is whole =
     length_push [] x = refl
     length_push (y ∷ ys) x = let r = length_push ys x in omega arith
 
--- to whom a fact is owed
+-- A fact that is owed to a neighbour has that neighbour as its creditor.
 
 pub owed_creditor : (me : ℕ) (acked : List Name) (to : ℕ) (f : Fact) → next_after (route_of f) me ≡ Some to → is_owed_to me acked to f ≡ true → creditor me acked f ≡ Some to
 owed_creditor me acked to f next h =
@@ -129,7 +129,7 @@ unowed_creditor me acked to f next h =
 pub stuck_creditor : (me : ℕ) (acked : List Name) (f : Fact) → next_after (route_of f) me ≡ None → creditor me acked f ≡ None
 stuck_creditor me acked f next = elim (has acked (name_of f)) as (λ b. (if b then None else next_after (route_of f) me) ≡ None) [ true ↦ refl | false ↦ next ]
 
--- by name
+-- Looking a fact up by its name finds whether it is owed.
 
 bools : (a b : Bool) → (a ≡ true → b ≡ true) → (b ≡ true → a ≡ true) → a ≡ b
 bools true b f g = sym (f refl)
@@ -231,7 +231,7 @@ owed_names_is me acked facts n o distinct is to =
     by None = refl
     by (Some f) = owed_to_is me acked to f
 
--- an acknowledgement
+-- Lemmas on the table after one more acknowledgement.
 
 pub unowed_acked : (me : ℕ) (acked : List Name) (facts : List Fact) (n : Name) → AreDistinct facts → creditor_of me acked (fact_at facts n) ≡ None → acked ≡ acked_with me acked facts n
 unowed_acked me acked facts n distinct none =

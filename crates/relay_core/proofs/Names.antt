@@ -1,4 +1,4 @@
--- Names that are equal, and facts that are found by name.
+-- Lemmas on equal names, and on facts that are found by name.
 use Rattle.std.proofs.Common.{◌≡◌, ℕ, ◌<◌, Bool, true, false, ◌&&◌, max, List, [], ◌∷◌, ◌++◌, length, refl, sym, ◌∙◌, ap, subst, arith, ◌⊎◌, inl, inr}
 use Rattle.std.specs.Prelude.{◌==◌, ◌/◌, ◌%◌}
 use Rattle.std.proofs.lemmas.Bool.Decides.{nat_tests}
@@ -37,7 +37,7 @@ kind_from Note Key h = absurd (omega arith)
 kind_from Note Stream h = absurd (omega arith)
 kind_from Note Note h = refl
 
--- numbers that share one
+-- A name's kind and node can be read back from the number that packs them.
 
 kind_small : (k : NameKind) → kind_number k < 4
 kind_small Key = omega arith
@@ -56,7 +56,7 @@ tag_back tag number small = omega arith
 pub number_back : (tag number : ℕ) → tag < 8 → tagged tag number / 8 ≡ number
 number_back tag number small = omega arith
 
--- names and their parts
+-- Names with equal parts are equal.
 
 pub same_name : (a b : Name) → a.node ≡ b.node → kind_number a.kind ≡ kind_number b.kind → a.count ≡ b.count → a ≡ b
 same_name a b node kind count = let k = kind_from a.kind b.kind kind in λ i. record { node = node i; kind = k i; count = count i }
@@ -75,7 +75,7 @@ name_eq_same a = simp eq_same
 pub names_same : (a b : Name) → a ≡ b → name_eq a b ≡ true
 names_same a b e = ap (name_eq a) (sym e) ∙ name_eq_same a
 
--- one more fact
+-- Lemmas on the counts and names after one more fact.
 
 pub last-push : (me : ℕ) (facts : List Fact) (f : Fact) → last_count me (facts ++ f ∷ []) ≡ max (last_count me facts) (max (count_if me (name_of f)) (group_count me (part_of f)))
 unfolding last_count
@@ -88,7 +88,7 @@ unknown facts n j new at =
     let no : true ≡ false = sym hit ∙ new in
     cc
 
--- a name of the longer list: an old one, or the new one at the end
+-- A name in the longer list is that of an old fact, or that of the new fact at the end.
 pub named-push : (facts : List Fact) (f : Fact) (i : ℕ) (n : Name) → IsNamedAt (facts ++ f ∷ []) i n →
     ((i < length facts) × IsNamedAt facts i n) ⊎ ((i ≡ length facts) × (name_of f ≡ n))
 named-push facts f i n at = elim (get_push facts f at.fact i at.there) [

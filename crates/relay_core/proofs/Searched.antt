@@ -1,4 +1,4 @@
--- Looking for facts in the index and behind it; and the index of more facts and acknowledgements.
+-- Searching finds facts through the index and after it; lemmas on the index after more facts and acknowledgements.
 use Rattle.std.proofs.Common.{◌≡◌, ℕ, zero, suc, ◌<◌, ◌≤◌, ◌^◌, max, Bool, true, false, ◌&&◌, ◌||◌, List, [], ◌∷◌, ◌++◌, length, refl, sym, ◌∙◌, ap, subst, arith, Option, Some, None, ◌⊎◌, inl, inr, length-append}
 use Rattle.std.specs.Prelude.{slice_get, not, if◌then◌else◌, IfSome, IfNone}
 use Rattle.std.specs.Str.{bytes_eq}
@@ -9,7 +9,7 @@ use Rattle.qkd_base.specs.Route.{next_after}
 use Rattle.net_model.specs.declared.fact.Fact.{Fact}
 use Rattle.net_model.specs.Table.{name_of, route_of}
 use Rattle.net_model.specs.Relay.{is_some_of}
-use Rattle.ordered_entries.specs.Entries.{has_entry, entry_at, IsNextIn, IsLastIn}
+use Rattle.ordered_set.specs.Entries.{has_entry, entry_at, IsNextIn, IsLastIn}
 use Rattle.relay_core.specs.declared.group.Group.{Group}
 use Rattle.relay_core.specs.declared.group.Group.TheVariants.{Named, StoredAbout, JoinedAbout, PartsOf, ChunksAt, OwedTo, ChunksOf}
 use Rattle.relay_core.specs.Firsts.{IsFirstFrom, IsNoneFrom}
@@ -19,7 +19,7 @@ use Rattle.relay_core.proofs.Firsts.{get_within, get_prefix, not_true}
 use Rattle.relay_core.proofs.Names.{eq_from, and_left, and_right, name_eq_from, names_same}
 use Rattle.relay_core.proofs.Entered.{same_entry, front_of, front_is}
 
--- what belongs at a place stands there
+-- The fact at a place exists and belongs to the group.
 pub record StandsAt (me : ℕ) (acked : List Name) (g : Group) (o : Option Fact) : Type 0 where
   pub item : Fact
   pub there : o ≡ Some item
@@ -29,7 +29,7 @@ stands : (me : ℕ) (acked : List Name) (g : Group) (o : Option Fact) → belong
 stands me acked g None h = cc
 stands me acked g (Some f) h = record { item = f; there = refl; belongs = h }
 
--- none among the listed ones, where the index has none
+-- A place without an entry in the index, among the indexed facts, has no fact of the group.
 
 absent : (me : ℕ) (acked : List Name) (facts : List Fact) (es : List (List ℕ)) (count : ℕ) (g : Group) (p : ℕ) (x : Fact) → IsIndex me acked facts es count → p < count →
     has_entry es (entry_of g p) ≡ false → slice_get facts p ≡ Some x → belongs me acked g x ≡ false
@@ -52,7 +52,7 @@ found me acked facts es count g from place index lt next =
       before = λ p x low high there. absent me acked facts es count g p x index (omega arith) (ap (has_entry es) (front_is g p) ∙ n.first p low high) there;
     }
 
--- none among the listed ones from a place on
+-- No indexed fact from this place on belongs to the group.
 pub record IsUnlisted (me : ℕ) (acked : List Name) (facts : List Fact) (g : Group) (from count : ℕ) : Type 0 where
   pub none : (p : ℕ) (x : Fact) → from ≤ p → p < count → slice_get facts p ≡ Some x → belongs me acked g x ≡ false
 
@@ -67,7 +67,7 @@ pub ended : (me : ℕ) (acked : List Name) (facts : List Fact) (es : List (List 
 ended me acked facts es count g from index small last =
     record { none = λ p x low lt there. absent me acked facts es count g p x index lt (ap (has_entry es) (front_is g p) ∙ last (front_of g) from (front_is g from) p low (omega arith)) there }
 
--- the first behind the listed ones
+-- The first fact of a group after the indexed ones.
 
 sides : (p count : ℕ) → (p < count) ⊎ (count ≤ p)
 sides zero zero = inr (omega arith)
@@ -97,7 +97,7 @@ walked_none me acked facts g from count none rest = record {
   ];
 }
 
--- one more fact, not yet listed
+-- The index after one more fact that isn't indexed yet.
 
 end_of : (facts : List Fact) (f : Fact) (p : ℕ) → p < length facts → slice_get (facts ++ f ∷ []) p ≡ slice_get facts p
 end_of facts f p lt = get_prefix facts (f ∷ []) p lt
@@ -111,7 +111,7 @@ index_push me acked facts es count f index = record {
   complete = λ g p lt h. index.complete g p lt (sym (ap (belongs_at me acked g) (end_of facts f p (let w = index.within in omega arith))) ∙ h);
 }
 
--- one more acknowledgement
+-- The index after one more acknowledgement.
 
 or_false_left : (a b : Bool) → (a || b) ≡ false → a ≡ false
 or_false_left true b h = cc
@@ -132,7 +132,7 @@ not_from : (b : Bool) → not b ≡ true → b ≡ false
 not_from true h = cc
 not_from false h = refl
 
--- what belongs with one more acknowledgement belonged without it
+-- A fact that belongs to a group after one more acknowledgement belonged to it before.
 fewer : (me : ℕ) (acked : List Name) (n : Name) (g : Group) (x : Fact) → belongs me (acked ++ n ∷ []) g x ≡ true → belongs me acked g x ≡ true
 fewer me acked n (Named m) x h = h
 fewer me acked n (StoredAbout m) x h = h
@@ -146,7 +146,8 @@ fewer me acked n (OwedTo to) x h =
     let next = and_left (is_some_of (next_after (route_of x) me) to) (not (has (acked ++ n ∷ []) (name_of x))) h in
     ap (λ (b : Bool). b && not (has acked (name_of x))) next ∙ ap not was
 
--- and belongs with it, but where it is the fact's own
+-- A fact keeps its groups after an acknowledgement, except the group of what is owed if the acknowledgement is its
+-- own.
 still : (me : ℕ) (acked : List Name) (n : Name) (g : Group) (x : Fact) → belongs me acked g x ≡ true → ((to : ℕ) → g ≡ OwedTo to → name_eq n (name_of x) ≡ false) → belongs me (acked ++ n ∷ []) g x ≡ true
 still me acked n (Named m) x h other = h
 still me acked n (StoredAbout m) x h other = h
@@ -160,7 +161,7 @@ still me acked n (OwedTo to) x h other =
     ap (λ (b : Bool). b && not (has (acked ++ n ∷ []) (name_of x))) next
     ∙ ap not (has_more acked n (name_of x) ∙ or_both (has acked (name_of x)) (name_eq n (name_of x)) was (other to refl))
 
--- the index without the entry of the fact that was acknowledged
+-- The new index lacks the one entry that says that the acknowledged fact was owed.
 pub record IsCleared (old new : List (List ℕ)) (to place : ℕ) : Type 0 where
   pub has : (e : List ℕ) → has_entry new e ≡ (if bytes_eq (entry_of (OwedTo to) place) e then false else has_entry old e)
 
@@ -215,7 +216,7 @@ index_acked me acked facts old new count place to f index distinct there next cl
         or_yes true b h = refl
         or_yes false b h = h
 
--- what was found behind the listed ones was found from the place on
+-- If no indexed fact belongs to the group, the first one found after them is the first of all.
 
 pub walked_some : (me : ℕ) (acked : List Name) (facts : List Fact) (g : Group) (from count start : ℕ) (o : Option ℕ) → IsUnlisted me acked facts g from count → start ≡ max from count →
     IfSome o (λ place. IsFirstFrom (belongs me acked g) facts start place) → IfSome o (λ place. IsFirstFrom (belongs me acked g) facts from place)

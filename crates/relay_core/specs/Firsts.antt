@@ -1,4 +1,4 @@
--- The first of a list's items that passes a test, from a place on.
+-- The first item of a list that passes a test, searched from a place on.
 use Rattle.std.specs.Prelude.{◌≡◌, ℕ, ◌<◌, ◌≤◌, Bool, true, false, List, slice_get, Some}
 
 pub record IsFirstFrom {A : Type 0} (test : A → Bool) (xs : List A) (from place : ℕ) : Type 0 where
@@ -8,6 +8,6 @@ pub record IsFirstFrom {A : Type 0} (test : A → Bool) (xs : List A) (from plac
   pub passes : test item ≡ true
   pub before : (p : ℕ) (x : A) → from ≤ p → p < place → slice_get xs p ≡ Some x → test x ≡ false
 
--- none passes from a place on
+-- No item from this place on passes the test.
 pub record IsNoneFrom {A : Type 0} (test : A → Bool) (xs : List A) (from : ℕ) : Type 0 where
   pub none : (p : ℕ) (x : A) → from ≤ p → slice_get xs p ≡ Some x → test x ≡ false

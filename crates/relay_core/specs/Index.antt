@@ -1,4 +1,4 @@
--- How facts are found: by the groups to which they belong.
+-- The index of facts: its groups and its entries.
 use Rattle.std.specs.Prelude.{◌≡◌, ℕ, ◌+◌, ◌*◌, ◌<◌, ◌≤◌, ◌&&◌, not, Bool, true, false, List, [], ◌∷◌, length, slice_get, Option, Some, None, if◌then◌else◌}
 use Rattle.qkd_base.specs.Name.{Name, name_eq, has, kind_number}
 use Rattle.qkd_base.specs.Route.{next_after}
@@ -7,15 +7,15 @@ use Rattle.net_model.specs.declared.fact.Fact.TheVariants.{Chunk, Stored, Joined
 use Rattle.net_model.specs.Table.{name_of, route_of, is_stored_about, is_joined_about, is_part_of}
 use Rattle.net_model.specs.Streams.{is_chunk_at, is_chunk_of}
 use Rattle.net_model.specs.Relay.{is_some_of}
-use Rattle.ordered_entries.specs.Entries.{has_entry}
+use Rattle.ordered_set.specs.Entries.{has_entry}
 use Rattle.relay_core.specs.declared.group.Group.{Group}
 use Rattle.relay_core.specs.declared.group.Group.TheVariants.{Named, StoredAbout, JoinedAbout, PartsOf, ChunksAt, OwedTo, ChunksOf}
 
--- the neighbour comes next on the fact's route, and hasn't acknowledged it
+-- The fact is owed to the neighbour: it comes next on the route and hasn't acknowledged the fact.
 abbrev pub is_owed_to : ℕ → List Name → ℕ → Fact → Bool
 is_owed_to me acked to f = is_some_of (next_after (route_of f) me) to && not (has acked (name_of f))
 
--- a fact belongs to a group at a node that has heard these acknowledgements
+-- The fact belongs to the group, at a node that received acknowledgements of the names `acked`.
 abbrev pub belongs : ℕ → List Name → Group → Fact → Bool
 belongs me acked (Named n) f = name_eq (name_of f) n
 belongs me acked (StoredAbout n) f = is_stored_about n f
@@ -29,14 +29,14 @@ abbrev pub belongs_at : ℕ → List Name → Group → Option Fact → Bool
 belongs_at me acked g None = false
 belongs_at me acked g (Some f) = belongs me acked g f
 
--- Entries, with the number first that differs most. They are short, since comparing them takes time: small numbers share one with a number
--- that has no bound.
+-- An entry is a short list of numbers, since comparisons take time. The number that differs most often comes first.
+-- Numbers with a small bound are packed together with one that has no bound.
 
--- a name's kind, which is less than four, and its node
+-- A name's kind, which is less than 4, packed with its node.
 abbrev pub origin_number : Name → ℕ
 origin_number n = kind_number n.kind + 4 * n.node
 
--- a tag, which is less than eight, and a number
+-- A tag, which is less than 8, packed with a number.
 abbrev pub tagged : ℕ → ℕ → ℕ
 tagged tag number = tag + 8 * number
 
@@ -52,14 +52,15 @@ entry_of (ChunksAt s i) place = name_entry 4 s i place
 entry_of (OwedTo to) place = 0 ∷ tagged 5 to ∷ 0 ∷ 0 ∷ place ∷ []
 entry_of (ChunksOf s) place = name_entry 6 s 0 place
 
--- Each of the first facts has an entry in each group to which it belongs. Every entry is one of a fact that belongs to its group, be
--- it among the first or not.
+-- The entries are an index of the first `count` facts: each of these has an entry in every group to which it belongs.
+-- Each entry in the index is of a fact that belongs to the entry's group; a later fact may have entries too.
 pub record IsIndex (me : ℕ) (acked : List Name) (facts : List Fact) (entries : List (List ℕ)) (count : ℕ) : Type 0 where
   pub within : count ≤ length facts
   pub sound : (g : Group) (p : ℕ) → has_entry entries (entry_of g p) ≡ true → belongs_at me acked g (slice_get facts p) ≡ true
   pub complete : (g : Group) (p : ℕ) → p < count → belongs_at me acked g (slice_get facts p) ≡ true → has_entry entries (entry_of g p) ≡ true
 
--- a fact's own groups: its name's, that of what it says, a chunk's stream, and that of the neighbour to whom it is owed
+-- The groups of one fact: that of its name, that of the name or stream it refers to, that of a chunk's stream, and
+-- that of the neighbour to whom it is owed.
 
 abbrev pub second_of : Fact → Option Group
 second_of (Stored note about route) = Some (StoredAbout about)
@@ -76,7 +77,7 @@ abbrev pub owed_group : Option ℕ → Option Group
 owed_group None = None
 owed_group (Some to) = Some (OwedTo to)
 
--- the neighbour to whom it is owed
+-- The neighbour to whom a fact is owed.
 abbrev pub creditor : ℕ → List Name → Fact → Option ℕ
 creditor me acked f = if has acked (name_of f) then None else next_after (route_of f) me
 

@@ -1,4 +1,4 @@
-// The parts of a fact.
+// Reads the parts of a fact, and wipes its bytes.
 ghost use Rattle.std.specs.Prelude.{◌≡◌, ◌<◌, ◌^◌, max};
 ghost use Rattle.qkd_base.specs.Name.{IsName};
 ghost use Rattle.net_model.specs.Table.{name_of, route_of, part_of, is_secret, kind_of, zeros_for, without_bytes};
@@ -22,12 +22,12 @@ pub fn fact_name(fact: &Fact) -> KeyName
         Fact::Joined { note, .. } => *note,
         Fact::Part { name, .. } => *name,
     };
-    // That it is a name's count is what it says.
+    // Calling `count` tells the proof that a name's count is less than 2^48.
     let _holds = name.count();
     name
 }
 
-/// The route along which a fact is told.
+/// The route along which a fact is sent.
 pub fn fact_route(fact: &Fact) -> Route
     ensures { result ≡ route_of fact.now }
 {
@@ -41,7 +41,7 @@ pub fn fact_route(fact: &Fact) -> Route
     }
 }
 
-/// Whether a fact has bytes that are handed out: keys, chunks and parts have.
+/// Whether a fact has bytes that are handed out. Keys, chunks and parts have some.
 pub fn is_secret(fact: &Fact) -> bool
     ensures { result ≡ is_secret fact.now }
 {
@@ -65,7 +65,7 @@ pub fn kind_octet(fact: &Fact) -> u8
     }
 }
 
-// The count of a name that this node gave, else 0.
+// The count of a name if this node gave it, else 0.
 fn count_here(name: KeyName, me: NodeNo) -> u64
     ensures count { result ≡ count_if me name }
     ensures bound { result < 2 ^ 48 }
@@ -73,7 +73,7 @@ fn count_here(name: KeyName, me: NodeNo) -> u64
     if name.node() == me { name.count() } else { 0 }
 }
 
-// The count of the group key that a part is of, where this node gave its name, else 0.
+// The count of the group key to which a part belongs, if this node gave its name. Else 0.
 fn group_count_here(fact: &Fact, me: NodeNo) -> u64
     ensures count { result ≡ group_count me (part_of fact.now) }
     ensures bound { result < 2 ^ 48 }
@@ -91,7 +91,8 @@ fn greater(a: u64, b: u64) -> u64
     if a < b { b } else { a }
 }
 
-/// The greatest count of this node's names, those of one more fact included.
+/// The greatest count that this node has given to a name, after it learned one more fact. `last` is the greatest
+/// count before.
 pub fn later_count(last: u64, fact: &Fact, me: NodeNo) -> u64
     ensures bound { last < 2 ^ 48 → result < 2 ^ 48 }
     ensures count { result ≡ max last (max (count_if me (name_of fact.now)) (group_count me (part_of fact.now))) }
@@ -100,7 +101,7 @@ pub fn later_count(last: u64, fact: &Fact, me: NodeNo) -> u64
     greater(last, own)
 }
 
-// Zeros in the place of bytes.
+// Replaces all bytes with zeros.
 fn zero(bytes: &mut Octets, alloc: Global)
     ensures { bytes.new ≡ zeros_for bytes.old }
 {

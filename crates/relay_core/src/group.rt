@@ -1,4 +1,4 @@
-// What facts have in common.
+// Groups of facts, and the index entry of a fact in a group.
 ghost use Rattle.std.specs.Prelude.{◌≡◌};
 ghost use Rattle.qkd_base.specs.Name.{has, kind_number, name_eq};
 ghost use Rattle.net_model.specs.Table.{is_stored_about, is_joined_about, is_part_of};
@@ -7,13 +7,13 @@ ghost use Rattle.relay_core.specs.Index.{belongs, entry_of, name_entry, origin_n
 
 use crate::fact_parts::{fact_name, fact_route};
 use net_model::Fact;
-use ordered_entries::Entry;
+use ordered_set::Entry;
 use qkd_base::{KeyName, NameKind, NodeNo};
 
-/// Facts that are looked for together.
+/// A group of facts that are looked up together.
 #[derive(Clone, Copy)]
 pub enum Group {
-    /// The fact of a name.
+    /// The fact with this name.
     Named(KeyName),
     /// The Stored notes about a key, chunk or part.
     StoredAbout(KeyName),
@@ -23,13 +23,13 @@ pub enum Group {
     PartsOf(KeyName),
     /// The chunks of a stream at an index.
     ChunksAt(KeyName, u32),
-    /// The facts that a neighbour is to be told and hasn't acknowledged.
+    /// The facts that this neighbour is owed: it comes next on their route and hasn't acknowledged them.
     OwedTo(NodeNo),
     /// The chunks of a stream.
     ChunksOf(KeyName),
 }
 
-// The number of a kind of names.
+// The number of a kind of name.
 fn kind_number(kind: NameKind) -> u8
     ensures { result ≡ kind_number kind }
 {
@@ -40,21 +40,23 @@ fn kind_number(kind: NameKind) -> u8
     }
 }
 
-/// A name's kind and node as one number, which is less than 1,024. Names of one count differ where these numbers do.
+/// Packs a name's kind and node into one number below 1,024. Two names with the same count differ exactly where these
+/// numbers differ.
 pub fn origin_number(name: KeyName) -> u32
     ensures { result ≡ origin_number name }
 {
     kind_number(name.kind()) as u32 + 4 * name.node().get() as u32
 }
 
-// A tag and a number as one number.
+// Packs a tag and a number into one number.
 fn tagged(tag: u8, number: u32) -> u64
     ensures { result ≡ tagged tag number }
 {
     tag as u64 + 8 * number as u64
 }
 
-// The entry of a group that a name and an index tell. The count, which differs most, stands first: there comparisons end.
+// Builds the entry of a group from a name and an index. The count comes first since it differs most often, so most
+// comparisons end there.
 fn name_entry(tag: u8, name: KeyName, index: u32, place: usize) -> Entry
     ensures { result ≡ name_entry tag name index place }
 {
@@ -117,14 +119,14 @@ fn is_chunk_of(fact: &Fact, of: KeyName) -> bool
     }
 }
 
-/// Whether a list has a name.
+/// Whether a name is in a list.
 pub fn has_name(names: &[KeyName], name: KeyName) -> bool
     ensures { result ≡ has names.now name }
 {
     names.iter().any(|n| *n == name)
 }
 
-// Whether a fact is to be told to a neighbour that hasn't acknowledged it.
+// Whether a fact is owed to a neighbour: it comes next on the fact's route and hasn't acknowledged the fact.
 fn is_owed_to(fact: &Fact, me: NodeNo, acked: &[KeyName], to: NodeNo) -> bool
     ensures { result ≡ is_owed_to me acked.now to fact.now }
 {
@@ -135,7 +137,7 @@ fn is_owed_to(fact: &Fact, me: NodeNo, acked: &[KeyName], to: NodeNo) -> bool
 }
 
 impl Group {
-    /// Whether a fact belongs to the group at a node that has heard these acknowledgements.
+    /// Whether a fact belongs to the group, at a node that received acknowledgements of the names `acked`.
     pub fn contains(&self, fact: &Fact, me: NodeNo, acked: &[KeyName]) -> bool
         ensures { result ≡ belongs me acked.now self.now fact.now }
     {
@@ -150,7 +152,7 @@ impl Group {
         }
     }
 
-    /// The entry of the fact at a place.
+    /// The index entry of this group for the fact at a place.
     pub fn entry(&self, place: usize) -> Entry
         ensures { result ≡ entry_of self.now place }
     {

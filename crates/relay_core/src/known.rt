@@ -1,4 +1,4 @@
-// The facts that a node knows.
+// The table of all facts that a node knows.
 ghost use Rattle.std.specs.Prelude.{◌≡◌, ◌+◌, ◌<◌, ◌^◌, ◌≤◌, ◌&&◌, ℕ, true, [], ◌∷◌, ◌++◌, OnOk, OnErr, IfOk, IsOk, is_some, IfSome, IfNone, not, false, length, slice_get, find, Some, ◌-◌, vec_capacity, vec_len};
 ghost use Rattle.std.specs.Option.{option_copied};
 ghost use Rattle.std.specs.List.{list_any};
@@ -15,20 +15,21 @@ use crate::Group;
 use crate::fact_parts::{fact_name, fact_route, later_count, wipe};
 use crate::listing::{list_new, next_in};
 use net_model::Fact;
-use ordered_entries::Entries;
+use ordered_set::Entries;
 use qkd_base::{KeyName, Memory, NodeNo};
 use std::alloc::Global;
 use std::marker::Model;
 
-/// What a node knows: facts in order of learning, and the names that the next nodes on their routes have acknowledged, in
-/// order of acknowledgement (SECOQC trusted repeaters).
+/// What a node knows (the trusted repeater of SECOQC). Its facts are in the order in which it learned them. The names
+/// of acknowledged facts are in the order in which the acknowledgements came. It is always the next node on the route
+/// that acknowledges a fact.
 #[derive(Drop)]
 pub struct Known {
     me: NodeNo,
     facts: Vec<Fact>,
     acked: Vec<KeyName>,
     index: Entries,
-    // So many of the first facts are in the index.
+    // The number of facts in the index. They are the first ones of the list.
     listed: usize,
     last: u64,
 }
@@ -63,7 +64,7 @@ fn wipe_at(facts: &mut Vec<Fact>, place: usize)
 }
 
 impl Known {
-    /// A node that knows nothing. It takes no memory.
+    /// Makes the table of a node that knows nothing. It takes no memory.
     pub fn new(alloc: Global, me: NodeNo) -> Self
         ensures me { result.me ≡ me }
         ensures facts { result.facts ≡ [] }
@@ -79,7 +80,7 @@ impl Known {
         }
     }
 
-    /// The node.
+    /// The number of the node.
     pub fn me(&self) -> NodeNo
         ensures { result ≡ self.now.me }
     {
@@ -90,7 +91,7 @@ impl Known {
     pub fn len(&self) -> usize
         ensures length { result ≡ length self.now.facts }
 
-        // What holds of the facts at any time.
+        // No two facts have the same name.
         ensures distinct { AreDistinct self.now.facts }
     {
         self.facts.len()
@@ -103,25 +104,25 @@ impl Known {
         fact_in(&self.facts, place)
     }
 
-    /// The names acknowledged, in order of acknowledgement.
+    /// The names of acknowledged facts, in the order of the acknowledgements.
     pub fn acked(&self) -> &[KeyName]
         ensures { result.now ≡ self.now.acked }
     {
         &self.acked
     }
 
-    /// The greatest count of this node's names, 0 where it gave none.
+    /// The greatest count that this node has given to a name, or 0 if it gave none.
     pub fn last_count(&self) -> u64
         ensures count { result ≡ last_count self.now.me self.now.facts }
 
-        // What holds of the facts at any time.
+        // Counts are less than 2^48, and each known fact has a valid name.
         ensures bound { result < 2 ^ 48 }
         ensures named { (n : Name) → has_fact self.now.facts n ≡ true → IsName n }
     {
         self.last
     }
 
-    /// The place of the first fact of a group from a place on.
+    /// The first place of a fact of a group, searched from `from` on.
     pub fn next(&self, group: &Group, from: usize) -> Option<usize>
         ensures first { IfSome result (λ place. IsFirstFrom (belongs self.now.me self.now.acked group.now) self.now.facts from place) }
         ensures none { IfNone result (IsNoneFrom (belongs self.now.me self.now.acked group.now) self.now.facts from) }
@@ -137,7 +138,7 @@ impl Known {
         )
     }
 
-    /// The place of a name.
+    /// The place of the fact with a name.
     pub fn place(&self, name: KeyName) -> Option<usize>
         ensures { result ≡ place_of self.now.facts name }
     {
@@ -167,14 +168,14 @@ impl Known {
         }
     }
 
-    /// The fact of a name.
+    /// The fact with a name.
     pub fn fact(&self, name: KeyName) -> Option<&Fact>
         ensures { option_copied result ≡ fact_at self.now.facts name }
     {
         self.first(&Group::Named(name))
     }
 
-    /// Whether the fact of a name is known.
+    /// Whether the fact with a name is known.
     pub fn knows(&self, name: KeyName) -> bool
         ensures { result ≡ has_fact self.now.facts name }
     {
@@ -188,7 +189,8 @@ impl Known {
         self.first(&Group::ChunksAt(stream, index))
     }
 
-    /// Whether a Stored note about a key, chunk or part is known: at its origin it is confirmed then.
+    /// Whether a Stored note about a key, chunk or part is known. At the origin this means that the target has
+    /// confirmed it.
     pub fn is_confirmed(&self, name: KeyName) -> bool
         ensures { result ≡ list_any (is_stored_about name) self.now.facts }
     {
@@ -202,7 +204,7 @@ impl Known {
         self.has(&Group::JoinedAbout(stream))
     }
 
-    /// The place of the first part of a group key from a place on.
+    /// The first place of a part of a group key, searched from `from` on.
     pub fn next_part(&self, key: KeyName, from: usize) -> Option<usize>
         ensures first { IfSome result (λ place. IsFirstFrom (is_part_of key) self.now.facts from place) }
         ensures none { IfNone result (IsNoneFrom (is_part_of key) self.now.facts from) }
@@ -210,7 +212,7 @@ impl Known {
         self.next(&Group::PartsOf(key), from)
     }
 
-    /// The place of the first chunk of a stream from a place on.
+    /// The first place of a chunk of a stream, searched from `from` on.
     pub fn next_chunk(&self, stream: KeyName, from: usize) -> Option<usize>
         ensures first { IfSome result (λ place. IsFirstFrom (is_chunk_of stream) self.now.facts from place) }
         ensures none { IfNone result (IsNoneFrom (is_chunk_of stream) self.now.facts from) }
@@ -218,7 +220,8 @@ impl Known {
         self.next(&Group::ChunksOf(stream), from)
     }
 
-    /// The place of the first fact from a place on that a neighbour is to be told and hasn't acknowledged.
+    /// The first place of a fact that is owed to a neighbour, searched from `from` on. A fact is owed to the next
+    /// node on its route until that node acknowledges it.
     pub fn next_owed(&self, to: NodeNo, from: usize) -> Option<usize>
         ensures first { IfSome result (λ place. IsFirstFrom (is_owed_to self.now.me self.now.acked to) self.now.facts from place) }
         ensures none { IfNone result (IsNoneFrom (is_owed_to self.now.me self.now.acked to) self.now.facts from) }
@@ -245,11 +248,11 @@ impl Known {
         }
     }
 
-    /// Whether the next node on its route has acknowledged the fact of a name.
+    /// Whether the next node on the route has acknowledged the fact with a name.
     pub fn is_acknowledged(&self, name: KeyName) -> bool
         ensures { result ≡ has self.now.acked name }
     {
-        // That what is acknowledged is known is what it says.
+        // Reading `acked` tells the proof that every acknowledged fact is known.
         let _holds = &self.acked;
         match self.next(&Group::Named(name), 0) {
             None => false,
@@ -257,7 +260,7 @@ impl Known {
         }
     }
 
-    // The same of the fact at a place.
+    // Whether the next node on the route has acknowledged the fact at a place.
     fn is_acknowledged_at(&self, place: usize) -> bool
         ensures { IfSome (slice_get self.now.facts place) (λ f. result ≡ has self.now.acked (name_of f)) }
     {
@@ -270,13 +273,13 @@ impl Known {
         }
     }
 
-    /// The neighbour that is to be told the fact of a name, and hasn't acknowledged it.
+    /// The neighbour to whom the fact with a name is owed, if there is one.
     pub fn creditor(&self, name: KeyName) -> Option<NodeNo>
         ensures creditor { result ≡ creditor_of self.now.me self.now.acked (fact_at self.now.facts name) }
         ensures owes { owes_fact self.now.me self.now.acked self.now.facts name ≡ is_some result }
         ensures owed { (to : ℕ) → has (owed_names self.now.me self.now.acked self.now.facts to) name ≡ is_some_of result to }
     {
-        // That names differ is what it says.
+        // Calling `len` tells the proof that no two facts have the same name.
         let _holds = self.len();
         match self.next(&Group::Named(name), 0) {
             None => None,
@@ -284,7 +287,7 @@ impl Known {
         }
     }
 
-    /// Makes room for so many more facts. An `Err` changes nothing.
+    /// Reserves memory for `more` further facts. An `Err` changes nothing.
     pub fn room(&mut self, more: u32) -> Result<(), Memory>
         ensures kept { (self.new.me ≡ self.old.me) × (self.new.facts ≡ self.old.facts) × (self.new.acked ≡ self.old.acked) × (self.new.acked_spare ≡ self.old.acked_spare) }
         ensures ok { OnOk result (more ≤ self.new.facts_spare) }
@@ -294,7 +297,7 @@ impl Known {
         Ok(())
     }
 
-    /// Makes room for so many more acknowledgements. An `Err` changes nothing.
+    /// Reserves memory for `more` further acknowledgements. An `Err` changes nothing.
     pub fn room_acked(&mut self, more: u32) -> Result<(), Memory>
         ensures kept { (self.new.me ≡ self.old.me) × (self.new.facts ≡ self.old.facts) × (self.new.acked ≡ self.old.acked) × (self.new.facts_spare ≡ self.old.facts_spare) }
         ensures ok { OnOk result (more ≤ self.new.acked_spare) }
@@ -304,8 +307,8 @@ impl Known {
         Ok(())
     }
 
-    /// Learns a fact, unless its name is known, and answers whether it was new. Where there is room for it, it takes no
-    /// memory. An `Err` changes nothing.
+    /// Learns a fact if its name is new, and answers whether it was new. It takes no memory where room was reserved.
+    /// An `Err` changes nothing.
     pub fn learn(&mut self, fact: Fact) -> Result<bool, Memory>
         ensures new { IfOk result (λ new. new ≡ not (has_fact self.old.facts (name_of fact))) }
         ensures facts { OnOk result (self.new.facts ≡ learned self.old.facts fact) }
@@ -322,7 +325,7 @@ impl Known {
         Ok(true)
     }
 
-    // One more fact, whose name is new.
+    // Appends a fact whose name is new.
     fn push(&mut self, fact: Fact)
         requires room { 0 < self.old.facts_spare }
         requires new { has_fact self.old.facts (name_of fact) ≡ false }
@@ -330,7 +333,7 @@ impl Known {
         ensures kept { (self.new.me ≡ self.old.me) × (self.new.acked ≡ self.old.acked) × (self.new.acked_spare ≡ self.old.acked_spare) }
         ensures spare { self.old.facts_spare ≡ self.new.facts_spare + 1 }
     {
-        // That it is a name is what it says.
+        // Calling `fact_name` tells the proof that the fact's name is valid.
         let _holds = fact_name(&fact);
         self.last = later_count(self.last, &fact, self.me);
         let to = fact_route(&fact).next_after(self.me);
@@ -345,7 +348,7 @@ impl Known {
         );
     }
 
-    // The same of the first fact of that name.
+    // Records an acknowledgement of the fact with this name. `place` is the first place of the name.
     fn acknowledge_at(&mut self, name: KeyName, place: usize)
         requires room { 0 < self.old.acked_spare }
         requires first { IsFirstFrom (λ f. name_eq (name_of f) name) self.old.facts 0 place }
@@ -362,15 +365,15 @@ impl Known {
         }
     }
 
-    /// Notes that the next node on its route has acknowledged the fact of a name, where it is owed to it. It takes no
-    /// memory.
+    /// Records that the next node on the route has acknowledged the fact with a name. A fact that isn't owed changes
+    /// nothing. It takes no memory.
     pub fn acknowledge(&mut self, name: KeyName)
         requires room { 0 < self.old.acked_spare }
         ensures acked { self.new.acked ≡ acked_with self.old.me self.old.acked self.old.facts name }
         ensures kept { (self.new.me ≡ self.old.me) × (self.new.facts ≡ self.old.facts) × (self.new.facts_spare ≡ self.old.facts_spare) }
         ensures spare { self.old.acked_spare ≤ self.new.acked_spare + 1 }
     {
-        // That names differ is what it says.
+        // Calling `len` tells the proof that no two facts have the same name.
         let _holds = self.len();
         match self.next(&Group::Named(name), 0) {
             None => {}
@@ -378,7 +381,7 @@ impl Known {
         }
     }
 
-    /// Overwrites the bytes of the fact at a place with zeros, if it has some. It takes no memory.
+    /// Overwrites the bytes of the fact at a place with zeros, if the fact has bytes. It takes no memory.
     pub fn forget(&mut self, place: usize)
         ensures facts { self.new.facts ≡ forgotten self.old.facts place }
         ensures kept { (self.new.me ≡ self.old.me) × (self.new.acked ≡ self.old.acked) × (self.new.facts_spare ≡ self.old.facts_spare) × (self.new.acked_spare ≡ self.old.acked_spare) }

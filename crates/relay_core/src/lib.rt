@@ -1,4 +1,4 @@
-//! What a node knows and to whom it owes it, found by name, by what it is about and by neighbour.
+//! The table of facts that a node knows and of the neighbours to whom it owes them, with an index for lookups.
 #![tactic(auto)]
 
 mod fact_parts;

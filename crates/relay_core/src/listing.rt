@@ -1,9 +1,10 @@
-// How facts are put into the index. It may lag behind the list where memory was wanting; what it lacks is looked for in the list.
+// Puts facts into the index. Where memory runs out, the index covers only the first facts, and the others are
+// searched one by one.
 ghost use Rattle.std.specs.Prelude.{◌≡◌, ◌+◌, ◌<◌, ◌≤◌, ◌||◌, ℕ, List, false, Some, IfSome, IfNone, IsTrue, OnOk, max, length, slice_get};
 ghost use Rattle.std.specs.Str.{bytes_eq};
 ghost use Rattle.qkd_base.specs.Name.{has};
 ghost use Rattle.net_model.specs.Table.{name_of};
-ghost use Rattle.ordered_entries.specs.Entries.{has_entry};
+ghost use Rattle.ordered_set.specs.Entries.{has_entry};
 ghost use Rattle.relay_core.specs.Firsts.{IsFirstFrom, IsNoneFrom};
 ghost use Rattle.relay_core.specs.Index.{belongs, entry_of, IsIndex, second_of, third_of, owed_group, creditor};
 ghost use Rattle.relay_core.specs.Listed.{Grows, GrowsBy, IsListed, IsPartlyListed};
@@ -12,10 +13,10 @@ use crate::Group;
 use crate::fact_parts::{fact_name, fact_route};
 use crate::group::has_name;
 use net_model::Fact;
-use ordered_entries::Entries;
+use ordered_set::Entries;
 use qkd_base::{KeyName, NodeNo};
 
-// The group of what a fact says about something else.
+// The group that a fact joins because of the name or stream that it refers to, if any.
 fn second_group(fact: &Fact) -> Option<Group>
     ensures { result ≡ second_of fact.now }
 {
@@ -28,7 +29,7 @@ fn second_group(fact: &Fact) -> Option<Group>
     }
 }
 
-// The group of a chunk's stream.
+// The group of all chunks of a stream, for a chunk of that stream.
 fn third_group(fact: &Fact) -> Option<Group>
     ensures { result ≡ third_of fact.now }
 {
@@ -38,7 +39,7 @@ fn third_group(fact: &Fact) -> Option<Group>
     }
 }
 
-// The group of a neighbour.
+// The group of the facts owed to a neighbour, if there is a neighbour.
 fn owed_group(to: Option<NodeNo>) -> Option<Group>
     ensures { result ≡ owed_group to }
 {
@@ -48,7 +49,7 @@ fn owed_group(to: Option<NodeNo>) -> Option<Group>
     }
 }
 
-// Puts the fact at a place into a group. False where memory is wanting.
+// Enters the fact at a place into a group. Answers false, and changes nothing, where memory runs out.
 fn add(index: &mut Entries, group: Group, place: usize) -> bool
     ensures done { IsTrue result → Grows index.old index.new group place }
     ensures not_done { result ≡ false → index.new ≡ index.old }
@@ -59,7 +60,8 @@ fn add(index: &mut Entries, group: Group, place: usize) -> bool
     }
 }
 
-// Puts the fact at a place into a group, if there is one. False where memory is wanting.
+// Enters the fact at a place into a group, if there is a group. Answers false, and changes nothing, where memory runs
+// out.
 fn add_some(index: &mut Entries, group: Option<Group>, place: usize) -> bool
     ensures done { IsTrue result → GrowsBy index.old index.new group place }
     ensures not_done { result ≡ false → index.new ≡ index.old }
@@ -70,7 +72,8 @@ fn add_some(index: &mut Entries, group: Option<Group>, place: usize) -> bool
     }
 }
 
-// Puts the fact at a place into each of its groups. False where memory is wanting.
+// Enters the fact at a place into each of its groups. Answers false where memory runs out; some of the entries may
+// then be missing.
 fn list_fact(index: &mut Entries, fact: &Fact, to: Option<NodeNo>, place: usize) -> bool
     ensures done { IsTrue result → IsListed index.old index.new fact.now to place }
     ensures not_done { result ≡ false → IsPartlyListed index.old index.new fact.now to place }
@@ -87,7 +90,7 @@ fn list_fact(index: &mut Entries, fact: &Fact, to: Option<NodeNo>, place: usize)
     add_some(index, owed_group(to), place)
 }
 
-// The first fact of a group from a place on, by the list alone.
+// The first place of a fact of a group, searched from `from` on without the index.
 fn walk(facts: &[Fact], me: NodeNo, acked: &[KeyName], group: &Group, from: usize) -> Option<usize>
     ensures first { IfSome result (λ place. IsFirstFrom (belongs me acked.now group.now) facts.now from place) }
     ensures none { IfNone result (IsNoneFrom (belongs me acked.now group.now) facts.now from) }
@@ -107,7 +110,8 @@ fn later(a: usize, b: usize) -> usize
     if a < b { b } else { a }
 }
 
-/// The first fact of a group from a place on, where so many of the first facts are in the index.
+/// The first place of a fact of a group, searched from `from` on. The first `count` facts are looked up in the index,
+/// the others one by one.
 pub fn next_in(
     index: &Entries,
     count: usize,
@@ -136,7 +140,7 @@ pub fn next_in(
     }
 }
 
-// The neighbour to whom a fact is owed.
+// The neighbour to whom a fact is owed, if there is one.
 fn creditor(fact: &Fact, me: NodeNo, acked: &[KeyName]) -> Option<NodeNo>
     ensures { result ≡ creditor me acked.now fact.now }
 {
@@ -147,7 +151,8 @@ fn creditor(fact: &Fact, me: NodeNo, acked: &[KeyName]) -> Option<NodeNo>
     }
 }
 
-// Puts the fact behind the listed ones, owed to `to`, into the index, and answers how many are listed then.
+// Enters the first fact that isn't in the index yet. The fact is owed to `to`. Answers how many facts are in the
+// index afterwards.
 fn list_next(
     index: &mut Entries,
     count: usize,
@@ -169,7 +174,8 @@ fn list_next(
     }
 }
 
-// Puts the facts behind the listed ones into the index, as far as memory reaches, and answers how many are listed then.
+// Enters all facts that aren't in the index yet, until memory runs out. Answers how many facts are in the index
+// afterwards.
 fn list_rest(
     index: &mut Entries,
     count: usize,
@@ -198,8 +204,8 @@ fn list_rest(
     listed
 }
 
-/// Puts what was learned last into the index, as far as memory reaches, and answers how many are listed then. It is owed to
-/// `to`.
+/// Enters the newest fact, which is owed to `to`, and any earlier ones that are missing, until memory runs out.
+/// Answers how many facts are in the index afterwards.
 pub fn list_new(
     index: &mut Entries,
     count: usize,

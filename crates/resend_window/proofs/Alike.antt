@@ -1,4 +1,4 @@
--- Frames that go out, as one of them comes, changes or goes.
+-- The set of due frames, when one frame is added, changed or removed.
 use Rattle.std.proofs.Common.{◌≡◌, ℕ, zero, suc, ◌+◌, ◌<◌, ◌≤◌, Bool, true, false, ◌||◌, ◌&&◌, List, [], ◌∷◌, ◌++◌, length, refl, sym, ◌∙◌, ap, subst, arith, Option, Some, None, ◌⊎◌, inl, inr}
 use Rattle.std.specs.Prelude.{slice_get, slice_set, ◌==◌, if◌then◌else◌}
 use Rattle.std.specs.List.{list_any}
@@ -8,7 +8,7 @@ use Rattle.qkd_base.specs.Lane.{lane_eq, way_eq, way_number}
 use Rattle.qkd_base.specs.declared.lane.Lane.{Lane}
 use Rattle.qkd_base.specs.declared.lane.Way.{Way}
 use Rattle.qkd_base.specs.declared.lane.Way.TheVariants.{Up, Down}
-use Rattle.ordered_entries.specs.Entries.{has_entry}
+use Rattle.ordered_set.specs.Entries.{has_entry}
 use Rattle.relay_core.specs.Firsts.{IsFirstFrom, IsNoneFrom}
 use Rattle.relay_core.proofs.Firsts.{any_at, none_any}
 use Rattle.relay_core.proofs.Names.{eq_same, eq_from, and_left, and_right}
@@ -32,7 +32,7 @@ and_true : (b : Bool) → (b && true) ≡ b
 and_true true = refl
 and_true false = refl
 
--- two entries are one where their lanes and their offsets are
+-- two entries are equal exactly if their lanes and their offsets are
 due_is : (l m : Lane) (x y : ℕ) → bytes_eq (due_entry l x) (due_entry m y) ≡ (lane_eq m l && (x == y))
 due_is l m x y = entry_eq (offset_group 0 l 0) (offset_group 0 m 0) x y ∙ ap (λ (b : Bool). b && (x == y)) (offset_is 0 l m 0 0 ∙ and_true (lane_eq m l))
 
@@ -45,7 +45,7 @@ stands_self h =
     ap (λ (b : Bool). (b && way_eq h.lane.way h.lane.way) && (h.offset == h.offset)) (eq_same h.lane.link)
     ∙ ap (λ (b : Bool). b && (h.offset == h.offset)) (way_same h.lane.way) ∙ eq_same h.offset
 
--- what stands at one entry doesn't go from another one
+-- a frame at one entry isn't sent again from a different one
 goes_off : (l m : Lane) (x y : ℕ) (h : Held) → bytes_eq (due_entry l x) (due_entry m y) ≡ false → stands l x h ≡ true → goes_at m y h ≡ false
 goes_off l m x y h off at =
     ap (λ (k : Lane). (lane_eq k m && (h.offset == y)) && is_ready h) (lane_from h.lane l (and_left (lane_eq h.lane l) (h.offset == x) at))
@@ -53,7 +53,7 @@ goes_off l m x y h off at =
     ∙ ap (λ (b : Bool). (b && (x == y)) && is_ready h) (lane_sym l m)
     ∙ ap (λ (b : Bool). b && is_ready h) (sym (due_is l m x y) ∙ off)
 
--- one entry is noted anew
+-- the set stays right if one entry is updated
 pub noted : (l : Lane) (x : ℕ) (before after : List (Option Held)) (old new : List (List ℕ)) (b : Bool) → AreAlikeBut l x before after → b ≡ list_any (goes_at l x) (somes after) → AreDues before old →
     ((e : List ℕ) → bytes_eq (due_entry l x) e ≡ true → has_entry new e ≡ b) → ((e : List ℕ) → bytes_eq (due_entry l x) e ≡ false → has_entry new e ≡ has_entry old e) → AreDues after new
 noted l x before after old new b alike is was here there = record { has = λ m y. by m y (bytes_eq (due_entry l x) (due_entry m y)) refl }
@@ -76,7 +76,7 @@ pub noted_gone : (l : Lane) (x : ℕ) (before after : List (Option Held)) (old n
 noted_gone l x before after old new alike is was one =
     noted l x before after old new false alike (sym is) was (λ e h. one e ∙ ap (λ (b : Bool). if b then false else has_entry old e) h) (λ e h. one e ∙ ap (λ (b : Bool). if b then false else has_entry old e) h)
 
--- one more frame
+-- adding a frame
 
 any_push : (t : Held → Bool) (slots : List (Option Held)) (h : Held) → list_any t (somes (slots ++ Some h ∷ [])) ≡ (list_any t (somes slots) || (t h || false))
 any_push t slots h = ap (list_any t) (somes_push slots h) ∙ list_any-append t (somes slots) (h ∷ [])
@@ -125,7 +125,7 @@ somes_gap (Some x ∷ xs) = ap (λ ys. x ∷ ys) (somes_gap xs)
 pub added_gap : (slots : List (Option Held)) (es : List (List ℕ)) → AreDues slots es → AreDues (slots ++ None ∷ []) es
 added_gap slots es was = record { has = λ m y. was.has m y ∙ ap (list_any (goes_at m y)) (sym (somes_gap slots)) }
 
--- a list of which one place has something else
+-- a list in which one slot was changed
 
 pub StandsAs : Option Held → Option Held → Type 0
 StandsAs None None = Unit {0}
@@ -181,7 +181,7 @@ pub alike_set : (xs : List (Option Held)) (p : ℕ) (was next : Option Held) →
 alike_set xs p None next there still = λ t. none_set t xs p next there still
 alike_set xs p (Some k) next there still = λ t off. one_set t xs p k next there still off
 
--- whether one goes from an entry
+-- whether a frame at this offset of this lane is sent again
 
 off_asked : (l : Lane) (x : ℕ) (o : Option Held) → passes (is_asked (At l x)) o ≡ false → passes (goes_at l x) o ≡ false
 off_asked l x None h = refl

@@ -1,10 +1,10 @@
--- Groups and places.
+-- The index from groups to places.
 use Rattle.std.proofs.Common.{◌≡◌, ℕ, zero, suc, ◌+◌, ◌<◌, ◌≤◌, ◌^◌, Bool, true, false, ◌||◌, ◌&&◌, List, [], ◌∷◌, ◌++◌, length, refl, sym, ◌∙◌, ap, subst, arith, Option, Some, None}
 use Rattle.std.specs.Prelude.{map, slice_get, slice_set, ◌==◌, if◌then◌else◌, IfSome, IfNone}
 use Rattle.std.specs.List.{list_any}
 use Rattle.std.specs.Str.{bytes_eq}
 use Rattle.std.proofs.lemmas.Bool.Decides.{nat_tests}
-use Rattle.ordered_entries.specs.Entries.{has_entry, entry_at, IsNextIn, IsLastIn}
+use Rattle.ordered_set.specs.Entries.{has_entry, entry_at, IsNextIn, IsLastIn}
 use Rattle.relay_core.specs.Firsts.{IsFirstFrom, IsNoneFrom}
 use Rattle.relay_core.proofs.Firsts.{not_true}
 use Rattle.relay_core.proofs.Names.{eq_same, eq_from, and_left, and_right}
@@ -39,14 +39,14 @@ ends_none : (a : List ℕ) (p : ℕ) → bytes_eq (a ++ p ∷ []) [] ≡ false
 ends_none [] p = refl
 ends_none (x ∷ a) p = refl
 
--- two entries are one where their groups and their places are
+-- two entries are equal exactly if their groups and their places are
 pub entry_eq : (a b : List ℕ) (p q : ℕ) → bytes_eq (entry_at a p) (entry_at b q) ≡ (bytes_eq a b && (p == q))
 entry_eq [] [] p q = and_true (p == q)
 entry_eq [] (y ∷ b) p q = ap (λ (c : Bool). (p == y) && c) (none_ends b q) ∙ and_false (p == y)
 entry_eq (x ∷ a) [] p q = ap (λ (c : Bool). (x == q) && c) (ends_none a p) ∙ and_false (x == q)
 entry_eq (x ∷ a) (y ∷ b) p q = ap (λ (c : Bool). (x == y) && c) (entry_eq a b p q) ∙ and_assoc (x == y) (bytes_eq a b) (p == q)
 
--- groups at places
+-- the groups at a place
 
 groups_end : (keys : List (List (List ℕ))) → groups_at keys (length keys) ≡ []
 groups_end [] = refl
@@ -74,7 +74,7 @@ groups_set (j ∷ keys) zero (suc p) = sym (ap (λ (b : Bool). if b then [] else
 groups_set (j ∷ keys) (suc n) zero = sym (ap (λ (b : Bool). if b then [] else j) (suc_zero n))
 groups_set (j ∷ keys) (suc n) (suc p) = groups_set keys n p ∙ sym (ap (λ (b : Bool). if b then [] else groups_at keys p) (suc_suc n p))
 
--- one more, and one less
+-- adding a place to two groups, and removing it
 
 two_or : (a b c d : Bool) → a ≡ c → b ≡ d → (b || (a || false)) ≡ (c || (d || false))
 two_or a b c d p q = ap (λ (x : Bool). x || (a || false)) q ∙ ap (λ (x : Bool). d || (x || false)) p ∙ by c d
@@ -148,7 +148,7 @@ catalogue_less keys first second place old mid new is there one two = record {
         ∙ ap (λ (b : Bool). if b then false else list_any (bytes_eq g) (groups_at keys p)) (and_false (bytes_eq first g))
         ∙ sym (ap (λ (b : Bool). list_any (bytes_eq g) (if b then [] else groups_at keys p)) e)
 
--- a place where nothing is
+-- adding an empty slot
 pub catalogue_gap : (keys : List (List (List ℕ))) (es : List (List ℕ)) → IsCatalogue keys es → IsCatalogue (keys ++ [] ∷ []) es
 catalogue_gap keys es is = record { has = λ g p. is.has g p ∙ sym (ap (list_any (bytes_eq g)) (groups_push keys [] p) ∙ by g p (length keys == p) refl) }
   where
@@ -158,7 +158,7 @@ catalogue_gap keys es is = record { has = λ g p. is.has g p ∙ sym (ap (list_a
         ∙ sym (ap (list_any (bytes_eq g)) (ap (groups_at keys) (sym (eq_from (length keys) p e)) ∙ groups_end keys))
     by g p false e = ap (λ (b : Bool). list_any (bytes_eq g) (if b then [] else groups_at keys p)) e
 
--- what is found by a group is what is asked for
+-- the places of a group are those with items that pass a test
 
 pub record AreGroups {A : Type 0} (keys : Option A → List (List ℕ)) (test : Option A → Bool) (g : List ℕ) : Type 0 where
   pub asked : (o : Option A) → list_any (bytes_eq g) (keys o) ≡ test o
@@ -204,7 +204,7 @@ not_found keys test g xs es from are is size last = record {
       sym (ap (list_any (bytes_eq g)) (some_at keys xs p x got) ∙ are.asked x) ∙ sym (is.has g p) ∙ last p le (omega arith);
 }
 
--- nothing is taken out where nothing is
+-- removing an empty slot changes nothing
 pub catalogue_same : (keys : List (List (List ℕ))) (place : ℕ) (es : List (List ℕ)) → IsCatalogue keys es → groups_at keys place ≡ [] → IsCatalogue (slice_set keys place []) es
 catalogue_same keys place es is none = record { has = λ g p. is.has g p ∙ sym (ap (list_any (bytes_eq g)) (groups_set keys place p) ∙ by g p (place == p) refl) }
   where
@@ -217,7 +217,7 @@ catalogue_same keys place es is none = record { has = λ g p. is.has g p ∙ sym
 pub there_at : {A : Type 0} (keys : Option A → List (List ℕ)) (xs : List (Option A)) (p : ℕ) (o : Option A) → slice_get xs p ≡ Some o → groups_at (map keys xs) p ≡ keys o
 there_at keys xs p o h = some_at keys xs p o h
 
--- one more group of a place, and one less
+-- adding a place to one more group, and removing it from one
 
 pub groups_put : (keys : List (List (List ℕ))) (n : ℕ) (gs : List (List ℕ)) (p : ℕ) → n < length keys → groups_at (slice_set keys n gs) p ≡ (if n == p then gs else groups_at keys p)
 groups_put [] n gs p within = absurd (omega arith)
@@ -245,7 +245,7 @@ bytes_from (x ∷ a) [] h = cc
 bytes_from (x ∷ a) (y ∷ b) h =
     ap (λ z. z ∷ a) (eq_from x y (and_left (x == y) (bytes_eq a b) h)) ∙ ap (λ zs. y ∷ zs) (bytes_from a b (and_right (x == y) (bytes_eq a b) h))
 
--- the groups that a place has already
+-- if a place is given the groups that it already has, nothing changes
 pub catalogue_kept : (keys : List (List (List ℕ))) (place : ℕ) (gs : List (List ℕ)) (es : List (List ℕ)) → IsCatalogue keys es → groups_at keys place ≡ gs → IsCatalogue (slice_set keys place gs) es
 catalogue_kept keys place gs es is there = record {
   has = λ g p. is.has g p ∙ sym (ap (list_any (bytes_eq g)) (ap (λ (k : List (List ℕ)). groups_at (slice_set keys place k) p) (sym there) ∙ groups_same keys place p));

@@ -1,4 +1,4 @@
--- What goes out again, and in which order.
+-- The frames that are sent again, in order of offset.
 use Rattle.std.proofs.Common.{◌≡◌, ℕ, zero, suc, ◌+◌, ◌-◌, ◌<◌, ◌≤◌, Bool, true, false, ◌||◌, ◌&&◌, List, [], ◌∷◌, ◌++◌, length, take, refl, sym, ◌∙◌, ap, subst, arith, append_assoc, Option, Some, None}
 use Rattle.std.specs.Prelude.{map, filter, find, slice_get, ◌==◌, nat_lt, nat_le, is_some, if◌then◌else◌, IfSome, IfNone}
 use Rattle.std.specs.List.{list_any}
@@ -27,7 +27,7 @@ use Rattle.resend_window.proofs.Least.{any_less}
 use Rattle.resend_window.proofs.Placings.{lane_from}
 use Rattle.resend_window.proofs.Sorted.{AreDifferent, IsStrict, sorted_strict, any_sorted, find_sorted, least_rest, none_above, all_above}
 
--- what is found among what is left
+-- the first item that passes a test, among the slots that aren't empty
 
 pub find_somes : {A : Type 0} (t : A → Bool) (xs : List (Option A)) (x : A) → find (passes t) xs ≡ Some (Some x) → find t (somes xs) ≡ Some x
 find_somes t [] x h = cc
@@ -47,7 +47,7 @@ find_no_somes {A} t (Some y ∷ xs) h =
       | false ↦ λ g. find_no_somes t xs g
     ] h
 
--- what was found passes, so it is something
+-- the slot that was found isn't empty
 pub find_first : {A : Type 0} (t : A → Bool) (xs : List (Option A)) (place : ℕ) (o : Option A) → IsFirstFrom (passes t) xs 0 place → slice_get xs place ≡ Some o → o ≡ find t (somes xs)
 find_first {A} t xs place o first there = by o refl
   where
@@ -58,7 +58,7 @@ find_first {A} t xs place o first there = by o refl
     by None e = let u : false ≡ true = ap (passes t) (sym (same ∙ e)) ∙ first.passes in absurd (let z : ⊥ = cc in z)
     by (Some x) e = e ∙ sym (find_somes t xs x (first_find (passes t) xs place first ∙ there ∙ ap Some e))
 
--- those that are due
+-- the entries that are due
 
 due_is : (tick : ℕ) (l : Lane) (hs : List Held) → filter (λ e. lane_eq e.transmission.lane l && e.due) (entries_at tick hs) ≡ entries_at tick (filter (is_next_on tick l) hs)
 due_is tick l hs = map_filter (entry_at tick) (λ e. lane_eq e.transmission.lane l && e.due) hs
@@ -84,7 +84,7 @@ find_mapped f t [] = refl
 find_mapped {A} {B} f t (x ∷ xs) =
     elim (t (f x)) as (λ b. (if b then Some (f x) else find t (map f xs)) ≡ option_map f (if b then Some x else find (λ x. t (f x)) xs)) [ true ↦ refl | false ↦ find_mapped f t xs ]
 
--- on one lane frames that stand apart have different offsets
+-- frames of one lane with different places have different offsets
 
 both_true : (a b : Bool) → a ≡ true → b ≡ true → (a && b) ≡ true
 both_true true b h k = k
@@ -129,7 +129,7 @@ any_due tick l hs t =
     any_sorted t (filter (λ e. lane_eq e.transmission.lane l && e.due) (entries_at tick hs)) ∙ ap (list_any t) (due_is tick l hs)
     ∙ any_map (entry_at tick) t (filter (is_next_on tick l) hs) ∙ any_filtered (λ h. t (entry_at tick h)) (is_next_on tick l) hs
 
--- the one at an offset of a lane, if any there is due
+-- if a frame at this offset of this lane is due, it is the one that is found there
 apart_find : (l : Lane) (x : ℕ) (u : Held → Bool) (hs : List Held) (k : Held) → ((h : Held) → u h ≡ true → lane_eq h.lane l ≡ true) → AreApart hs → find (is_asked (At l x)) hs ≡ Some k →
     list_any (λ h. u h && (h.offset == x)) hs ≡ true → find (λ h. u h && (h.offset == x)) hs ≡ Some k
 apart_find l x u [] k on apart found any = cc
@@ -189,11 +189,11 @@ any_more {A} t u more (x ∷ xs) h =
     or_right true b k = refl
     or_right false b k = k
 
--- nothing is left
+-- if no frame above `after` is due, no repeats are left
 pub none_after : (tick : ℕ) (l : Lane) (hs : List Held) (after : Option ℕ) → list_any (goes_after tick l after) hs ≡ false → rest_after tick l hs after ≡ []
 none_after tick l hs after none = ap (map repeat_of) (none_above (λ e. is_above after e.offset) (due_on tick l hs) (any_due tick l hs (λ e. is_above after e.offset) ∙ none))
 
--- the next one, and the rest
+-- the repeat with the least offset above `after`, followed by those above it
 pub one_after : (tick : ℕ) (l : Lane) (hs : List Held) (after : Option ℕ) (x : ℕ) (k : Held) → AreApart hs → IsLeast (goes_after tick l after) hs (Some x) → find (is_asked (At l x)) hs ≡ Some k →
     rest_after tick l hs after ≡ repeat_of (entry_at tick k) ∷ rest_after tick l hs (Some x)
 one_after tick l hs after x k apart least found =
@@ -207,7 +207,7 @@ one_after tick l hs after x k apart least found =
     ∙ least.1 in
     ap (map repeat_of) (least_rest (due_on tick l hs) after x (entry_at tick k) (strict tick l hs apart) (find_due tick l hs x k apart found any) above none)
 
--- one that is due on a lane at an offset is found there
+-- a due frame with the least offset above `after` is found at this offset
 pub due_found : (tick : ℕ) (l : Lane) (hs : List Held) (after : Option ℕ) (x : ℕ) → IsLeast (goes_after tick l after) hs (Some x) → find (is_asked (At l x)) hs ≡ None → ⊥
 due_found tick l hs after x least none =
     let some = any_more (λ h. goes_after tick l after h && (h.offset == x)) (is_asked (At l x))
@@ -226,7 +226,7 @@ held_find tick t [] k are found = cc
 held_find tick t (h ∷ hs) k are found =
     elim (t h) as (λ b. (if b then Some h else find t hs) ≡ Some k → IsHeld tick k) [ true ↦ λ g. (let e : h ≡ k = cc in subst (IsHeld tick) e are.0) | false ↦ λ g. held_find tick t hs k are.1 g ] found
 
--- at most so many
+-- the first items of a list, up to a number
 
 pub take_map : {A B : Type 0} (f : A → B) (n : ℕ) (xs : List A) → take n (map f xs) ≡ map f (take n xs)
 take_map f zero xs = refl
@@ -245,7 +245,7 @@ offset_found l x (h ∷ hs) k found =
       | false ↦ λ e g. offset_found l x hs k g
     ] refl found
 
--- one more of at most so many
+-- one more item of the first ones, up to a number
 pub take_step : {A : Type 0} (all done rest : List A) (m i : ℕ) (x : A) (next : List A) → all ≡ done ++ take (m - i) rest → rest ≡ x ∷ next → i < m → all ≡ (done ++ x ∷ []) ++ take (m - (i + 1)) next
 take_step all done rest m i x next e r lt =
     let s : m - i ≡ suc (m - (i + 1)) = omega arith in

@@ -1,4 +1,4 @@
--- Changes of frames in place, and what is taken out.
+-- Frames changed and removed in place.
 use Rattle.std.proofs.Common.{◌≡◌, ℕ, zero, suc, ◌+◌, ◌-◌, ◌<◌, ◌≤◌, Bool, true, false, ◌||◌, ◌&&◌, List, [], ◌∷◌, ◌++◌, length, take, refl, sym, ◌∙◌, ap, arith, Option, Some, None}
 use Rattle.std.specs.Prelude.{slice_get, map, filter, ◌==◌, is_none, not, if◌then◌else◌}
 use Rattle.std.specs.List.{list_any}
@@ -19,7 +19,7 @@ use Rattle.resend_window.specs.Slots.{passes, removed, is_asked, edit, edited}
 use Rattle.resend_window.specs.Lists.{is_repeated, renewed_by, ripened_at}
 use Rattle.resend_window.proofs.Lists.{somes_changed, map_map, map_same}
 
--- taking out
+-- removing
 
 pub removed_again : {A : Type 0} (t : A → Bool) (o : Option A) → removed t (removed t o) ≡ removed t o
 removed_again t None = refl
@@ -58,7 +58,7 @@ pub edited_kept : (q : Query) (e : Edit) (o : Option Held) → passes (is_asked 
 edited_kept q e None h = refl
 edited_kept q e (Some k) h = ap (λ (b : Bool). if b then edit e k else Some k) h
 
--- one more of a list's first items
+-- the first items of a list, and one more
 
 pub take_more : {A : Type 0} (xs : List A) (i : ℕ) (x : A) → slice_get xs i ≡ Some x → take (i + 1) xs ≡ take i xs ++ x ∷ []
 take_more xs i x h = let e : i + 1 ≡ suc i = omega arith in ap (λ n. take n xs) e ∙ by xs i x h
@@ -68,7 +68,7 @@ take_more xs i x h = let e : i + 1 ≡ suc i = omega arith in ap (λ n. take n x
     by (y ∷ ys) zero x h = let same : y ≡ x = cc in ap (λ z. z ∷ []) same
     by (y ∷ ys) (suc i) x h = ap (λ zs. y ∷ zs) (by ys i x h)
 
--- lanes
+-- equality of lanes is symmetric
 
 eq_sym : (a b : ℕ) → (a == b) ≡ (b == a)
 eq_sym a b = grind (arith, nat_tests)
@@ -91,7 +91,7 @@ way_turned Down Down = refl
 pub lane_turned : (a b : Lane) → lane_eq a (reverse_lane b) ≡ lane_eq b (reverse_lane a)
 lane_turned a b = ap (λ (c : Bool). c && way_eq a.way (reverse_way b.way)) (eq_sym a.link b.link) ∙ ap (λ (c : Bool). (b.link == a.link) && c) (way_turned a.way b.way)
 
--- repeats
+-- frames that were repeated
 
 at_sym : (h : Held) (r : Repeat) → is_asked (At r.lane r.offset) h ≡ (lane_eq r.lane h.lane && (r.offset == h.offset))
 at_sym h r = ap (λ (b : Bool). b && (h.offset == r.offset)) (lane_sym h.lane r.lane) ∙ ap (λ (b : Bool). lane_eq r.lane h.lane && b) (eq_sym h.offset r.offset)
@@ -120,7 +120,7 @@ renewed_push tick rs r h = by (is_repeated rs h) (is_asked (At r.lane r.offset) 
         plain true = refl
         plain false = refl
 
--- one more repeat
+-- recording one more repeat
 pub renewed_more : (tick : ℕ) (slots first : List (Option Held)) (after : List (Option Held)) (rs : List Repeat) (r : Repeat) → somes slots ≡ map (renewed_by tick rs) (somes first) →
     after ≡ map (edited (At r.lane r.offset) (Renew tick)) slots → somes after ≡ map (renewed_by tick (rs ++ r ∷ [])) (somes first)
 renewed_more tick slots first after rs r was e =
@@ -134,7 +134,7 @@ pub renewed_none : (tick : ℕ) (hs : List Held) → hs ≡ map (renewed_by tick
 renewed_none tick [] = refl
 renewed_none tick (h ∷ hs) = ap (λ ks. h ∷ ks) (renewed_none tick hs)
 
--- those that went out three ticks before a tick
+-- the frames that were last sent three ticks before
 
 ripen_is : (tick : ℕ) (h : Held) → 3 ≤ tick → (if is_asked (SentAt (tick - 3)) h then record h { ripe = true } else h) ≡ ripened_at tick h
 ripen_is tick h late = ap (λ (b : Bool). if is_none h.ack_of && b then record h { ripe = true } else h) (same h.sent)

@@ -1,4 +1,4 @@
--- What is asked for has the group that is looked for.
+-- An item passes a query exactly if it has the query's group.
 use Rattle.std.proofs.Common.{◌≡◌, ℕ, zero, suc, ◌+◌, ◌*◌, ◌%◌, Bool, true, false, ◌||◌, ◌&&◌, List, [], ◌∷◌, ◌++◌, length, refl, sym, ◌∙◌, ap, subst, arith, Option, Some, None}
 use Rattle.std.specs.Prelude.{map, slice_get, slice_set, ◌==◌, if◌then◌else◌}
 use Rattle.std.specs.List.{list_any}
@@ -36,7 +36,7 @@ use Rattle.resend_window.proofs.Catalogues.{AreGroups, catalogue_gap}
 eq_sym : (a b : ℕ) → (a == b) ≡ (b == a)
 eq_sym a b = grind (arith, nat_tests)
 
--- numbers that are shared
+-- numbers that hold a tag and another number
 
 tags_apart : (s t u v : ℕ) → (s % 8 == t % 8) ≡ false → (tagged s u == tagged t v) ≡ false
 tags_apart s t u v h = grind (arith, nat_tests)
@@ -64,7 +64,7 @@ origins_are n m = by n.node m.node n.kind m.kind
     by a b Note Stream = grind (arith, nat_tests)
     by a b Note Note = grind (arith, nat_tests)
 
--- the groups of a lane and an offset
+-- two groups of lane and offset are equal exactly if their lanes and offsets are
 pub offset_is : (tag : ℕ) (l k : Lane) (x y : ℕ) → bytes_eq (offset_group tag l x) (offset_group tag k y) ≡ (lane_eq k l && (y == x))
 offset_is tag l k x y =
     ap (λ (b : Bool). b && ((tagged tag (lane_place l) == tagged tag (lane_place k)) && true)) (eq_sym x y)
@@ -77,7 +77,7 @@ offset_is tag l k x y =
     by false true = refl
     by false false = refl
 
--- the groups of a lane, a name and one more number
+-- two groups of lane, name and one more number are equal exactly if all three are
 pub name_is : (tag : ℕ) (l k : Lane) (n m : Name) (x y : ℕ) → bytes_eq (name_group tag l n x) (name_group tag k m y) ≡ ((lane_eq k l && name_eq m n) && (x == y))
 name_is tag l k n m x y =
     ap (λ (b : Bool). b && ((tagged tag (lane_place l) == tagged tag (lane_place k)) && ((origin_number n == origin_number m) && ((x == y) && true)))) (eq_sym n.count m.count)
@@ -106,11 +106,11 @@ and_false : (b : Bool) → (b && false) ≡ false
 and_false true = refl
 and_false false = refl
 
--- groups of two tags are apart
+-- groups with different tags are different
 apart : (s t u v : ℕ) (a b : Bool) → (s % 8 == t % 8) ≡ false → (a && ((tagged s u == tagged t v) && b)) ≡ false
 apart s t u v a b h = ap (λ (c : Bool). a && (c && b)) (tags_apart s t u v h) ∙ and_false a
 
--- one of another tag before others, and behind one
+-- a group with another tag doesn't match, before or after other groups
 
 pub behind : (s t u v : ℕ) (a b rest : Bool) → (s % 8 == t % 8) ≡ false → ((a && ((tagged s u == tagged t v) && b)) || rest) ≡ rest
 behind s t u v a b rest h = ap (λ (c : Bool). c || rest) (apart s t u v a b h)
@@ -143,7 +143,7 @@ held_are q = record { asked = by; nothing = refl }
     by None = refl
     by (Some h) = held_asked q h.lane h.offset h.name h.ack_of h.number h.sent h.due h.ripe h.length h.frame
 
--- places that have something else
+-- changing the item at a place
 
 pub keys_set : {A : Type 0} (keys : Option A → List (List ℕ)) (xs : List (Option A)) (p : ℕ) → keys None ≡ [] → map keys (slice_set xs p None) ≡ slice_set (map keys xs) p []
 keys_set keys [] p none = refl
@@ -229,7 +229,7 @@ awaited_are w = record { asked = by; nothing = refl }
     by None = refl
     by (Some a) = or_same (bytes_eq (awaited_group w) (awaited_group a)) ∙ same_by w.lane a.lane w.name a.name w.is_ack a.is_ack w.ack_of a.ack_of
 
--- one more place
+-- adding a place
 
 pub listed_gap : {A : Type 0} (keys : Option A → List (List ℕ)) (xs more : List (Option A)) (o : Option A) (index : Catalogue) → more ≡ xs ++ o ∷ [] → keys o ≡ [] → Catalogues (map keys xs) index → Catalogues (map keys more) index
 listed_gap keys xs more o index e none was whole =

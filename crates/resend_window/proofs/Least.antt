@@ -1,4 +1,4 @@
--- The least offset of those that pass a test.
+-- The least offset of the frames that pass a test.
 use Rattle.std.proofs.Common.{◌≡◌, ℕ, zero, suc, ◌+◌, ◌<◌, ◌≤◌, Bool, true, false, ◌||◌, ◌&&◌, List, [], ◌∷◌, ◌++◌, length, refl, sym, ◌∙◌, ap, subst, arith, Option, Some, None}
 use Rattle.std.specs.Prelude.{slice_get, ◌==◌, nat_lt, not, if◌then◌else◌}
 use Rattle.std.specs.List.{list_any}
@@ -10,7 +10,7 @@ use Rattle.resend_window.specs.Held.{AreHeld, IsHeld}
 use Rattle.resend_window.specs.Kept.{somes}
 use Rattle.resend_window.specs.Lists.{IsLeast, lesser}
 
--- none passes a stronger test
+-- if no item passes a test, none passes a stronger one
 pub any_less : {A : Type 0} (t u : A → Bool) → ((x : A) → u x ≡ true → t x ≡ true) → (xs : List A) → list_any t xs ≡ false → list_any u xs ≡ false
 any_less t u less [] h = refl
 any_less {A} t u less (x ∷ xs) h = by (u x) refl (any_less t u less xs)
@@ -111,7 +111,7 @@ abbrev pub offset_if : (Held → Bool) → Option Held → Option ℕ
 offset_if t None = None
 offset_if t (Some h) = if t h then Some h.offset else None
 
--- one more
+-- the least offset, with one more slot
 pub least_more : (t : Held → Bool) (xs : List (Option Held)) (o : Option Held) (least : Option ℕ) → IsLeast t (somes xs) least → IsLeast t (somes (xs ++ o ∷ [])) (lesser least (offset_if t o))
 least_more t xs None least h =
     subst (λ (hs : List Held). IsLeast t hs (lesser least None)) (sym (somes_more xs None ∙ append_none (somes xs)))
@@ -122,7 +122,7 @@ least_more t xs (Some k) least h = subst (λ (hs : List Held). IsLeast t hs (les
     by true e = least_pass t (somes xs) k least e h
     by false e = subst (λ (o : Option ℕ). IsLeast t (somes xs ++ k ∷ []) o) (sym (lesser_none least)) (least_fail t (somes xs) k least e h)
 
--- what is left at a place is in order
+-- a frame in a slot of valid frames is valid
 pub held_there : (tick : ℕ) (slots : List (Option Held)) (p : ℕ) (h : Held) → AreHeld tick (somes slots) → slice_get slots p ≡ Some (Some h) → IsHeld tick h
 held_there tick [] p h are g = cc
 held_there tick (None ∷ xs) zero h are g = cc

@@ -1,4 +1,4 @@
--- The groups of a frame's place, put and taken one by one.
+-- The index groups of a frame's place, added and removed one by one.
 use Rattle.std.proofs.Common.{◌≡◌, ℕ, zero, suc, ◌<◌, Bool, true, false, List, [], ◌∷◌, ◌++◌, length, refl, sym, ◌∙◌, ap, subst, arith, Option, Some, None}
 use Rattle.std.specs.Prelude.{map, slice_set, ◌==◌, if◌then◌else◌}
 use Rattle.std.specs.List.{list_any}
@@ -12,7 +12,7 @@ use Rattle.resend_window.specs.Groups.{offset_group, item_group, sent_group}
 use Rattle.resend_window.proofs.Catalogues.{groups_put}
 use Rattle.resend_window.proofs.Grouped.{behind}
 
--- a tick's group is no other one of a place
+-- a tick's group differs from the other groups of a place
 pub sent_apart : (tick : ℕ) (l : Lane) (x : ℕ) (k : Lane) (n : Name) (o : Option ℕ) → list_any (bytes_eq (sent_group tick)) (offset_group 0 l x ∷ item_group k n o ∷ []) ≡ false
 sent_apart tick l x k n None = behind 3 0 0 (lane_place l) _ _ _ refl ∙ behind 3 2 0 (lane_place k) _ _ false refl
 sent_apart tick l x k n (Some y) = behind 3 0 0 (lane_place l) _ _ _ refl ∙ behind 3 1 0 (lane_place k) _ _ false refl
@@ -25,7 +25,7 @@ groups_last : (keys : List (List (List ℕ))) (k : List (List ℕ)) → groups_a
 groups_last [] k = refl
 groups_last (j ∷ keys) k = groups_last keys k
 
--- one more group of the last place
+-- adding one more group of the last place
 pub put_last : (keys : List (List (List ℕ))) (gs k : List (List ℕ)) (place : ℕ) → length keys ≡ place → slice_set (keys ++ k ∷ []) place (gs ++ groups_at (keys ++ k ∷ []) place) ≡ keys ++ (gs ++ k) ∷ []
 put_last keys gs k place size =
     ap (λ (n : ℕ). slice_set (keys ++ k ∷ []) n (gs ++ groups_at (keys ++ k ∷ []) n)) (sym size)

@@ -1,4 +1,4 @@
--- Lists in which items are taken out and changed in place.
+-- Lists with empty slots, whose items are removed and changed in place.
 use Rattle.std.proofs.Common.{◌≡◌, ℕ, zero, suc, ◌+◌, ◌<◌, ◌≤◌, Bool, true, false, ◌||◌, ◌&&◌, List, [], ◌∷◌, ◌++◌, length, take, refl, sym, ◌∙◌, ap, subst, arith, Option, Some, None, ◌⊎◌, inl, inr}
 use Rattle.std.specs.Prelude.{slice_get, slice_set, map, filter, drop, not, if◌then◌else◌}
 use Rattle.std.specs.List.{list_any}
@@ -11,7 +11,7 @@ any_somes t [] = refl
 any_somes t (None ∷ xs) = any_somes t xs
 any_somes t (Some x ∷ xs) = ap (λ (b : Bool). t x || b) (any_somes t xs)
 
--- what a change leaves as it is, it leaves so again
+-- if a change has no further effect the second time, changing one item first doesn't alter the result of changing all
 
 pub map_set : {A : Type 0} (f : A → A) (xs : List A) (p : ℕ) (x : A) → slice_get xs p ≡ Some x → f (f x) ≡ f x → map f (slice_set xs p (f x)) ≡ map f xs
 map_set f [] p x h e = cc
@@ -37,7 +37,7 @@ get_set_other (z ∷ zs) zero (suc q) y h = refl
 get_set_other (z ∷ zs) (suc p) zero y h = refl
 get_set_other (z ∷ zs) (suc p) (suc q) y h = get_set_other zs p q y (λ e. h (ap suc e))
 
--- one turn of a loop that changes what passes a test, from place to place
+-- one turn of a loop that changes, from place to place, the items that pass a test
 
 pub turn_done : {A : Type 0} (f : A → A) (t : A → Bool) (xs ys : List A) (from place : ℕ) → ((x : A) → f (f x) ≡ f x) → ((x : A) → t x ≡ false → f x ≡ x) →
     ((p : ℕ) (x : A) → p < from → slice_get xs p ≡ Some x → f x ≡ x) → (first : IsFirstFrom t xs from place) → ys ≡ slice_set xs place (f first.item) →
@@ -80,7 +80,7 @@ all_done {A} f t xs from kept done none = map_fixed f xs (λ p x g. by p x g (or
     by p x g (inl h) = done p x h g
     by p x g (inr h) = kept x (none.none p x h g)
 
--- what is left then
+-- the items that aren't empty after a change of all slots
 
 pub somes_changed : {A : Type 0} (t : A → Bool) (g : A → A) (f : Option A → Option A) → f None ≡ None → ((x : A) → f (Some x) ≡ (if t x then Some (g x) else Some x)) →
     (xs : List (Option A)) → somes (map f xs) ≡ map (λ x. if t x then g x else x) (somes xs)
@@ -148,7 +148,7 @@ pub any_same : {A : Type 0} (t u : A → Bool) → ((x : A) → t x ≡ u x) →
 any_same t u h [] = refl
 any_same t u h (x ∷ xs) = ap (λ (b : Bool). b || list_any t xs) (h x) ∙ ap (λ (b : Bool). u x || b) (any_same t u h xs)
 
--- a list whose items were changed in the room of the old one
+-- a list whose items were changed in place
 
 pub length_map : {A B : Type 0} (f : A → B) (xs : List A) → length (map f xs) ≡ length xs
 length_map f [] = refl

@@ -1,4 +1,4 @@
--- What a placing makes of a window, over its lists.
+-- The window's lists after a placing.
 use Rattle.std.proofs.Common.{◌≡◌, ℕ, zero, suc, ◌+◌, ◌-◌, ◌<◌, ◌≤◌, min, Bool, true, false, ◌||◌, ◌&&◌, List, [], ◌∷◌, ◌++◌, length, drop, refl, sym, ◌∙◌, ap, subst, arith, Option, Some, None}
 use Rattle.std.specs.Prelude.{map, filter, slice_get, ◌==◌, not, is_some, if◌then◌else◌, IfSome, IfNone, ◌^◌}
 use Rattle.std.specs.List.{list_any}
@@ -30,7 +30,7 @@ use Rattle.resend_window.proofs.Lists.{somes_changed, somes_push, map_filter, ma
 use Rattle.resend_window.proofs.Edits.{lane_turned}
 use Rattle.resend_window.proofs.Windows.{held_push, apart_push}
 
--- a repeat
+-- the placing of a repeat
 
 entries_due : (t : ℕ) (hs : List Held) (p : Placing) → p.number ≡ None → entries_at t (map (λ h. if is_asked (At p.lane p.offset) h then record h { due = true } else h) hs) ≡ map (record_retransmission p) (entries_at t hs)
 entries_due t hs p none =
@@ -70,7 +70,7 @@ repeat_put t slots after ps ws p n put e =
     ap (λ (es : List Entry). record { window = es; pending_acks = map pending_ack (somes ps); awaiting = map transmission (somes ws) })
     (ap (λ hs. entries_at t hs) (ap somes e ∙ somes_changed (is_asked (At p.lane p.offset)) (λ h. record h { number = Some n }) (edited (At p.lane p.offset) (Renumber n)) refl (λ h. refl) slots) ∙ entries_put t (somes slots) p n put)
 
--- an order
+-- the placing of an order
 
 awaited_left : (ws next : List (Option Awaited)) (w : Awaited) (t : Transmission) → transmission w ≡ t → somes next ≡ filter (λ a. not (is_same w a)) (somes ws) →
     map transmission (somes next) ≡ filter (λ x. not (transmission_eq t x)) (map transmission (somes ws))
@@ -115,7 +115,7 @@ order_gone t slots ps next_ps ws next p w acked e left sent was_acked =
     let all : value_of t slots next_ps next ≡ placed true (value_of t slots ps ws) p = λ i. record { window = entries_at t (somes slots); pending_acks = acks i; awaiting = waits i } in
     all ∙ ap (λ (b : Bool). placed b (value_of t slots ps ws) p) (sym was_acked)
 
--- it stays in order
+-- the frames stay valid
 
 filter_no_more : {A : Type 0} (t : A → Bool) (xs : List A) → length (filter t xs) ≤ length xs
 filter_no_more t [] = omega arith
@@ -135,7 +135,7 @@ filter_less {A} t (x ∷ xs) h =
 awaited_any : (ws : List (Option Awaited)) (w : Awaited) (t : Transmission) → transmission w ≡ t → list_any (transmission_eq t) (map transmission (somes ws)) ≡ true → list_any (is_same w) (somes ws) ≡ true
 awaited_any ws w t e h = sym (any_map transmission (transmission_eq (transmission w)) (somes ws)) ∙ ap (λ (u : Transmission). list_any (transmission_eq u) (map transmission (somes ws))) e ∙ h
 
--- one order less is awaited
+-- the list of awaited orders becomes shorter
 pub fewer_awaited : (ws next : List (Option Awaited)) (w : Awaited) (t : Transmission) → transmission w ≡ t → list_any (transmission_eq t) (map transmission (somes ws)) ≡ true →
     somes next ≡ filter (λ a. not (is_same w a)) (somes ws) → length (somes next) + 1 ≤ length (somes ws)
 fewer_awaited ws next w t e h left = let l = ap (λ xs. length xs) left in let f = filter_less (is_same w) (somes ws) (awaited_any ws w t e h) in omega arith
@@ -158,7 +158,7 @@ kept_window t slots after ws next p h spare now is pushed held place free fewer 
 pub gone_window : (t : ℕ) (hs : List Held) (ws next : List (Option Awaited)) (spare : ℕ) → IsWindow t hs (somes ws) spare → length (somes next) + 1 ≤ length (somes ws) → IsWindow t hs (somes next) spare
 gone_window t hs ws next spare is fewer = record { held = is.held; apart = is.apart; room = let r = is.room in omega arith }
 
--- the whole of it
+-- the placing of an order or a repeat
 
 pub complete_is : (acked : List Name) (vol : Volatile) (p : Placing) → complete_one acked vol p ≡ (if p.fresh then order_placed (is_acked_item acked (transmission_of p).item) vol p else repeat_placed vol p)
 unfolding complete_one
@@ -178,7 +178,7 @@ was_taken acked vol p f = sym (ap (λ (b : Bool). if list_any (transmission_eq (
 pub was_unknown : (acked : Bool) (vol : Volatile) (p : Placing) → list_any (transmission_eq (transmission_of p)) vol.awaiting ≡ false → vol ≡ order_placed acked vol p
 was_unknown acked vol p a = sym (ap (λ (b : Bool). if b && not (list_any (stands_at p) vol.window) then placed acked vol p else vol) a)
 
--- the next one pending
+-- the next pending acknowledgement
 
 shifted : {A : Type 0} (t : A → Bool) (y : A) (ys : List A) (from place : ℕ) → IsFirstFrom t (y ∷ ys) (suc from) (suc place) → IsFirstFrom t ys from place
 shifted t y ys from place first = record {
@@ -234,7 +234,7 @@ somes_mapped f (Some x ∷ xs) zero = ap (λ ys. f x ∷ ys) (somes_mapped f xs 
 somes_mapped f (None ∷ xs) (suc from) = somes_mapped f xs from
 somes_mapped f (Some x ∷ xs) (suc from) = somes_mapped f xs from
 
--- what is pending from a place on
+-- the pending acknowledgements of a lane, from a place on
 pub pending_is : (l : Lane) (ps : List (Option Arrival)) (from : ℕ) → filter (λ a. lane_eq a.lane l) (somes (drop from (map (option_map pending_ack) ps))) ≡ map pending_ack (filter (is_from (Of l)) (somes (drop from ps)))
 pending_is l ps from = ap (filter (λ a. lane_eq a.lane l)) (somes_mapped pending_ack ps from) ∙ map_filter pending_ack (λ a. lane_eq a.lane l) (somes (drop from ps))
 
@@ -262,7 +262,7 @@ is_there l ps from place first = by first.item refl
     by None e = let u : false ≡ true = ap (passes (is_from (Of l))) (sym e) ∙ first.passes in absurd (let z : ⊥ = cc in z)
     by (Some a) e = record { arrival = a; there = first.there ∙ ap Some e; brought = lane_from a.lane l (ap (passes (is_from (Of l))) (sym e) ∙ first.passes) }
 
--- the first one from a place on, and the rest
+-- the first pending acknowledgement of a lane from a place on, followed by the others
 pub next_is : (l : Lane) (ps : List (Option Arrival)) (from place : ℕ) (r : Option Pending) → IsFirstFrom (passes (is_from (Of l))) ps from place → r ≡ pending_of place (slice_get ps place) →
     IfSome r (λ p. filter (λ a. lane_eq a.lane l) (somes (drop from (map (option_map pending_ack) ps))) ≡ record { lane = l; offset = p.offset; name = p.name }
     ∷ filter (λ a. lane_eq a.lane l) (somes (drop (p.place + 1) (map (option_map pending_ack) ps))))
@@ -286,7 +286,7 @@ next_place ps place r e lt = subst (λ (o : Option Pending). IfSome o (λ p. p.p
     by (Some None) = tt
     by (Some (Some a)) = lt
 
--- an acknowledgement that was found is one
+-- the slot that was found holds an acknowledgement
 pub next_there : (l : Lane) (ps : List (Option Arrival)) (from place : ℕ) (r : Option Pending) (P : Type 0) → IsFirstFrom (passes (is_from (Of l))) ps from place → r ≡ pending_of place (slice_get ps place) → IfNone r P
 next_there l ps from place r P first e =
     let at = is_there l ps from place first in

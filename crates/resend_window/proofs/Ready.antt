@@ -1,4 +1,4 @@
--- Frames that are due by their age at the next plan, and the least offset of those that go out.
+-- Frames that are due by their age at the next plan, and the least offset of those that are sent again.
 use Rattle.std.proofs.Common.{◌≡◌, ℕ, zero, suc, ◌+◌, ◌-◌, ◌<◌, ◌≤◌, ◌^◌, Bool, true, false, ◌||◌, ◌&&◌, List, [], ◌∷◌, length, take, refl, sym, ◌∙◌, ap, subst, arith, Option, Some, None}
 use Rattle.std.specs.Prelude.{map, slice_get, ◌==◌, nat_lt, nat_le, is_none, if◌then◌else◌}
 use Rattle.std.specs.List.{list_any}
@@ -8,7 +8,7 @@ use Rattle.qkd_base.specs.declared.lane.Lane.{Lane}
 use Rattle.net_model.specs.declared.repeat.Repeat.{Repeat}
 use Rattle.net_model.specs.World.{Entry}
 use Rattle.net_model.specs.Window.{room_octets}
-use Rattle.ordered_entries.specs.Entries.{has_entry}
+use Rattle.ordered_set.specs.Entries.{has_entry}
 use Rattle.relay_core.proofs.Firsts.{any_at, not_true}
 use Rattle.relay_core.proofs.Kept.{any_somewhere}
 use Rattle.relay_core.proofs.Names.{eq_same, eq_from, and_left, and_right}
@@ -28,7 +28,7 @@ held_got t [] p h are there = cc
 held_got t (k ∷ hs) zero h are there = let same : k ≡ h = cc in subst (IsHeld t) same are.0
 held_got t (k ∷ hs) (suc p) h are there = held_got t hs p h are.1 there
 
--- what goes out at the next plan is what is ready
+-- a valid frame is due at the next tick exactly if it is ready
 next_is : (t : ℕ) (l : Lane) (h : Held) → IsHeld t h → is_next_on (t + 1) l h ≡ (lane_eq h.lane l && is_ready h)
 next_is t l h is = ap (λ (b : Bool). lane_eq h.lane l && (h.due || b)) (sym is.ripe)
 
@@ -40,7 +40,7 @@ goes_here t l after h is goes =
     let ready = sym (next_is t l h is) ∙ and_left (is_next_on (t + 1) l h) (is_above after h.offset) goes in
     both_true (stands l h.offset h) (is_ready h) (both_true (lane_eq h.lane l) (h.offset == h.offset) (and_left (lane_eq h.lane l) (is_ready h) ready) (eq_same h.offset)) (and_right (lane_eq h.lane l) (is_ready h) ready)
 
--- the least one
+-- the least offset in the set is the least of the frames that are due
 pub least_due : (t : ℕ) (l : Lane) (after : Option ℕ) (slots : List (Option Held)) (es : List (List ℕ)) (x : ℕ) → AreHeld t (somes slots) → AreDues slots es → IsNextDue es l after x →
     IsLeast (goes_after (t + 1) l after) (somes slots) (Some x)
 least_due t l after slots es x are dues next = (there, first)
@@ -66,7 +66,7 @@ least_due t l after slots es x are dues next = (there, first)
         let u : true ≡ false = sym some ∙ none in
         let z : ⊥ = cc in z)
 
--- none is left
+-- if the set has no offset above `after`, no frame above it is due
 pub none_due : (t : ℕ) (l : Lane) (after : Option ℕ) (slots : List (Option Held)) (es : List (List ℕ)) → AreHeld t (somes slots) → AreDues slots es → IsLastDue es l after →
     list_any (goes_after (t + 1) l after) (somes slots) ≡ false
 none_due t l after slots es are dues last = not_true (list_any (goes_after (t + 1) l after) (somes slots)) (λ any.
@@ -77,7 +77,7 @@ none_due t l after slots es are dues last = not_true (list_any (goes_after (t + 
     let u : true ≡ false = sym some ∙ none in
     let z : ⊥ = cc in z)
 
--- what becomes ripe at a tick
+-- the frames that become ripe at a tick
 
 ripened_entry : (t u : ℕ) (h : Held) → entry_at t (ripened_at u h) ≡ entry_at t h
 ripened_entry t u h = elim (is_none h.ack_of && (h.sent + 3 == u)) as (λ b. entry_at t (if b then record h { ripe = true } else h) ≡ entry_at t h) [ true ↦ refl | false ↦ refl ]
@@ -92,7 +92,7 @@ ripened_apart u h k = elim (is_none h.ack_of && (h.sent + 3 == u)) as (λ a. sta
   | false ↦ elim (is_none k.ack_of && (k.sent + 3 == u)) as (λ b. stand_together h (if b then record k { ripe = true } else k) ≡ stand_together h k) [ true ↦ refl | false ↦ refl ]
 ]
 
--- it is in order but for what becomes ripe at this tick
+-- a frame is valid, except that it may still have to be marked as ripe
 pub record IsHeldBefore (now : ℕ) (h : Held) : Type 0 where
   pub sent : h.sent ≤ now
   pub size : length (take h.length h.frame.octets) ≡ h.length
@@ -143,6 +143,6 @@ renewed_before t rs h is = elim (is_repeated rs h) as (λ b. IsHeldBefore (t + 1
   | false ↦ record { sent = (let s = is.sent in omega arith); size = is.size; clean = is.clean; ripe = is.ripe ∙ ap (λ (b : Bool). is_none h.ack_of && b) (later h.sent t is.sent); place = is.place }
 ]
 
--- behind a plan all are in order
+-- after a plan all frames are valid
 pub planned_held : (t : ℕ) (rs : List Repeat) (h : Held) → IsHeld t h → IsHeld (t + 1) (ripened_at (t + 1) (renewed_by (t + 1) rs h))
 planned_held t rs h is = ripened_held (t + 1) (renewed_by (t + 1) rs h) (renewed_before t rs h is)

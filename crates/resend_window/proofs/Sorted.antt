@@ -102,7 +102,7 @@ find_sorted k (e ∷ es) apart =
     (λ h. any_sorted (λ x. x.offset == k) es ∙ ap (λ (j : ℕ). list_any (λ x. x.offset == j) es) (sym (eq_from e.offset k h)) ∙ apart.0)
     ∙ ap (λ (o : Option Entry). if e.offset == k then Some e else o) (find_sorted k es apart.1)
 
--- those behind the least one
+-- the entries above the least one
 
 filter_agree : {A : Type 0} (t u w : A → Bool) (xs : List A) → ((x : A) → w x ≡ false → t x ≡ u x) → list_any w xs ≡ false → filter t xs ≡ filter u xs
 filter_agree t u w [] same none = refl
@@ -125,7 +125,7 @@ found_any k (x ∷ xs) e h =
       | false ↦ λ g. found_any k xs e g
     ] h
 
--- what stands before a list whose offsets are greater
+-- inserting an entry before entries with greater offsets
 before_found : (y : Entry) (es : List Entry) (k : ℕ) (e : Entry) → list_any (λ x. nat_le x.offset y.offset) es ≡ false → find (λ x. x.offset == k) es ≡ Some e → nat_lt y.offset k ≡ true
 before_found y es k e above found = by (nat_lt y.offset k) refl
   where

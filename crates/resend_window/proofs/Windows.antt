@@ -1,4 +1,4 @@
--- What the calls of a window do, over its lists.
+-- What the operations of a window do to its lists.
 use Rattle.std.proofs.Common.{◌≡◌, ℕ, zero, suc, ◌+◌, ◌-◌, ◌<◌, ◌≤◌, Bool, true, false, ◌||◌, ◌&&◌, List, [], ◌∷◌, ◌++◌, length, take, replicate, refl, sym, ◌∙◌, ap, subst, arith, Option, Some, None, length-append}
 use Rattle.std.specs.Prelude.{map, filter, ◌==◌, nat_le, not, is_some, is_none, if◌then◌else◌}
 use Rattle.std.specs.List.{list_any}
@@ -13,7 +13,7 @@ use Rattle.net_model.specs.declared.order.Order.{Order}
 use Rattle.net_model.specs.declared.repeat.Repeat.{Repeat}
 use Rattle.net_model.specs.World.{Entry, PendingAck, Transmission, Volatile}
 use Rattle.net_model.specs.Window.{acknowledge, answers_frame, mark_due, cleared, age}
-use Rattle.kme_step.specs.Steps.{planned, repeated_by, transmission_of_order}
+use Rattle.kme_base.specs.Steps.{planned, repeated_by, transmission_of_order}
 use Rattle.resend_window.specs.declared.held.Held.{Held}
 use Rattle.resend_window.specs.declared.arrival.Arrival.{Arrival}
 use Rattle.resend_window.specs.declared.arrival.Arrivals.TheVariants.{From}
@@ -29,7 +29,7 @@ use Rattle.resend_window.specs.Lists.{is_from, IsWindow, is_repeated, renewed_by
 use Rattle.resend_window.proofs.Ready.{entries_ripened, ripened_apart, planned_held}
 use Rattle.resend_window.proofs.Lists.{somes_changed, somes_removed, somes_push, map_filter, map_append, length_map, map_map, map_same, any_map, any_same}
 
--- in order, after a change
+-- valid frames stay valid under a change
 
 pub held_map : (t u : ℕ) (g : Held → Held) → ((h : Held) → IsHeld t h → IsHeld u (g h)) → (hs : List Held) → AreHeld t hs → AreHeld u (map g hs)
 held_map t u g kept [] are = tt
@@ -93,7 +93,7 @@ apart_push (k ∷ hs) h are none = (
     both false true e f = f
     both false false e f = refl
 
--- one change of frames leaves a window in order
+-- a single change of frames keeps the window's invariant
 
 pub marked : Query → Held → Held
 marked q h = if is_asked q h then record h { due = true } else h
@@ -164,7 +164,7 @@ left_window t slots after ws spare now q is e s =
       room = let r = is.room in omega arith;
     }
 
--- an acknowledgement of what was received
+-- sending the acknowledgement of a received frame
 
 any_answers : (t : ℕ) (hs : List Held) (l : Lane) (x : ℕ) → list_any (λ e. answers_frame l x e.transmission) (entries_at t hs) ≡ list_any (is_asked (Answering (reverse_lane l) x)) hs
 any_answers t hs l x = any_map (entry_at t) (λ e. answers_frame l x e.transmission) hs
@@ -216,7 +216,7 @@ received_new t slots ps after ws a h k e =
     ∙ ap (λ (b : Bool). if b then value_of t slots ps ws
     else record (value_of t slots ps ws) { pending_acks = map pending_ack (somes ps) ++ record { lane = a.lane; offset = a.offset; name = a.name } ∷ [] }) (any_pending (somes ps) a.lane a.offset ∙ k))
 
--- an acknowledgement that was received
+-- receiving an acknowledgement
 
 pub acknowledged_left : (t : ℕ) (slots after : List (Option Held)) (ps : List (Option Arrival)) (ws : List (Option Awaited)) (l : Lane) (n : Name) → after ≡ map (removed (is_asked (DataOf (reverse_lane l) n))) slots →
     value_of t after ps ws ≡ record (value_of t slots ps ws) { window = cleared l n (entries_at t (somes slots)) }
@@ -225,7 +225,7 @@ acknowledged_left t slots after ps ws l n e =
     (ap (λ hs. entries_at t hs) (ap somes e ∙ somes_left (DataOf (reverse_lane l) n) slots)
     ∙ sym (map_filter (entry_at t) (λ (e : Entry). not (lane_eq e.transmission.lane (reverse_lane l) && is_data_of n e.transmission.item)) (somes slots)))
 
--- a plan
+-- making a plan
 
 due_yet : (d : Bool) (m : ℕ) → (d || nat_le 4 (m + 1)) ≡ ((d || nat_le 4 m) || nat_le 4 (m + 1))
 due_yet true m = refl
@@ -284,7 +284,7 @@ planned_window t slots after ws next orders rs spare now is e w s room = record 
       omega arith;
 }
 
--- a tick later
+-- all frames are one tick older
 pub entries_older : (t : ℕ) (hs : List Held) → AreHeld t hs → entries_at (t + 1) hs ≡ map age (entries_at t hs)
 entries_older t [] held = refl
 entries_older t (h ∷ hs) held =

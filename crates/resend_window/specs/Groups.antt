@@ -1,4 +1,4 @@
--- The groups in which frames, acknowledgements and orders are found.
+-- The index groups of frames, acknowledgements and orders.
 use Rattle.std.specs.Prelude.{ℕ, Bool, true, false, List, [], ◌∷◌, ◌++◌, Option, Some, None}
 use Rattle.qkd_base.specs.Lane.{lane_place}
 use Rattle.qkd_base.specs.Name.{Name}
@@ -14,7 +14,7 @@ use Rattle.resend_window.specs.declared.arrival.Arrivals.{Arrivals}
 use Rattle.resend_window.specs.declared.arrival.Arrivals.TheVariants.{Of, From}
 use Rattle.resend_window.specs.declared.awaited.Awaited.{Awaited}
 
--- lists with places where nothing is left, and for how many more there is room
+-- lists with empty slots, and for how many more items there is room
 
 pub record HeldItems : Type 0 where
   pub items : List (Option Held)
@@ -28,8 +28,8 @@ pub record AwaitedItems : Type 0 where
   pub items : List (Option Awaited)
   pub spare : ℕ
 
--- Groups that a lane and an offset tell, and that a lane and a name do. The offset or the count differs most and stands first. A lane's
--- place shares a number with a tag, which is less than four.
+-- Groups of a lane and an offset, and of a lane and a name. The offset or the count differs most and stands first. One number holds both
+-- the lane's number and a tag below 4.
 
 abbrev pub offset_group : ℕ → Lane → ℕ → List ℕ
 offset_group tag l x = x ∷ tagged tag (lane_place l) ∷ 0 ∷ 0 ∷ []
@@ -39,11 +39,11 @@ name_group tag l n x = n.count ∷ tagged tag (lane_place l) ∷ origin_number n
 
 -- frames
 
--- of no lane
+-- the group of a tick, for all lanes together
 abbrev pub sent_group : ℕ → List ℕ
 sent_group tick = tick ∷ tagged 3 0 ∷ 0 ∷ 0 ∷ []
 
--- that of the tick at which it went out, if it is of a fact
+-- the group of the tick at which the frame was last sent, if it carries a fact
 abbrev pub sent_groups : Option ℕ → ℕ → List (List ℕ)
 sent_groups None tick = sent_group tick ∷ []
 sent_groups (Some x) tick = []

@@ -1,4 +1,4 @@
--- What is kept of a frame that was sent, and what it is at a tick.
+-- A sent frame as a record, and the window entry that it stands for at a tick.
 use Rattle.std.specs.Prelude.{◌≡◌, ℕ, ◌+◌, ◌-◌, ◌≤◌, ◌<◌, ◌^◌, ◌==◌, ◌&&◌, ◌||◌, nat_le, Bool, false, List, [], ◌∷◌, map, take, length, is_none, if◌then◌else◌}
 use Rattle.std.specs.List.{list_any}
 use Rattle.qkd_base.specs.Lane.{lane_eq}
@@ -11,7 +11,7 @@ use Rattle.resend_window.specs.declared.held.Held.{Held}
 use Rattle.resend_window.specs.declared.arrival.Arrival.{Arrival}
 use Rattle.resend_window.specs.declared.awaited.Awaited.{Awaited}
 
--- its age is the ticks since it was sent, and only that of a fact counts
+-- the entry's age is the number of ticks since the frame was sent; only the frames of facts become due by age
 abbrev pub entry_at : ℕ → Held → Entry
 entry_at now h =
     record {
@@ -26,8 +26,8 @@ entry_at now h =
 abbrev pub entries_at : ℕ → List Held → List Entry
 entries_at now hs = map (entry_at now) hs
 
--- It was sent by now, the room behind its octets is zero, it is ripe if it is due a tick later by its age, and its offset fits in
--- 64 bits.
+-- The frame was sent at this tick or before, its unused octets are zero, it is ripe exactly if its age makes it due at the next tick, and
+-- its offset fits in 64 bits.
 pub record IsHeld (now : ℕ) (h : Held) : Type 0 where
   pub sent : h.sent ≤ now
   pub size : length (take h.length h.frame.octets) ≡ h.length
@@ -35,7 +35,7 @@ pub record IsHeld (now : ℕ) (h : Held) : Type 0 where
   pub ripe : h.ripe ≡ (is_none h.ack_of && nat_le 4 ((now + 1) - h.sent))
   pub place : h.offset < 2 ^ 64
 
--- all are
+-- each frame of the list is valid at this tick
 abbrev pub AreHeld : ℕ → List Held → Type 0
 AreHeld now [] = Unit {0}
 AreHeld now (h ∷ hs) = IsHeld now h × AreHeld now hs
@@ -43,20 +43,20 @@ AreHeld now (h ∷ hs) = IsHeld now h × AreHeld now hs
 abbrev pub stand_together : Held → Held → Bool
 stand_together h k = lane_eq h.lane k.lane && (h.offset == k.offset)
 
--- no two stand at one place of a lane
+-- no two frames have the same lane and offset
 abbrev pub AreApart : List Held → Type 0
 AreApart [] = Unit {0}
 AreApart (h ∷ hs) = (list_any (stand_together h) hs ≡ false) × AreApart hs
 
--- it goes out at the next plan
+-- the frame is sent again at the next plan
 abbrev pub is_ready : Held → Bool
 is_ready h = h.due || h.ripe
 
--- it goes out on this lane at the next tick
+-- the frame is due on this lane at this tick
 abbrev pub is_next_on : ℕ → Lane → Held → Bool
 is_next_on now l h = lane_eq h.lane l && (entry_at now h).due
 
--- acknowledgements not yet sent, and what awaits its placing
+-- pending acknowledgements, and orders that await their placings
 
 abbrev pub pending_ack : Arrival → PendingAck
 pending_ack a = record { lane = a.lane; offset = a.offset; name = a.name }

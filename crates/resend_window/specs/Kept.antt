@@ -1,17 +1,17 @@
--- What a manager's window is to its callers: what one life keeps, and for how much more of it there is room.
+-- A manager's window as its callers see it: what a crash loses, and how much more there is room for.
 use Rattle.std.specs.Prelude.{ℕ, ◌≤◌, List, [], ◌∷◌, drop, filter, Option, Some, None}
 use Rattle.qkd_base.specs.Lane.{lane_eq}
 use Rattle.qkd_base.specs.declared.lane.Lane.{Lane}
 use Rattle.net_model.specs.World.{PendingAck, Volatile}
 
--- what is left of a list in which items were taken out
+-- the items of a list, without its empty slots
 abbrev pub somes : {A : Type 0} → List (Option A) → List A
 somes [] = []
 somes (None ∷ xs) = somes xs
 somes (Some x ∷ xs) = x ∷ somes xs
 
--- The arrivals are the places of the acknowledgements that are pending, empty ones among them. There is room for so many more
--- acknowledgements, orders and ticks.
+-- The arrivals are the slots of the pending acknowledgements, empty ones among them. The other fields say for how many more
+-- acknowledgements, orders and ticks there is room.
 pub record Kept : Type 0 where
   pub volatile : Volatile
   pub arrivals : List (Option PendingAck)
@@ -19,11 +19,11 @@ pub record Kept : Type 0 where
   pub orders_spare : ℕ
   pub ticks_spare : ℕ
 
--- the acknowledgements pending that a lane brought, in order of arrival, from a place on
+-- the pending acknowledgements of frames that arrived on this lane, in order of arrival, from a place on
 abbrev pub pending_from : Kept → Lane → ℕ → List PendingAck
 pending_from k l from = filter (λ a. lane_eq a.lane l) (somes (drop from k.arrivals))
 
--- there is no less room than before
+-- there is at least as much room as before
 pub record KeepsRooms (old new : Kept) : Type 0 where
   pub received : old.received_spare ≤ new.received_spare
   pub orders : old.orders_spare ≤ new.orders_spare

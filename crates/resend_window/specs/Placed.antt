@@ -1,11 +1,11 @@
--- What a placing makes of a window, by what it is of.
+-- The window after a placing, by what was placed.
 use Rattle.std.specs.Prelude.{◌&&◌, not, Bool, List, [], ◌∷◌, ◌++◌, map, filter, if◌then◌else◌}
 use Rattle.std.specs.List.{list_any}
 use Rattle.net_model.specs.declared.placing.Placing.{Placing}
 use Rattle.net_model.specs.World.{Volatile}
 use Rattle.net_model.specs.Window.{transmission_of, transmission_eq, stands_at, entry_of, is_pending_of, record_retransmission}
 
--- an order that was awaited
+-- the placing of an order that was awaited
 abbrev pub placed : Bool → Volatile → Placing → Volatile
 placed is_acked vol p =
     let t = transmission_of p in
@@ -15,11 +15,11 @@ placed is_acked vol p =
       awaiting = filter (λ x. not (transmission_eq t x)) vol.awaiting;
     }
 
--- an order
+-- the placing of any order
 abbrev pub order_placed : Bool → Volatile → Placing → Volatile
 order_placed is_acked vol p =
     if list_any (transmission_eq (transmission_of p)) vol.awaiting && not (list_any (stands_at p) vol.window) then placed is_acked vol p else vol
 
--- a repeat
+-- the placing of a repeat
 abbrev pub repeat_placed : Volatile → Placing → Volatile
 repeat_placed vol p = record vol { window = map (record_retransmission p) vol.window }

@@ -1,4 +1,4 @@
--- What goes out again at the next tick, from an offset on.
+-- The frames that are sent again at the next tick, from an offset on.
 use Rattle.std.specs.Prelude.{ℕ, ◌&&◌, nat_lt, Bool, true, List, map, filter, Option, Some, None, if◌then◌else◌}
 use Rattle.qkd_base.specs.Lane.{lane_eq}
 use Rattle.qkd_base.specs.declared.lane.Lane.{Lane}
@@ -8,12 +8,12 @@ use Rattle.net_model.specs.Window.{by_offset, repeat_of}
 use Rattle.resend_window.specs.declared.held.Held.{Held}
 use Rattle.resend_window.specs.Held.{entries_at, is_next_on}
 
--- above an offset, if there is one
+-- the offset is above `after`, or `after` is none
 abbrev pub is_above : Option ℕ → ℕ → Bool
 is_above None x = true
 is_above (Some a) x = nat_lt a x
 
--- it goes out next on a lane, above an offset
+-- the frame is due on this lane at this tick, and its offset is above `after`
 abbrev pub goes_after : ℕ → Lane → Option ℕ → Held → Bool
 goes_after tick l after h = is_next_on tick l h && is_above after h.offset
 
@@ -21,10 +21,10 @@ abbrev pub offset_after : ℕ → Lane → Option ℕ → Option Held → Option
 offset_after tick l after None = None
 offset_after tick l after (Some h) = if goes_after tick l after h then Some h.offset else None
 
--- all that are due on a lane, in order of offset
+-- all entries that are due on this lane, in order of offset
 abbrev pub due_on : ℕ → Lane → List Held → List Entry
 due_on tick l hs = by_offset (filter (λ e. lane_eq e.transmission.lane l && e.due) (entries_at tick hs))
 
--- those of them above an offset, as repeats
+-- the due entries of this lane above `after`, as repeats
 abbrev pub rest_after : ℕ → Lane → List Held → Option ℕ → List Repeat
 rest_after tick l hs after = map repeat_of (filter (λ e. is_above after e.offset) (due_on tick l hs))

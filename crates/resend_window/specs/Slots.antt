@@ -1,4 +1,4 @@
--- Lists in which items are taken out and changed in place.
+-- Lists with empty slots, whose items are removed and changed in place.
 use Rattle.std.specs.Prelude.{ℕ, ◌==◌, ◌&&◌, is_none, Bool, true, false, List, Option, Some, None, if◌then◌else◌}
 use Rattle.qkd_base.specs.Lane.{lane_eq}
 use Rattle.qkd_base.specs.declared.lane.Lane.{Lane}
@@ -10,7 +10,7 @@ use Rattle.resend_window.specs.declared.edit.Query.TheVariants.{At, Answering, D
 use Rattle.resend_window.specs.declared.edit.Edit.{Edit}
 use Rattle.resend_window.specs.declared.edit.Edit.TheVariants.{MarkDue, Renew, Renumber, Ripen, Remove}
 
--- a test of what is left
+-- the slot has an item that passes the test
 abbrev pub passes : {A : Type 0} → (A → Bool) → Option A → Bool
 passes t None = false
 passes t (Some x) = t x
@@ -28,12 +28,12 @@ edit (Renumber n) h = Some (record h { number = Some n })
 edit Ripen h = Some (record h { ripe = true })
 edit Remove h = None
 
--- those that are asked for are changed, or taken out
+-- the slot after a change, if the query finds its frame
 abbrev pub edited : Query → Edit → Option Held → Option Held
 edited q e None = None
 edited q e (Some h) = if is_asked q h then edit e h else Some h
 
--- the same of a test whose items are taken out
+-- the slot after its item is removed, if the item passes the test
 abbrev pub removed : {A : Type 0} → (A → Bool) → Option A → Option A
 removed t None = None
 removed t (Some x) = if t x then None else Some x

@@ -1,4 +1,4 @@
-// Acknowledgements not yet sent.
+// Acknowledgements that aren't sent yet.
 ghost use Rattle.std.specs.Prelude.{◌≡◌, ◌<◌, ℕ, List, [], None, map, IfSome, IfNone, length, slice_get, slice_set};
 ghost use Rattle.qkd_base.specs.Lane.{reverse_lane};
 ghost use Rattle.relay_core.specs.Firsts.{IsFirstFrom, IsNoneFrom};
@@ -14,7 +14,7 @@ use crate::held::reversed;
 use qkd_base::{KeyName, Lane};
 use std::alloc::Global;
 
-/// A frame that was received and is to be acknowledged: its lane, its offset and the name of its fact.
+/// A received frame that must be acknowledged: its lane, its offset, and the name of the fact that it carried.
 #[derive(Clone, Copy)]
 pub struct Arrival {
     pub lane: Lane,
@@ -22,47 +22,48 @@ pub struct Arrival {
     pub name: KeyName,
 }
 
-/// An acknowledgement that is pending: its place, the offset at which its frame was received, and the name of its fact.
+/// A pending acknowledgement: its place, the offset of the frame that it acknowledges, and the name of that frame's
+/// fact.
 #[derive(Clone, Copy, Debug, PartialEq, Eq)]
 pub struct Pending {
-    /// Where it stands among those pending, in order of arrival.
+    /// Its place in the list of pending acknowledgements, which is in order of arrival.
     pub place: usize,
     pub offset: u64,
     pub name: KeyName,
 }
 
-/// Acknowledgements that are looked for together.
+/// A query for pending acknowledgements.
 #[derive(Clone, Copy)]
 pub enum Arrivals {
-    /// Those of what a lane brought.
+    /// The acknowledgements of all frames that arrived on a lane.
     Of(Lane),
-    /// That of what a lane brought at an offset.
+    /// The acknowledgement of the frame that arrived on a lane at an offset.
     From(Lane, u64),
 }
 
 impl Arrival {
-    /// The group of its lane.
+    /// The index group of all arrivals on this lane.
     pub fn lane_group(&self) -> Group
         ensures { result ≡ offset_group 0 self.now.lane 0 }
     {
         offset_group(0, &self.lane, 0)
     }
 
-    /// The group of its place.
+    /// The index group of all arrivals on this lane at this offset.
     pub fn place_group(&self) -> Group
         ensures { result ≡ offset_group 1 self.now.lane self.now.offset }
     {
         offset_group(1, &self.lane, self.offset)
     }
 
-    /// What is sent for it already.
+    /// The query for the acknowledgements of this frame that were sent already.
     pub fn answer(&self) -> Query
         ensures { result ≡ Query.Answering (reverse_lane self.now.lane) self.now.offset }
     {
         Query::Answering(reversed(self.lane), self.offset)
     }
 
-    /// All that are of its frame.
+    /// The query for all pending acknowledgements of this frame.
     pub fn same(&self) -> Arrivals
         ensures { result ≡ Arrivals.From self.now.lane self.now.offset }
     {
@@ -71,7 +72,7 @@ impl Arrival {
 }
 
 impl Arrivals {
-    // The group of what is looked for.
+    // The index group of the arrivals that this query finds.
     fn group(&self) -> Group
         ensures { result ≡ arrivals_group self.now }
     {
@@ -81,7 +82,7 @@ impl Arrivals {
         }
     }
 
-    // Whether an acknowledgement is looked for.
+    // Whether the query finds this arrival.
     fn has(&self, arrival: &Arrival) -> bool
         ensures { result ≡ is_from self.now arrival.now }
     {
@@ -92,7 +93,7 @@ impl Arrivals {
     }
 }
 
-// Whether what is left at a place is looked for.
+// Whether a slot holds an arrival that the query finds.
 fn has_place(place: &Option<Arrival>, wanted: &Arrivals) -> bool
     ensures { result ≡ passes (is_from wanted.now) place.now }
 {
@@ -102,7 +103,7 @@ fn has_place(place: &Option<Arrival>, wanted: &Arrivals) -> bool
     }
 }
 
-// The first acknowledgement that is looked for from a place on, by the list alone.
+// The first place, not below `from`, with an arrival that the query finds. It scans the list.
 fn walk(pending: &[Option<Arrival>], wanted: &Arrivals, from: usize) -> Option<usize>
     ensures first { IfSome result (IsFirstFrom (passes (is_from wanted.now)) pending.now from) }
     ensures none { IfNone result (IsNoneFrom (passes (is_from wanted.now)) pending.now from) }
@@ -115,7 +116,7 @@ fn walk(pending: &[Option<Arrival>], wanted: &Arrivals, from: usize) -> Option<u
     None
 }
 
-/// The first acknowledgement that is looked for from a place on.
+/// The first place, not below `from`, with an arrival that the query finds. It uses the index if that is whole.
 pub fn next_arrival(
     pending: &[Option<Arrival>],
     index: &Catalogue,
@@ -126,7 +127,7 @@ pub fn next_arrival(
     ensures first { IfSome result (IsFirstFrom (passes (is_from wanted.now)) pending.now from) }
     ensures none { IfNone result (IsNoneFrom (passes (is_from wanted.now)) pending.now from) }
 {
-    // How many there are bounds each place.
+    // The contract of `len` also bounds each place.
     let _holds = pending.len();
     if !index.is_whole {
         return walk(pending, wanted, from);
@@ -137,7 +138,7 @@ pub fn next_arrival(
     }
 }
 
-// Takes what is left at a place out of its groups.
+// Removes the place of a slot from its index groups.
 fn unlist(index: &mut Catalogue, slot: &Option<Arrival>, place: usize)
     ensures { (keys : List (List (List ℕ))) → groups_at keys place ≡ arrival_groups slot.now → Catalogues keys index.old → Catalogues (slice_set keys place []) index.new }
 {
@@ -147,7 +148,7 @@ fn unlist(index: &mut Catalogue, slot: &Option<Arrival>, place: usize)
     }
 }
 
-// Takes out what is left at a place.
+// Empties the slot at a place and removes it from the index.
 fn remove_at(pending: &mut [Option<Arrival>], index: &mut Catalogue, place: usize)
     requires within { place < length pending.old }
     requires index { Catalogues (map arrival_groups pending.old) index.old }
@@ -158,7 +159,7 @@ fn remove_at(pending: &mut [Option<Arrival>], index: &mut Catalogue, place: usiz
     pending[place] = None;
 }
 
-/// Takes out all acknowledgements that are looked for.
+/// Removes all arrivals that the query finds.
 pub fn remove_all(pending: &mut [Option<Arrival>], index: &mut Catalogue, wanted: &Arrivals)
     requires { Catalogues (map arrival_groups pending.old) index.old }
     ensures slots { pending.new ≡ map (removed (is_from wanted.now)) pending.old }
@@ -171,7 +172,7 @@ pub fn remove_all(pending: &mut [Option<Arrival>], index: &mut Catalogue, wanted
     }
 }
 
-/// An index of all acknowledgements.
+/// A new index of all arrivals.
 pub fn listed(alloc: Global, pending: &[Option<Arrival>]) -> Catalogue
     ensures { Catalogues (map arrival_groups pending.now) result }
 {
@@ -185,7 +186,7 @@ pub fn listed(alloc: Global, pending: &[Option<Arrival>]) -> Catalogue
     index
 }
 
-/// The acknowledgement at a place.
+/// The pending acknowledgement at a place, if its slot isn't empty.
 pub fn pending_at(pending: &[Option<Arrival>], place: usize) -> Option<Pending>
     requires { place < length pending.now }
     ensures { result ≡ pending_of place (slice_get pending.now place) }

@@ -1,4 +1,4 @@
-// The acknowledgements that are pending.
+// The list of pending acknowledgements.
 ghost use Rattle.std.specs.Prelude.{◌≡◌, ◌+◌, ◌≤◌, ◌<◌, ◌^◌, ◌++◌, ◌∷◌, [], Some, OnOk, IfSome, IfNone, map, filter, not, drop};
 ghost use Rattle.std.specs.List.{list_any};
 ghost use Rattle.std.specs.Option.{option_map};
@@ -14,7 +14,8 @@ use qkd_base::{Lane, Memory};
 use std::alloc::Global;
 use std::marker::Model;
 
-/// Acknowledgements in order of arrival, with the places of those that were taken out, found by lane and by offset.
+/// Pending acknowledgements in order of arrival. A removed one leaves an empty slot. An index finds them by lane, and
+/// by lane and offset.
 #[derive(Drop)]
 pub struct ArrivalList {
     items: Vec<Option<Arrival>>,
@@ -35,7 +36,7 @@ impl Model for ArrivalList {
 }
 
 impl ArrivalList {
-    /// No acknowledgements. It takes no memory.
+    /// The empty list. It allocates nothing.
     pub fn new(alloc: Global) -> Self
         ensures { result.items ≡ [] }
     {
@@ -45,7 +46,7 @@ impl ArrivalList {
         }
     }
 
-    /// Lets all go. It takes no memory.
+    /// Removes all items. It keeps the memory of the list.
     pub fn clear(&mut self)
         ensures items { self.new.items ≡ [] }
         ensures spare { self.old.spare ≤ self.new.spare }
@@ -54,7 +55,7 @@ impl ArrivalList {
         self.index = Catalogue::new(*self.items.allocator());
     }
 
-    /// Whether an acknowledgement that is looked for is pending.
+    /// Whether the query finds a pending acknowledgement.
     pub fn has(&self, wanted: &Arrivals) -> bool
         ensures { result ≡ list_any (is_from wanted.now) (somes self.now.items) }
     {
@@ -64,7 +65,7 @@ impl ArrivalList {
         }
     }
 
-    /// The first one that a lane brought, from a place on.
+    /// The first pending acknowledgement, at or after place `from`, of a frame that arrived on this lane.
     pub fn next(&self, lane: Lane, from: usize) -> Option<Pending>
         ensures some { IfSome result (λ p. rest_of lane self.now.items from ≡ record { lane = lane; offset = p.offset; name = p.name } ∷ rest_of lane self.now.items (p.place + 1)) }
         ensures none { IfNone result (rest_of lane self.now.items from ≡ []) }
@@ -76,7 +77,7 @@ impl ArrivalList {
         }
     }
 
-    // Takes out all acknowledgements that are looked for.
+    // Removes all acknowledgements that the query finds.
     fn remove(&mut self, wanted: &Arrivals)
         ensures items { somes self.new.items ≡ filter (λ a. not (is_from wanted.now a)) (somes self.old.items) }
         ensures spare { self.new.spare ≡ self.old.spare }
@@ -84,7 +85,8 @@ impl ArrivalList {
         remove_all(&mut self.items, &mut self.index, wanted);
     }
 
-    /// Takes out the acknowledgements that a frame on the other lane is, if it is one. It takes no memory.
+    /// Removes the pending acknowledgements that a frame on the other lane sends. `ack_of` is the offset that this
+    /// frame acknowledges, or `None` if it carries a fact. It allocates nothing.
     pub fn remove_sent(&mut self, lane: Lane, ack_of: Option<u64>)
         ensures items { somes self.new.items ≡ filter (λ a. not (is_some_from lane ack_of a)) (somes self.old.items) }
         ensures spare { self.new.spare ≡ self.old.spare }
@@ -95,7 +97,7 @@ impl ArrivalList {
         }
     }
 
-    /// One more acknowledgement. It takes no memory.
+    /// Appends an acknowledgement. It needs only the room that was reserved.
     pub fn push(&mut self, arrival: Arrival)
         requires { 0 < self.old.spare }
         ensures items { self.new.items ≡ self.old.items ++ Some arrival ∷ [] }
@@ -107,7 +109,7 @@ impl ArrivalList {
         self.items.push_reserved(Some(arrival));
     }
 
-    /// Makes room for so many more acknowledgements. An `Err` leaves what is pending as it is.
+    /// Reserves memory for `more` further acknowledgements. An `Err` keeps the pending ones.
     pub fn grow(&mut self, more: usize) -> Result<(), Memory>
         ensures items { somes self.new.items ≡ somes self.old.items }
         ensures spare { self.old.spare ≤ self.new.spare }

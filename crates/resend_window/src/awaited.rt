@@ -1,8 +1,8 @@
-// What was ordered, and its placing isn't noted yet.
+// Orders whose placing isn't known yet.
 ghost use Rattle.std.specs.Prelude.{◌≡◌, ◌<◌, ℕ, List, [], None, map, IfSome, IfNone, length, slice_get, slice_set};
 ghost use Rattle.relay_core.specs.Firsts.{IsFirstFrom, IsNoneFrom};
 ghost use Rattle.net_model.specs.Item.{item_of};
-ghost use Rattle.kme_step.specs.Steps.{transmission_of_order};
+ghost use Rattle.kme_base.specs.Steps.{transmission_of_order};
 ghost use Rattle.resend_window.specs.Catalogued.{Catalogues, groups_at};
 ghost use Rattle.resend_window.specs.Groups.{awaited_group, awaited_groups};
 ghost use Rattle.resend_window.specs.Held.{transmission};
@@ -16,18 +16,20 @@ use qkd_base::{KeyName, Lane};
 use relay_core::fact_name;
 use std::alloc::Global;
 
-/// An order that awaits its placing.
+/// An order to send a frame, whose placing isn't known yet. The placing is the frame's offset on its lane and its
+/// number on the wire.
 #[derive(Clone, Copy)]
 pub struct Awaited {
     pub lane: Lane,
     pub is_ack: bool,
     pub name: KeyName,
-    /// For an acknowledgement the offset at which its frame was received.
+    /// The offset of the frame that is acknowledged, or `None` if the order sends a fact.
     pub ack_of: Option<u64>,
 }
 
 impl Awaited {
-    /// What a frame of these parts is.
+    /// An order on this lane. It sends the fact of this name, or, if `ack_of` is an offset, the acknowledgement of
+    /// the frame that was received there.
     pub fn new(lane: Lane, name: KeyName, ack_of: Option<u64>) -> Self
         ensures { transmission result ≡ record { lane = lane; item = item_of ack_of name; received_offset = ack_of } }
     {
@@ -47,7 +49,7 @@ impl Awaited {
         }
     }
 
-    /// What an order is to send.
+    /// What an order sends.
     pub fn of(order: &Order) -> Self
         ensures { transmission result ≡ transmission_of_order order.now }
     {
@@ -67,7 +69,7 @@ impl Awaited {
         }
     }
 
-    /// The group of all that are the same.
+    /// The index group of all orders that send the same.
     pub fn group(&self) -> Group
         ensures { result ≡ awaited_group self.now }
     {
@@ -78,7 +80,7 @@ impl Awaited {
         }
     }
 
-    // Whether both are the same.
+    // Whether two orders send the same.
     fn is_same(&self, other: &Awaited) -> bool
         ensures { result ≡ is_same self.now other.now }
     {
@@ -91,7 +93,7 @@ impl Awaited {
     }
 }
 
-// Whether what is left at a place is the same.
+// Whether a slot holds an order that sends the same as `wanted`.
 fn has_place(place: &Option<Awaited>, wanted: &Awaited) -> bool
     ensures { result ≡ passes (is_same wanted.now) place.now }
 {
@@ -101,7 +103,7 @@ fn has_place(place: &Option<Awaited>, wanted: &Awaited) -> bool
     }
 }
 
-// The first of the same from a place on, by the list alone.
+// The first place, not below `from`, with an order that sends the same as `wanted`. It scans the list.
 fn walk(awaiting: &[Option<Awaited>], wanted: &Awaited, from: usize) -> Option<usize>
     ensures first { IfSome result (IsFirstFrom (passes (is_same wanted.now)) awaiting.now from) }
     ensures none { IfNone result (IsNoneFrom (passes (is_same wanted.now)) awaiting.now from) }
@@ -114,7 +116,8 @@ fn walk(awaiting: &[Option<Awaited>], wanted: &Awaited, from: usize) -> Option<u
     None
 }
 
-/// The first of the same from a place on.
+/// The first place, not below `from`, with an order that sends the same as `wanted`. It uses the index if that is
+/// whole.
 pub fn next_awaited(
     awaiting: &[Option<Awaited>],
     index: &Catalogue,
@@ -125,7 +128,7 @@ pub fn next_awaited(
     ensures first { IfSome result (IsFirstFrom (passes (is_same wanted.now)) awaiting.now from) }
     ensures none { IfNone result (IsNoneFrom (passes (is_same wanted.now)) awaiting.now from) }
 {
-    // How many there are bounds each place.
+    // The contract of `len` also bounds each place.
     let _holds = awaiting.len();
     if !index.is_whole {
         return walk(awaiting, wanted, from);
@@ -136,7 +139,7 @@ pub fn next_awaited(
     }
 }
 
-// Takes what is left at a place out of its group.
+// Removes the place of a slot from its index group.
 fn unlist(index: &mut Catalogue, slot: &Option<Awaited>, place: usize)
     ensures { (keys : List (List (List ℕ))) → groups_at keys place ≡ awaited_groups slot.now → Catalogues keys index.old → Catalogues (slice_set keys place []) index.new }
 {
@@ -146,7 +149,7 @@ fn unlist(index: &mut Catalogue, slot: &Option<Awaited>, place: usize)
     }
 }
 
-// Takes out what is left at a place.
+// Empties the slot at a place and removes it from the index.
 fn remove_at(awaiting: &mut [Option<Awaited>], index: &mut Catalogue, place: usize)
     requires within { place < length awaiting.old }
     requires index { Catalogues (map awaited_groups awaiting.old) index.old }
@@ -157,7 +160,7 @@ fn remove_at(awaiting: &mut [Option<Awaited>], index: &mut Catalogue, place: usi
     awaiting[place] = None;
 }
 
-/// Takes out all of the same.
+/// Removes all orders that send the same as `wanted`.
 pub fn remove_all(awaiting: &mut [Option<Awaited>], index: &mut Catalogue, wanted: &Awaited)
     requires { Catalogues (map awaited_groups awaiting.old) index.old }
     ensures slots { awaiting.new ≡ map (removed (is_same wanted.now)) awaiting.old }
@@ -170,7 +173,7 @@ pub fn remove_all(awaiting: &mut [Option<Awaited>], index: &mut Catalogue, wante
     }
 }
 
-/// An index of all orders.
+/// A new index of all orders.
 pub fn listed(alloc: Global, awaiting: &[Option<Awaited>]) -> Catalogue
     ensures { Catalogues (map awaited_groups awaiting.now) result }
 {

@@ -1,7 +1,7 @@
-// The orders that await their placings.
+// The list of orders that await their placings.
 ghost use Rattle.std.specs.Prelude.{◌≡◌, ◌+◌, ◌≤◌, ◌<◌, ◌^◌, ◌++◌, ◌∷◌, [], Some, OnOk, map, filter, not, length};
 ghost use Rattle.std.specs.List.{list_any};
-ghost use Rattle.kme_step.specs.Steps.{transmission_of_order};
+ghost use Rattle.kme_base.specs.Steps.{transmission_of_order};
 ghost use Rattle.resend_window.specs.Held.{transmission};
 ghost use Rattle.resend_window.specs.Kept.{somes};
 ghost use Rattle.resend_window.specs.Lists.{is_same};
@@ -14,7 +14,8 @@ use qkd_base::Memory;
 use std::alloc::Global;
 use std::marker::Model;
 
-/// Orders in order, with the places of those that were taken out, found by what they send.
+/// Orders that await their placings, oldest first. A removed one leaves an empty slot. An index finds them by what
+/// they send.
 #[derive(Drop)]
 pub struct AwaitedList {
     items: Vec<Option<Awaited>>,
@@ -35,7 +36,7 @@ impl Model for AwaitedList {
 }
 
 impl AwaitedList {
-    /// No orders. It takes no memory.
+    /// The empty list. It allocates nothing.
     pub fn new(alloc: Global) -> Self
         ensures { result.items ≡ [] }
     {
@@ -45,7 +46,7 @@ impl AwaitedList {
         }
     }
 
-    /// Lets all go. It takes no memory.
+    /// Removes all items. It keeps the memory of the list.
     pub fn clear(&mut self)
         ensures items { self.new.items ≡ [] }
         ensures spare { self.old.spare ≤ self.new.spare }
@@ -54,7 +55,7 @@ impl AwaitedList {
         self.index = Catalogue::new(*self.items.allocator());
     }
 
-    /// How many there are at most.
+    /// An upper bound of the number of orders.
     pub fn count(&self) -> usize
         ensures count { length (somes self.now.items) ≤ result }
         ensures bound { result < 2 ^ 63 }
@@ -62,7 +63,7 @@ impl AwaitedList {
         self.items.len()
     }
 
-    /// Whether the same is awaited.
+    /// Whether an order that sends the same as `wanted` awaits its placing.
     pub fn has(&self, wanted: &Awaited) -> bool
         ensures { result ≡ list_any (is_same wanted.now) (somes self.now.items) }
     {
@@ -72,7 +73,7 @@ impl AwaitedList {
         }
     }
 
-    /// Takes out all of the same. It takes no memory.
+    /// Removes all orders that send the same as `wanted`. It allocates nothing.
     pub fn remove(&mut self, wanted: &Awaited)
         ensures items { somes self.new.items ≡ filter (λ a. not (is_same wanted.now a)) (somes self.old.items) }
         ensures spare { self.new.spare ≡ self.old.spare }
@@ -80,7 +81,7 @@ impl AwaitedList {
         remove_all(&mut self.items, &mut self.index, wanted);
     }
 
-    // One more order.
+    // Appends an order.
     fn push(&mut self, awaited: Awaited)
         requires { 0 < self.old.spare }
         ensures items { self.new.items ≡ self.old.items ++ Some awaited ∷ [] }
@@ -92,7 +93,7 @@ impl AwaitedList {
         self.items.push_reserved(Some(awaited));
     }
 
-    /// These orders await their placings. It takes no memory.
+    /// Appends these orders. It needs only the room that was reserved.
     pub fn push_all(&mut self, orders: &[Order])
         requires { length orders.now ≤ self.old.spare }
         ensures items { map transmission (somes self.new.items) ≡ map transmission (somes self.old.items) ++ map transmission_of_order orders.now }
@@ -103,7 +104,7 @@ impl AwaitedList {
         }
     }
 
-    /// Makes room for so many more orders. An `Err` leaves what is awaited as it is.
+    /// Reserves memory for `more` further orders. An `Err` keeps those that await their placings.
     pub fn grow(&mut self, more: usize) -> Result<(), Memory>
         ensures items { somes self.new.items ≡ somes self.old.items }
         ensures spare { self.old.spare ≤ self.new.spare }

@@ -1,4 +1,4 @@
-// What is looked for among frames that were sent, and what becomes of it.
+// Queries for sent frames, and changes of the frames that a query finds.
 ghost use Rattle.std.specs.Prelude.{◌≡◌};
 ghost use Rattle.resend_window.specs.Slots.{is_asked, edit};
 ghost use Rattle.resend_window.specs.Groups.{query_group};
@@ -8,36 +8,36 @@ use crate::groups::{name_group, offset_group, sent_group};
 use crate::held::Held;
 use qkd_base::{KeyName, Lane};
 
-/// Frames that are looked for together.
+/// A query for frames that were sent.
 #[derive(Clone, Copy)]
 pub enum Query {
     /// The frame at an offset of its lane.
     At(Lane, u64),
-    /// The acknowledgements on a lane of what was received at an offset.
+    /// The frames on a lane that acknowledge the frame received at an offset of the link's other lane.
     Answering(Lane, u64),
-    /// The frames of a fact on a lane.
+    /// The frames on a lane that carry the fact of this name.
     DataOf(Lane, KeyName),
-    /// The frames of facts that went out last at a tick.
+    /// The frames with facts that were last sent at a tick.
     SentAt(u64),
 }
 
-/// What becomes of a frame.
+/// A change of a frame.
 #[derive(Clone, Copy)]
 pub enum Edit {
-    /// It is due whatever its age.
+    /// The frame is due, whatever its age.
     MarkDue,
-    /// It went out at a tick.
+    /// The frame was sent again at a tick.
     Renew(u64),
-    /// It has a new number on the wire.
+    /// The frame has a new number on its wire.
     Renumber(u64),
-    /// At the next plan it is due by its age.
+    /// The frame is old enough to be sent again at the next plan.
     Ripen,
-    /// It isn't kept any more.
+    /// The frame is removed.
     Remove,
 }
 
 impl Query {
-    /// The group of what is asked for.
+    /// The index group of the frames that this query finds.
     pub fn group(&self) -> Group
         ensures { result ≡ query_group self.now }
     {
@@ -49,7 +49,7 @@ impl Query {
         }
     }
 
-    /// Whether a frame is asked for.
+    /// Whether the query finds this frame.
     pub fn asks(&self, held: &Held) -> bool
         ensures { result ≡ is_asked self.now held.now }
     {
@@ -65,7 +65,7 @@ impl Query {
 }
 
 impl Edit {
-    /// What a frame is then.
+    /// The frame after this change, or `None` if the change removes it.
     pub fn of(&self, held: &Held) -> Option<Held>
         ensures { result ≡ edit self.now held.now }
     {

@@ -1,4 +1,5 @@
-// Groups that a lane tells with an offset or a name. The offset or the count, which differs most, stands first: there comparisons end.
+// Index groups, made of a lane with an offset or a name. The offset or the count stands first, since it differs most
+// and comparisons then end early.
 ghost use Rattle.std.specs.Prelude.{◌≡◌, ◌<◌};
 ghost use Rattle.qkd_base.specs.Lane.{lane_place};
 ghost use Rattle.relay_core.specs.Index.{tagged};
@@ -8,7 +9,7 @@ use crate::catalogue::Group;
 use qkd_base::{KeyName, Lane, Way};
 use relay_core::origin_number;
 
-// The place of a lane among all lanes.
+// The number of a lane among all lanes.
 fn lane_place(lane: &Lane) -> u64
     ensures place { result ≡ lane_place lane.now }
     ensures small { result < 64 }
@@ -20,14 +21,14 @@ fn lane_place(lane: &Lane) -> u64
     }
 }
 
-// A tag and a lane in one number.
+// One number that holds a tag and a lane.
 fn tagged(tag: u8, lane: &Lane) -> u64
     ensures { result ≡ tagged tag (lane_place lane.now) }
 {
     u64::from(tag) + 8 * lane_place(lane)
 }
 
-/// The group of a lane and an offset. Tags are less than four.
+/// The group of a lane and an offset. `tag` must be below 4.
 pub fn offset_group(tag: u8, lane: &Lane, offset: u64) -> Group
     ensures { result ≡ offset_group tag lane.now offset }
 {
@@ -46,7 +47,7 @@ pub fn name_group(tag: u8, lane: &Lane, name: &KeyName, more: u64) -> Group
     ]
 }
 
-/// The group of a tick.
+/// The group of the frames that were last sent at a tick.
 pub fn sent_group(tick: u64) -> Group
     ensures { result ≡ sent_group tick }
 {

@@ -1,4 +1,4 @@
-// A frame that was sent and may be sent again.
+// Frames that were sent and may be sent again.
 ghost use Rattle.std.specs.Prelude.{◌≡◌, ℕ, ◌+◌, ◌-◌, ◌<◌, ◌≤◌, ◌^◌, ◌&&◌, ◌++◌, take, drop, replicate, length};
 ghost use Rattle.qkd_base.specs.Lane.{reverse_lane, lane_eq};
 ghost use Rattle.net_model.specs.Window.{entry_of, repeat_of};
@@ -10,34 +10,34 @@ use crate::groups::{name_group, offset_group};
 use net_model::{Placing, Repeat};
 use qkd_base::{FrameOctets, KeyName, Lane, Way};
 
-/// A frame that was sent: where it stands on its lane, what it carries, when it went out last, and its octets.
+/// A frame that was sent: its lane and offset, what it carries, when it was last sent, and its octets.
 #[derive(Clone, Copy)]
 pub struct Held {
     pub lane: Lane,
     pub offset: u64,
     pub name: KeyName,
-    /// For an acknowledgement the offset at which its frame was received.
+    /// The offset of the frame that is acknowledged, or `None` if this frame carries a fact.
     pub ack_of: Option<u64>,
     pub number: Option<u64>,
-    /// The tick at which it went out last.
+    /// The tick at which the frame was last sent.
     pub sent: u64,
-    /// Whether it is due whatever its age.
+    /// Whether the frame is due, whatever its age.
     pub due: bool,
-    /// Whether at the next plan it is due by its age.
+    /// Whether the frame is old enough to be sent again at the next plan.
     pub ripe: bool,
     pub length: u16,
     pub frame: FrameOctets,
 }
 
 impl Held {
-    /// The group of its place.
+    /// The index group of this lane and offset.
     pub fn place_group(&self) -> Group
         ensures { result ≡ offset_group 0 self.now.lane self.now.offset }
     {
         offset_group(0, &self.lane, self.offset)
     }
 
-    /// The group of what it carries.
+    /// The index group of what the frame carries.
     pub fn item_group(&self) -> Group
         ensures { result ≡ item_group self.now.lane self.now.name self.now.ack_of }
     {
@@ -47,14 +47,14 @@ impl Held {
         }
     }
 
-    /// Whether it goes out at the next plan.
+    /// Whether the frame is sent again at the next plan.
     pub fn is_ready(&self) -> bool
         ensures { result ≡ is_ready self.now }
     {
         self.due || self.ripe
     }
 
-    /// The same frame once more.
+    /// The order to send this frame again.
     pub fn repeat(&self) -> Repeat
         ensures { (tick now : ℕ) → IsHeld now self.now → result ≡ repeat_of (entry_at tick self.now) }
     {
@@ -84,7 +84,7 @@ pub fn reversed(lane: Lane) -> Lane
     }
 }
 
-/// Whether it goes out on a lane at the tick behind `now`.
+/// Whether the frame is sent again on this lane at the tick after `tick`.
 pub fn is_next_on(held: &Held, tick: u64, lane: Lane) -> bool
     requires room { tick + 1 < 2 ^ 64 }
     requires sent { held.now.sent ≤ tick }
@@ -93,7 +93,7 @@ pub fn is_next_on(held: &Held, tick: u64, lane: Lane) -> bool
     held.lane == lane && (held.due || held.ack_of.is_none() && 4 <= tick + 1 - held.sent)
 }
 
-// Writes octets over the first ones of a room.
+// Writes the octets over the first ones of `room`.
 fn write_front(room: &mut [u8], octets: &[u8])
     requires { length octets.now ≤ length room.old }
     ensures { room.new ≡ octets.now ++ drop (length octets.now) room.old }
@@ -101,12 +101,12 @@ fn write_front(room: &mut [u8], octets: &[u8])
     room[..octets.len()].copy_from_slice(octets);
 }
 
-// The octets of a frame, and zeros behind them.
+// The first `size` octets of a frame, followed by zeros.
 fn cleaned(frame: &FrameOctets, size: u16) -> FrameOctets
     requires { size ≤ 600 }
     ensures octets { result.octets ≡ take size frame.now.octets ++ replicate (600 - size) 0 }
 
-    // What holds of every frame.
+    // A frame always has room for 600 octets.
     ensures room { length frame.now.octets ≡ 600 }
 {
     let mut room = FrameOctets::new();
@@ -118,13 +118,13 @@ fn cleaned(frame: &FrameOctets, size: u16) -> FrameOctets
 fn offset_of(placing: &Placing) -> u64
     ensures value { result ≡ placing.now.offset }
 
-    // What holds of every offset.
+    // An offset always fits in 64 bits.
     ensures fits { placing.now.offset < 2 ^ 64 }
 {
     placing.offset
 }
 
-/// What an order's placing leaves at a tick.
+/// The sent frame that an order's placing at this tick describes.
 pub fn held_of(placing: &Placing, tick: u64) -> Held
     ensures entry { entry_at tick result ≡ entry_of placing.now }
     ensures held { IsHeld tick result }

@@ -1,4 +1,4 @@
-// The frames that are kept.
+// The list of frames that were sent and may be sent again.
 ghost use Rattle.std.specs.Prelude.{◌≡◌, ◌+◌, ◌≤◌, ◌<◌, ◌^◌, ◌++◌, ◌∷◌, [], Some, None, false, OnOk, map, find};
 ghost use Rattle.std.specs.List.{list_any};
 ghost use Rattle.std.specs.Option.{option_copied};
@@ -20,8 +20,9 @@ use qkd_base::{Lane, Memory};
 use std::alloc::Global;
 use std::marker::Model;
 
-/// Frames in order of completing, with the places of those that were taken out, found by place, by fact, by what they
-/// acknowledge, and by the tick at which a fact's went out last; and those that go out at the next plan, by offset.
+/// Frames in the order in which their placings came. A removed one leaves an empty slot. An index finds frames by
+/// offset, by fact, by the frame they acknowledge, and by the tick at which a fact was last sent. A set has the
+/// offsets of the frames that are sent again at the next plan.
 #[derive(Drop)]
 pub struct HeldList {
     items: Vec<Option<Held>>,
@@ -43,7 +44,7 @@ impl Model for HeldList {
 }
 
 impl HeldList {
-    /// No frames. It takes no memory.
+    /// The empty list. It allocates nothing.
     pub fn new(alloc: Global) -> Self
         ensures { result.items ≡ [] }
     {
@@ -54,7 +55,7 @@ impl HeldList {
         }
     }
 
-    /// Lets all go. It takes no memory.
+    /// Removes all items. It keeps the memory of the list.
     pub fn clear(&mut self)
         ensures items { self.new.items ≡ [] }
         ensures spare { self.old.spare ≤ self.new.spare }
@@ -64,12 +65,12 @@ impl HeldList {
         self.dues = DueSet::new(*self.items.allocator());
     }
 
-    /// The allocator.
+    /// The allocator of the list.
     pub fn allocator(&self) -> Global {
         *self.items.allocator()
     }
 
-    /// Whether a frame that is asked for is kept.
+    /// Whether the query finds a frame.
     pub fn has(&self, query: &Query) -> bool
         ensures { result ≡ list_any (is_asked query.now) (somes self.now.items) }
     {
@@ -79,7 +80,7 @@ impl HeldList {
         }
     }
 
-    /// The first frame that is asked for.
+    /// The first frame that the query finds.
     pub fn first(&self, query: &Query) -> Option<&Held>
         ensures { option_copied result ≡ find (is_asked query.now) (somes self.now.items) }
     {
@@ -89,7 +90,7 @@ impl HeldList {
         }
     }
 
-    /// Changes all frames that are asked for. It takes no memory.
+    /// Changes all frames that the query finds. It allocates nothing.
     pub fn change(&mut self, query: &Query, change: &Edit)
         requires { is_removal change.now ≡ false }
         ensures items { self.new.items ≡ map (edited query.now change.now) self.old.items }
@@ -104,7 +105,7 @@ impl HeldList {
         );
     }
 
-    /// Takes out all frames that are asked for. It takes no memory.
+    /// Removes all frames that the query finds. It allocates nothing.
     pub fn remove(&mut self, query: &Query)
         ensures items { self.new.items ≡ map (removed (is_asked query.now)) self.old.items }
         ensures spare { self.new.spare ≡ self.old.spare }
@@ -112,7 +113,7 @@ impl HeldList {
         remove_all(&mut self.items, &mut self.index, &mut self.dues, query);
     }
 
-    /// The frames that were repeated went out at this tick. It takes no memory.
+    /// Records that the repeated frames were sent again at this tick. It allocates nothing.
     pub fn renew_all(&mut self, repeats: &[Repeat], tick: u64)
         ensures items { somes self.new.items ≡ map (renewed_by tick repeats.now) (somes self.old.items) }
         ensures spare { self.new.spare ≡ self.old.spare }
@@ -122,7 +123,8 @@ impl HeldList {
         }
     }
 
-    /// At a tick the frames of facts that went out three ticks before become ripe.
+    /// Marks the frames with facts that were last sent three ticks before this one: they are old enough at the next
+    /// plan.
     pub fn ripen(&mut self, tick: u64)
         ensures items { somes self.new.items ≡ map (ripened_at tick) (somes self.old.items) }
         ensures spare { self.new.spare ≡ self.old.spare }
@@ -132,7 +134,7 @@ impl HeldList {
         }
     }
 
-    /// The least offset of a frame that goes out at the next tick on a lane, above an offset.
+    /// The least offset above `after` of a frame on this lane that is sent again at the next tick.
     pub fn next_offset(&self, tick: u64, lane: &Lane, after: Option<u64>) -> Option<u64>
         requires room { tick + 1 < 2 ^ 64 }
         requires held { AreHeld tick (somes self.now.items) }
@@ -141,7 +143,7 @@ impl HeldList {
         next_offset(&self.items, &self.dues, tick, lane, after)
     }
 
-    /// One more frame. It takes no memory.
+    /// Appends a frame. It needs only the room that was reserved.
     pub fn push(&mut self, held: Held)
         requires { 0 < self.old.spare }
         ensures items { self.new.items ≡ self.old.items ++ Some held ∷ [] }
@@ -153,7 +155,7 @@ impl HeldList {
         self.items.push_reserved(Some(held));
     }
 
-    /// Makes room for so many more frames. An `Err` leaves what is kept as it is.
+    /// Reserves memory for `more` further frames. An `Err` keeps the frames of the list.
     pub fn grow(&mut self, more: usize) -> Result<(), Memory>
         ensures items { somes self.new.items ≡ somes self.old.items }
         ensures spare { self.old.spare ≤ self.new.spare }

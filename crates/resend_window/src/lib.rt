@@ -1,4 +1,4 @@
-//! What a manager sent and may send again, and the acknowledgements that it owes.
+//! The frames that a manager has sent and may send again, and the acknowledgements that it still has to send.
 #![tactic(auto)]
 
 mod arrival;

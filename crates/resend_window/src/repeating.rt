@@ -1,4 +1,4 @@
-// What goes out again.
+// The frames that a plan sends again.
 ghost use Rattle.std.specs.Prelude.{◌≡◌, ◌+◌, ◌<◌, ◌^◌, ◌∷◌, [], map, IfSome, IfNone, IfOk};
 ghost use Rattle.net_model.specs.Window.{repeats_on, repeat_of};
 ghost use Rattle.resend_window.specs.Held.{AreHeld, AreApart, entries_at};
@@ -10,7 +10,7 @@ use crate::held_list::HeldList;
 use net_model::{Repeat, Repeats};
 use qkd_base::{Items, Lane, Memory};
 
-// The first frame that goes out at the next tick on a lane, above an offset.
+// Of the frames on this lane that are sent again at the next tick, the one with the least offset above `after`.
 fn next_repeat(slots: &HeldList, tick: u64, lane: &Lane, after: Option<u64>) -> Option<Repeat>
     requires room { tick + 1 < 2 ^ 64 }
     requires held { AreHeld tick (somes slots.now.items) }
@@ -27,7 +27,7 @@ fn next_repeat(slots: &HeldList, tick: u64, lane: &Lane, after: Option<u64>) -> 
     }
 }
 
-/// The frames that go out again at the next tick on a lane: at most 16, in order of offset.
+/// The frames on this lane that are sent again at the next tick, in order of offset, at most 16.
 pub fn repeats_of(slots: &HeldList, tick: u64, lane: &Lane) -> Result<Repeats, Memory>
     requires room { tick + 1 < 2 ^ 64 }
     requires held { AreHeld tick (somes slots.now.items) }

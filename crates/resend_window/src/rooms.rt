@@ -1,17 +1,17 @@
-// Room in lists from which items were taken out.
+// Room in lists with empty slots.
 ghost use Rattle.std.specs.Prelude.{◌≡◌, ◌+◌, ◌-◌, ◌≤◌, nat_le, OnOk, vec_len, vec_capacity};
 ghost use Rattle.resend_window.specs.Kept.{somes};
 
 use qkd_base::Memory;
 
-/// Whether there is room for so many more items.
+/// Whether the list has room for `more` further items.
 pub fn has_room<T>(list: &Vec<Option<T>>, more: usize) -> bool
     ensures { result ≡ nat_le more (vec_capacity list.now - vec_len list.now) }
 {
     more <= list.capacity() - list.len()
 }
 
-/// Gives up the places of what was taken out. It takes no memory.
+/// Removes the empty slots of a list. It allocates nothing.
 pub fn compact<T: Drop>(list: &mut Vec<Option<T>>)
     ensures items { somes list.new.items ≡ somes list.old.items }
     ensures spare { vec_capacity list.old - vec_len list.old ≤ vec_capacity list.new - vec_len list.new }
@@ -19,8 +19,8 @@ pub fn compact<T: Drop>(list: &mut Vec<Option<T>>)
     list.retain(|place| place.is_some());
 }
 
-/// Makes room for so many more items, and at least for as many as there are, so that this is done seldom. An `Err` changes
-/// nothing.
+/// Reserves memory for `more` further items, and for at least as many as the list has, so that it grows seldom. An `Err`
+/// changes nothing.
 pub fn reserve<T>(list: &mut Vec<Option<T>>, more: usize) -> Result<(), Memory>
     ensures items { list.new.items ≡ list.old.items }
     ensures spare { vec_capacity list.old - vec_len list.old ≤ vec_capacity list.new - vec_len list.new }

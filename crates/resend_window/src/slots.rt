@@ -1,4 +1,4 @@
-// Frames found, and changed in place.
+// Sent frames in their slots: found, changed and removed.
 ghost use Rattle.std.specs.Prelude.{◌≡◌, ◌+◌, ◌<◌, ◌≤◌, ◌^◌, ◌++◌, ◌∷◌, ℕ, ◌&&◌, nat_le, map, length, IfSome, IfNone, Some, Option, None, List, [], true, false, slice_get, slice_set};
 ghost use Rattle.std.specs.List.{list_any};
 ghost use Rattle.std.specs.Str.{bytes_eq};
@@ -23,7 +23,7 @@ use crate::held::{Held, is_next_on};
 use qkd_base::Lane;
 use std::alloc::Global;
 
-// Whether what is left at a place is asked for.
+// Whether a slot holds a frame that the query finds.
 fn asks_slot(query: &Query, slot: &Option<Held>) -> bool
     ensures { result ≡ passes (is_asked query.now) slot.now }
 {
@@ -33,7 +33,7 @@ fn asks_slot(query: &Query, slot: &Option<Held>) -> bool
     }
 }
 
-// The first frame that is asked for from a place on, by the list alone.
+// The first place, not below `from`, with a frame that the query finds. It scans the list.
 fn walk(slots: &[Option<Held>], query: &Query, from: usize) -> Option<usize>
     ensures first { IfSome result (IsFirstFrom (passes (is_asked query.now)) slots.now from) }
     ensures none { IfNone result (IsNoneFrom (passes (is_asked query.now)) slots.now from) }
@@ -46,7 +46,7 @@ fn walk(slots: &[Option<Held>], query: &Query, from: usize) -> Option<usize>
     None
 }
 
-/// The first frame that is asked for from a place on.
+/// The first place, not below `from`, with a frame that the query finds. It uses the index if that is whole.
 pub fn next_slot(
     slots: &[Option<Held>],
     index: &Catalogue,
@@ -57,7 +57,7 @@ pub fn next_slot(
     ensures first { IfSome result (IsFirstFrom (passes (is_asked query.now)) slots.now from) }
     ensures none { IfNone result (IsNoneFrom (passes (is_asked query.now)) slots.now from) }
 {
-    // How many there are bounds each place.
+    // The contract of `len` also bounds each place.
     let _holds = slots.len();
     if !index.is_whole {
         return walk(slots, query, from);
@@ -68,7 +68,7 @@ pub fn next_slot(
     }
 }
 
-// What becomes of what is left at a place.
+// The slot after a change, if the query finds its frame.
 fn changed(slot: &Option<Held>, query: &Query, change: &Edit) -> Option<Held>
     ensures { result ≡ edited query.now change.now slot.now }
 {
@@ -84,7 +84,7 @@ fn changed(slot: &Option<Held>, query: &Query, change: &Edit) -> Option<Held>
     }
 }
 
-// Puts a place into the group of the tick at which its frame went out, if it is of a fact.
+// Adds a place to the group of the tick at which its frame was sent, if the frame carries a fact.
 fn list_sent(index: &mut Catalogue, ack_of: Option<u64>, sent: u64, place: usize)
     ensures { (keys : List (List (List ℕ))) → place < length keys → Catalogues keys index.old → Catalogues (slice_set keys place (sent_groups ack_of sent ++ groups_at keys place)) index.new }
 {
@@ -94,7 +94,7 @@ fn list_sent(index: &mut Catalogue, ack_of: Option<u64>, sent: u64, place: usize
     }
 }
 
-// Takes a place out of that group.
+// Removes a place from the group of the tick at which its frame was sent, if the frame carries a fact.
 fn unlist_sent(index: &mut Catalogue, ack_of: Option<u64>, sent: u64, place: usize)
     ensures { (keys : List (List (List ℕ))) (rest : List (List ℕ)) → groups_at keys place ≡ sent_groups ack_of sent ++ rest → list_any (bytes_eq (sent_group sent)) rest ≡ false → Catalogues keys index.old → Catalogues (slice_set keys place rest) index.new }
 {
@@ -104,7 +104,7 @@ fn unlist_sent(index: &mut Catalogue, ack_of: Option<u64>, sent: u64, place: usi
     }
 }
 
-/// Puts one more place, behind the others, into the groups of its frame.
+/// Adds the place after the last one to the index groups of its frame.
 pub fn enlist(index: &mut Catalogue, held: &Held, place: usize)
     ensures { (keys : List (List (List ℕ))) → length keys ≡ place → Catalogues keys index.old → Catalogues (keys ++ held_groups (Some held.now) ∷ []) index.new }
 {
@@ -112,7 +112,7 @@ pub fn enlist(index: &mut Catalogue, held: &Held, place: usize)
     list_sent(index, held.ack_of, held.sent, place);
 }
 
-// Takes what is left at a place out of its groups.
+// Removes the place of a slot from its index groups.
 fn unlist(index: &mut Catalogue, slot: &Option<Held>, place: usize)
     ensures { (keys : List (List (List ℕ))) → place < length keys → groups_at keys place ≡ held_groups slot.now → Catalogues keys index.old → Catalogues (slice_set keys place []) index.new }
 {
@@ -125,7 +125,7 @@ fn unlist(index: &mut Catalogue, slot: &Option<Held>, place: usize)
     }
 }
 
-// Puts the place of a frame that went out again into the group of that tick.
+// Moves the place of a frame that was sent again to the group of that tick.
 fn renew(index: &mut Catalogue, held: &Held, tick: u64, place: usize)
     ensures { (keys : List (List (List ℕ))) → place < length keys → groups_at keys place ≡ held_groups (Some held.now) → Catalogues keys index.old → Catalogues (slice_set keys place (held_groups (edit (Renew tick) held.now))) index.new }
 {
@@ -133,7 +133,7 @@ fn renew(index: &mut Catalogue, held: &Held, tick: u64, place: usize)
     list_sent(index, held.ack_of, tick, place);
 }
 
-// The groups of a frame's place behind a change.
+// Updates the index groups of a frame's place for a change.
 fn relist(index: &mut Catalogue, held: &Held, change: &Edit, place: usize)
     requires { is_removal change.now ≡ false }
     ensures { (keys : List (List (List ℕ))) → place < length keys → groups_at keys place ≡ held_groups (Some held.now) → Catalogues keys index.old → Catalogues (slice_set keys place (held_groups (edit change.now held.now))) index.new }
@@ -147,7 +147,7 @@ fn relist(index: &mut Catalogue, held: &Held, change: &Edit, place: usize)
     }
 }
 
-// The same of what is left at a place, if it is asked for.
+// Updates the index groups of a slot's place for a change, if the query finds its frame.
 fn relist_asked(
     index: &mut Catalogue,
     slot: &Option<Held>,
@@ -168,7 +168,7 @@ fn relist_asked(
     }
 }
 
-// Whether what is left at a place goes out at the next plan.
+// Whether a slot holds a frame that is sent again at the next plan.
 fn is_ready(slot: &Option<Held>) -> bool
     ensures { result ≡ passes is_ready slot.now }
 {
@@ -178,7 +178,7 @@ fn is_ready(slot: &Option<Held>) -> bool
     }
 }
 
-// Whether a frame at an offset of a lane goes out at the next plan.
+// Whether a frame at this offset of this lane is sent again at the next plan.
 fn is_due_at(slots: &[Option<Held>], index: &Catalogue, lane: &Lane, offset: u64) -> bool
     requires { Catalogues (map held_groups slots.now) index.now }
     ensures { result ≡ list_any (goes_at lane.now offset) (somes slots.now) }
@@ -193,7 +193,7 @@ fn is_due_at(slots: &[Option<Held>], index: &Catalogue, lane: &Lane, offset: u64
     false
 }
 
-// Notes whether a frame goes out at an offset of a lane, where nothing else changed.
+// Updates the set of due frames at this offset of this lane. No other frame may have changed since the last update.
 fn settle_at(dues: &mut DueSet, slots: &[Option<Held>], index: &Catalogue, lane: &Lane, offset: u64)
     requires { Catalogues (map held_groups slots.now) index.now }
     ensures { (before : List (Option HeldValue)) → AreAlikeBut lane.now offset before slots.now → HasDues before dues.old → HasDues slots.now dues.new }
@@ -202,7 +202,7 @@ fn settle_at(dues: &mut DueSet, slots: &[Option<Held>], index: &Catalogue, lane:
     dues.note(lane, offset, is_due);
 }
 
-// The same where a frame stood.
+// Updates the set of due frames at the lane and offset of the frame that was in the slot before.
 fn settle(dues: &mut DueSet, slots: &[Option<Held>], index: &Catalogue, stood: &Option<Held>)
     requires { Catalogues (map held_groups slots.now) index.now }
     ensures { (before : List (Option HeldValue)) → AreAlike stood.now before slots.now → HasDues before dues.old → HasDues slots.now dues.new }
@@ -234,7 +234,7 @@ fn change_at(
     settle(dues, slots, index, &stood);
 }
 
-/// Changes all frames that are asked for, where none is taken out.
+/// Changes all frames that the query finds. The change must not be a removal.
 pub fn change_all(
     slots: &mut [Option<Held>],
     index: &mut Catalogue,
@@ -254,7 +254,7 @@ pub fn change_all(
     }
 }
 
-// Takes out what is left at a place.
+// Empties the slot at a place and removes it from the index.
 fn remove_at(slots: &mut [Option<Held>], index: &mut Catalogue, dues: &mut DueSet, place: usize)
     requires within { place < length slots.old }
     requires listed { IsListed slots.old index.old dues.old }
@@ -267,7 +267,7 @@ fn remove_at(slots: &mut [Option<Held>], index: &mut Catalogue, dues: &mut DueSe
     settle(dues, slots, index, &stood);
 }
 
-/// Takes out all frames that are asked for.
+/// Removes all frames that the query finds.
 pub fn remove_all(
     slots: &mut [Option<Held>],
     index: &mut Catalogue,
@@ -285,7 +285,7 @@ pub fn remove_all(
     }
 }
 
-/// An index of all frames.
+/// A new index of all frames.
 pub fn listed(alloc: Global, slots: &[Option<Held>]) -> Catalogue
     ensures { Catalogues (map held_groups slots.now) result }
 {
@@ -299,7 +299,7 @@ pub fn listed(alloc: Global, slots: &[Option<Held>]) -> Catalogue
     index
 }
 
-/// All frames that go out at the next plan.
+/// The set of all frames that are sent again at the next plan.
 pub fn all_due(alloc: Global, slots: &[Option<Held>]) -> DueSet
     ensures { HasDues slots.now result }
 {
@@ -313,7 +313,7 @@ pub fn all_due(alloc: Global, slots: &[Option<Held>]) -> DueSet
     dues
 }
 
-// Whether an offset is above another one, if there is one.
+// Whether an offset is above `after`. If `after` is `None`, every offset is.
 fn is_above(after: Option<u64>, offset: u64) -> bool
     ensures { result ≡ is_above after offset }
 {
@@ -323,7 +323,8 @@ fn is_above(after: Option<u64>, offset: u64) -> bool
     }
 }
 
-// The offset of what is left at a place, if it goes out at the next tick on a lane, above an offset.
+// The offset of a slot's frame, if this frame is sent again at the next tick on this lane and its offset is above
+// `after`.
 fn offset_after(slot: &Option<Held>, tick: u64, lane: &Lane, after: Option<u64>) -> Option<u64>
     requires room { tick + 1 < 2 ^ 64 }
     requires sent { ForSome slot.now (IsHeld tick) }
@@ -341,7 +342,7 @@ fn offset_after(slot: &Option<Held>, tick: u64, lane: &Lane, after: Option<u64>)
     }
 }
 
-// The lesser of two numbers, of which either may be wanting.
+// The lesser of two optional numbers. `None` counts as greater than any number.
 fn lesser(one: Option<u64>, other: Option<u64>) -> Option<u64>
     ensures { result ≡ lesser one other }
 {
@@ -352,7 +353,7 @@ fn lesser(one: Option<u64>, other: Option<u64>) -> Option<u64>
     }
 }
 
-// The least offset of a frame that goes out at the next tick on a lane, above an offset, by the list alone.
+// The least offset above `after` of a frame on this lane that is sent again at the next tick. It scans the list.
 fn walk_offsets(slots: &[Option<Held>], tick: u64, lane: &Lane, after: Option<u64>) -> Option<u64>
     requires room { tick + 1 < 2 ^ 64 }
     requires held { AreHeld tick (somes slots.now) }
@@ -365,7 +366,7 @@ fn walk_offsets(slots: &[Option<Held>], tick: u64, lane: &Lane, after: Option<u6
     least
 }
 
-/// The least offset of a frame that goes out at the next tick on a lane, above an offset.
+/// The least offset above `after` of a frame on this lane that is sent again at the next tick.
 pub fn next_offset(
     slots: &[Option<Held>],
     dues: &DueSet,

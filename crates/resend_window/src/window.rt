@@ -1,4 +1,4 @@
-// A manager's window.
+// The window of a manager.
 ghost use Rattle.std.specs.Prelude.{◌≡◌, ◌+◌, ◌≤◌, ◌<◌, ◌^◌, ◌&&◌, ◌++◌, [], ◌∷◌, List, true, false, OnOk, IfSome, IfNone, IfOk, length, map, filter};
 ghost use Rattle.std.specs.List.{list_any};
 ghost use Rattle.qkd_base.specs.Name.{Name};
@@ -9,7 +9,7 @@ ghost use Rattle.net_model.specs.World.{no_volatile};
 ghost use Rattle.net_model.specs.Window.{acknowledge, cleared, age, repeats_on, repeat_of, transmission_eq, transmission_of, stands_at, complete_one, is_acked_item};
 ghost use Rattle.resend_window.specs.Held.{transmission};
 ghost use Rattle.resend_window.specs.Placed.{placed, order_placed, repeat_placed};
-ghost use Rattle.kme_step.specs.Steps.{planned};
+ghost use Rattle.kme_base.specs.Steps.{planned};
 ghost use Rattle.resend_window.specs.Kept.{KeepsRooms, pending_from};
 
 use crate::arrival::{Arrival, Pending};
@@ -25,11 +25,12 @@ use qkd_base::{KeyName, Lane, Memory};
 use std::alloc::Global;
 use std::marker::Model;
 
-/// What one life of a manager keeps beside its lanes: the frames that it sent and may send again, the acknowledgements that it
-/// owes, and the orders whose placings aren't noted yet (ETSI GS QKD 014 leaves the relay to the key managers).
+/// What a manager loses at a crash: the frames that it sent and may send again, the acknowledgements that it still
+/// has to send, and the orders whose placings it doesn't know yet (ETSI GS QKD 014 leaves relaying to the key
+/// managers).
 #[derive(Drop)]
 pub struct Window {
-    // The number of plans of this life.
+    // The number of plans since the manager was started.
     tick: u64,
     slots: HeldList,
     pending: ArrivalList,
@@ -57,7 +58,7 @@ impl Model for Window {
 }
 
 impl Window {
-    /// A window that has nothing. It takes no memory.
+    /// The empty window. It allocates nothing.
     pub fn new(alloc: Global) -> Self
         ensures { result.volatile ≡ no_volatile }
     {
@@ -69,7 +70,7 @@ impl Window {
         }
     }
 
-    /// Lets all go, as at a start. It takes no memory, and the rooms stay.
+    /// Empties the window, as at a start. It keeps all reserved memory.
     pub fn clear(&mut self)
         ensures volatile { self.new.volatile ≡ no_volatile }
         ensures rooms { KeepsRooms self.old self.new }
@@ -80,8 +81,8 @@ impl Window {
         self.awaiting.clear();
     }
 
-    /// A frame was received on a lane at an offset: its acknowledgement is due again if it was sent, stays pending if it is, and
-    /// else becomes pending. It takes no memory.
+    /// Records that a frame was received on a lane at an offset. If its acknowledgement was sent already, this
+    /// acknowledgement is due again. If not, it is pending from now on. It needs only the room that was reserved.
     pub fn received(&mut self, lane: Lane, offset: u64, name: KeyName)
         requires { 0 < self.old.received_spare }
         ensures volatile { self.new.volatile ≡ acknowledge self.old.volatile lane offset name }
@@ -97,7 +98,8 @@ impl Window {
         }
     }
 
-    /// The acknowledgement of a fact was received on a lane: its frames on the link's other lane are let go. It takes no memory.
+    /// Records that the acknowledgement of a fact was received on a lane: the fact's frames on the link's other lane
+    /// are removed. It allocates nothing.
     pub fn acknowledged(&mut self, lane: Lane, name: KeyName)
         ensures volatile { self.new.volatile ≡ record self.old.volatile { window = cleared lane name self.old.volatile.window } }
         ensures rooms { KeepsRooms self.old self.new }
@@ -105,22 +107,23 @@ impl Window {
         self.slots.remove(&Query::DataOf(reversed(lane), name));
     }
 
-    /// Whether a frame of a fact on a lane is kept.
+    /// Whether the window has a frame on this lane with the fact of this name.
     pub fn holds(&self, lane: Lane, name: KeyName) -> bool
         ensures { result ≡ list_any (λ e. lane_eq e.transmission.lane lane && is_data_of name e.transmission.item) self.now.volatile.window }
     {
         self.slots.has(&Query::DataOf(lane, name))
     }
 
-    /// Whether an order awaits its placing: that of a fact, or for a received offset that of its acknowledgement.
+    /// Whether the order to send the fact of this name awaits its placing; or, if `ack_of` is an offset, the order to
+    /// acknowledge the frame that was received there.
     pub fn awaits(&self, lane: Lane, name: KeyName, ack_of: Option<u64>) -> bool
         ensures { result ≡ list_any (transmission_eq (record { lane = lane; item = item_of ack_of name; received_offset = ack_of })) self.now.volatile.awaiting }
     {
         self.awaiting.has(&Awaited::new(lane, name, ack_of))
     }
 
-    /// A plan was made: what it repeats went out, what it orders awaits its placing, and every other frame of a fact is a tick
-    /// older. It takes no memory.
+    /// Records that a plan was made. Its repeats are sent, its orders await their placings, and every other frame
+    /// with a fact is one tick older. It needs only the room that was reserved.
     pub fn planned(&mut self, orders: &[Order], repeats: &[Repeat])
         requires room { length orders.now ≤ self.old.orders_spare }
         requires tick { 0 < self.old.ticks_spare }
@@ -135,7 +138,7 @@ impl Window {
         self.awaiting.push_all(orders);
     }
 
-    // An order's placing, where that order is awaited and its place is free.
+    // Adds the frame of an order's placing. The placing must be awaited, and its offset must be free.
     fn place_order(&mut self, placing: &Placing, wanted: &Awaited, is_acked: bool)
         requires wanted { transmission wanted.now ≡ transmission_of placing.now }
         requires awaited { list_any (transmission_eq (transmission_of placing.now)) self.old.volatile.awaiting ≡ true }
@@ -151,7 +154,7 @@ impl Window {
         }
     }
 
-    // An order's placing.
+    // Records the placing of an order.
     fn completed_order(&mut self, placing: &Placing, is_acked: bool)
         ensures volatile { self.new.volatile ≡ order_placed is_acked self.old.volatile placing.now }
         ensures rooms { KeepsRooms self.old self.new }
@@ -164,7 +167,7 @@ impl Window {
         }
     }
 
-    // A repeat's placing.
+    // Records the placing of a repeat.
     fn completed_repeat(&mut self, placing: &Placing)
         ensures volatile { self.new.volatile ≡ repeat_placed self.old.volatile placing.now }
         ensures rooms { KeepsRooms self.old self.new }
@@ -176,9 +179,9 @@ impl Window {
         }
     }
 
-    /// What became of an order or a repeat: an order that was awaited is kept from now on, unless its fact was acknowledged
-    /// meanwhile; a repeat has its new number, or is due again where the wire refused it. It takes no memory: the room for an
-    /// order was taken with it.
+    /// Records what became of an order or a repeat. The frame of an awaited order is added to the window, unless its
+    /// fact was acknowledged meanwhile. A repeat gets its new number, or is due again if the wire refused it. It
+    /// needs only the room that was reserved with the order.
     pub fn completed(&mut self, placing: &Placing, is_acked: bool)
         ensures volatile { (acked : List Name) → is_acked ≡ is_acked_item acked (item_of placing.now.ack_of placing.now.name) → self.new.volatile ≡ complete_one acked self.old.volatile placing.now }
         ensures rooms { KeepsRooms self.old self.new }
@@ -190,7 +193,7 @@ impl Window {
         }
     }
 
-    /// The first acknowledgement pending that a lane brought, from a place on.
+    /// The first pending acknowledgement, at or after place `from`, of a frame that arrived on this lane.
     pub fn next_pending(&self, lane: Lane, from: usize) -> Option<Pending>
         ensures some { IfSome result (λ p. pending_from self.now lane from ≡ record { lane = lane; offset = p.offset; name = p.name } ∷ pending_from self.now lane (p.place + 1)) }
         ensures none { IfNone result (pending_from self.now lane from ≡ []) }
@@ -199,15 +202,15 @@ impl Window {
         self.pending.next(lane, from)
     }
 
-    /// It does nothing: what it says holds of the acknowledgements pending at any time, which stand in their order.
+    /// It does nothing. Its contract says that the pending acknowledgements of a lane are those from place 0 on.
     pub fn stands(&self)
         ensures { (lane : LaneValue) → filter (λ a. lane_eq a.lane lane) self.now.volatile.pending_acks ≡ pending_from self.now lane 0 }
     {
-        // A read shows what holds of it at any time.
+        // Reading a field shows the prover the window's invariant.
         let _holds = self.tick;
     }
 
-    /// Makes room for so many more acknowledgements. An `Err` changes nothing else either.
+    /// Reserves memory for `more` further acknowledgements. An `Err` changes nothing in the window.
     pub fn room_received(&mut self, more: u32) -> Result<(), Memory>
         ensures volatile { self.new.volatile ≡ self.old.volatile }
         ensures rooms { KeepsRooms self.old self.new }
@@ -216,7 +219,7 @@ impl Window {
         self.pending.grow(more as usize)
     }
 
-    /// Makes room for a plan of so many orders, and for what they leave. An `Err` changes nothing else either.
+    /// Reserves memory for a plan of `more` orders, and for their placings. An `Err` changes nothing in the window.
     pub fn room_orders(&mut self, more: u32) -> Result<(), Memory>
         ensures volatile { self.new.volatile ≡ self.old.volatile }
         ensures rooms { KeepsRooms self.old self.new }
@@ -232,8 +235,8 @@ impl Window {
         Ok(())
     }
 
-    /// The frames that a plan sends again on a lane: those that are due once all are a tick older, at most 16, in order of
-    /// offset.
+    /// The frames on this lane that a plan sends again: those that are due once all frames are one tick older, in
+    /// order of offset, at most 16.
     pub fn repeats(&self, lane: Lane) -> Result<Repeats, Memory>
         ensures { IfOk result (λ rs. rs ≡ map repeat_of (repeats_on (map age self.now.volatile.window) lane)) }
     {

@@ -14,7 +14,7 @@ meet t up v b [] h long = absurd h
 meet t up v b (x ∷ []) h long = sym h.0 ∙ h.1
 meet t up v b (x ∷ y ∷ rest) h long = absurd (omega (arith, long))
 
--- no link: the node itself
+-- with no link, only the node itself is reached
 pub first_layer : (t : Table) (up b : ℕ) (nodes : List Bool) → ((v : ℕ) → has_node nodes v ≡ (v == b)) → IsLayer t up b 0 nodes
 first_layer t up b nodes is = record {
   reached = λ v here. record { walk = v ∷ []; walks = (refl, eqb-true v b (sym (is v) ∙ here)); long = omega arith };
@@ -30,7 +30,7 @@ first_link t up v b links near h (x ∷ y ∷ rest) walks long = record {
   is_near = h.all y (record { walk = y ∷ rest; walks = walks.2; long = omega (arith, long) });
 }
 
--- one link more
+-- the layer for one more link
 pub next_layer : (t : Table) (up b links : ℕ) (near far : List Bool) → IsLayer t up b links near → AreNextTo t up near far → IsLayer t up b (links + 1) far
 next_layer t up b links near far h step = record {
   reached = λ v here.
@@ -44,7 +44,7 @@ next_layer t up b links near far h step = record {
   all = λ v has. step.all v (first_link t up v b links near h has.walk has.walks has.long);
 }
 
--- any walk of one link more begins with a step into the layer
+-- any walk of one more link begins with a step into the layer
 pub next_of_walk : (t : Table) (up v b links : ℕ) (near : List Bool) → IsLayer t up b links near → HasWalk t up v b (links + 1) → IsNextTo t up near v
 next_of_walk t up v b links near h has = first_link t up v b links near h has.walk has.walks has.long
 
@@ -53,7 +53,7 @@ before_other t up w y b [] rest walks less = absurd walks
 before_other t up w y b (z ∷ []) rest walks less = inl (omega (arith, walks.0, less))
 before_other t up w y b (z ∷ x ∷ more) rest walks less = inl (omega (arith, walks.0, less))
 
--- a first step and the first walk from there are the first walk
+-- the first step, followed by the first walk from there, is the first walk
 pub first_cons : (t : Table) (up v w b links : ℕ) (near : List Bool) (tail : List ℕ) → IsLayer t up b links near → IsFirstStep t up near v w → IsFirstWalk t up w b links tail → IsFirstWalk t up v b (links + 1) (v ∷ tail)
 first_cons t up v w b links near tail layer step h = record {
   walks = step_walk t up v w b tail step.joined h.walks;
@@ -76,7 +76,7 @@ first_cons t up v w b links near tail layer step h = record {
           ],
         )
 
--- the layers up to a number of links
+-- the layers up to this number of links are right
 pub record AreLayersTo (t : Table) (up b links : ℕ) (layers : List (List Bool)) : Type 0 where
   pub room : length layers ≡ 9
   pub each : (k : ℕ) → k ≤ links → IsLayer t up b k (get_or layers k [])
@@ -99,7 +99,8 @@ layers_next t up b links layers far below h step = record {
   ];
 }
 
--- the first walk so far: what is left to walk, and what it leads to
+-- the state of the loop that builds the first walk: the first walk from `here`, with the links that are left, completes
+-- it
 pub record IsUnderway (t : Table) (up a b links step : ℕ) (nodes : List ℕ) (here : ℕ) : Type 0 where
   pub reached : HasWalk t up here b (links - step)
   pub room : length nodes ≡ 9
@@ -138,7 +139,7 @@ not_before : (t : Table) (up v b : ℕ) → v ≡ b → (other : List ℕ) → I
 not_before t up v b e [] walks long = absurd walks
 not_before t up v b e (x ∷ rest) walks long = inr (sym e ∙ sym (head_is t up v b x rest walks), tt)
 
--- the node itself is the one walk without a link
+-- with no link, the node itself is the only walk
 alone : (t : Table) (up v b : ℕ) → v ≡ b → IsFirstWalk t up v b 0 (b ∷ [])
 alone t up v b e = record { walks = (sym e, refl); long = omega arith; first = not_before t up v b e }
 
@@ -152,7 +153,7 @@ underway_last t up a b links nodes here short h =
     let same : take links nodes ++ b ∷ [] ≡ take (links + 1) nodes = sym (prefix ∙ ap (λ (x : ℕ). take links nodes ++ x ∷ []) last) in
     subst (IsFirstWalk t up a b links) same (h.onward (b ∷ []) whole)
 
--- whether one of the links below a number leads there
+-- whether a link that is up, of a number less than i, leads to node v
 abbrev pub crossed : Table → ℕ → List Bool → ℕ → ℕ → Bool
 crossed t up near v zero = false
 crossed t up near v (suc i) = crossed t up near v i || (bit_is_set up i && leads (ends_of t i) near v)

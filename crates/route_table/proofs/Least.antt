@@ -8,7 +8,7 @@ use Rattle.route_table.specs.Layer.{is_reached, HasWalk, AreLayers, IsFirstWalk}
 use Rattle.route_table.proofs.Walks.{not_empty, shortest_is_distinct}
 use Rattle.route_table.proofs.Layers.{meet}
 
--- a node isn't reached with any number of links from 1 up to below this one
+-- from node a, no walk of at least 1 and fewer than `links` links leads to the node of these layers
 abbrev pub NotBelow : List (List Bool) → ℕ → ℕ → Type 0
 NotBelow layers a links = (fewer : ℕ) → 0 < fewer → fewer < links → is_reached layers fewer a ≡ false
 

@@ -1,4 +1,4 @@
--- What holds of a table without links.
+-- The invariant of a table without links.
 use Rattle.std.proofs.Common.{◌≡◌, ℕ, zero, suc, get_or, replicate, Option, Some, None, refl}
 use Rattle.route_table.specs.Table.{no_links, ends_of, IsTable}
 

@@ -1,4 +1,4 @@
--- Walks, their order, and the least of them.
+-- Walks, their order, and least walks.
 use Rattle.std.proofs.Common.{◌≡◌, ◌≢◌, ℕ, ◌+◌, ◌<◌, ◌≤◌, ◌==◌, ◌&&◌, ◌||◌, not, Bool, true, false, List, [], ◌∷◌, length, refl, sym, ap, ◌∙◌, subst, inl, inr, arith}
 use Rattle.std.proofs.lemmas.Bool.{ne_eqb}
 use Rattle.std.specs.List.{list_any}
@@ -11,7 +11,7 @@ pub not_empty : (t : Table) (up a b : ℕ) (walk : List ℕ) → IsWalk t up a b
 not_empty t up a b [] h = absurd h
 not_empty t up a b (v ∷ rest) h = omega arith
 
--- a link before a walk
+-- a link followed by a walk is a walk
 pub step_walk : (t : Table) (up v w b : ℕ) (walk : List ℕ) → AreJoined t up v w → IsWalk t up w b walk → IsWalk t up v b (v ∷ walk)
 step_walk t up v w b [] joined h = absurd h
 step_walk t up v w b (x ∷ []) joined h =
@@ -22,7 +22,7 @@ step_walk t up v w b (x ∷ y ∷ rest) joined h =
 pub from_other : (t : Table) (up v w b : ℕ) (walk : List ℕ) → v ≡ w → IsWalk t up v b walk → IsWalk t up w b walk
 from_other t up v w b walk e h = subst (λ (x : ℕ). IsWalk t up x b walk) e h
 
--- two lists neither of which is after the other
+-- two lists of equal length, neither of which comes after the other, are equal
 same_order : (xs ys : List ℕ) → length xs ≡ length ys → IsNotAfter xs ys → IsNotAfter ys xs → xs ≡ ys
 same_order [] [] n h k = refl
 same_order [] (y ∷ ys) n h k = absurd (omega (arith, n))
@@ -42,7 +42,7 @@ least_is_unique t up a b walk other h k =
     same_order walk other (omega (arith, links, not_empty t up a b walk h.walks, not_empty t up a b other k.walks))
     (h.first other k.walks (sym links)) (k.first walk h.walks links)
 
--- a node that has no walk as short as this one isn't on it
+-- a node that has no walk as short as this one is not on it
 not_on_walk : (t : Table) (up v w b : ℕ) (walk : List ℕ) → IsWalk t up w b walk → ((links : ℕ) → links ≤ links_of walk → HasWalk t up v b links → ⊥) → list_any (λ m. m == v) walk ≡ false
 not_on_walk t up v w b [] h never = absurd h
 not_on_walk t up v w b (x ∷ []) h never =
@@ -53,7 +53,7 @@ not_on_walk t up v w b (x ∷ y ∷ rest) h never =
     ap (λ (here : Bool). here || list_any (λ m. m == v) (y ∷ rest)) (ne_eqb x v other)
     ∙ not_on_walk t up v y b (y ∷ rest) h.2 (λ links less has. never links (omega (arith, less)) has)
 
--- a walk than which none is shorter has no node twice
+-- a shortest walk has no node twice
 pub shortest_is_distinct : (t : Table) (up a b : ℕ) (walk : List ℕ) → IsWalk t up a b walk → ((links : ℕ) → links < links_of walk → HasWalk t up a b links → ⊥) → is_distinct walk ≡ true
 shortest_is_distinct t up a b [] h never = absurd h
 shortest_is_distinct t up a b (v ∷ []) h never = refl

@@ -1,11 +1,11 @@
--- The links of the network with their ends.
+-- The table of links, each with the two nodes that it joins.
 use Rattle.std.specs.Prelude.{◌≡◌, ◌≢◌, ℕ, ◌<◌, nat_lt, List, length, replicate, slice_set, slice_index_or, Option, Some, None, if◌then◌else◌}
 
--- for each number of a link its lower and its higher node, where it is there
+-- for each link number the lower and the higher node of the link, or None if there is no such link
 abbrev pub Table : Type 0
 Table = List (Option (ℕ × ℕ))
 
--- no link is there
+-- the table without links
 abbrev pub no_links : Table
 no_links = replicate 32 None
 
@@ -18,11 +18,11 @@ lower_then_higher a b = if nat_lt a b then (a, b) else (b, a)
 abbrev pub with_link : Table → ℕ → ℕ → ℕ → Table
 with_link t link a b = slice_set t link (Some (lower_then_higher a b))
 
--- no link is between these nodes
+-- no link joins these nodes
 abbrev pub AreApart : Table → ℕ → ℕ → Type 0
 AreApart t a b = (link : ℕ) → ends_of t link ≢ Some (lower_then_higher a b)
 
--- 32 places, and nodes below 16, the lower one first
+-- 32 places; each link has its lower node first, both below 16, and no two links join the same nodes
 pub record IsTable (t : Table) : Type 0 where
   pub places : length t ≡ 32
   pub lower_first : (link v w : ℕ) → ends_of t link ≡ Some (v, w) → v < w

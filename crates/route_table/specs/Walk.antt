@@ -22,13 +22,13 @@ IsWalk t up a b (v ∷ w ∷ rest) = (v ≡ a) × AreJoined t up v w × IsWalk t
 abbrev pub links_of : List ℕ → ℕ
 links_of walk = length walk - 1
 
--- the order of lists of nodes: the first place where they differ decides
+-- the first list isn't after the second: lists of nodes are ordered by the first place where they differ
 abbrev pub IsNotAfter : List ℕ → List ℕ → Type 0
 IsNotAfter [] ys = Unit {0}
 IsNotAfter (x ∷ xs) [] = ⊥
 IsNotAfter (x ∷ xs) (y ∷ ys) = (x < y) ⊎ ((x ≡ y) × IsNotAfter xs ys)
 
--- no walk has fewer links, and none with as many comes before
+-- no walk has fewer links, and none with as many links comes before this one
 pub record IsLeastWalk (t : Table) (up a b : ℕ) (walk : List ℕ) : Type 0 where
   pub walks : IsWalk t up a b walk
   pub fewest : (other : List ℕ) → IsWalk t up a b other → links_of walk ≤ links_of other

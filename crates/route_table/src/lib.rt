@@ -1,9 +1,8 @@
+//! The links of a network, and the route between two nodes: the least walk over the links that are up.
 #![tactic(auto)]
 
 mod route_refusal;
 mod route_table;
-#[cfg(test)]
-mod tests;
 mod uniqueness;
 
 pub use route_refusal::RouteRefusal;

@@ -6,7 +6,7 @@ use std::fmt;
 /// Why there is no route between two nodes.
 #[derive(Clone, Copy, Debug, PartialEq, Eq)]
 pub enum RouteRefusal {
-    /// Both nodes are the same one.
+    /// The two nodes are the same node.
     SameNode,
     /// No walk over links that are up has at most 8 links.
     NoRoute,

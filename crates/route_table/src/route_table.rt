@@ -1,4 +1,4 @@
-// The links of the network, and the least walks over those that are up.
+// The links of the network, and the least walks over the links that are up.
 ghost use Rattle.std.specs.Prelude.{◌≡◌, ◌≢◌, ℕ, ◌+◌, ◌<◌, ◌≤◌, ◌==◌, ◌&&◌, ◌||◌, ◌↔◌, IfOk, IfSome, IfNone, Some, None, is_none, true, false, take};
 ghost use Rattle.std.specs.List.{position_from};
 ghost use Rattle.route_table.specs.Table.{no_links, ends_of, lower_then_higher, with_link, AreApart, IsTable};
@@ -9,10 +9,11 @@ use crate::RouteRefusal;
 use qkd_base::{LinkNo, Memory, NodeNo, Replica, Route};
 use std::marker::Model;
 
-// Which nodes, by number.
+// A set of nodes, as a flag for each number of a node.
 type Nodes = [bool; 16];
 
-/// The links of the network with their ends: at most 32, and at most one for each pair of nodes. They stand in fixed room, so no call takes memory.
+/// The links of the network with their ends: at most 32, and at most one for each pair of nodes. They are in a fixed
+/// array, so no call allocates memory.
 #[derive(Debug, Drop)]
 pub struct RouteTable {
     links: [Option<(NodeNo, NodeNo)>; 32],
@@ -29,14 +30,14 @@ impl Model for RouteTable {
 }
 
 impl RouteTable {
-    /// No link.
+    /// A table without links.
     pub fn new() -> Self
         ensures { result ≡ no_links }
     {
         RouteTable { links: [None; 32] }
     }
 
-    /// Adds a link between two nodes. `ends` and `link_between` tell whether it may be added.
+    /// Adds a link between two nodes. The calls `ends` and `link_between` tell whether it may be added.
     pub fn add_link(&mut self, link: LinkNo, a: NodeNo, b: NodeNo)
         requires differ { a ≢ b }
         requires free { ends_of self.old link ≡ None }
@@ -46,17 +47,17 @@ impl RouteTable {
         self.links[link.get() as usize] = Some(in_order(a, b));
     }
 
-    /// The lower and the higher node of a link, where it is there.
+    /// The lower and the higher node of a link. `None` if there is no such link.
     pub fn ends(&self, link: LinkNo) -> Option<(NodeNo, NodeNo)>
         ensures ends { result ≡ ends_of self.now link }
 
-        // What holds of the links at any time.
+        // The invariant of the table.
         ensures table { IsTable self.now }
     {
         self.links[link.get() as usize]
     }
 
-    /// The link between two nodes, where there is one.
+    /// The link between two nodes. `None` if there is none.
     pub fn link_between(&self, a: NodeNo, b: NodeNo) -> Option<LinkNo>
         ensures link { IfSome result (λ link. ends_of self.now link ≡ Some (lower_then_higher a b)) }
         ensures none { IfNone result (AreApart self.now a b) }
@@ -70,7 +71,7 @@ impl RouteTable {
         None
     }
 
-    /// The first number of which there is no link yet, where there are fewer than 32.
+    /// The first number that no link has yet. `None` if there are 32 links.
     pub fn free_link(&self) -> Option<LinkNo>
         ensures link { result ≡ position_from is_none 0 self.now }
         ensures free { IfSome result (λ link. ends_of self.now link ≡ None) }
@@ -83,7 +84,9 @@ impl RouteTable {
         None
     }
 
-    /// The walk from one node to another with the fewest links, of which the first in the order of its node numbers. Bit l of `up` says that link l is up. A walk has at most 8 links. The work grows with the links of the table, and not with its walks.
+    /// The least walk from one node to another: it has the fewest links, and of such walks it is the first in the order
+    /// of node numbers. Bit l of `up` says whether link l is up. A walk has at most 8 links. The time grows with the
+    /// number of links, not with the number of walks.
     pub fn route(&self, up: u32, from: NodeNo, to: NodeNo) -> Result<Route, RouteRefusal>
         ensures same_node { (result ≡ Err RouteRefusal.SameNode) ↔ (from ≡ to) }
         ensures no_route { (result ≡ Err RouteRefusal.NoRoute) ↔ (¬ HasRoute self.now up from to) }
@@ -101,7 +104,7 @@ impl RouteTable {
         Ok(Route::new(&nodes[..links + 1]).unwrap())
     }
 
-    // For each number of links, from none to 8, the nodes from which a walk of so many leads to a node.
+    // For each number of links from 0 to 8, the nodes from which a walk of that many links leads to a node.
     fn layers(&self, up: u32, to: NodeNo) -> [Nodes; 9]
         ensures { AreLayers self.now up to result }
     {
@@ -112,7 +115,7 @@ impl RouteTable {
         layers
     }
 
-    // The nodes from which one link that is up leads to one of these.
+    // The nodes that are next to one of these nodes: a link that is up joins the two.
     fn next_to(&self, up: u32, near: &Nodes) -> Nodes
         ensures { AreNextTo self.now up near.now result }
     {
@@ -123,7 +126,8 @@ impl RouteTable {
         far
     }
 
-    // The first walk of so many links. The layers are those of its end, with which the room begins filled.
+    // The first walk of a given number of links. The layers are those of its last node. At first, this node fills the
+    // array.
     fn first_walk(
         &self,
         up: u32,
@@ -146,7 +150,7 @@ impl RouteTable {
         nodes
     }
 
-    // The first of these nodes to which a link that is up leads from here.
+    // The first of these nodes that is next to this one: a link that is up joins the two.
     fn first_step(&self, up: u32, here: NodeNo, near: &Nodes) -> NodeNo
         requires { IsNextTo self.now up near.now here }
         ensures { IsFirstStep self.now up near.now here result }
@@ -156,7 +160,7 @@ impl RouteTable {
     }
 }
 
-// The lower node, and then the higher.
+// The two nodes, the lower one first.
 fn in_order(a: NodeNo, b: NodeNo) -> (NodeNo, NodeNo)
     ensures order { result ≡ lower_then_higher a b }
     ensures a_below { a < 16 }
@@ -165,7 +169,7 @@ fn in_order(a: NodeNo, b: NodeNo) -> (NodeNo, NodeNo)
     if a.get() < b.get() { (a, b) } else { (b, a) }
 }
 
-// One node.
+// The set of one node.
 fn only(node: NodeNo) -> Nodes
     ensures { (v : ℕ) → has_node result v ≡ (v == node) }
 {
@@ -174,7 +178,7 @@ fn only(node: NodeNo) -> Nodes
     nodes
 }
 
-// Both ways over one link.
+// Adds the nodes that one link reaches from these nodes, in either direction.
 fn cross(ends: Option<(NodeNo, NodeNo)>, is_up: bool, near: &Nodes, far: &mut Nodes)
     ensures { (v : ℕ) → has_node far.new v ≡ (has_node far.old v || (is_up && leads ends near.now v)) }
 {
@@ -188,7 +192,7 @@ fn cross(ends: Option<(NodeNo, NodeNo)>, is_up: bool, near: &Nodes, far: &mut No
     }
 }
 
-// The first node that is in both.
+// The first node that is in both sets.
 fn first_of_both(some: &Nodes, others: &Nodes) -> Option<NodeNo>
     ensures first { IfSome result (λ v. has_node some.now v && has_node others.now v ≡ true) }
     ensures before { IfSome result (λ v. (w : ℕ) → has_node some.now w && has_node others.now w ≡ true → v ≤ w) }
@@ -202,7 +206,7 @@ fn first_of_both(some: &Nodes, others: &Nodes) -> Option<NodeNo>
     None
 }
 
-// The least number of links, from 1 on, with which a node is reached.
+// The least number of links, at least 1, with which a walk from this node exists.
 fn fewest_links(layers: &[Nodes; 9], from: NodeNo) -> Option<usize>
     ensures reached { IfSome result (λ links. (0 < links) × (links ≤ 8) × (is_reached layers.now links from ≡ true)) }
     ensures fewest { IfSome result (λ links. (fewer : ℕ) → 0 < fewer → fewer < links → is_reached layers.now fewer from ≡ false) }

@@ -1,4 +1,4 @@
--- Frames that keep apart, and the first of them that ends behind a byte.
+-- Frames of a lane with no byte in common, found by the last bytes of frames: one new frame is compared with one known frame.
 use Rattle.std.proofs.Common.{◌≡◌, ℕ, ◌+◌, ◌-◌, ◌^◌, ◌<◌, ◌≤◌, min, Bool, true, false, not, ◌&&◌, ◌||◌, cond, eqb, List, [], ◌∷◌, Option, Some, None, refl, sym, ap, ◌∙◌, subst, arith, ◌⊎◌, inl, inr}
 use Rattle.std.specs.Prelude.{nat_le, nat_lt, is_some}
 use Rattle.std.specs.List.{list_any, list_all}
@@ -15,7 +15,7 @@ use Rattle.run_audit.specs.Kept.{last_of, length_at, offset_at, is_last, AreApar
 no : {A : Type 0} (b : Bool) → b ≡ true → b ≡ false → A
 no b h k = absurd (let e : true ≡ false = sym h ∙ k in let u : ⊥ = cc in u)
 
--- two frames of one lane have one place, or the first one ends before the other begins, or the other way round
+-- Two frames of one lane have the same place and length, or one of them ends before the other begins.
 pub data Clear (fo fl go gl : ℕ) : Type 0 where
   same_place : go ≡ fo → gl ≡ fl → Clear fo fl go gl
   before : fo + fl + 8 ≤ go → Clear fo fl go gl
@@ -26,7 +26,7 @@ swapped (same_place o l) = same_place (sym o) (sym l)
 swapped (before h) = behind h
 swapped (behind h) = before h
 
--- the test of two frames of one lane
+-- the test whether two frames of one lane have the same place and length, or no byte in common
 abbrev agree : (fo fl go gl : ℕ) → Bool
 agree fo fl go gl = cond (eqb go fo) (eqb gl fl) (nat_le (fo + fl + 8) go || nat_le (go + gl + 8) fo)
 
@@ -95,7 +95,7 @@ lane_same k l h =
 pub lane_self : (k : Lane) → lane_eq k k ≡ true
 lane_self k = and_from (eqb k.link k.link) (way_eq k.way k.way) (eq-eqb k.link k.link refl) (way_self k.way)
 
--- two lanes that are a third one are one
+-- If two lanes each equal a third one, they are equal.
 pub lanes_join : (k l m : Lane) → lane_eq k m ≡ true → lane_eq l m ≡ true → lane_eq k l ≡ true
 lanes_join k l m h i = subst (λ (n : Lane). lane_eq k n ≡ true) (sym (lane_same l m i)) h
 
@@ -113,7 +113,7 @@ pub small_at : {h : Frame} {fs : List Frame} → Among h fs → AreApart fs → 
 small_at here a = (a.0, a.1)
 small_at (there m) a = small_at m a.3
 
--- a frame of a lane that ends with this byte
+-- a known frame of the lane whose last byte is `last`
 pub record IsFound (l : Lane) (last offset : ℕ) (fs : List Frame) : Type 0 where
   pub frame : Frame
   pub among : Among frame fs
@@ -142,7 +142,7 @@ last_is_found l last (g ∷ gs) h k = elim (cases_Bool (lane_eq g.lane l && eqb 
   | inr other ↦ last_is_found l last gs (rw other at h) (rw other at k)
 ]
 
--- a frame of a lane at this offset
+-- a known frame of the lane at this offset
 pub record IsPlaced (l : Lane) (offset length : ℕ) (fs : List Frame) : Type 0 where
   pub frame : Frame
   pub among : Among frame fs
@@ -175,7 +175,7 @@ is_placed_at l offset length (g ∷ gs) h = elim (cases_Bool (lane_eq g.lane l &
   | inr other ↦ rw other (is_placed_at l offset length gs (rw other at h))
 ]
 
--- a frame among others that keep apart is clear of each of them on its lane
+-- If frame g is on lane l, the frames h and g have the same place and length, or no byte in common.
 abbrev pub IsClearOn : Lane → Frame → Frame → Type 0
 IsClearOn l h g = lane_eq g.lane l ≡ true → Clear h.offset h.length g.offset g.length
 
@@ -188,7 +188,7 @@ clear_with l h on (here {fs = fs}) a = (λ k. same_place refl refl, same_clear l
 clear_with l h on (there {g = g} {fs = fs} m) a =
     (λ k. let g_h = each_at (AreClear g) m (all_clear g fs a.2) in swapped (g_h (lanes_join h.lane g.lane l on k)), clear_with l h on m a.3)
 
--- ---- a frame at a known place
+-- ---- a frame at the offset of a known frame
 
 of_same : (l : Lane) (f h : Frame) → f.lane ≡ l → f.offset ≡ h.offset → f.length ≡ h.length → (fs : List Frame) → Each (IsClearOn l h) fs → Each (AreClear f) fs
 of_same l f h lane o n [] e = tt
@@ -200,7 +200,7 @@ of_same l f h lane o n (g ∷ gs) e =
     clear_as p q (before i) = before (omega (arith, p, q, i))
     clear_as p q (behind i) = behind (omega (arith, p, q, i))
 
--- one that doesn't agree is enough
+-- One frame that doesn't agree is enough: not all frames agree.
 not_all : (f h : Frame) → agrees f h ≡ false → {fs : List Frame} → Among h fs → list_all (agrees f) fs ≡ false
 not_all f h off (here {fs = fs}) = rw off refl
 not_all f h off (there {g = g} {fs = fs} m) = rw (not_all f h off m) (and_false (agrees f g))
@@ -209,7 +209,7 @@ not_all f h off (there {g = g} {fs = fs} m) = rw (not_all f h off m) (and_false 
     and_false true = refl
     and_false false = refl
 
--- at a known place the lengths have to be one
+-- At the offset of a known frame, a frame agrees with all frames exactly if it has the known frame's length.
 pub agrees_at : (f : Frame) (n : ℕ) (fs : List Frame) → AreApart fs → length_at f.lane f.offset fs ≡ Some n → eqb n f.length ≡ list_all (agrees f) fs
 agrees_at f n fs apart h =
     let p = placed_at f.lane f.offset n fs h in
@@ -223,14 +223,14 @@ agrees_at f n fs apart h =
           ne_eqb n f.length ne ∙ sym (not_all f p.frame off p.among)
     ]
 
--- ---- a frame at a new place
+-- ---- a frame at a new offset
 
--- what the first frame that ends at or behind a frame's first byte says
+-- From the first byte of f on, `last` is the first byte at which a known frame of the lane ends.
 pub record IsFirstEnd (f : Frame) (last : ℕ) (fs : List Frame) : Type 0 where
   pub behind_it : f.offset ≤ last
   pub first : (x : ℕ) → f.offset ≤ x → x < last → is_last f.lane x fs ≡ false
 
--- no frame of the lane ends between
+-- A frame of the lane that ends at or behind the byte `from` ends at or behind the byte `last`.
 abbrev EndsBehind : (l : Lane) → (from last : ℕ) → Frame → Type 0
 EndsBehind l from last g = lane_eq g.lane l ≡ true → from ≤ last_of g → last ≤ last_of g
 
@@ -244,7 +244,7 @@ ends_behind l from last (g ∷ gs) h = (
   ends_behind l from last gs (λ x le lt. (or_parts (lane_eq g.lane l && eqb (last_of g) x) (is_last l x gs) (h x le lt)).1),
 )
 
--- all frames of the lane end before it, or begin behind it
+-- A frame that ends before the new one shares no byte with it. Nor does one that ends later, if the first of these begins behind the new frame.
 numbers_clear : (fo fl go gl s e : ℕ) (hl : ℕ) → fo < 2 ^ 64 → s < 2 ^ 64 → go < 2 ^ 64 → fo ≤ e → e ≡ min (s + (hl + 7)) (2 ^ 64 - 1) → min (fo + (fl + 7)) (2 ^ 64 - 1) < s
     → (fo ≤ min (go + (gl + 7)) (2 ^ 64 - 1) → e ≤ min (go + (gl + 7)) (2 ^ 64 - 1)) → Clear s hl go gl → Clear fo fl go gl
 numbers_clear fo fl go gl s e hl small_f small_s small_g le ends lt behind_e clear = elim (cases_lt (min (go + (gl + 7)) (2 ^ 64 - 1)) fo) [
@@ -262,7 +262,7 @@ all_free f h e [] apart small_f small_h le ends lt far clear = tt
 all_free f h e (g ∷ gs) apart small_f small_h le ends lt far clear =
     (λ on. numbers_clear f.offset f.length g.offset g.length h.offset e h.length small_f small_h apart.0 le ends lt (far.0 on) (clear.0 on), all_free f h e gs apart.3 small_f small_h le ends lt far.1 clear.1)
 
--- A frame at a new place agrees with all where it ends before the first of those that end behind its first byte.
+-- Take the first frame that ends at or behind the new frame's first byte. If the new frame ends before that one begins, it agrees with all frames.
 pub agrees_before : (f : Frame) (e s : ℕ) (fs : List Frame) → AreApart fs → f.offset < 2 ^ 64 → IsFirstEnd f e fs → offset_at f.lane e fs ≡ Some s → last_of f < s → list_all (agrees f) fs ≡ true
 agrees_before f e s fs apart small first at lt =
     let p = found_at f.lane e s fs at in
@@ -273,7 +273,7 @@ agrees_before f e s fs apart small first at lt =
 meets : (fo fl go gl : ℕ) → fo < 2 ^ 64 → fo ≤ min (go + (gl + 7)) (2 ^ 64 - 1) → go ≤ min (fo + (fl + 7)) (2 ^ 64 - 1) → (go ≡ fo → ⊥) → agree fo fl go gl ≡ false
 meets fo fl go gl small le ge ne = rw (ne_eqb go fo ne, lt-leb (fo + fl + 8) go (omega arith), lt-leb (go + gl + 8) fo (omega arith)) refl
 
--- one at the place of another is placed
+-- If a frame of the lane is in the list, its offset is occupied.
 placed_of : (l : Lane) (offset : ℕ) (h : Frame) → lane_eq h.lane l ≡ true → h.offset ≡ offset → {fs : List Frame} → Among h fs → is_placed l offset fs ≡ true
 placed_of l offset h on e (here {fs = fs}) = rw (on, eq-eqb h.offset offset e) refl
 placed_of l offset h on e (there {g = g} {fs = fs} m) = rw (placed_of l offset h on e m) (or_true (lane_eq g.lane l && eqb g.offset offset))
@@ -282,7 +282,7 @@ placed_of l offset h on e (there {g = g} {fs = fs} m) = rw (placed_of l offset h
     or_true true = refl
     or_true false = refl
 
--- and with one of them it doesn't agree where it reaches that
+-- If the new frame reaches the first frame that ends at or behind its first byte, it doesn't agree with all frames.
 pub meets_at : (f : Frame) (e s : ℕ) (fs : List Frame) → f.offset < 2 ^ 64 → is_placed f.lane f.offset fs ≡ false → f.offset ≤ e → offset_at f.lane e fs ≡ Some s → s ≤ last_of f → list_all (agrees f) fs ≡ false
 meets_at f e s fs small new le at reach =
     let p = found_at f.lane e s fs at in
@@ -291,7 +291,7 @@ meets_at f e s fs small new le at reach =
     let off : agrees f p.frame ≡ false = rw (p.on, met) refl in
     not_all f p.frame off p.among
 
--- Where no frame of the lane ends behind its first byte, a frame agrees with all.
+-- If no frame of the lane ends at or behind its first byte, a new frame agrees with all frames.
 pub agrees_last : (f : Frame) (fs : List Frame) → f.offset < 2 ^ 64 → ((x : ℕ) → f.offset ≤ x → x < 2 ^ 64 → is_last f.lane x fs ≡ false) → list_all (agrees f) fs ≡ true
 agrees_last f fs small none = clear_all f fs (all_before fs none)
   where
@@ -305,7 +305,7 @@ agrees_last f fs small none = clear_all f fs (all_before fs none)
       all_before gs (λ x le lt. (or_parts (lane_eq g.lane f.lane && eqb (last_of g) x) (is_last f.lane x gs) (h x le lt)).1),
     )
 
--- what is kept of the first frame that ends behind tells it
+-- So the first frame that ends at or behind the new frame's first byte decides whether the new one agrees with all frames.
 pub free_at : (f : Frame) (e s : ℕ) (fs : List Frame) → AreApart fs → f.offset < 2 ^ 64 → is_placed f.lane f.offset fs ≡ false → IsFirstEnd f e fs → offset_at f.lane e fs ≡ Some s → nat_lt (last_of f) s ≡ list_all (agrees f) fs
 free_at f e s fs apart small new first at = elim (cases_lt (last_of f) s) [
   | inl lt ↦ lt-ltb (last_of f) s lt ∙ sym (agrees_before f e s fs apart small first at lt)

@@ -1,8 +1,8 @@
--- How far a report was judged.
+-- The audit's loop over the items of a report: which items were judged so far.
 use Rattle.std.proofs.Common.{◌≡◌, ℕ, zero, suc, ◌+◌, ◌-◌, ◌^◌, ◌<◌, ◌≤◌, min, Bool, true, false, List, [], ◌∷◌, length, get_or, drop, Option, Some, None, refl, sym, ap, ◌∙◌, subst, arith}
 use Rattle.std.proofs.lemmas.List.{at_drop_more}
-use Rattle.scenario_lines.specs.declared.scenario.Scenario.{Scenario}
-use Rattle.report_items.specs.declared.item.NumberedItem.{NumberedItem}
+use Rattle.run_types.specs.declared.scenario.Scenario.{Scenario}
+use Rattle.run_types.specs.declared.item.NumberedItem.{NumberedItem}
 use Rattle.run_audit.specs.declared.verdict.Verdict.{Verdict}
 use Rattle.run_audit.specs.declared.verdict.Verdict.TheVariants as verdicts
 use Rattle.run_audit.specs.declared.record.Record.{Record}
@@ -12,7 +12,7 @@ use Rattle.run_audit.specs.Rules.{broken, judged, verdict_from, verdict_of, deli
 use Rattle.run_audit.specs.Kept.{IsRecordOf}
 use Rattle.run_audit.proofs.Summing.{how_many-le, places-le, frames-le}
 
--- the record is of the items before this place, none of which breaks a rule
+-- The record is that of the items before this place, and none of them breaks a rule.
 pub record IsSoFar (s : Scenario) (r : Record) (items : List NumberedItem) (first place : ℕ) : Type 0 where
   pub before : List NumberedItem
   pub kept : IsRecordOf s r before
@@ -31,7 +31,7 @@ none_judged s r items first kept = record {
 }
 
 module _ (s : Scenario) (items : List NumberedItem) (first place : ℕ) (told : NumberedItem) (inside : place < length items) (is : told ≡ get_or items place told) where
-  -- what is left begins with this item
+  -- The items from this place on begin with this item.
   begins : {Y : Type 0} (F : List NumberedItem → Y) → F (drop place items) ≡ F (told ∷ drop (place + 1) items)
   begins F = at_drop_more F items place told inside ∙ ap (λ (t : NumberedItem). F (t ∷ drop (place + 1) items)) (sym is)
 
@@ -62,7 +62,7 @@ drop_end [] (suc k) h = refl
 drop_end (y ∷ ys) zero h = absurd (omega arith)
 drop_end (y ∷ ys) (suc k) h = drop_end ys k (omega arith)
 
--- all items were judged
+-- Once all items are judged and none breaks a rule, the verdict is yes.
 pub all_judged : (s : Scenario) (r : Record) (items : List NumberedItem) (first place : ℕ) → length items ≤ place → place ≤ length items → first + length items + deliveries_in s items < 2 ^ 32 → IsSoFar s r items first place
     → verdicts.Yes r.places.count r.told.deliveries r.ledgers ≡ verdict_of s items first
 all_judged s r items first place ends within room so_far =

@@ -1,4 +1,4 @@
--- Entries and keys are equal where what they name is.
+-- Table keys and set entries are equal exactly if the things that they stand for are equal.
 use Rattle.std.proofs.Common.{◌≡◌, ℕ, ◌+◌, ◌*◌, Bool, true, false, ◌&&◌, cond, eqb, List, [], ◌∷◌, refl, sym, ap, ◌∙◌, arith}
 use Rattle.std.proofs.lemmas.Bool.Decides.{nat_tests}
 use Rattle.std.specs.Str.{bytes_eq}
@@ -36,7 +36,7 @@ place_keys k l x y = ap (λ (b : Bool). b && (eqb x y && true)) (lane_places k l
 pub last_entries : (k l : Lane) (x y : ℕ) → bytes_eq (last_entry k x) (last_entry l y) ≡ (lane_eq k l && eqb x y)
 last_entries k l x y = ap (λ (b : Bool). b && (eqb x y && true)) (lane_places k l) ∙ ap (λ (b : Bool). lane_eq k l && b) (and_true (eqb x y))
 
--- the tests of a name's parts, with one more behind them
+-- A name's three tests in order, and one test behind them.
 name_then : (a b c e : Bool) → (a && (b && (c && (e && true)))) ≡ ((a && b && c) && e)
 name_then true true true true = refl
 name_then true true true false = refl
@@ -70,7 +70,7 @@ origins n m = by n.node m.node n.kind m.kind
     by a b Note Stream = grind (arith, nat_tests)
     by a b Note Note = grind (arith, nat_tests)
 
--- a name's two numbers, with others behind them
+-- Comparing a name's two numbers is comparing the names, also with other tests behind it.
 names_then : (n m : Name) (rest : Bool) → (eqb n.count m.count && (eqb (origin_number n) (origin_number m) && rest)) ≡ (name_eq n m && rest)
 names_then n m rest =
     ap (λ (b : Bool). eqb n.count m.count && (b && rest)) (origins n m)

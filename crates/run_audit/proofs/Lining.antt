@@ -1,4 +1,4 @@
--- Lines that are put behind one another.
+-- How the table of a scenario's lines is filled, entry by entry.
 use Rattle.std.proofs.Common.{◌≡◌, ℕ, zero, suc, ◌+◌, ◌<◌, ◌≤◌, Bool, true, false, cond, eqb, List, [], ◌∷◌, ◌++◌, length, get_or, map, drop, Option, Some, None, refl, sym, ap, ◌∙◌, subst, arith, inl, inr}
 use Rattle.std.proofs.lemmas.List.{append_assoc, append-nil, at_drop_more, at_drop_all}
 use Rattle.std.proofs.lemmas.Bool.{cases_Bool}
@@ -9,7 +9,7 @@ use Rattle.run_audit.specs.Kept.{found_or}
 abbrev pub Lined : Type 0
 Lined = List (ℕ × LineKind)
 
--- What a list of things puts, one behind another, where one of them puts this. It is put in front of what is left.
+-- Each step moves lines into the table. The table together with the lines still to be added gives the same kinds as before.
 pub one_more : {A : Type 0} (F : List A → Lined) (put : Lined) (new old first : ℕ → Lined → Option LineKind) (xs : List A) (i : ℕ) (x d : A) → i < length xs → x ≡ get_or xs i d → ((ys : List A) → F (x ∷ ys) ≡ put ++ F ys)
     → ((number : ℕ) (behind : Lined) → new number behind ≡ old number (put ++ behind)) → ((number : ℕ) (behind : Lined) → old number (F (drop i xs) ++ behind) ≡ first number (F xs ++ behind))
     → (number : ℕ) (behind : Lined) → new number (F (drop (i + 1) xs) ++ behind) ≡ first number (F xs ++ behind)
@@ -32,7 +32,7 @@ all_done {A} F old first xs i le none so_far number behind =
     drop_end (y ∷ ys) zero h = absurd (omega arith)
     drop_end (y ∷ ys) (suc k) h = drop_end ys k (omega arith)
 
--- one line behind those that are there
+-- A line is added to a table without its number. It is then found as if it stood first among the lines still to be added.
 pub put_behind : (o new : Option LineKind) (number q : ℕ) (kind : LineKind) (behind : Lined) → new ≡ cond (eqb number q) (Some kind) o → o ≡ None → found_or new q behind ≡ found_or o q ((number, kind) ∷ behind)
 put_behind o new number q kind behind e none = elim (cases_Bool (eqb number q)) [
   | inl holds ↦ rw (e, none, holds) refl
@@ -43,7 +43,7 @@ pub found_none : (o : Option LineKind) (q : ℕ) → found_or o q [] ≡ o
 found_none None q = refl
 found_none (Some kind) q = refl
 
--- what two lists put one behind the other, on nothing
+-- An empty table to which the lines of two lists were added has the first line of each number.
 pub both_put : (k0 k1 k2 : Option LineKind) (q : ℕ) (front back : Lined) → k0 ≡ None → ((behind : Lined) → found_or k1 q behind ≡ found_or k0 q (front ++ behind)) → ((behind : Lined) → found_or k2 q behind ≡ found_or k1 q (back ++ behind))
     → k2 ≡ lookup (λ n. eqb n q) (front ++ back)
 both_put k0 k1 k2 q front back none one two =

@@ -1,9 +1,9 @@
--- One more frame in its place.
+-- How the tables of frames change when a frame is added.
 use Rattle.std.proofs.Common.{◌≡◌, ℕ, ◌+◌, ◌-◌, ◌^◌, ◌<◌, ◌≤◌, min, Bool, true, false, not, ◌&&◌, ◌||◌, cond, eqb, suc, List, [], ◌∷◌, ◌++◌, length, Option, Some, None, refl, sym, ap, ◌∙◌, subst, arith}
 use Rattle.std.specs.List.{list_any, list_all}
 use Rattle.std.specs.Str.{bytes_eq}
 use Rattle.std.specs.BTreeMap.{BTreeMap}
-use Rattle.ordered_entries.specs.Entries.{has_entry}
+use Rattle.ordered_set.specs.Entries.{has_entry}
 use Rattle.qkd_base.specs.declared.lane.Lane.{Lane}
 use Rattle.qkd_base.specs.Lane.{lane_eq, lane_place}
 use Rattle.run_audit.specs.declared.frames.Frame.{Frame}
@@ -13,11 +13,11 @@ use Rattle.run_audit.specs.Frames.{agrees, is_placed, places}
 use Rattle.run_audit.specs.Kept.{place_key, last_entry, last_of, length_at, offset_at, is_last, AreApart, ArePlaced}
 use Rattle.run_audit.proofs.Keys.{place_keys, last_entries}
 
--- a table with one more value
+-- The new table has the value under this key, and is the old one elsewhere.
 abbrev pub Puts : {X : Type 0} → BTreeMap (List ℕ) X → BTreeMap (List ℕ) X → List ℕ → X → Type 0
 Puts old new key value = (k : List ℕ) → at new k ≡ cond (bytes_eq key k) (Some value) (at old k)
 
--- a set with one more entry
+-- The new set has this entry, and all entries of the old one.
 abbrev pub Inserts : List (List ℕ) → List (List ℕ) → List ℕ → Type 0
 Inserts old new entry = (e : List ℕ) → has_entry new e ≡ (bytes_eq entry e || has_entry old e)
 
@@ -42,11 +42,11 @@ lasts_more old new f fs has put l last =
     ∙ ap (λ (b : Bool). b || has_entry old (last_entry l last)) (last_entries f.lane l (last_of f) last)
     ∙ ap (λ (b : Bool). (lane_eq f.lane l && eqb (last_of f) last) || b) (has l last)
 
--- a count stays at its last value
+-- A count that never exceeds 2^32 - 1 is also right with one more.
 pub count_more : (n k : ℕ) → k ≡ min n (2 ^ 32 - 1) → min (k + 1) (2 ^ 32 - 1) ≡ min (suc n) (2 ^ 32 - 1)
 count_more n k h = omega arith
 
--- a place that is known is no new one
+-- A frame at a known offset adds no new place to the count.
 pub count_known : (f : Frame) (fs : List Frame) (k : ℕ) (known : Bool) → k ≡ min (places fs) (2 ^ 32 - 1) → known ≡ is_placed f.lane f.offset fs → cond (not known) (min (k + 1) (2 ^ 32 - 1)) k ≡ min (places (f ∷ fs)) (2 ^ 32 - 1)
 count_known f fs k known h e = by_known known (is_placed f.lane f.offset fs) e
   where

@@ -1,12 +1,11 @@
--- Which rule an item breaks, by what is kept.
+-- Which rule an item breaks, computed from the record of the items before it.
 use Rattle.std.proofs.Common.{◌≡◌, ℕ, suc, ◌+◌, ◌-◌, ◌^◌, ◌<◌, ◌≤◌, min, Bool, true, false, not, ◌&&◌, cond, eqb, List, [], ◌∷◌, length, Option, Some, None, refl, sym, ap, ◌∙◌, subst, arith}
-use Rattle.std.specs.Prelude.{IfOk, OnOk}
+use Rattle.std.specs.Prelude.{IfOk, OnOk, Result, Ok, Err}
 use Rattle.std.proofs.lemmas.Bool.{eqb-true}
 use Rattle.std.specs.List.{cons_option}
-use Rattle.std.specs.Prelude.{Result, Ok, Err}
-use Rattle.scenario_lines.specs.declared.scenario.Scenario.{Scenario}
-use Rattle.report_items.specs.declared.item.Item.{Item}
-use Rattle.report_items.specs.declared.item.NumberedItem.{NumberedItem}
+use Rattle.run_types.specs.declared.scenario.Scenario.{Scenario}
+use Rattle.run_types.specs.declared.item.Item.{Item}
+use Rattle.run_types.specs.declared.item.NumberedItem.{NumberedItem}
 use Rattle.run_audit.specs.declared.line_kind.LineKind.{LineKind}
 use Rattle.run_audit.specs.declared.record.Record.{Record}
 use Rattle.run_audit.specs.declared.frames.Frame.{Frame}
@@ -16,7 +15,7 @@ use Rattle.run_audit.specs.Frames.{frame_of, frames}
 use Rattle.run_audit.specs.Rules.{is_of_line, is_next, keeps_apart, hands_out, takes_new, balances, is_counted, ledgers, broken}
 use Rattle.run_audit.specs.Kept.{AreNumbered}
 
--- the least rule that doesn't hold
+-- the least of six rules that doesn't hold
 abbrev pub least : (a b c d e f : Bool) → Option ℕ
 least a b c d e f = cond (not a) (Some 1) (cond (not b) (Some 2) (cond (not c) (Some 3) (cond (not d) (Some 4) (cond (not e) (Some 5) (cond (not f) (Some 6) None)))))
 
@@ -41,11 +40,11 @@ sixth_one a b c d e f p q r s t u = rw (p, q, r, s, t, u) refl
 pub no_one : (a b c d e f : Bool) → a ≡ true → b ≡ true → c ≡ true → d ≡ true → e ≡ true → f ≡ true → None ≡ least a b c d e f
 no_one a b c d e f p q r s t u = rw (p, q, r, s, t, u) refl
 
--- the line of an item, by what is kept of lines
+-- The test of rule 1, with the kind of the item's line looked up in the table.
 pub of_line : (s : Scenario) (kind : Option LineKind) (told : NumberedItem) → kind ≡ kind_at s told.number → (gives_at kind told.item && is_on_link s.site.routes told.item) ≡ is_of_line s told
 of_line s kind told k = ap (λ (o : Option LineKind). gives_at o told.item && is_on_link s.site.routes told.item) k
 
--- frames are numbered behind one more item, whose frame has the next number
+-- If an item's frame has its lane's next number, the frames are still numbered in order behind that item.
 pub numbered_more : (o : Option Frame) (fs : List Frame) → is_next o fs ≡ true → AreNumbered fs → AreNumbered (cons_option o fs)
 numbered_more None fs h n = n
 numbered_more (Some f) fs h n = (next_is f.number _ h, n)
@@ -60,7 +59,7 @@ ledgers_more told before k h = by_item (is_counted told.item)
     by_item true = omega arith
     by_item false = h
 
--- a clause on Ok, and what follows from it
+-- If P holds of a successful result and implies Q, then Q holds of it.
 pub ok_map : {V E : Type 0} (r : Result V E) {P Q : V → Type 0} → ((v : V) → P v → Q v) → IfOk r P → IfOk r Q
 ok_map (Ok v) f h = f v h
 ok_map (Err e) f h = tt
@@ -69,7 +68,7 @@ pub on_ok_map : {V E : Type 0} (r : Result V E) {P Q : Type 0} → (P → Q) →
 on_ok_map (Ok v) f h = f h
 on_ok_map (Err e) f h = tt
 
--- ---- the rules by what their tests say
+-- ---- the first rule whose test fails is the rule that is broken
 
 module _ (s : Scenario) (before : List NumberedItem) (told : NumberedItem) where
   pub breaks_1 : is_of_line s told ≡ false → Some 1 ≡ broken s before told
@@ -81,7 +80,7 @@ module _ (s : Scenario) (before : List NumberedItem) (told : NumberedItem) where
   pub breaks_3 : is_of_line s told ≡ true → is_next (frame_of told.item) (frames before) ≡ true → keeps_apart (frame_of told.item) (frames before) ≡ false → Some 3 ≡ broken s before told
   breaks_3 = third_one (is_of_line s told) (is_next (frame_of told.item) (frames before)) (keeps_apart (frame_of told.item) (frames before)) (hands_out s before told) (takes_new s before told) (balances before told.item)
 
-  -- the first three rules hold
+  -- Rules 1 to 3 hold for the item.
   pub record IsPlacedWell : Type 0 where
     pub line : is_of_line s told ≡ true
     pub next : is_next (frame_of told.item) (frames before) ≡ true

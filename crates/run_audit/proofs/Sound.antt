@@ -1,4 +1,4 @@
--- What a sound report means.
+-- What is true of a report that the audit finds sound.
 use Rattle.std.proofs.Common.{◌≡◌, ℕ, zero, suc, ◌+◌, ◌<◌, ◌≤◌, Bool, true, false, not, ◌&&◌, ◌||◌, cond, eqb, List, [], ◌∷◌, take, Option, Some, None, refl, sym, ap, ◌∙◌, subst, arith, ◌⊎◌, inl, inr}
 use Rattle.std.specs.Prelude.{slice_get}
 use Rattle.std.specs.List.{list_any, list_all, filter_map, cons_option}
@@ -11,10 +11,10 @@ use Rattle.qkd_base.specs.Name.{Name, name_eq, kind_eq}
 use Rattle.qkd_base.specs.declared.lane.Lane.{Lane}
 use Rattle.sae_entitlements.specs.Grants.{Grants}
 use Rattle.net_model.specs.declared.counts.Counts4.{Counts4}
-use Rattle.scenario_lines.specs.declared.scenario.Scenario.{Scenario}
-use Rattle.report_items.specs.declared.item.Item.{Item}
-use Rattle.report_items.specs.declared.item.Item.TheVariants as items
-use Rattle.report_items.specs.declared.item.NumberedItem.{NumberedItem}
+use Rattle.run_types.specs.declared.scenario.Scenario.{Scenario}
+use Rattle.run_types.specs.declared.item.Item.{Item}
+use Rattle.run_types.specs.declared.item.Item.TheVariants as items
+use Rattle.run_types.specs.declared.item.NumberedItem.{NumberedItem}
 use Rattle.run_audit.specs.declared.verdict.Verdict.{Verdict}
 use Rattle.run_audit.specs.declared.verdict.Verdict.TheVariants as verdicts
 use Rattle.run_audit.specs.declared.subject.Subject.{Subject}
@@ -126,7 +126,7 @@ frames_are_disjoint s told sound i j l m n o p x y lt one two =
     said (ends_first a) = inr (inr a)
     said (begins_last a) = inr (inl a)
 
--- ---- takings
+-- ---- names that nodes took
 
 kind_self : (k : NameKind) → kind_eq k k ≡ true
 kind_self Key = refl
@@ -155,7 +155,7 @@ names_are_taken_once s told sound i j a b t lt one two ta tb =
     no (taking_eq t t) (taking_self t)
     (none_mapped (λ (n : NumberedItem). taking_of routes n.item) (λ e. taking_eq e t) one.0 t (in_taken told [] i j one.0 lt one.1) (ap (taking_of routes) one.2 ∙ ta) none)
 
--- ---- tellings
+-- ---- bytes of keys and chunks
 
 abbrev EachHas : Grants → List Telling → Type 0
 EachHas g [] = Unit {0}
@@ -197,7 +197,7 @@ subject_self : (s : Subject) → subject_eq s s ≡ true
 subject_self (subjects.Key n) = name_self n
 subject_self (subjects.Chunk r i) = rw (name_self r, eq-eqb i i refl) refl
 
--- the parts of a fit of two tellings of one subject
+-- If two tellings of one subject fit, their bytes are equal, their callers differ, and their masters don't contradict each other.
 fit_parts : (t u : Telling) → t.subject ≡ u.subject → fits_with t u ≡ true → (bytes_eq u.bytes t.bytes ≡ true) × (is_same u.caller t.caller ≡ false) × (may_be_same u.master t.master ≡ true)
 fit_parts t u e h =
     let own : subject_eq u.subject t.subject ≡ true = subst (λ (x : Subject). subject_eq u.subject x ≡ true) (sym e) (subject_self u.subject) in

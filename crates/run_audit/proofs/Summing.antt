@@ -1,4 +1,4 @@
--- What one more item says of lanes.
+-- How the sums of a lane change with one more item.
 use Rattle.std.proofs.Common.{◌≡◌, ℕ, ◌+◌, ◌*◌, ◌-◌, ◌^◌, ◌<◌, ◌≤◌, Bool, true, false, not, ◌&&◌, ◌||◌, cond, eqb, suc, ◌⊎◌, inl, inr, List, [], ◌∷◌, length, Option, Some, None, refl, sym, ap, ◌∙◌, subst, arith}
 use Rattle.std.specs.Prelude.{unwrap_or, nat_lt}
 use Rattle.std.specs.List.{list_any, list_all, cons_option}
@@ -8,9 +8,9 @@ use Rattle.std.proofs.lemmas.Bool.{cases_Bool}
 use Rattle.std.proofs.lemmas.Bool.Decides.{nat_tests}
 use Rattle.qkd_base.specs.declared.lane.Lane.{Lane}
 use Rattle.qkd_base.specs.Lane.{lane_eq, lane_place}
-use Rattle.report_items.specs.declared.item.Item.{Item}
-use Rattle.report_items.specs.declared.item.Item.TheVariants as items
-use Rattle.report_items.specs.declared.item.NumberedItem.{NumberedItem}
+use Rattle.run_types.specs.declared.item.Item.{Item}
+use Rattle.run_types.specs.declared.item.Item.TheVariants as items
+use Rattle.run_types.specs.declared.item.NumberedItem.{NumberedItem}
 use Rattle.run_audit.specs.declared.frames.Frame.{Frame}
 use Rattle.run_audit.specs.declared.sums.LaneSum.{LaneSum}
 use Rattle.run_audit.specs.declared.sums.Sums.{Sums}
@@ -38,7 +38,7 @@ places-le (f ∷ fs) = elim (cases_Bool (is_placed f.lane f.offset fs)) [
   | inr other ↦ rw other (omega (arith, places-le fs))
 ]
 
--- frames are at most as many as the items that tell them
+-- There are at most as many frames as items.
 pub frames-le : (told : List NumberedItem) → length (frames told) ≤ length told
 frames-le [] = omega arith
 frames-le (t ∷ told) = one (frame_of t.item) (frames told) (length told) (frames-le told)
@@ -47,7 +47,7 @@ frames-le (t ∷ told) = one (frame_of t.item) (frames told) (length told) (fram
     one None fs n h = omega arith
     one (Some f) fs n h = omega arith
 
--- a frame uses fewer than 2^17 bytes
+-- Each frame uses fewer than 2^17 bytes.
 pub used-lt : (l : Lane) (fs : List Frame) → AreApart fs → used_on l fs ≤ 131072 * length fs
 used-lt l [] h = omega arith
 used-lt l (f ∷ fs) h = elim (cases_Bool (lane_eq f.lane l && not (is_placed f.lane f.offset fs))) [
@@ -57,7 +57,7 @@ used-lt l (f ∷ fs) h = elim (cases_Bool (lane_eq f.lane l && not (is_placed f.
 
 -- ---- one more item
 
--- the sum of a lane behind one more item, of which it is told whether its place is new
+-- The sum of lane l after one more item. `is_new` says whether the item's frame has a new place.
 abbrev summed : Option Lane → Lane → Item → (is_new : Bool) → LaneSum → LaneSum
 summed None l item is_new s = s
 summed (Some k) l item is_new s = cond (lane_eq k l) (with_item item is_new s) s
@@ -65,7 +65,7 @@ summed (Some k) l item is_new s = cond (lane_eq k l) (with_item item is_new s) s
 pub sums_more : (l : Lane) (t : NumberedItem) (before : List NumberedItem) (is_new : Bool) → IsNew is_new (frame_of t.item) (frames before) → sum_of l (t ∷ before) ≡ summed (lane_of t.item) l t.item is_new (sum_of l before)
 sums_more l t before is_new new = by_item t.item new
   where
-    -- what the parts of a sum become
+    -- the sum of the items with this one, part by part
     parts : Item → LaneSum
     parts item = record {
       sent = sent_on l (cons_option (frame_of item) (frames before));
@@ -100,7 +100,7 @@ sums_more l t before is_new new = by_item t.item new
     by_item (items.Unsent k offset cause) n = unsent (lane_eq k l) (sum_of l before)
     by_item _ n = refl
 
--- where what is kept is what was said, it is so behind one more item
+-- If the sums were right before an item, they are right behind it.
 pub summed_none : (old : Sums) (t : NumberedItem) (before : List NumberedItem) (is_new : Bool) → IsNew is_new (frame_of t.item) (frames before) → lane_of t.item ≡ None → AreSummed old before → AreSummed old (t ∷ before)
 summed_none old t before is_new new none has l =
     has l ∙ sym (sums_more l t before is_new new ∙ ap (λ (o : Option Lane). summed o l t.item is_new (sum_of l before)) none)
@@ -118,7 +118,7 @@ summed_some old new k s t before is_new fresh some put has is l = elim (cases_Bo
 
 -- ---- numbers of frames
 
--- frames that are numbered from 0 have just the numbers below their count
+-- The numbers of a lane's frames are those below the lane's count of frames.
 pub sent_below : (l : Lane) (n : ℕ) (fs : List Frame) → AreNumbered fs → nat_lt n (sent_on l fs) ≡ was_sent l n fs
 sent_below l n [] h = grind (arith, nat_tests)
 sent_below l n (f ∷ fs) h = elim (cases_Bool (lane_eq f.lane l)) [

@@ -1,4 +1,4 @@
--- Whether a telling fits, by what is kept; and one more telling.
+-- Whether a telling fits the earlier ones, computed from the tables; and how the tables change with one more telling.
 use Rattle.std.proofs.Common.{◌≡◌, ℕ, zero, suc, length, get_or, map, drop, Result, Ok, Err, ◌+◌, ◌-◌, ◌^◌, ◌<◌, ◌≤◌, min, Bool, true, false, not, ◌&&◌, ◌||◌, cond, eqb, List, [], ◌∷◌, Option, Some, None, refl, sym, ap, ◌∙◌, subst, arith, inl, inr}
 use Rattle.std.specs.Prelude.{is_some, IfOk}
 use Rattle.std.proofs.lemmas.List.{at_drop_more}
@@ -45,7 +45,7 @@ subject_same (subjects.Chunk r i) (subjects.Chunk q j) h =
     let parts = and_parts (name_eq r q) (eqb i j) h in
     ap (λ (n : Name). subjects.Chunk n i) (name_same r q parts.0) ∙ ap (λ (k : ℕ). subjects.Chunk q k) (eqb-true i j parts.1)
 
--- ---- the three parts of a fit
+-- ---- the three tests of a fit
 
 abbrev same_bytes : Subject → List ℕ → Telling → Bool
 same_bytes s bytes e = not (subject_eq e.subject s) || bytes_eq e.bytes bytes
@@ -80,7 +80,7 @@ in_parts t (e ∷ es) =
     ∙ ap (λ (b : Bool). (same_bytes t.subject t.bytes e && (not_given t.subject t.caller e && one_master t.subject t.master e)) && b) (in_parts t es)
     ∙ shuffle (same_bytes t.subject t.bytes e) (not_given t.subject t.caller e) (one_master t.subject t.master e) (list_all (same_bytes t.subject t.bytes) es) (list_all (not_given t.subject t.caller) es) (list_all (one_master t.subject t.master) es)
 
--- ---- bytes
+-- ---- the test of bytes
 
 bytes_part : (e : Telling) (es : List Telling) → list_all (fits_with e) es ≡ true → list_all (same_bytes e.subject e.bytes) es ≡ true
 bytes_part e es h = (and_parts (list_all (same_bytes e.subject e.bytes) es) (list_all (not_given e.subject e.caller) es && list_all (one_master e.subject e.master) es) (sym (in_parts e es) ∙ h)).0
@@ -99,7 +99,7 @@ bytes_known s bytes (e ∷ es) h = elim (cases_Bool (subject_eq e.subject s)) [
   | inr other ↦ rw other (bytes_known s bytes es h.1)
 ]
 
--- ---- masters
+-- ---- the test of masters
 
 master_part : (e : Telling) (es : List Telling) → list_all (fits_with e) es ≡ true → list_all (one_master e.subject e.master) es ≡ true
 master_part e es h =
@@ -118,7 +118,7 @@ unsaid : (s : Subject) (ts : List Telling) → list_all (one_master s None) ts �
 unsaid s [] = refl
 unsaid s (e ∷ es) = rw (no_master e.master, or_true (not (subject_eq e.subject s)), unsaid s es) refl
 
--- a telling that says a master, before tellings that fit
+-- If earlier tellings agree with master a, it suffices that one more agrees with a.
 said : (s : Subject) (a : ℕ) (master : Option ℕ) (es : List Telling) → list_all (one_master s (Some a)) es ≡ true → (may_be_same (Some a) master && list_all (one_master s master) es) ≡ may_be_same (Some a) master
 said s a None es h = unsaid s es
 said s a (Some b) es h = elim (cases_Bool (eqb a b)) [
@@ -138,7 +138,7 @@ master_known s master (e ∷ es) h = elim (cases_Bool (subject_eq e.subject s)) 
     of_master None all same rest = rw same rest
     of_master (Some a) all same rest = rw same (said s a master es all)
 
--- ---- callers
+-- ---- the test of callers
 
 nobody : (a : Option ℕ) → is_same a None ≡ false
 nobody None = refl
@@ -155,9 +155,9 @@ callers_known s None (e ∷ es) = rw (nobody e.caller, or_true (not (subject_eq 
 callers_known s (Some c) [] = refl
 callers_known s (Some c) (e ∷ es) = rw (callers_known s (Some c) es) (de_morgan (subject_eq e.subject s) (is_same e.caller (Some c)) (was_given s c es))
 
--- ---- all of it
+-- ---- the three tests together
 
--- a telling fits where its bytes, its caller and its master do
+-- A telling fits all earlier ones exactly if its bytes, its caller and its master do.
 pub fit_known : (t : Telling) (ts : List Telling) → AreFitting ts → list_all (fits_with t) ts ≡ (may_be_bytes (bytes_of t.subject ts) t.bytes && (not (was_given_to t.subject t.caller ts) && may_be_same (master_of t.subject ts) t.master))
 fit_known t ts h =
     in_parts t ts
@@ -165,12 +165,12 @@ fit_known t ts h =
     ∙ ap (λ (b : Bool). may_be_bytes (bytes_of t.subject ts) t.bytes && (b && list_all (one_master t.subject t.master) ts)) (callers_known t.subject t.caller ts)
     ∙ ap (λ (b : Bool). may_be_bytes (bytes_of t.subject ts) t.bytes && (not (was_given_to t.subject t.caller ts) && b)) (master_known t.subject t.master ts h)
 
--- a count of deliveries that stays at its last value
+-- One more delivery, in a count that never exceeds 2^32 - 1.
 pub delivered : (caller : Option ℕ) (n k : ℕ) → k ≡ min n (2 ^ 32 - 1) → cond (is_some caller) (min (k + 1) (2 ^ 32 - 1)) k ≡ min (cond (is_some caller) (suc n) n) (2 ^ 32 - 1)
 delivered None n k h = h
 delivered (Some c) n k h = omega arith
 
--- the same by what is kept
+-- the three tests, computed from the tables in place of the list of tellings
 assoc : (a b c d : Bool) → (a && b && c && d) ≡ ((a && (b && c)) && d)
 assoc true b c d = refl
 assoc false b c d = refl
@@ -192,13 +192,13 @@ fits_kept told g t ts h =
     ∙ assoc a b m d
     ∙ ap (λ (x : Bool). x && d) (sym (fit_known t ts h.fitting))
 
--- ---- keys of one item
+-- ---- the tellings of one item
 
 and_true : (b : Bool) → (b && true) ≡ b
 and_true true = refl
 and_true false = refl
 
--- one telling alone
+-- An item with a single telling fits exactly if that telling does.
 pub one_fit : {E : Type 0} (r : Result Bool E) (g : Grants) (ts : List Telling) (given t : Telling) (new : Told) → given ≡ t
     → IfOk r (λ fit. (fit ≡ fits g ts given) × (fit ≡ true → AreTold new (given ∷ ts))) → IfOk r (λ fit. (fit ≡ all_fit g ts (t ∷ [])) × (fit ≡ true → AreTold new (onto ts (t ∷ []))))
 one_fit (Ok fit) g ts given t new e h = (h.0 ∙ ap (fits g ts) e ∙ sym (and_true (fits g ts t)), λ given_fit. subst (λ (x : Telling). AreTold new (x ∷ ts)) e (h.1 given_fit))

@@ -1,4 +1,4 @@
--- What is kept of the items so far, and what it stands for.
+-- What the audit's tables stand for: the items so far.
 use Rattle.std.specs.Prelude.{◌≡◌, ℕ, suc, ◌+◌, ◌*◌, ◌-◌, ◌^◌, ◌<◌, min, Bool, true, false, not, ◌&&◌, ◌||◌, ◌==◌, if◌then◌else◌, List, [], ◌∷◌, Option, Some, None, is_some, unwrap_or}
 use Rattle.std.specs.Map.{lookup}
 use Rattle.std.specs.List.{list_any, list_all}
@@ -9,12 +9,12 @@ use Rattle.qkd_base.specs.declared.lane.Lane.{Lane}
 use Rattle.qkd_base.specs.Lane.{lane_eq, lane_place}
 use Rattle.qkd_base.specs.Name.{Name, kind_number}
 use Rattle.sae_entitlements.specs.Grants.{Grants}
-use Rattle.ordered_entries.specs.Entries.{has_entry}
-use Rattle.report_items.specs.declared.refusal.Refusal.{Refusal}
-use Rattle.report_items.specs.declared.item.Item.{Item}
-use Rattle.report_items.specs.declared.item.Item.TheVariants as items
-use Rattle.report_items.specs.declared.item.NumberedItem.{NumberedItem}
-use Rattle.scenario_lines.specs.declared.scenario.Scenario.{Scenario}
+use Rattle.ordered_set.specs.Entries.{has_entry}
+use Rattle.run_types.specs.declared.refusal.Refusal.{Refusal}
+use Rattle.run_types.specs.declared.item.Item.{Item}
+use Rattle.run_types.specs.declared.item.Item.TheVariants as items
+use Rattle.run_types.specs.declared.item.NumberedItem.{NumberedItem}
+use Rattle.run_types.specs.declared.scenario.Scenario.{Scenario}
 use Rattle.run_audit.specs.declared.line_kind.LineKind.{LineKind}
 use Rattle.run_audit.specs.declared.subject.Subject.{Subject}
 use Rattle.run_audit.specs.declared.subject.Subject.TheVariants as subjects
@@ -34,14 +34,14 @@ use Rattle.run_audit.specs.Takings.{takings, taking_eq}
 use Rattle.run_audit.specs.Ledgers.{lane_from, is_stop, sum_of}
 use Rattle.run_audit.specs.Rules.{is_delivery, ledgers}
 
--- ---- lines
+-- ---- lines of the scenario
 
--- what is found under a number, or else in the lines behind
+-- the kind that was found for a number, or else that of the first line with this number
 abbrev pub found_or : Option LineKind → ℕ → List (ℕ × LineKind) → Option LineKind
 found_or (Some kind) number lines = Some kind
 found_or None number lines = lookup (λ n. n == number) lines
 
--- lines were put behind those that are there
+-- The new table is the old one with lines added. An earlier line of the same number stays in force.
 abbrev pub Adds : BTreeMap ℕ LineKind → BTreeMap ℕ LineKind → (List (ℕ × LineKind) → List (ℕ × LineKind)) → Type 0
 Adds old new put = (number : ℕ) (behind : List (ℕ × LineKind)) → found_or (get nat_cmp new number) number behind ≡ found_or (get nat_cmp old number) number (put behind)
 
@@ -53,7 +53,7 @@ place_key l x = lane_place l ∷ x ∷ 0 ∷ 0 ∷ 0 ∷ 0 ∷ []
 abbrev pub last_entry : Lane → ℕ → List ℕ
 last_entry l x = lane_place l ∷ 0 ∷ 0 ∷ 0 ∷ x ∷ []
 
--- the last byte that a frame covers, or the greatest place that a number of 64 bits has
+-- the last byte that a frame covers, or 2^64 - 1 if that is less
 abbrev pub last_of : Frame → ℕ
 last_of f = min (f.offset + (f.length + 7)) (2 ^ 64 - 1)
 
@@ -68,7 +68,7 @@ offset_at l last (f ∷ fs) = if lane_eq f.lane l && (last_of f == last) then So
 abbrev pub is_last : Lane → ℕ → List Frame → Bool
 is_last l last fs = list_any (λ (f : Frame). lane_eq f.lane l && (last_of f == last)) fs
 
--- each agrees with those before it
+-- Each frame agrees with those before it.
 abbrev pub AreApart : List Frame → Type 0
 AreApart [] = Unit {0}
 AreApart (f ∷ fs) = (f.offset < 2 ^ 64) × (f.length < 2 ^ 16) × (list_all (agrees f) fs ≡ true) × AreApart fs
@@ -80,22 +80,22 @@ pub record ArePlaced (p : Places) (fs : List Frame) : Type 0 where
   pub count : p.count ≡ min (places fs) (2 ^ 32 - 1)
   pub apart : AreApart fs
 
--- each is the next one of its lane
+-- Each frame has the next number of its lane.
 abbrev pub AreNumbered : List Frame → Type 0
 AreNumbered [] = Unit {0}
 AreNumbered (f ∷ fs) = (f.number ≡ sent_on f.lane fs) × AreNumbered fs
 
--- whether a frame's place is a new one
+-- `is_new` says whether the frame's place is a new one.
 abbrev pub IsNew : (is_new : Bool) → Option Frame → List Frame → Type 0
 IsNew is_new None fs = Unit {0}
 IsNew is_new (Some f) fs = is_new ≡ not (is_placed f.lane f.offset fs)
 
--- ---- sums
+-- ---- sums of lanes
 
 abbrev pub no_sum : LaneSum
 no_sum = record { sent = 0; used = 0; blocks = 0; is_doubted = false; has_unsent = false }
 
--- the lane of which an item says something
+-- The lane whose sums an item changes. Other items have none.
 abbrev pub lane_of : Item → Option Lane
 lane_of (items.Took link end number) = Some (lane_from link end)
 lane_of (items.TookNone link end refusal) = Some (lane_from link end)
@@ -125,11 +125,11 @@ abbrev pub subject_key : Subject → List ℕ
 subject_key (subjects.Key n) = 0 ∷ n.node ∷ kind_number n.kind ∷ n.count ∷ 0 ∷ 0 ∷ []
 subject_key (subjects.Chunk s index) = 1 ∷ s.node ∷ kind_number s.kind ∷ s.count ∷ index ∷ 0 ∷ []
 
--- a name's kind, which is less than four, and its node in one number, since entries are short: comparing them takes time
+-- A name's node and kind as one number. The kind is below 4. Fewer numbers in an entry make comparisons of entries faster.
 abbrev pub origin_number : Name → ℕ
 origin_number n = kind_number n.kind + 4 * n.node
 
--- the third number is 0 of a key, and of a chunk one more than its index
+-- The third number of an entry is 0 for a key, and the index plus 1 for a chunk.
 abbrev pub caller_entry : Subject → ℕ → List ℕ
 caller_entry (subjects.Key n) caller = n.count ∷ origin_number n ∷ 0 ∷ caller ∷ 0 ∷ []
 caller_entry (subjects.Chunk s index) caller = s.count ∷ origin_number s ∷ (index + 1) ∷ caller ∷ 0 ∷ []
@@ -152,7 +152,7 @@ abbrev pub may_be_bytes : Option (List ℕ) → List ℕ → Bool
 may_be_bytes None bytes = true
 may_be_bytes (Some known) bytes = bytes_eq known bytes
 
--- the same by what is kept
+-- The set of entries has this caller for this subject.
 abbrev pub is_listed : List (List ℕ) → Subject → Option ℕ → Bool
 is_listed entries s None = false
 is_listed entries s (Some caller) = has_entry entries (caller_entry s caller)
@@ -161,7 +161,7 @@ abbrev pub was_given_to : Subject → Option ℕ → List Telling → Bool
 was_given_to s None ts = false
 was_given_to s (Some caller) ts = was_given s caller ts
 
--- each fits those before it
+-- Each telling fits those before it.
 abbrev pub AreFitting : List Telling → Type 0
 AreFitting [] = Unit {0}
 AreFitting (t ∷ ts) = (list_all (fits_with t) ts ≡ true) × AreFitting ts
@@ -173,7 +173,7 @@ pub record AreTold (told : Told) (ts : List Telling) : Type 0 where
   pub deliveries : told.deliveries ≡ min (how_many is_delivery ts) (2 ^ 32 - 1)
   pub fitting : AreFitting ts
 
--- ---- takings
+-- ---- names that nodes took
 
 abbrev pub bool_number : Bool → ℕ
 bool_number true = 1
@@ -185,7 +185,7 @@ taking_entry t = t.name.count ∷ origin_number t.name ∷ t.node ∷ bool_numbe
 abbrev pub AreTaken : Takings → List Taking → Type 0
 AreTaken k ts = (t : Taking) → has_entry k.entries (taking_entry t) ≡ list_any (λ e. taking_eq e t) ts
 
--- ---- all of it
+-- ---- all tables together
 
 pub record IsRecordOf (s : Scenario) (r : Record) (before : List NumberedItem) : Type 0 where
   pub placed : ArePlaced r.places (frames before)

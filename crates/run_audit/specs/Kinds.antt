@@ -1,15 +1,15 @@
--- What the lines of a scenario ask for, by number.
+-- What each line of a scenario asks for, by the line's number.
 use Rattle.std.specs.Prelude.{ℕ, ◌==◌, List, [], ◌∷◌, ◌++◌, map, Option}
 use Rattle.std.specs.List.{flat_map}
 use Rattle.std.specs.Map.{lookup}
-use Rattle.scenario_lines.specs.declared.stream_call.StreamCall.{StreamCall}
-use Rattle.scenario_lines.specs.declared.stream_call.StreamCall.TheVariants as calls
-use Rattle.scenario_lines.specs.declared.command.Command.{Command}
-use Rattle.scenario_lines.specs.declared.command.Command.TheVariants as commands
-use Rattle.scenario_lines.specs.declared.line.Line.{Line}
-use Rattle.scenario_lines.specs.declared.entry.Entry.{Entry}
-use Rattle.scenario_lines.specs.declared.entry.Entry.TheVariants as entries
-use Rattle.scenario_lines.specs.declared.scenario.Scenario.{Scenario}
+use Rattle.run_types.specs.declared.stream_call.StreamCall.{StreamCall}
+use Rattle.run_types.specs.declared.stream_call.StreamCall.TheVariants as calls
+use Rattle.run_types.specs.declared.command.Command.{Command}
+use Rattle.run_types.specs.declared.command.Command.TheVariants as commands
+use Rattle.run_types.specs.declared.line.Line.{Line}
+use Rattle.run_types.specs.declared.entry.Entry.{Entry}
+use Rattle.run_types.specs.declared.entry.Entry.TheVariants as entries
+use Rattle.run_types.specs.declared.scenario.Scenario.{Scenario}
 use Rattle.run_audit.specs.declared.line_kind.LineKind.{LineKind}
 use Rattle.run_audit.specs.declared.line_kind.LineKind.TheVariants as kinds
 
@@ -47,15 +47,15 @@ kind_of (commands.EncGroup node master count bits slaves) = kinds.Handing master
 abbrev pub kind_of_line : Line → ℕ × LineKind
 kind_of_line line = (line.number, kind_of line.command)
 
--- the lines of an entry, with what they ask for
+-- the lines of an entry, each with what it asks for
 abbrev pub kinds_of : Entry → List (ℕ × LineKind)
 kinds_of (entries.Line line) = kind_of_line line ∷ []
 kinds_of (entries.Block lines) = map kind_of_line lines
 
--- all lines with what they ask for
+-- all lines of a scenario, each with what it asks for
 abbrev pub kinds_in : Scenario → List (ℕ × LineKind)
 kinds_in s = map (λ n. (n, kinds.Node)) s.node_lines ++ flat_map kinds_of s.entries
 
--- what the line of this number asks for
+-- what the line with this number asks for
 abbrev pub kind_at : Scenario → ℕ → Option LineKind
 kind_at s number = lookup (λ n. n == number) (kinds_in s)

@@ -1,11 +1,11 @@
--- What it means that a report is sound.
+-- What is true of a report that the audit finds sound.
 use Rattle.std.specs.Prelude.{◌≡◌, ◌≢◌, ℕ, ◌+◌, ◌<◌, ◌≤◌, ◌⊎◌, Bool, true, List, [], take, slice_get, Option, Some}
 use Rattle.qkd_base.specs.declared.lane.Lane.{Lane}
 use Rattle.net_model.specs.declared.counts.Counts4.{Counts4}
-use Rattle.scenario_lines.specs.declared.scenario.Scenario.{Scenario}
-use Rattle.report_items.specs.declared.item.Item.{Item}
-use Rattle.report_items.specs.declared.item.Item.TheVariants as items
-use Rattle.report_items.specs.declared.item.NumberedItem.{NumberedItem}
+use Rattle.run_types.specs.declared.scenario.Scenario.{Scenario}
+use Rattle.run_types.specs.declared.item.Item.{Item}
+use Rattle.run_types.specs.declared.item.Item.TheVariants as items
+use Rattle.run_types.specs.declared.item.NumberedItem.{NumberedItem}
 use Rattle.run_audit.specs.declared.verdict.Verdict.TheVariants as verdicts
 use Rattle.run_audit.specs.declared.takings.Taking.{Taking}
 use Rattle.run_audit.specs.Tellings.{Telling, tellings, onto, may_have}
@@ -13,7 +13,7 @@ use Rattle.run_audit.specs.Takings.{taking_of}
 use Rattle.run_audit.specs.Ledgers.{is_true_ledger}
 use Rattle.run_audit.specs.Rules.{verdict_of}
 
--- an audit says yes
+-- The audit's verdict on the report is yes.
 pub record IsSound (s : Scenario) (told : List NumberedItem) : Type 0 where
   pub first : ℕ
   pub frames : ℕ
@@ -21,24 +21,24 @@ pub record IsSound (s : Scenario) (told : List NumberedItem) : Type 0 where
   pub ledgers : ℕ
   pub verdict : verdict_of s told first ≡ verdicts.Yes frames deliveries ledgers
 
--- the item at a place
+-- The report has this item at this place.
 abbrev pub IsAt : List NumberedItem → ℕ → Item → Type 0
 IsAt told place item = (n : NumberedItem) × (slice_get told place ≡ Some n) × (n.item ≡ item)
 
--- Of two frames of a lane at two places of the report, either both have one offset and one length, or no byte of the lane is under both.
+-- Two frames of a lane, at two places of the report, have the same offset and length, or no byte in common.
 abbrev pub FramesAreDisjoint : Type 0
 FramesAreDisjoint = (s : Scenario) (told : List NumberedItem) → IsSound s told → (i j : ℕ) (l : Lane) (m n o p x y : ℕ) → i < j → IsAt told i (items.Sent l m o x) → IsAt told j (items.Sent l n p y) →
     ((p ≡ o) × (y ≡ x)) ⊎ ((o + x + 8 ≤ p) ⊎ (p + y + 8 ≤ o))
 
--- No node takes one name twice as a fact, or twice as an acknowledgement.
+-- A node takes a name at most once as a fact, and at most once as an acknowledgement.
 abbrev pub NamesAreTakenOnce : Type 0
 NamesAreTakenOnce = (s : Scenario) (told : List NumberedItem) → IsSound s told → (i j : ℕ) (a b : Item) (t : Taking) → i < j → IsAt told i a → IsAt told j b → taking_of s.site.routes a ≡ Some t → taking_of s.site.routes b ≡ Some t → ⊥
 
--- what all items tell, the last telling first
+-- all tellings of a report, the last one first
 abbrev pub all_told : Scenario → List NumberedItem → List Telling
 all_told s told = tellings s (onto [] told)
 
--- Two tellings of one subject have the same bytes and the same master, and go to two applications; and each goes to one that may have it.
+-- Two tellings of one subject have the same bytes, different callers, and the same master if both name one. Each caller may have the subject.
 pub record AreHandedOnce (s : Scenario) (told : List NumberedItem) : Type 0 where
   pub bytes : (i j : ℕ) (t u : Telling) → i < j → slice_get (all_told s told) i ≡ Some t → slice_get (all_told s told) j ≡ Some u → t.subject ≡ u.subject → t.bytes ≡ u.bytes
   pub callers : (i j : ℕ) (t u : Telling) (a : ℕ) → i < j → slice_get (all_told s told) i ≡ Some t → slice_get (all_told s told) j ≡ Some u → t.subject ≡ u.subject → t.caller ≡ Some a → u.caller ≡ Some a → ⊥
@@ -48,7 +48,7 @@ pub record AreHandedOnce (s : Scenario) (told : List NumberedItem) : Type 0 wher
 abbrev pub KeysAreHandedOnce : Type 0
 KeysAreHandedOnce = (s : Scenario) (told : List NumberedItem) → IsSound s told → AreHandedOnce s told
 
--- Each ledger adds up, and is true behind the items before it.
+-- In each ledger the received bytes are the unused, spent and burnt ones, and the ledger is true of the items before it.
 abbrev pub LedgersAreTrue : Type 0
 LedgersAreTrue = (s : Scenario) (told : List NumberedItem) → IsSound s told → (i : ℕ) (l : Lane) (c : Counts4) → IsAt told i (items.Counted l c) →
     (c.received ≡ c.unused + c.spent + c.burnt) × (is_true_ledger (onto [] (take i told)) l c ≡ true)

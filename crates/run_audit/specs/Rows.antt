@@ -1,20 +1,20 @@
--- Which items a line gives.
+-- Which items a line of a scenario gives.
 use Rattle.std.specs.Prelude.{ℕ, Bool, true, false, ◌&&◌, ◌||◌, ◌==◌, Option, Some, None, is_some, is_none}
 use Rattle.qkd_base.specs.declared.lane.Lane.{Lane}
 use Rattle.route_table.specs.Table.{Table, ends_of}
-use Rattle.report_items.specs.declared.refusal.Refusal.{Refusal}
-use Rattle.report_items.specs.declared.refusal.Refusal.TheVariants as refusals
-use Rattle.report_items.specs.declared.start_result.StartResult.TheVariants as starts
-use Rattle.report_items.specs.declared.stream_answer.StreamAnswer.{StreamAnswer}
-use Rattle.report_items.specs.declared.stream_answer.StreamAnswer.TheVariants as answers
-use Rattle.report_items.specs.declared.item.Item.{Item}
-use Rattle.report_items.specs.declared.item.Item.TheVariants as items
+use Rattle.run_types.specs.declared.refusal.Refusal.{Refusal}
+use Rattle.run_types.specs.declared.refusal.Refusal.TheVariants as refusals
+use Rattle.run_types.specs.declared.start_result.StartResult.TheVariants as starts
+use Rattle.run_types.specs.declared.stream_answer.StreamAnswer.{StreamAnswer}
+use Rattle.run_types.specs.declared.stream_answer.StreamAnswer.TheVariants as answers
+use Rattle.run_types.specs.declared.item.Item.{Item}
+use Rattle.run_types.specs.declared.item.Item.TheVariants as items
 use Rattle.run_audit.specs.declared.line_kind.LineKind.{LineKind}
 use Rattle.run_audit.specs.declared.line_kind.LineKind.TheVariants as kinds
 
--- ---- refusals that stand alone
+-- ---- refusals
 
--- the refusal whose text the item has: a start that was stopped or had no memory has the text of one
+-- The refusal whose text an item has. A start that ended stopped, or for lack of memory, has the text of a refusal.
 abbrev pub refusal_of : Item → Option Refusal
 refusal_of (items.Refused refusal) = Some refusal
 refusal_of (items.Start starts.Stopped) = Some refusals.Stopped
@@ -55,7 +55,7 @@ abbrev pub is_made : Item → Bool
 is_made (items.Made count first) = true
 is_made _ = false
 
--- a tick's row, and those that follow it
+-- The item is a tick's, or one of those that follow a tick's in the report.
 abbrev pub is_of_tick : Item → Bool
 is_of_tick (items.Ticked v fresh again) = true
 is_of_tick (items.NotTicked v refusal) = true
@@ -114,19 +114,19 @@ is_ledger (items.Counted l counts) = true
 is_ledger (items.NotCounted l refusal) = true
 is_ledger _ = false
 
--- ---- answers of streams
+-- ---- answers to stream calls
 
 abbrev pub same : Bool → Bool → Bool
 same true b = b
 same false true = false
 same false false = true
 
--- OPEN_CONNECT has a stream behind one status alone: 1 where one was opened, 0 where one was joined
+-- OPEN_CONNECT names a stream exactly if it has this status: 1 if the stream was opened, 0 if it was joined.
 abbrev pub is_connected : (status : ℕ) → Item → Bool
 is_connected at (items.Stream (answers.OpenConnect status stream)) = same (status == at) (is_some stream)
 is_connected at _ = false
 
--- GET_KEY has a chunk behind status 0 alone
+-- GET_KEY has a chunk exactly if its status is 0.
 abbrev pub is_got : Item → Bool
 is_got (items.Stream (answers.GetKey status chunk)) = same (status == 0) (is_some chunk)
 is_got _ = false
@@ -135,9 +135,9 @@ abbrev pub is_closed : Item → Bool
 is_closed (items.Stream (answers.Close status)) = true
 is_closed _ = false
 
--- ---- all rows of a line
+-- ---- all items of a line
 
--- the line gives items of this row, or of another one that has this text
+-- The line gives items of this row, or of another row with the same text.
 abbrev pub gives : LineKind → Item → Bool
 gives kinds.Node item = is_stopped (refusal_of item) || is_foreign item
 gives kinds.Bits item = is_of_bits item
@@ -167,7 +167,7 @@ gives_at (Some kind) item = gives kind item
 
 -- ---- links
 
--- the link that an item names
+-- the link that an item names, if it names one
 abbrev pub link_of : Item → Option ℕ
 link_of (items.Took link end number) = Some link
 link_of (items.TookNone link end refusal) = Some link
@@ -186,6 +186,6 @@ abbrev pub has_link : Table → Option ℕ → Bool
 has_link t None = true
 has_link t (Some link) = is_some (ends_of t link)
 
--- a link that an item names is declared
+-- The link that the item names is declared.
 abbrev pub is_on_link : Table → Item → Bool
 is_on_link t item = has_link t (link_of item)

@@ -1,4 +1,4 @@
--- Values by a few numbers.
+-- Tables whose keys are short lists of numbers.
 use Rattle.std.specs.Prelude.{ℕ, List, Option}
 use Rattle.std.specs.Ordering.{nat_cmp}
 use Rattle.std.specs.Cmp.Lexicographic.{slice_cmp}

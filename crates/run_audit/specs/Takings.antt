@@ -1,4 +1,4 @@
--- What nodes took.
+-- The names that nodes took. A taking is one such event: a node took a name as a fact or as an acknowledgement.
 use Rattle.std.specs.Prelude.{ℕ, Bool, true, false, not, ◌&&◌, ◌==◌, List, Option, Some, None}
 use Rattle.std.specs.List.{list_any, filter_map}
 use Rattle.qkd_base.specs.declared.lane.Way.{Way}
@@ -7,13 +7,13 @@ use Rattle.qkd_base.specs.declared.lane.Lane.{Lane}
 use Rattle.qkd_base.specs.Name.{Name, name_eq}
 use Rattle.route_table.specs.Table.{Table}
 use Rattle.declared_site.specs.SiteOf.{ends_or_none}
-use Rattle.report_items.specs.declared.payload_kind.PayloadKind.{PayloadKind}
-use Rattle.report_items.specs.declared.payload_kind.PayloadKind.TheVariants as payloads
-use Rattle.report_items.specs.declared.frame_result.FrameResult.{FrameResult}
-use Rattle.report_items.specs.declared.frame_result.FrameResult.TheVariants as results
-use Rattle.report_items.specs.declared.item.Item.{Item}
-use Rattle.report_items.specs.declared.item.Item.TheVariants as items
-use Rattle.report_items.specs.declared.item.NumberedItem.{NumberedItem}
+use Rattle.run_types.specs.declared.payload_kind.PayloadKind.{PayloadKind}
+use Rattle.run_types.specs.declared.payload_kind.PayloadKind.TheVariants as payloads
+use Rattle.run_types.specs.declared.frame_result.FrameResult.{FrameResult}
+use Rattle.run_types.specs.declared.frame_result.FrameResult.TheVariants as results
+use Rattle.run_types.specs.declared.item.Item.{Item}
+use Rattle.run_types.specs.declared.item.Item.TheVariants as items
+use Rattle.run_types.specs.declared.item.NumberedItem.{NumberedItem}
 use Rattle.run_audit.specs.declared.frames.Frame.{Frame}
 use Rattle.run_audit.specs.declared.takings.Taking.{Taking}
 use Rattle.run_audit.specs.Rows.{same}
@@ -23,7 +23,7 @@ abbrev pub end_at : Way → ℕ × ℕ → ℕ
 end_at Up ends = ends.1
 end_at Down ends = ends.0
 
--- the receiver of a lane: the higher node of its link where it goes up
+-- the receiver of a lane: the link's higher node for the lane up, the lower node for the lane down
 abbrev pub receiver : Table → Lane → ℕ
 receiver t l = end_at l.way (ends_or_none t l.link)
 
@@ -41,19 +41,19 @@ taking_of t (items.Flipped l number bit result) = taken_on t l result
 taking_of t (items.Forged l result) = taken_on t l result
 taking_of t _ = None
 
--- all takings, where the last item stands first
+-- all takings of the items, the last one first
 abbrev pub takings : Table → List NumberedItem → List Taking
 takings t told = filter_map (λ (n : NumberedItem). taking_of t n.item) told
 
 abbrev pub taking_eq : Taking → Taking → Bool
 taking_eq a b = (a.node == b.node) && same a.is_ack b.is_ack && name_eq a.name b.name
 
--- a node takes one name once as a fact, and once as an acknowledgement
+-- The taking is new: the node has not taken this name in the same role, as a fact or as an acknowledgement.
 abbrev pub is_first : Option Taking → List Taking → Bool
 is_first None before = true
 is_first (Some t) before = not (list_any (λ e. taking_eq e t) before)
 
--- a frame that was taken had been sent
+-- A frame that was taken had been sent before.
 abbrev pub frame_is_there : Lane → (number : ℕ) → FrameResult → List Frame → Bool
 frame_is_there l number (results.Taken kind name) fs = was_sent l number fs
 frame_is_there l number _ fs = true

@@ -1,4 +1,4 @@
-// The frames that items say were sent.
+// The frames that a report's items say were sent.
 ghost use Rattle.std.specs.Prelude.{◌≡◌, List, ◌≤◌, ◌&&◌, nat_le, not, true, false, [], ◌∷◌, IfOk, is_some};
 ghost use Rattle.std.specs.List.{list_all};
 ghost use Rattle.qkd_base.specs.Lane.{lane_place};
@@ -8,13 +8,13 @@ ghost use Rattle.run_audit.specs.Frames.{agrees, is_placed};
 ghost use Rattle.run_audit.specs.Kept.{place_key, last_entry, last_of, ArePlaced};
 
 use crate::table::{Key, counted, find, put};
-use ordered_entries::{Entries, Entry};
+use ordered_set::{Entries, Entry};
 use qkd_base::{Lane, Memory, Way};
 use std::alloc::Global;
 use std::collections::BTreeMap;
 
-/// A frame under its number on a lane's wire: the place in the lane at which its payload's mask begins, and its payload's size
-/// in octets.
+/// A frame that was put on a lane's wire: its number there, the lane's first byte that masks its payload, and the payload's
+/// length in octets.
 #[derive(Clone, Copy)]
 pub struct Frame {
     pub lane: Lane,
@@ -23,19 +23,19 @@ pub struct Frame {
     pub length: u16,
 }
 
-/// Where frames stand in their lanes.
+/// The places of frames in their lanes. A place is a lane and an offset.
 #[derive(Drop)]
 pub struct Places {
-    // By lane and offset.
+    // The lengths of payloads, by lane and offset.
     lengths: BTreeMap<Key, u64>,
-    // The last bytes of frames, by lane.
+    // The last bytes that frames cover, by lane.
     lasts: Entries,
-    // By lane and last byte.
+    // The offsets of frames, by lane and last byte.
     offsets: BTreeMap<Key, u64>,
     pub count: u32,
 }
 
-/// The place of a lane among all lanes.
+/// A lane's number among the lanes of all links.
 pub fn lane_number(lane: &Lane) -> u64
     ensures { result ≡ lane_place lane.now }
 {
@@ -46,14 +46,14 @@ pub fn lane_number(lane: &Lane) -> u64
     2 * u64::from(lane.link.get()) + way
 }
 
-/// What names a place in a lane.
+/// The table key of a byte of a lane.
 pub fn place_key(lane: &Lane, byte: u64) -> Key
     ensures { result ≡ place_key lane.now byte }
 {
     [lane_number(lane), byte, 0, 0, 0, 0]
 }
 
-// The last byte of a lane that a frame covers, or the greatest place where it is past that.
+// The last byte of the lane that a frame covers, or 2^64 - 1 if that is less.
 fn last_of(frame: &Frame) -> u64
     ensures { result ≡ last_of frame.now }
 {
@@ -67,7 +67,7 @@ fn last_entry(lane: &Lane, last: u64) -> Entry
 }
 
 impl Places {
-    /// No frame. It takes no memory.
+    /// No frames. The call allocates nothing.
     pub fn new(alloc: Global) -> Self
         ensures { ArePlaced result [] }
     {
@@ -79,14 +79,14 @@ impl Places {
         }
     }
 
-    // Whether a frame stands at this offset already.
+    // Whether a known frame has this offset in the lane.
     fn is_placed(&self, lane: &Lane, offset: u64) -> bool
         ensures { result ≡ is_some (at self.now.lengths (place_key lane.now offset)) }
     {
         find(&self.lengths, place_key(lane, offset)).is_some()
     }
 
-    // Whether a frame has no byte in common with frames at other offsets. At its own there is none.
+    // Whether a frame has no byte in common with the known frames of its lane. None of these has its offset.
     fn is_free(&self, frame: &Frame) -> bool
         ensures { (fs : List Sent) → ArePlaced self.now fs → is_placed frame.now.lane frame.now.offset fs ≡ false → result ≡ list_all (agrees frame.now) fs }
     {
@@ -99,7 +99,7 @@ impl Places {
         }
     }
 
-    // Whether a frame agrees with all that are there.
+    // Whether a frame agrees with all known frames.
     fn agrees(&self, frame: &Frame) -> bool
         ensures { (fs : List Sent) → ArePlaced self.now fs → result ≡ list_all (agrees frame.now) fs }
     {
@@ -109,14 +109,15 @@ impl Places {
         }
     }
 
-    /// Whether a frame leaves the first 8 bytes of its lane alone, and has one place or no byte in common with each frame there.
+    /// Whether a frame leaves the first 8 bytes of its lane unused and agrees with all known frames: frames of a lane have the
+    /// same offset and length, or no byte in common.
     pub fn keeps_apart(&self, frame: &Frame) -> bool
         ensures { (fs : List Sent) → ArePlaced self.now fs → result ≡ (nat_le 8 frame.now.offset && list_all (agrees frame.now) fs) }
     {
         8 <= frame.offset && self.agrees(frame)
     }
 
-    /// Adds a frame, and tells whether its place is a new one.
+    /// Adds a frame, and returns whether its place is a new one. The only error is that memory runs out.
     pub fn add(&mut self, frame: &Frame) -> Result<bool, Memory>
         ensures { (fs : List Sent) → ArePlaced self.old fs → list_all (agrees frame.now) fs ≡ true → IfOk result (λ is_new. (is_new ≡ not (is_placed frame.now.lane frame.now.offset fs)) × ArePlaced self.new (frame.now ∷ fs)) }
     {

@@ -1,4 +1,4 @@
-// The audit of items.
+// The audit of a report's items.
 ghost use Rattle.std.specs.Prelude.{◌≡◌, ◌+◌, ◌<◌, ◌^◌, IfOk, length};
 ghost use Rattle.run_audit.specs.Rules.{verdict_of, deliveries_in};
 
@@ -6,12 +6,11 @@ use crate::Verdict;
 use crate::kinds::kinds_in;
 use crate::record::Record;
 use qkd_base::Memory;
-use report_items::NumberedItem;
-use scenario_lines::Scenario;
+use run_types::{NumberedItem, Scenario};
 use std::alloc::Global;
 
-/// Whether the items of a report are sound, the first of which stands on this line: lines, items and deliveries are fewer than
-/// 2^32. Its work grows with the items and the logarithm of their number.
+/// Audits the items of a report, of which the first stands on line `first`. Lines, items and deliveries must be fewer than
+/// 2^32 together. For n items the work grows as n log n. The only error is that memory runs out.
 pub fn audit(
     alloc: Global,
     scenario: &Scenario,

@@ -1,4 +1,4 @@
-// What the lines of a scenario ask for, by number.
+// What each line of a scenario asks for, by the line's number.
 ghost use Rattle.std.specs.Prelude.{◌≡◌, ℕ, ◌∷◌, ◌++◌, map, OnOk, IfOk};
 ghost use Rattle.std.specs.List.{flat_map};
 ghost use Rattle.std.specs.Ordering.{nat_cmp};
@@ -8,14 +8,14 @@ ghost use Rattle.run_audit.specs.Kept.{Adds};
 
 use crate::line_kind::LineKind;
 use qkd_base::Memory;
-use scenario_lines::{Command, Entry, Line, Scenario, StreamCall};
+use run_types::{Command, Entry, Line, Scenario, StreamCall};
 use std::alloc::Global;
 use std::collections::BTreeMap;
 
-/// What lines ask for, by number.
+/// What lines ask for, by their numbers.
 pub type Kinds = BTreeMap<u32, LineKind>;
 
-// What a call of streams asks for.
+// What a stream call asks for.
 fn kind_of_call(call: &StreamCall) -> LineKind
     ensures { result ≡ kind_of_call call.now }
 {
@@ -62,7 +62,7 @@ fn kind_of(command: &Command) -> LineKind
     }
 }
 
-// Adds a number's line, unless there is one.
+// Adds the kind of the line with this number, unless the table has one.
 fn add(kinds: &mut Kinds, number: u32, kind: LineKind) -> Result<(), Memory>
     ensures { OnOk result (Adds kinds.old kinds.new (λ behind. (number, kind) ∷ behind)) }
 {
@@ -72,7 +72,7 @@ fn add(kinds: &mut Kinds, number: u32, kind: LineKind) -> Result<(), Memory>
     Ok(())
 }
 
-// Adds a line, unless one of its number is there.
+// Adds a line, unless the table has one with its number.
 fn add_line(kinds: &mut Kinds, line: &Line) -> Result<(), Memory>
     ensures { OnOk result (Adds kinds.old kinds.new (λ behind. kind_of_line line.now ∷ behind)) }
 {
@@ -129,7 +129,7 @@ pub fn kinds_in(alloc: Global, scenario: &Scenario) -> Result<Kinds, Memory>
     Ok(kinds)
 }
 
-/// What the line of this number asks for.
+/// What the line with this number asks for, if there is one.
 pub fn kind_at(kinds: &Kinds, number: u32) -> Option<LineKind>
     ensures { result ≡ get nat_cmp kinds.now number }
 {

@@ -1,10 +1,10 @@
-// What the lines of a scenario ask for.
+// The kinds of lines of a scenario, by what they ask for.
 use qkd_base::{KeyName, SaeNo};
 
-/// What a line of a scenario asks for, as far as its items show it.
+/// What a line of a scenario asks for, as far as the audit of its items needs it.
 #[derive(Clone, Copy, Debug, PartialEq, Eq)]
 pub enum LineKind {
-    /// `node`: a manager, which is started at the beginning.
+    /// `node`: the manager that is started at the beginning.
     Node,
     Bits,
     /// `fill`, `fill-group`, `feed`
@@ -20,15 +20,15 @@ pub enum LineKind {
     Arming,
     /// `link-up`, `link-down`
     LinkSetting,
-    /// `enc`, `enc-group`, `dec`: a caller gets keys of a master, who may be the caller.
+    /// `enc`, `enc-group`, `dec`: the caller gets keys of the master, who may be the caller.
     Handing { caller: SaeNo, master: SaeNo },
     Status,
     Http,
-    /// OPEN_CONNECT without a stream
+    /// OPEN_CONNECT that opens a stream
     Opening,
-    /// OPEN_CONNECT with one
+    /// OPEN_CONNECT that joins a stream
     Joining,
-    /// GET_KEY: a caller gets a chunk of a stream.
+    /// GET_KEY: the caller gets a chunk of the stream.
     Getting { caller: SaeNo, stream: KeyName },
     /// CLOSE
     Closing,

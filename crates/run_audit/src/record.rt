@@ -1,10 +1,10 @@
-// What the items so far said.
+// The record of the items that were judged so far.
 ghost use Rattle.std.specs.Prelude.{◌≡◌, ℕ, ◌+◌, ◌-◌, ◌<◌, ◌^◌, ◌&&◌, min, List, [], ◌∷◌, true, None, IfOk, length, if◌then◌else◌};
 ghost use Rattle.std.specs.List.{cons_option};
 ghost use Rattle.std.specs.Ordering.{nat_cmp};
 ghost use Rattle.std.specs.BTreeMap.{get};
-ghost use Rattle.scenario_lines.specs.declared.scenario.Scenario.{Scenario as Lines};
-ghost use Rattle.report_items.specs.declared.item.NumberedItem.{NumberedItem as Told};
+ghost use Rattle.run_types.specs.declared.scenario.Scenario.{Scenario as Lines};
+ghost use Rattle.run_types.specs.declared.item.NumberedItem.{NumberedItem as Told};
 ghost use Rattle.run_audit.specs.declared.frames.Frame.{Frame as Sent};
 ghost use Rattle.run_audit.specs.Kinds.{kind_at};
 ghost use Rattle.run_audit.specs.Rows.{gives_at, is_on_link};
@@ -22,12 +22,11 @@ use crate::table::counted;
 use crate::takings::{Takings, taking_of};
 use crate::tellings::Told as Tellings;
 use qkd_base::{Lane, Memory};
-use report_items::{FrameResult, Item, NumberedItem};
 use route_table::RouteTable;
-use scenario_lines::Scenario;
+use run_types::{FrameResult, Item, NumberedItem, Scenario};
 use std::alloc::Global;
 
-/// What the items so far said.
+/// What the items so far said, as tables.
 #[derive(Drop)]
 pub struct Record {
     places: Places,
@@ -57,7 +56,7 @@ fn frame_of(item: &Item) -> Option<Frame>
     }
 }
 
-// Whether a frame has its lane's next number.
+// Whether a frame has the next number of its lane.
 fn is_next(sums: &Sums, frame: &Option<Frame>) -> bool
     ensures { (before : List Told) → AreSummed sums.now before → result ≡ is_next frame.now (frames before) }
 {
@@ -67,7 +66,7 @@ fn is_next(sums: &Sums, frame: &Option<Frame>) -> bool
     }
 }
 
-// Whether a frame leaves the hash key alone and agrees with those there.
+// Whether a frame leaves the hash key unused and agrees with all known frames.
 fn keeps_apart(places: &Places, frame: &Option<Frame>) -> bool
     ensures { (fs : List Sent) → ArePlaced places.now fs → result ≡ keeps_apart frame.now fs }
 {
@@ -77,7 +76,7 @@ fn keeps_apart(places: &Places, frame: &Option<Frame>) -> bool
     }
 }
 
-// Adds a frame, and tells whether its place is a new one.
+// Adds a frame, and returns whether its place is a new one.
 fn place(places: &mut Places, frame: &Option<Frame>) -> Result<bool, Memory>
     ensures { (fs : List Sent) → ArePlaced places.old fs → keeps_apart frame.now fs ≡ true → IfOk result (λ is_new. IsNew is_new frame.now fs × ArePlaced places.new (cons_option frame.now fs)) }
 {
@@ -87,7 +86,7 @@ fn place(places: &mut Places, frame: &Option<Frame>) -> Result<bool, Memory>
     }
 }
 
-// Whether a frame of this number stands on a lane's wire, where one was taken.
+// If a frame was taken, whether a frame of this number had been sent on the lane.
 fn frame_is_there(sums: &Sums, lane: &Lane, number: u32, outcome: &FrameResult) -> bool
     ensures { (before : List Told) → AreSummed sums.now before → AreNumbered (frames before) → result ≡ frame_is_there lane.now number outcome.now (frames before) }
 {
@@ -97,7 +96,7 @@ fn frame_is_there(sums: &Sums, lane: &Lane, number: u32, outcome: &FrameResult) 
     }
 }
 
-// Whether a frame that an item says was taken had been sent.
+// Whether the frame that an item says was taken had been sent.
 fn was_there(sums: &Sums, item: &Item) -> bool
     ensures { (before : List Told) → AreSummed sums.now before → AreNumbered (frames before) → result ≡ was_there item.now (frames before) }
 {
@@ -117,7 +116,7 @@ fn was_there(sums: &Sums, item: &Item) -> bool
     }
 }
 
-// Whether the ledger that an item tells is true.
+// Whether the ledger of an item is true. Items without a ledger pass.
 fn balances(sums: &Sums, item: &Item) -> bool
     ensures { (before : List Told) → AreSummed sums.now before → result ≡ balances before item.now }
 {
@@ -134,7 +133,7 @@ fn is_counted(item: &Item) -> bool
     matches!(item, Item::Counted { .. })
 }
 
-// Whether a line gives items of an item's row, and the item names declared links.
+// Whether an item's line gives such items, and the links that the item names are declared.
 fn is_of_line(kind: &Option<LineKind>, routes: &RouteTable, item: &Item) -> bool
     ensures { result ≡ (gives_at kind.now item.now && is_on_link routes.now item.now) }
 {
@@ -142,7 +141,7 @@ fn is_of_line(kind: &Option<LineKind>, routes: &RouteTable, item: &Item) -> bool
 }
 
 impl Record {
-    /// Nothing was said. It takes no memory.
+    /// The record of no items. The call allocates nothing.
     pub fn new(alloc: Global) -> Self
         ensures { (s : Lines) → IsRecordOf s result [] }
     {
@@ -155,8 +154,8 @@ impl Record {
         }
     }
 
-    /// Takes an item, and answers the least rule that it breaks together with the items before it. Where it breaks one, the
-    /// record is none of the items any more.
+    /// Adds an item, and returns the least rule that it breaks together with the items before it, if it breaks any. After an
+    /// item that breaks a rule the record must not be used again. The only error is that memory runs out.
     pub fn take(
         &mut self,
         alloc: Global,
@@ -199,7 +198,7 @@ impl Record {
         Ok(None)
     }
 
-    /// How many places have frames, how many deliveries there were, and how many ledgers.
+    /// How many places frames have, how many deliveries there were, and how many ledgers.
     pub fn counts(&self) -> (u32, u32, u32)
         ensures { result ≡ (self.now.places.count, self.now.told.deliveries, self.now.ledgers) }
     {

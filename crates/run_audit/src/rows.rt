@@ -1,11 +1,11 @@
-// Which items a line gives.
+// Which items a line of a scenario gives.
 ghost use Rattle.std.specs.Prelude.{◌≡◌};
 ghost use Rattle.run_audit.specs.Rows.{refusal_of, is_refused, is_down, is_stopped, is_memory, is_foreign, is_start, is_of_bits, is_made, is_of_tick, is_idle, is_passed, is_flipped, is_forged, is_crashed, is_armed, is_link_set, is_keys, is_ready, is_http, is_shown, is_ledger, is_connected, is_got, is_closed, gives, gives_at, link_of, is_on_link};
 
 use crate::line_kind::LineKind;
 use qkd_base::LinkNo;
-use report_items::{Item, Refusal, StartResult, StreamAnswer};
 use route_table::RouteTable;
+use run_types::{Item, Refusal, StartResult, StreamAnswer};
 
 // The refusal whose text an item has.
 fn refusal_of(item: &Item) -> Option<Refusal>
@@ -67,7 +67,7 @@ fn is_made(item: &Item) -> bool
     matches!(item, Item::Made { .. })
 }
 
-// Whether an item is of a tick's row, or of those that follow it.
+// Whether an item is a tick's, or one of those that follow a tick's in the report.
 fn is_of_tick(item: &Item) -> bool
     ensures { result ≡ is_of_tick item.now }
 {
@@ -153,7 +153,7 @@ fn is_ledger(item: &Item) -> bool
     matches!(item, Item::Counted { .. } | Item::NotCounted { .. })
 }
 
-// Whether an item is of OPEN_CONNECT, with a stream behind this status alone.
+// Whether an item is an OPEN_CONNECT that names a stream exactly if it has this status.
 fn is_connected(at: u8, item: &Item) -> bool
     ensures { result ≡ is_connected at item.now }
 {
@@ -165,7 +165,7 @@ fn is_connected(at: u8, item: &Item) -> bool
     }
 }
 
-// Whether an item is of GET_KEY, with a chunk behind status 0 alone.
+// Whether an item is a GET_KEY that has a chunk exactly if its status is 0.
 fn is_got(item: &Item) -> bool
     ensures { result ≡ is_got item.now }
 {
@@ -181,7 +181,7 @@ fn is_closed(item: &Item) -> bool
     matches!(item, Item::Stream(StreamAnswer::Close { .. }))
 }
 
-// Whether a line gives items of an item's row, or of another one that has its text.
+// Whether a line gives items of this item's row, or of another row with the same text.
 fn gives(kind: &LineKind, item: &Item) -> bool
     ensures { result ≡ gives kind.now item.now }
 {
@@ -212,7 +212,7 @@ fn gives(kind: &LineKind, item: &Item) -> bool
     }
 }
 
-/// Whether a line gives items of an item's row, or of another one that has its text.
+/// Whether a line of this kind gives items of this item's row, or of another row with the same text. Without a line, none.
 pub fn gives_at(kind: &Option<LineKind>, item: &Item) -> bool
     ensures { result ≡ gives_at kind.now item.now }
 {
@@ -222,7 +222,7 @@ pub fn gives_at(kind: &Option<LineKind>, item: &Item) -> bool
     }
 }
 
-// The link that an item names.
+// The link that an item names, if it names one.
 fn link_of(item: &Item) -> Option<LinkNo>
     ensures { result ≡ link_of item.now }
 {
@@ -242,7 +242,7 @@ fn link_of(item: &Item) -> Option<LinkNo>
     }
 }
 
-/// Whether a link that an item names is declared.
+/// Whether the link that an item names is declared. An item that names none passes.
 pub fn is_on_link(routes: &RouteTable, item: &Item) -> bool
     ensures { result ≡ is_on_link routes.now item.now }
 {

@@ -1,7 +1,7 @@
-// What has bytes.
+// Subjects: the keys and chunks whose bytes a report tells.
 use qkd_base::KeyName;
 
-/// What has bytes of its own: a key, or a chunk of a stream at an index.
+/// A key, or the chunk of a stream at an index. Each has bytes of its own.
 #[derive(Clone, Copy, Debug, PartialEq, Eq)]
 pub enum Subject {
     Key(KeyName),

@@ -1,8 +1,8 @@
-// What items say of each lane.
+// Sums of what a report's items say of each lane.
 ghost use Rattle.std.specs.Prelude.{◌≡◌, ℕ, ◌*◌, ◌<◌, ◌^◌, ◌==◌, List, [], ◌∷◌, if◌then◌else◌, not, Some, IfOk, OnOk, length};
 ghost use Rattle.qkd_base.specs.Lane.{lane_eq};
 ghost use Rattle.qkd_base.specs.declared.lane.Lane.{Lane as LaneValue};
-ghost use Rattle.report_items.specs.declared.item.NumberedItem.{NumberedItem as Told};
+ghost use Rattle.run_types.specs.declared.item.NumberedItem.{NumberedItem as Told};
 ghost use Rattle.run_audit.specs.Frames.{frame_of, frames, used_on};
 ghost use Rattle.run_audit.specs.Ledgers.{lane_from, is_stop, received_in, spends, allows, is_true_ledger};
 ghost use Rattle.run_audit.specs.Kept.{no_sum, lane_of, used_by, with_item, sum_at, AreSummed, IsNew};
@@ -11,13 +11,12 @@ use crate::frames::place_key;
 use crate::table::{Key, find, put};
 use net_model::Counts4;
 use qkd_base::{Lane, LinkNo, Memory, Way};
-use report_items::{Item, Refusal};
-use scenario_lines::End;
+use run_types::{End, Item, Refusal};
 use std::alloc::Global;
 use std::collections::BTreeMap;
 
-/// What items so far say of a lane: how many frames stand on its wire, how many bytes these use, each place once, how many
-/// blocks its sender took, whether the sender stopped at one, and whether the wire once took no frame.
+/// What the items so far say of a lane: how many frames were put on its wire; how many bytes these use, each place counted
+/// once; how many blocks its sender took; whether the sender stopped at a block; whether the wire once refused a frame.
 #[derive(Clone, Copy)]
 pub struct LaneSum {
     pub sent: u64,
@@ -27,13 +26,13 @@ pub struct LaneSum {
     pub has_unsent: bool,
 }
 
-/// What items say of each lane.
+/// The sums of all lanes.
 #[derive(Drop)]
 pub struct Sums {
     lanes: BTreeMap<Key, LaneSum>,
 }
 
-// What is said of a lane of which no item says anything.
+// The sums of a lane that no item has named.
 fn no_sum() -> LaneSum
     ensures { result ≡ no_sum }
 {
@@ -46,7 +45,7 @@ fn no_sum() -> LaneSum
     }
 }
 
-// The lane of a link whose sender stands at this end.
+// The lane of a link whose sender is at this end.
 fn lane_from(link: LinkNo, end: End) -> Lane
     ensures { result ≡ lane_from link end }
 {
@@ -59,7 +58,7 @@ fn lane_from(link: LinkNo, end: End) -> Lane
     }
 }
 
-// The lane of which an item says something.
+// The lane whose sums an item changes, if there is one.
 fn lane_of(item: &Item) -> Option<Lane>
     ensures { result ≡ lane_of item.now }
 {
@@ -78,7 +77,7 @@ fn is_stop(refusal: Refusal) -> bool
     matches!(refusal, Refusal::Stopped)
 }
 
-// The bytes that frames use, with those of one more.
+// The bytes that the frames of a lane use, with one more frame.
 fn used_by(is_new: bool, length: u16, used: u64) -> u64
     ensures { used < 2 ^ 63 → result ≡ used_by is_new length used }
 {
@@ -89,7 +88,7 @@ fn used_by(is_new: bool, length: u16, used: u64) -> u64
     }
 }
 
-// What is said of a lane with one more item. Sums of the items that memory holds are far from the greatest number.
+// The sums of a lane with one more item. A list of items that fits in memory can't bring them near 2^64.
 fn with_item(item: &Item, is_new: bool, sum: &LaneSum) -> LaneSum
     ensures { sum.now.sent < 2 ^ 63 → sum.now.used < 2 ^ 63 → sum.now.blocks < 2 ^ 63 → result ≡ with_item item.now is_new sum.now }
 {
@@ -115,7 +114,7 @@ fn with_item(item: &Item, is_new: bool, sum: &LaneSum) -> LaneSum
     }
 }
 
-// The bytes of a lane in so many blocks of its link.
+// The lane's share of the first `blocks` blocks of its link, in bytes.
 fn received_in(way: Way, blocks: u64) -> u128
     ensures { result ≡ received_in way blocks }
 {
@@ -125,7 +124,7 @@ fn received_in(way: Way, blocks: u64) -> u128
     }
 }
 
-// Whether what is spent is the hash key and the frames' bytes, or more where a frame may be spent that no wire took.
+// Whether the spent bytes are the hash key and those of the frames. If a wire refused a frame, more bytes may be spent.
 fn spends(is_open: bool, used: u64, counts: &Counts4) -> bool
     ensures { result ≡ spends is_open used counts.now }
 {
@@ -138,7 +137,7 @@ fn spends(is_open: bool, used: u64, counts: &Counts4) -> bool
     }
 }
 
-// Whether a ledger is true of a lane of which this is said.
+// Whether a ledger is true of a lane with these sums.
 fn allows(sum: &LaneSum, way: Way, counts: &Counts4) -> bool
     ensures { result ≡ allows sum.now way counts.now }
 {
@@ -149,7 +148,7 @@ fn allows(sum: &LaneSum, way: Way, counts: &Counts4) -> bool
 }
 
 impl Sums {
-    /// No item. It takes no memory.
+    /// The sums of no items. The call allocates nothing.
     pub fn new(alloc: Global) -> Self
         ensures { AreSummed result [] }
     {
@@ -158,7 +157,7 @@ impl Sums {
         }
     }
 
-    /// What is said of a lane.
+    /// The sums of a lane.
     pub fn at(&self, lane: &Lane) -> LaneSum
         ensures { result ≡ sum_at self.now lane.now }
     {
@@ -168,14 +167,14 @@ impl Sums {
         }
     }
 
-    // Says this of a lane.
+    // Puts the sums of a lane in place of the earlier ones.
     fn put(&mut self, lane: &Lane, sum: LaneSum) -> Result<(), Memory>
         ensures { OnOk result ((l : LaneValue) → sum_at self.new l ≡ (if lane_eq lane.now l then sum else sum_at self.old l)) }
     {
         put(&mut self.lanes, place_key(lane, 0), sum)
     }
 
-    /// Adds an item. Of a frame it is told whether its place is a new one.
+    /// Adds an item. `is_new` says whether the place of its frame is a new one. The only error is that memory runs out.
     pub fn add(&mut self, item: &Item, is_new: bool) -> Result<(), Memory>
         ensures { (told : Told) (before : List Told) → told.item ≡ item.now → IsNew is_new (frame_of told.item) (frames before) → ((l : LaneValue) → used_on l (frames before) < 2 ^ 63) → length before < 2 ^ 63 → AreSummed self.old before → OnOk result (AreSummed self.new (told ∷ before)) }
     {
@@ -188,7 +187,7 @@ impl Sums {
         }
     }
 
-    /// Whether a ledger is true.
+    /// Whether a ledger is true of the items so far.
     pub fn is_true(&self, lane: &Lane, counts: &Counts4) -> bool
         ensures { (before : List Told) → AreSummed self.now before → result ≡ is_true_ledger before lane.now counts.now }
     {

@@ -1,4 +1,4 @@
-// What nodes took.
+// The names that nodes took.
 ghost use Rattle.std.specs.Prelude.{◌≡◌, List, [], true, IfOk};
 ghost use Rattle.std.specs.List.{cons_option};
 ghost use Rattle.run_audit.specs.declared.takings.Taking.{Taking as Took};
@@ -6,13 +6,13 @@ ghost use Rattle.run_audit.specs.Takings.{receiver, is_ack, taken_on, taking_of,
 ghost use Rattle.run_audit.specs.Kept.{bool_number, taking_entry, AreTaken};
 
 use crate::tellings::origin_number;
-use ordered_entries::{Entries, Entry};
+use ordered_set::{Entries, Entry};
 use qkd_base::{KeyName, Lane, Memory, NodeNo, Way};
-use report_items::{FrameResult, Item, PayloadKind};
 use route_table::RouteTable;
+use run_types::{FrameResult, Item, PayloadKind};
 use std::alloc::Global;
 
-/// A node took a name: as an acknowledgement, or as a fact.
+/// A node took a name, as a fact or as an acknowledgement.
 #[derive(Clone, Copy)]
 pub struct Taking {
     node: u8,
@@ -26,7 +26,7 @@ pub struct Takings {
     entries: Entries,
 }
 
-// The receiver of a lane, or node 0 where there is no such link.
+// The receiver of a lane, or node 0 if there is no such link.
 fn receiver(routes: &RouteTable, lane: &Lane) -> u8
     ensures { result ≡ receiver routes.now lane.now }
 {
@@ -58,7 +58,7 @@ fn taken_on(routes: &RouteTable, lane: &Lane, outcome: &FrameResult) -> Option<T
     }
 }
 
-/// What an item says that a node took.
+/// The taking that an item reports, if it reports one.
 pub fn taking_of(routes: &RouteTable, item: &Item) -> Option<Taking>
     ensures { result ≡ taking_of routes.now item.now }
 {
@@ -89,7 +89,7 @@ fn entry_of(taking: &Taking) -> Entry
 }
 
 impl Takings {
-    /// Nothing was taken. It takes no memory.
+    /// No takings. The call allocates nothing.
     pub fn new(alloc: Global) -> Self
         ensures { AreTaken result [] }
     {
@@ -98,7 +98,7 @@ impl Takings {
         }
     }
 
-    /// Adds a taking, and answers whether it is the first of its kind. None is always one.
+    /// Adds a taking, and returns whether it is new. Without a taking the answer is yes. The only error is that memory runs out.
     pub fn take(&mut self, taking: Option<Taking>) -> Result<bool, Memory>
         ensures { (ts : List Took) → AreTaken self.old ts → IfOk result (λ first. (first ≡ is_first taking ts) × (first ≡ true → AreTaken self.new (cons_option taking ts))) }
     {

@@ -1,8 +1,8 @@
-// What items tell of the bytes of keys and chunks, and to whom they were handed.
+// Tellings: what a report's items tell of the bytes of keys and chunks, and to which applications these went.
 ghost use Rattle.std.specs.Prelude.{◌≡◌, ℕ, List, [], ◌∷◌, ◌++◌, ◌^◌, ◌-◌, ◌+◌, min, map, not, true, Some, None, IfOk, OnOk, if◌then◌else◌, ◌||◌, ◌&&◌, is_some};
 ghost use Rattle.std.specs.List.{list_all};
 ghost use Rattle.qkd_base.specs.Name.{kind_number};
-ghost use Rattle.ordered_entries.specs.Entries.{has_entry};
+ghost use Rattle.ordered_set.specs.Entries.{has_entry};
 ghost use Rattle.run_audit.specs.declared.subject.Subject.{Subject as Value};
 ghost use Rattle.run_audit.specs.Table.{at};
 ghost use Rattle.run_audit.specs.Tellings.{Telling, handed_key, handed_chunk, handed_answer, handed_keys, shown, tellings_of, onto, subject_eq, is_same, may_be_same, may_have, fits_with, fits, all_fit};
@@ -11,14 +11,14 @@ ghost use Rattle.run_audit.specs.Kept.{subject_key, origin_number, caller_entry,
 use crate::line_kind::LineKind;
 use crate::subject::Subject;
 use crate::table::{Key, counted, find, put};
-use ordered_entries::{Entries, Entry};
+use ordered_set::{Entries, Entry};
 use qkd_base::{KeyName, Memory, NameKind, Octets, SaeNo};
-use report_items::{Chunk, Item, StreamAnswer};
+use run_types::{Chunk, Item, StreamAnswer};
 use sae_entitlements::Entitlements;
 use std::alloc::Global;
 use std::collections::BTreeMap;
 
-/// What was told of subjects: their bytes, their masters, and who got them.
+/// What was told of keys and chunks so far: their bytes, their masters, and which applications got them.
 #[derive(Drop)]
 pub struct Told {
     bytes: BTreeMap<Key, Octets>,
@@ -27,7 +27,7 @@ pub struct Told {
     pub deliveries: u32,
 }
 
-// The number of a kind of names.
+// The number of a kind of name.
 fn kind_number(kind: NameKind) -> u8
     ensures { result ≡ kind_number kind }
 {
@@ -38,14 +38,14 @@ fn kind_number(kind: NameKind) -> u8
     }
 }
 
-/// A name's kind and node in one number. Names of one count differ where these numbers do.
+/// A name's kind and node as one number. Two names with the same count and the same such number are equal.
 pub fn origin_number(name: &KeyName) -> u64
     ensures { result ≡ origin_number name.now }
 {
     u64::from(kind_number(name.kind())) + 4 * u64::from(name.node().get())
 }
 
-// What names a subject.
+// The table key of a subject.
 fn subject_key(subject: &Subject) -> Key
     ensures { result ≡ subject_key subject.now }
 {
@@ -69,7 +69,7 @@ fn subject_key(subject: &Subject) -> Key
     }
 }
 
-// An application that got a subject.
+// The entry that says that an application got a subject.
 fn caller_entry(subject: &Subject, caller: SaeNo) -> Entry
     ensures { result ≡ caller_entry subject.now caller }
 {
@@ -86,7 +86,7 @@ fn caller_entry(subject: &Subject, caller: SaeNo) -> Entry
     }
 }
 
-// Whether a key goes to its master, or to an application that is allowed with it.
+// Whether a key goes to its master, or to an application for which the master may have keys.
 fn may_have(grants: &Entitlements, caller: &Option<SaeNo>, master: &Option<SaeNo>) -> bool
     ensures { result ≡ may_have grants.now caller.now master.now }
 {
@@ -99,7 +99,7 @@ fn may_have(grants: &Entitlements, caller: &Option<SaeNo>, master: &Option<SaeNo
     }
 }
 
-// Keeps the bytes of a subject.
+// Records the bytes of a subject.
 fn put_bytes(
     table: &mut BTreeMap<Key, Octets>,
     alloc: Global,
@@ -112,7 +112,7 @@ fn put_bytes(
     put(table, subject_key(subject), copy)
 }
 
-// Keeps the master of a subject, where one is told.
+// Records the master of a subject, if the item tells one.
 fn put_master(
     table: &mut BTreeMap<Key, SaeNo>,
     subject: &Subject,
@@ -126,7 +126,7 @@ fn put_master(
     }
 }
 
-// Keeps who got a subject, where somebody did.
+// Records that a caller got a subject, if one did.
 fn put_caller(
     entries: &mut Entries,
     subject: &Subject,
@@ -141,7 +141,7 @@ fn put_caller(
 }
 
 impl Told {
-    /// Nothing was told. It takes no memory.
+    /// No tellings. The call allocates nothing.
     pub fn new(alloc: Global) -> Self
         ensures { AreTold result [] }
     {
@@ -153,7 +153,7 @@ impl Told {
         }
     }
 
-    // Whether a subject may have these bytes.
+    // Whether these bytes are the subject's, as far as they are known.
     fn may_be_bytes(&self, subject: &Subject, bytes: &[u8]) -> bool
         ensures { result ≡ may_be_bytes (at self.now.bytes (subject_key subject.now)) bytes.now }
     {
@@ -163,7 +163,7 @@ impl Told {
         }
     }
 
-    // Whether a caller has got a subject already.
+    // Whether the caller got the subject before.
     fn was_given_to(&self, subject: &Subject, caller: &Option<SaeNo>) -> bool
         ensures { result ≡ is_listed self.now.callers subject.now caller.now }
     {
@@ -173,7 +173,7 @@ impl Told {
         }
     }
 
-    // Whether a subject may have this master.
+    // Whether this master is the subject's, as far as it is known.
     fn may_be_master(&self, subject: &Subject, master: &Option<SaeNo>) -> bool
         ensures { result ≡ may_be_same (at self.now.masters (subject_key subject.now)) master.now }
     {
@@ -186,7 +186,7 @@ impl Told {
         }
     }
 
-    // Keeps what is told.
+    // Records a telling.
     fn keep(
         &mut self,
         alloc: Global,
@@ -204,7 +204,7 @@ impl Told {
         Ok(())
     }
 
-    // Whether a telling fits those before it.
+    // Whether a telling fits the earlier ones.
     fn fits(
         &self,
         grants: &Entitlements,
@@ -221,7 +221,7 @@ impl Told {
             && may_have(grants, caller, master)
     }
 
-    // Takes a telling, and answers whether it fits those before it.
+    // Adds a telling, and returns whether it fits the earlier ones.
     fn take(
         &mut self,
         alloc: Global,
@@ -240,7 +240,7 @@ impl Told {
         Ok(true)
     }
 
-    // Takes the keys that a line handed out.
+    // Adds the keys that a line handed out, and returns whether they fit.
     fn take_keys(
         &mut self,
         alloc: Global,
@@ -262,7 +262,7 @@ impl Told {
         Ok(true)
     }
 
-    // Takes the chunk that a call of streams was answered with.
+    // Adds the chunk of a GET_KEY, and returns whether it fits.
     fn take_chunk(
         &mut self,
         alloc: Global,
@@ -291,7 +291,7 @@ impl Told {
         }
     }
 
-    // Takes what a call of streams was answered.
+    // Adds the answer to a stream call, and returns whether it fits.
     fn take_answer(
         &mut self,
         alloc: Global,
@@ -316,7 +316,7 @@ impl Told {
         }
     }
 
-    // Takes keys that a line handed out.
+    // Adds the keys of an item if its line hands keys out, and returns whether they fit.
     fn take_handed(
         &mut self,
         alloc: Global,
@@ -334,7 +334,7 @@ impl Told {
         }
     }
 
-    // Takes the bytes of a key that a node showed, if it showed some.
+    // Adds the bytes of a key that a node showed, if it showed any, and returns whether they fit.
     fn take_shown(
         &mut self,
         alloc: Global,
@@ -352,7 +352,8 @@ impl Told {
         self.take(alloc, grants, &subject, bytes, &nobody, &nobody)
     }
 
-    /// Takes what an item of such a line tells, and answers whether it fits what was told before.
+    /// Adds what an item tells, and returns whether it fits what was told before. The kind is that of the item's line. The only
+    /// error is that memory runs out.
     pub fn take_item(
         &mut self,
         alloc: Global,

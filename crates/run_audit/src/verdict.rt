@@ -1,17 +1,17 @@
-// What an audit found.
+// The verdict of an audit.
 
-/// Whether a report is sound.
+/// Whether a report is sound: no item breaks a rule.
 #[derive(Clone, Copy, Debug, PartialEq, Eq)]
 pub enum Verdict {
-    /// No item breaks a rule. Frames are counted by lane and offset, so that one sent again counts once; deliveries are keys
-    /// and chunks with an application that got them.
+    /// No item breaks a rule. Frames with the same lane and offset count once. A delivery is a key or a chunk that went to an
+    /// application.
     Yes {
         frames: u32,
         deliveries: u32,
         ledgers: u32,
     },
-    /// The item on this line is the first that breaks a rule together with the items before it, and this is the least rule
-    /// that it breaks, from 1 to 6.
+    /// The item on this line is the first that breaks a rule together with the items before it. The rule, 1 to 6, is the
+    /// least that it breaks.
     No {
         line: u32,
         rule: u8,

@@ -32,7 +32,7 @@ no_lanes n links past = let same : min (n + 1) links ≡ min n links = omega ari
 pub whole : (n links : ℕ) → links ≤ n → lanes_below (min n links) ≡ lanes_below links
 whole n links past = let same : min n links ≡ links = omega arith in ap lanes_below same
 
--- each is a lane of the site
+-- each of these is a lane of the site
 
 are_lanes : (site : Site) (n : ℕ) → n ≤ site.links → list_all (is_lane site) (lanes_below n) ≡ true
 are_lanes site zero h = refl

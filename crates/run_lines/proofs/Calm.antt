@@ -1,16 +1,16 @@
--- What came of a call that answers is no forged match.
+-- The outcome of a call that is answered is no forged match.
 use Rattle.std.proofs.Common.{◌≡◌, Bool, true, false, refl, ap, ◌∙◌}
-use Rattle.report_items.specs.declared.start_result.StartResult.{StartResult}
-use Rattle.report_items.specs.declared.start_result.StartResult.TheVariants as starts
+use Rattle.run_types.specs.declared.start_result.StartResult.{StartResult}
+use Rattle.run_types.specs.declared.start_result.StartResult.TheVariants as starts
 use Rattle.run_model.specs.Play.{is_forged}
-use Rattle.run_turns.specs.declared.delivery.Delivery.{Delivery}
-use Rattle.run_turns.specs.declared.delivery.Delivery.TheVariants as deliveries
-use Rattle.run_turns.specs.declared.block_take.BlockTake.{BlockTake}
-use Rattle.run_turns.specs.declared.block_take.BlockTake.TheVariants as takes
-use Rattle.run_turns.specs.Reported.{delivered, taken, started, crashed}
-use Rattle.run_acts.specs.declared.tampered.Tampered.{Tampered}
-use Rattle.run_acts.specs.declared.tampered.Tampered.TheVariants as tamperings
-use Rattle.run_acts.specs.Acting.{tampered}
+use Rattle.run_ops.specs.declared.delivery.Delivery.{Delivery}
+use Rattle.run_ops.specs.declared.delivery.Delivery.TheVariants as deliveries
+use Rattle.run_ops.specs.declared.block_take.BlockTake.{BlockTake}
+use Rattle.run_ops.specs.declared.block_take.BlockTake.TheVariants as takes
+use Rattle.run_ops.specs.Reported.{delivered, taken, started, crashed}
+use Rattle.run_ops.specs.declared.tampered.Tampered.{Tampered}
+use Rattle.run_ops.specs.declared.tampered.Tampered.TheVariants as tamperings
+use Rattle.run_ops.specs.Acting.{tampered}
 
 pub delivered_calm : (d : Delivery) → is_forged (delivered d) ≡ false
 delivered_calm (deliveries.Replied reply) = refl

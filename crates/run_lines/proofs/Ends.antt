@@ -1,19 +1,19 @@
--- Blocks at one end of a link and then at the other.
+-- Blocks at one end of a link, and then at the other.
 use Rattle.std.proofs.Common.{◌≡◌, ℕ, suc, ◌+◌, ◌-◌, ◌<◌, ◌≤◌, Bool, List, ap, subst, arith}
 use Rattle.std.specs.Prelude.{Option}
 use Rattle.net_model.specs.Site.{Site}
 use Rattle.net_model.specs.World.{Network, World}
 use Rattle.net_model.specs.Action.{Action}
-use Rattle.scenario_lines.specs.declared.end.End.TheVariants.{Low, High}
+use Rattle.run_types.specs.declared.end.End.TheVariants.{Low, High}
 use Rattle.run_model.specs.Script.{Script, Ends}
 use Rattle.run_model.specs.Lines.{block_at_end, blocks}
-use Rattle.run_acts.specs.Acting.{IsReady}
+use Rattle.run_ops.specs.Acting.{IsReady}
 use Rattle.run_lines.specs.declared.stop.Stop.{Stop}
 use Rattle.run_lines.specs.Running.{Stops}
 use Rattle.run_lines.proofs.Going.{Ways}
 use Rattle.run_lines.proofs.Looping.{Went, went_on, went_stops}
 
--- what is left of a line after some turns begins at the low end
+-- after some turns, the rest of the line begins at the low end
 one_turn : (site : Site) (link : ℕ) (low high : Bool) (count turn : ℕ) → turn < count →
     blocks site link low high (count - turn) ≡ block_at_end site link Low low (λ l. block_at_end site link High high (λ h. blocks site link l h (count - (turn + 1))))
 unfolding blocks

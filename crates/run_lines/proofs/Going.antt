@@ -1,4 +1,4 @@
--- How a network goes through a script, and where that stops.
+-- How a run goes through a script, and where it stops.
 use Rattle.std.proofs.Common.{◌≡◌, ℕ, Bool, true, false, List, [], ◌∷◌, ◌++◌, refl, sym, ap, subst, ◌∙◌}
 use Rattle.std.specs.Prelude.{if◌then◌else◌, Option, Result, Ok, Err, MatchResult, OnOk}
 use Rattle.std.proofs.lemmas.List.{append-nil}
@@ -6,14 +6,14 @@ use Rattle.net_model.specs.Site.{Site}
 use Rattle.net_model.specs.World.{Network, World}
 use Rattle.net_model.specs.Action.{Action, Outcome, ForgedMatch}
 use Rattle.net_model.specs.Step.{step}
-use Rattle.report_items.specs.declared.item.Item.{Item}
-use Rattle.report_items.specs.declared.item.NumberedItem.{NumberedItem}
-use Rattle.report_items.specs.Texts.{report_text}
+use Rattle.run_types.specs.declared.item.Item.{Item}
+use Rattle.run_types.specs.declared.item.NumberedItem.{NumberedItem}
+use Rattle.run_types.specs.Texts.{report_text}
 use Rattle.run_model.specs.Script.{Script, Ends, Reports, Looks, Asks, asks, then_comes}
 use Rattle.run_model.specs.Play.{Whole, ForgedAt, Played, numbered, is_forged, reporting, stopped_at, play, OneOf, IsPlay}
 use Rattle.run_model.specs.Report.{is_whole}
 use Rattle.run_model.specs.Headline.{Took, TookFirst}
-use Rattle.run_acts.specs.Acting.{IsReady, Does, Begins, Plays}
+use Rattle.run_ops.specs.Acting.{IsReady, Does, Begins, Plays}
 use Rattle.run_lines.specs.declared.stop.Stop.{Stop}
 use Rattle.run_lines.specs.declared.stop.Stop.TheVariants.{WriteFault, Memory, Forged}
 use Rattle.run_lines.specs.Reporting.{Wrote}
@@ -22,13 +22,13 @@ use Rattle.run_lines.specs.Running.{StopsAs, Finishes, Stops, Ran, Runs, IsReady
 use Rattle.run_lines.proofs.Taking.{took_none, took_on, first_none, first_within, first_after, text_on, text_none, numbered_on}
 use Rattle.run_lines.proofs.Leading.{nothing, stays_put, same_world, leads_none, leads_told, leads_looks, leads_asked, leads_on, leads_after, goes_beyond}
 
--- what a network that can be asked promises of what is told
+-- what a network guarantees of its worlds and of its tally of actions
 pub record Ways {S : Type 0} (Stands Rests : S → Network → World → Type 0) (Tallied : S → S → Site → List Action → Type 0) : Type 0 where
   pub rest : (s : S) (net : Network) (w : World) → Stands s net w → Rests s net w
   pub none : (s : S) (net : Network) (w : World) → Stands s net w → Tallied s s net.site []
   pub more : (a b c : S) (sited : Site) (xs ys : List Action) → Tallied a b sited xs → Tallied b c sited ys → Tallied a c sited (xs ++ ys)
 
--- what was run whole leaves the network ready
+-- a network is ready after a script was run to its end
 pub ready_after : {S T : Type 0} (Stands Rests : S → Network → World → Type 0) (Tallied : S → S → Site → List Action → Type 0) (nodes : List (List ℕ)) (old new : S)
     (before taken : Option (List ℕ)) (number : ℕ) (script : Script) (result : Result T Stop) → Runs Stands Rests Tallied nodes old new before taken number script result →
     IsReadySomewhere Stands old → OnOk result (IsReadySomewhere Stands new)
@@ -52,7 +52,7 @@ either : (forged : Bool) (A B : Type 0) → A → B → OneOf forged A B
 either true A B a b = a
 either false A B a b = b
 
--- ---- the report, stopped behind what was reported before
+-- ---- a report that stopped after earlier items
 
 pub stops_as : (nodes : List (List ℕ)) (p q : Played) (xs : List NumberedItem) (a b c : Option (List ℕ)) → (stop : Stop) → q ≡ reporting xs p → Took a b (report_text nodes xs) →
     StopsAs stop nodes p b c → StopsAs stop nodes q a c
@@ -65,7 +65,7 @@ stops_as nodes p q xs a b c (Forged line) same before told = (
   subst (Took a c) (sym (ap (λ (r : Played). report_text nodes r.items) same ∙ text_on nodes xs p.items)) (took_on a b c _ _ before told.1),
 )
 
--- and before another script
+-- the same report, before another script
 stops_beyond : (nodes : List (List ℕ)) (p q : Played) (more : List NumberedItem) (a b : Option (List ℕ)) (stop : Stop) → q.items ≡ p.items ++ more → (is_whole p.ending ≡ false → q ≡ p) →
     StopsAs stop nodes p a b → StopsAs stop nodes q a b
 stops_beyond nodes p q more a b WriteFault items cut told = subst (TookFirst a b) (sym (ap (report_text nodes) items ∙ text_on nodes p.items more)) (first_within a b _ _ told)
@@ -75,7 +75,7 @@ stops_beyond nodes p q more a b (Forged line) items cut told =
 
 module _ {S : Type 0} (Stands Rests : S → Network → World → Type 0) (Tallied : S → S → Site → List Action → Type 0) (ways : Ways Stands Rests Tallied) (nodes : List (List ℕ)) (number : ℕ)
     (net : Network) where
-  -- ---- on the way
+  -- ---- a run on its way
 
   pub reached_none : (s : S) (t : Option (List ℕ)) (w : World) (script : Script) → IsReady Stands s net w → Reached Stands Tallied nodes s s t t number net w script w script
   reached_none s t w script ready = record {
@@ -112,7 +112,7 @@ module _ {S : Type 0} (Stands Rests : S → Network → World → Type 0) (Talli
         told = stops_as nodes _ _ (numbered number p.items) r t u stop said p.took q.told;
       }
 
-  -- want of memory before anything more is done
+  -- out of memory before anything more is done
   pub stops_here : (s : S) (t : Option (List ℕ)) (w : World) (script : Script) → IsReady Stands s net w → Stops Rests Tallied nodes s s t t number net w script Memory
   stops_here s t w script ready = record {
     actions = [];
@@ -122,7 +122,7 @@ module _ {S : Type 0} (Stands Rests : S → Network → World → Type 0) (Talli
     told = first_none t _;
   }
 
-  -- the rest of a script is left out that has no action
+  -- a run whose rest has no action is finished
   pub finishes : (a b : S) (r t : Option (List ℕ)) (w after : World) (script : Script) → Reached Stands Tallied nodes a b r t number net w script after Ends →
       Finishes Stands Tallied nodes a b r t number net w script
   unfolding play
@@ -141,7 +141,7 @@ module _ {S : Type 0} (Stands Rests : S → Network → World → Type 0) (Talli
     took = p.took;
   }
 
-  -- ---- a script before another one
+  -- ---- a script followed by another one
 
   pub reached_after : (a b : S) (r t : Option (List ℕ)) (w : World) (script last : Script) → (f : Finishes Stands Tallied nodes a b r t number net w script) →
       Reached Stands Tallied nodes a b r t number net w (then_comes script last) f.plays.after last
@@ -166,14 +166,14 @@ module _ {S : Type 0} (Stands Rests : S → Network → World → Type 0) (Talli
         told = stops_beyond nodes _ _ more.more r t stop more.items more.cut p.told;
       }
 
-  -- on to the end or to a stop
+  -- a run that goes on to the end or to a stop
   pub ran_on : {T : Type 0} (a b c : S) (r t u : Option (List ℕ)) (w m after : World) (script mid : Script) (result : Result T Stop) → Reached Stands Tallied nodes a b r t number net w script m mid →
       MatchResult result (λ done. Reached Stands Tallied nodes b c t u number net m mid after Ends) (λ stop. Stops Rests Tallied nodes b c t u number net m mid stop) →
       Ran Stands Rests Tallied nodes a c r u number net w script result
   ran_on a b c r t u w m after script mid (Ok done) p q = finishes a c r u w after script (reached_on a b c r t u w m after script mid Ends p q)
   ran_on a b c r t u w m after script mid (Err stop) p q = reached_stop a b c r t u w m script mid stop p q
 
-  -- ---- what is reported
+  -- ---- items that are reported
 
   pub reached_told : (s : S) (r t : Option (List ℕ)) (w : World) (items : List Item) (next : Script) → IsReady Stands s net w → Took r t (report_text nodes (numbered number items)) →
       Reached Stands Tallied nodes s s r t number net w (Reports items next) w next
@@ -201,7 +201,7 @@ module _ {S : Type 0} (Stands Rests : S → Network → World → Type 0) (Talli
   unfolding play
   first_told r t w items next told = subst (TookFirst r t) (sym (text_on nodes (numbered number items) (play net number w next []).items)) (first_within r t _ _ told)
 
-  -- it is reported, or a first part of it
+  -- the items are reported, or a prefix of their text is
   pub told : {T : Type 0} (s : S) (r t : Option (List ℕ)) (w : World) (items : List Item) (next : Script) (result : Result T Stop) → IsReady Stands s net w →
       Wrote result r t (report_text nodes (numbered number items)) →
       MatchResult result (λ done. Reached Stands Tallied nodes s s r t number net w (Reports items next) w next) (λ stop. Stops Rests Tallied nodes s s r t number net w (Reports items next) stop)
@@ -222,7 +222,7 @@ module _ {S : Type 0} (Stands Rests : S → Network → World → Type 0) (Talli
   }
   told s r t w items next (Err (Forged line)) ready wrote = absurd wrote
 
-  -- ---- what is asked
+  -- ---- an action
 
   pub asked : (a b : S) (t : Option (List ℕ)) (w : World) (action : Action) (outcome : Outcome) (next : Outcome → Script) → (d : Does Stands Tallied a b net w action outcome) →
       is_forged outcome ≡ false → Reached Stands Tallied nodes a b t t number net w (Asks action next) (step net w d.action).0 (next outcome)
@@ -252,7 +252,7 @@ module _ {S : Type 0} (Stands Rests : S → Network → World → Type 0) (Talli
         told = (ap (λ (r : Played). r.ending) said, subst (λ (r : Played). Took t t (report_text nodes r.items)) (sym said) (subst (Took t t) (sym (text_none nodes)) (took_none t)));
       }
 
-  -- ---- want of memory in what is asked
+  -- ---- out of memory during an action
 
   pub begins_stop : (a b : S) (t : Option (List ℕ)) (w : World) (script : Script) → Begins Rests Tallied a b net w script → Stops Rests Tallied nodes a b t t number net w script Memory
   begins_stop a b t w script p = record {
@@ -296,21 +296,21 @@ module _ {S : Type 0} (Stands Rests : S → Network → World → Type 0) (Talli
       let there = told b r t m (items outcome) Ends result d.ready (subst (λ (xs : List Item). Wrote result r t (report_text nodes (numbered number xs))) same (subst (λ (ns : List (List ℕ)). Wrote result r t (report_text ns (numbered number tell))) named wrote)) in
       ran_on a b b r r t w m m (asks action items) (Reports (items outcome) Ends) result here there
 
-  -- want of memory behind it
+  -- out of memory after the action
   pub asked_stops : (a b : S) (t : Option (List ℕ)) (w : World) (action : Action) (outcome : Outcome) (next : Outcome → Script) → Does Stands Tallied a b net w action outcome →
       is_forged outcome ≡ false → Stops Rests Tallied nodes a b t t number net w (Asks action next) Memory
   asked_stops a b t w action outcome next d calm =
       let m = (step net w d.action).0 in
       reached_stop a b b t t t w m (Asks action next) (next outcome) Memory (asked a b t w action outcome next d calm) (stops_here b t m (next outcome) d.ready)
 
-  -- nothing is left to be done
+  -- nothing is left to do after the action
   pub asked_ends : (a b : S) (t : Option (List ℕ)) (w : World) (action : Action) (outcome : Outcome) (next : Outcome → Script) → Does Stands Tallied a b net w action outcome →
       is_forged outcome ≡ false → next outcome ≡ Ends → Finishes Stands Tallied nodes a b t t number net w (Asks action next)
   asked_ends a b t w action outcome next d calm ends =
       let m = (step net w d.action).0 in
       finishes a b t t w m (Asks action next) (subst (λ (s : Script). Reached Stands Tallied nodes a b t t number net w (Asks action next) m s) ends (asked a b t w action outcome next d calm))
 
-  -- its outcome is reported, whatever else it might have been followed by
+  -- the outcome of the action is reported, whatever other outcomes would lead to
   pub asked_told : {T : Type 0} (a b : S) (r t : Option (List ℕ)) (w : World) (action : Action) (outcome : Outcome) (next : Outcome → Script) (tell : List Item) (names : List (List ℕ))
       (result : Result T Stop) → Does Stands Tallied a b net w action outcome → is_forged outcome ≡ false → next outcome ≡ Reports tell Ends → names ≡ nodes →
       Wrote result r t (report_text names (numbered number tell)) → Ran Stands Rests Tallied nodes a b r t number net w (Asks action next) result
@@ -320,7 +320,7 @@ module _ {S : Type 0} (Stands Rests : S → Network → World → Type 0) (Talli
       let there = told b r t m tell Ends result d.ready (subst (λ (ns : List (List ℕ)). Wrote result r t (report_text ns (numbered number tell))) named wrote) in
       ran_on a b b r r t w m m (Asks action next) (Reports tell Ends) result here there
 
-  -- it is reported after a look at the world
+  -- the outcome of the action is reported after a look at the world
   pub asked_looked : {T : Type 0} (a b : S) (r t : Option (List ℕ)) (w : World) (action : Action) (outcome : Outcome) (items : World → Outcome → List Item) (tell : List Item) (names : List (List ℕ))
       (result : Result T Stop) → Does Stands Tallied a b net w action outcome → is_forged outcome ≡ false → ((after : World) → Stands b net after → tell ≡ items after outcome) → names ≡ nodes →
       Wrote result r t (report_text names (numbered number tell)) → Ran Stands Rests Tallied nodes a b r t number net w (Asks action (λ out. Looks (λ at. Reports (items at out) Ends))) result
@@ -334,7 +334,7 @@ module _ {S : Type 0} (Stands Rests : S → Network → World → Type 0) (Talli
       (subst (λ (ns : List (List ℕ)). Wrote result r t (report_text ns (numbered number tell))) named wrote)) in
       ran_on a b b r r t w m m (Asks action next) (Reports (items m outcome) Ends) result here there
 
-  -- ---- a script that was done whole, and then reported
+  -- ---- a script that was run to its end, followed by its report
 
   plays_first : (a b : S) (r t : Option (List ℕ)) (w : World) (script : Script) (items : List Item) (stop : Stop) → (p : Plays Stands Tallied a b net w script items) →
       StopsAs stop nodes (record { items = numbered number items; world = p.after; ending = Whole }) r t → Stops Rests Tallied nodes a b r t number net w script stop
@@ -361,7 +361,7 @@ module _ {S : Type 0} (Stands Rests : S → Network → World → Type 0) (Talli
       (subst (λ (xs : List Item). Wrote result r t (report_text nodes (numbered number xs))) same
       (subst (λ (ns : List (List ℕ)). Wrote result r t (report_text ns (numbered number tell))) named wrote))
 
-  -- what is reported without asking
+  -- items that are reported without an action
   pub unasked_told : {T : Type 0} (a : S) (r t : Option (List ℕ)) (w : World) (tell : List Item) (names : List (List ℕ)) (result : Result T Stop) → IsReady Stands a net w → names ≡ nodes →
       Wrote result r t (report_text names (numbered number tell)) → Ran Stands Rests Tallied nodes a a r t number net w (Reports tell Ends) result
   unasked_told a r t w tell names result ready named wrote =

@@ -1,20 +1,20 @@
--- What begins a script, and what is left of it.
+-- The first part of a script, and its rest.
 use Rattle.std.proofs.Common.{◌≡◌, ℕ, Bool, true, false, List, [], ◌∷◌, ◌++◌, refl, sym, ap, subst, ◌∙◌}
 use Rattle.std.specs.Prelude.{if◌then◌else◌}
 use Rattle.std.proofs.lemmas.List.{append_assoc, append-nil}
 use Rattle.net_model.specs.World.{Network, World}
 use Rattle.net_model.specs.Action.{Action, Outcome}
 use Rattle.net_model.specs.Step.{step, IsStep}
-use Rattle.report_items.specs.declared.item.Item.{Item}
-use Rattle.report_items.specs.declared.item.NumberedItem.{NumberedItem}
+use Rattle.run_types.specs.declared.item.Item.{Item}
+use Rattle.run_types.specs.declared.item.NumberedItem.{NumberedItem}
 use Rattle.run_model.specs.Script.{Script, Ends, Reports, Looks, Asks, GivesUp, then_comes}
 use Rattle.run_model.specs.Play.{Whole, ForgedAt, Played, plain, numbered, is_forged, reporting, stopped_at, play, OneOf, IsPlay}
 use Rattle.run_model.specs.Report.{is_whole}
-use Rattle.run_plays.proofs.Plays.{reported, follows, stays_cut}
+use Rattle.run_ops.proofs.Plays.{reported, follows, stays_cut}
 use Rattle.run_lines.specs.Going.{Leads}
 use Rattle.run_lines.proofs.Taking.{numbered_on}
 
--- ---- where nothing is done
+-- ---- no action
 
 pub nothing : (net : Network) (w : World) (s : Script) → IsPlay net w s []
 nothing net w Ends = refl
@@ -31,7 +31,7 @@ stays_put net number w (Looks next) = stays_put net number w (next w)
 stays_put net number w (Asks action next) = refl
 stays_put net number w GivesUp = refl
 
--- ---- the world doesn't depend on the number
+-- ---- the world doesn't depend on the line's number
 
 world_of_choice : (w : World) (m n : ℕ) (p q : Played) (forged : Bool) → p.world ≡ q.world →
     (if forged then stopped_at w (ForgedAt m) else p).world ≡ (if forged then stopped_at w (ForgedAt n) else q).world
@@ -49,7 +49,7 @@ same_world net m n w (Asks action next) (a ∷ rest) =
     world_of_choice out.0 m n _ _ (is_forged out.1) (same_world net m n out.0 (next out.1) rest)
 same_world net m n w GivesUp actions = refl
 
--- ---- what begins a script
+-- ---- the first part of a script
 
 pub leads_none : (net : Network) (w : World) (s : Script) → Leads net w s [] [] w s
 leads_none net w s = record { is = λ more h. h; said = λ number more h. refl }
@@ -81,7 +81,7 @@ leads_on net w m after s mid rest first second told more_told p q = record {
       ∙ ap (λ (xs : List NumberedItem). reporting xs (play net number after rest more)) (sym (numbered_on number told more_told));
 }
 
--- a script that was done whole leads to the one after it
+-- a script that was run to its end leads to the script after it
 pub leads_after : (net : Network) (w after : World) (s last : Script) (actions : List Action) (items : List Item) → IsPlay net w s actions →
     ((number : ℕ) → play net number w s actions ≡ record { items = numbered number items; world = after; ending = Whole }) →
     Leads net w (then_comes s last) actions items after last
@@ -97,7 +97,7 @@ leads_after net w after s last actions items is said =
 
 -- ---- a script that was cut short, before another one
 
--- Where it didn't come to its end it is all that was done. Where it did, the other one reports what it does before its first action.
+-- If the first script didn't end, nothing else was done. If it did end, the other one reports what comes before its first action.
 pub record GoesBeyond (net : Network) (number : ℕ) (w : World) (s last : Script) (actions : List Action) : Type 0 where
   pub is : IsPlay net w (then_comes s last) actions
   pub world : (play net number w (then_comes s last) actions).world ≡ (play net number w s actions).world

@@ -1,4 +1,4 @@
--- Pieces of one line each, one after the other.
+-- Lines that are written one by one.
 use Rattle.std.proofs.Common.{◌≡◌, ℕ, List, [], ◌∷◌, ◌++◌, take, drop, refl, sym, ap, subst, ◌∙◌}
 use Rattle.std.specs.Prelude.{Option, Result, Ok, Err}
 use Rattle.std.specs.List.{flat_map}
@@ -7,8 +7,8 @@ use Rattle.std.proofs.lemmas.List.Concat.{flat_map-append}
 use Rattle.std.proofs.lemmas.List.Elements.{All-nil, All-push, All-append}
 use Rattle.std.specs.Io.KnownBytes.{Appends}
 use Rattle.edge_io.specs.Writes.{AppendsPrefix, Adds}
-use Rattle.report_items.specs.declared.item.Item.TheVariants as items
-use Rattle.report_items.specs.Texts.{line_text}
+use Rattle.run_types.specs.declared.item.Item.TheVariants as items
+use Rattle.run_types.specs.Texts.{line_text}
 use Rattle.run_model.specs.Headline.{Took}
 use Rattle.run_lines.specs.Reporting.{IsItemLine, IsPart, TookLines, InLines}
 use Rattle.run_lines.proofs.Taking.{took_none, took_on, took_of}
@@ -18,11 +18,11 @@ abbrev joined : List (List ℕ) → List ℕ
 joined lines = flat_map (λ (line : List ℕ). line) lines
 
 module _ {S : Type 0} (taken : S → Option (List ℕ)) (pieces : S → Option (List (List ℕ))) (IsLine : List ℕ → Type 0) where
-  -- nothing was taken
+  -- no line was written
   pub none_lined : (s : S) → TookLines taken pieces IsLine s s []
   none_lined s = record { lines = []; each = All-nil IsLine; pieces_are = adds_none (pieces s); text = took_none (taken s) }
 
-  -- lines behind lines
+  -- lines written after other lines
   pub lined_on : (a b c : S) (part : List ℕ) → TookLines taken pieces IsLine a b [] → TookLines taken pieces IsLine b c part → TookLines taken pieces IsLine a c part
   lined_on a b c part p q = record {
     lines = p.lines ++ q.lines;
@@ -35,12 +35,12 @@ module _ {S : Type 0} (taken : S → Option (List ℕ)) (pieces : S → Option (
         (took_on (taken a) (taken b) (taken c) (joined p.lines ++ []) (joined q.lines ++ part) p.text q.text);
   }
 
-  -- and where there is a stop
+  -- a run that may stop after some lines
   pub in_lines_on : {T E : Type 0} (a b c : S) (result : Result T E) → TookLines taken pieces IsLine a b [] → InLines taken pieces IsLine b c result → InLines taken pieces IsLine a c result
   in_lines_on a b c (Ok done) p q = lined_on a b c [] p q
   in_lines_on a b c (Err stop) p q = (q.0, q.1, lined_on a b c q.0 p q.2)
 
-  -- one line, written or not
+  -- one line, whether the sink keeps text or not
   pub one_lined : (a b : S) (told line : List ℕ) → told ≡ line → IsLine line → Appends (taken a) (taken b) told → Adds (pieces a) (pieces b) (told ∷ []) → TookLines taken pieces IsLine a b []
   one_lined a b told line same is bytes piece = record {
     lines = told ∷ [];
@@ -57,7 +57,7 @@ module _ {S : Type 0} (taken : S → Option (List ℕ)) (pieces : S → Option (
     record { lines = []; each = All-nil IsLine; pieces_are = piece; text = took_of (taken a) (taken b) (take bytes.0 told) bytes.1 },
   )
 
-  -- a stop before any line
+  -- a run that stops before any line is written
   pub none_stopped : (s : S) (line : List ℕ) → IsLine line → (part : List ℕ) × IsPart IsLine part × TookLines taken pieces IsLine s s part
   none_stopped s line is = ([], (line, is, (line, refl)), none_lined s)
 
@@ -69,7 +69,7 @@ pub stopped_unwritten : {S : Type 0} (taken : S → Option (List ℕ)) (pieces :
     (part : List ℕ) × IsPart (IsItemLine nodes) part × TookLines taken pieces (IsItemLine nodes) s s part
 stopped_unwritten taken pieces nodes s = none_stopped taken pieces (IsItemLine nodes) s (line_text nodes (record { number = 0; item = items.Crashed })) (some_line nodes)
 
--- a stop behind lines
+-- a run that stops after whole lines
 pub stopped_lined : {S : Type 0} (taken : S → Option (List ℕ)) (pieces : S → Option (List (List ℕ))) (nodes : List (List ℕ)) (a b : S) → TookLines taken pieces (IsItemLine nodes) a b [] →
     (part : List ℕ) × IsPart (IsItemLine nodes) part × TookLines taken pieces (IsItemLine nodes) a b part
 stopped_lined taken pieces nodes a b h =

@@ -1,15 +1,15 @@
--- A network that goes through a script step by step, whatever network and world it is ready for.
+-- A run that goes through a script step by step, in any network and world for which it is ready.
 use Rattle.std.proofs.Common.{◌≡◌, ℕ, false, List, subst}
 use Rattle.std.specs.Prelude.{Option, Result, Ok, Err, MatchResult}
 use Rattle.net_model.specs.Site.{Site}
 use Rattle.net_model.specs.World.{Network, World}
 use Rattle.net_model.specs.Action.{Action, Outcome}
 use Rattle.net_model.specs.Step.{step}
-use Rattle.report_items.specs.declared.item.Item.{Item}
-use Rattle.report_items.specs.Texts.{report_text}
+use Rattle.run_types.specs.declared.item.Item.{Item}
+use Rattle.run_types.specs.Texts.{report_text}
 use Rattle.run_model.specs.Script.{Script, Ends, Reports, Asks, then_comes}
 use Rattle.run_model.specs.Play.{numbered, is_forged}
-use Rattle.run_acts.specs.Acting.{IsReady, Does}
+use Rattle.run_ops.specs.Acting.{IsReady, Does}
 use Rattle.run_lines.specs.declared.stop.Stop.{Stop}
 use Rattle.run_lines.specs.declared.stop.Stop.TheVariants.{Memory}
 use Rattle.run_lines.specs.Reporting.{Wrote}
@@ -17,7 +17,7 @@ use Rattle.run_lines.specs.Going.{Reached}
 use Rattle.run_lines.specs.Running.{Stops, Runs, IsReadySomewhere}
 use Rattle.run_lines.proofs.Going.{Ways, reached_none, reached_on, reached_stop, reached_after, stops_after, stops_here, finishes, told, asked}
 
--- it went through a script up to this rest
+-- the run has come to this rest of the script
 abbrev pub Went : {S : Type 0} → (Stands : S → Network → World → Type 0) → (Tallied : S → S → Site → List Action → Type 0) → List (List ℕ) → (old now : S) →
     (before taken : Option (List ℕ)) → ℕ → Script → Script → Type 0
 Went Stands Tallied nodes old now before taken number script rest =
@@ -58,7 +58,7 @@ module _ {S : Type 0} (Stands Rests : S → Network → World → Type 0) (Talli
   went_runs_short T stop a b c r t u script s rest p q =
       went_stops stop a b c r t u script (then_comes s rest) p (λ net w ready. stops_after Stands Rests Tallied ways nodes number net b c t u w s rest stop (q net w ready))
 
-  -- want of memory on the way
+  -- out of memory on the way
   pub went_short : (a b : S) (r t : Option (List ℕ)) (script mid : Script) → Went Stands Tallied nodes a b r t number script mid →
       (net : Network) (w : World) → IsReady Stands a net w → Stops Rests Tallied nodes a b r t number net w script Memory
   went_short a b r t script mid p =
@@ -76,7 +76,7 @@ module _ {S : Type 0} (Stands Rests : S → Network → World → Type 0) (Talli
   joined net w a b r t m script mid rest (Ok done) p q = (m, reached_on Stands Rests Tallied ways nodes number net a b b r r t w m m script mid rest p q)
   joined net w a b r t m script mid rest (Err stop) p q = reached_stop Stands Rests Tallied ways nodes number net a b b r r t w m script mid stop p q
 
-  -- an action whose outcome is reported, and then the rest by it
+  -- an action whose outcome is reported, followed by the rest that depends on it
   pub asked_reported : {T : Type 0} (net : Network) (w : World) (a b : S) (r t : Option (List ℕ)) (action : Action) (outcome : Outcome) (items : Outcome → List Item) (next : Outcome → Script)
       (tell : List Item) (names : List (List ℕ)) (result : Result T Stop) → Does Stands Tallied a b net w action outcome → is_forged outcome ≡ false → tell ≡ items outcome → names ≡ nodes →
       Wrote result r t (report_text names (numbered number tell)) →

@@ -1,4 +1,4 @@
--- What is new on each wire is passed, lane by lane.
+-- The new frames of each wire are passed, lane by lane.
 use Rattle.std.proofs.Common.{◌≡◌, ℕ, suc, ◌+◌, ◌-◌, ◌<◌, ◌≤◌, List, [], ◌∷◌, ◌++◌, length, get_or, take, drop, map, refl, sym, ap, subst, ◌∙◌, add-one, Vec, Global}
 use Rattle.std.specs.Prelude.{Option, sum_by}
 use Rattle.std.proofs.Math.Seq.{drop-cons}
@@ -11,7 +11,7 @@ use Rattle.net_model.specs.Action.{Action}
 use Rattle.run_model.specs.Script.{then_comes}
 use Rattle.run_model.specs.Play.{Played}
 use Rattle.run_model.specs.Lines.{passes, all_passes}
-use Rattle.run_acts.specs.Acting.{IsReady}
+use Rattle.run_ops.specs.Acting.{IsReady}
 use Rattle.run_lines.specs.declared.stop.Stop.{Stop}
 use Rattle.run_lines.specs.declared.stop.Stop.TheVariants.{Memory}
 use Rattle.run_lines.specs.Going.{Reached}
@@ -21,7 +21,7 @@ use Rattle.run_lines.specs.declared.settling.Frames.{Frames}
 use Rattle.run_lines.proofs.Going.{Ways, reached_none, reached_on, reached_stop, reached_after, stops_after, stops_here, finishes}
 use Rattle.run_lines.proofs.Wires.{wires_stay, passes_deliver}
 
--- ---- counts
+-- ---- numbers of frames
 
 pub counts_none : (w : World) (each : Vec ℕ Global) → each.items ≡ [] → AreOn [] w (record { each = each; all = 0 })
 counts_none w each is = record { each = is; all = refl }
@@ -44,7 +44,7 @@ all_counted lanes w i frames past so_far = subst (λ (ls : List Lane). AreOn ls 
 
 -- ---- lanes in order
 
--- The first lanes' new frames were passed. The wires are as they were, and are counted.
+-- The new frames of the first lanes were passed. The wires are unchanged, and their frames are counted.
 pub record Passed {S : Type 0} (Stands : S → Network → World → Type 0) (Tallied : S → S → Site → List Action → Type 0) (nodes : List (List ℕ)) (number : ℕ) (lanes : List Lane) (a b : S)
     (r t : Option (List ℕ)) (net : Network) (earlier w : World) (place : ℕ) (frames : Frames) : Type 0 where
   pub after : World
@@ -96,7 +96,7 @@ module _ {S : Type 0} (Stands Rests : S → Network → World → Type 0) (Talli
           reached_on Stands Rests Tallied ways nodes number net a b c r t u w p.after f.plays.after (all_passes earlier w lanes) (then_comes (passes lane from (count - from)) last) last reached_here
           (reached_after Stands Rests Tallied ways nodes number net b c t u p.after (passes lane from (count - from)) last f)
 
-      -- want of memory behind it
+      -- out of memory after these frames were passed
       pub count_short : Stops Rests Tallied nodes a c r u number net w (all_passes earlier w lanes) Memory
       count_short =
           let last = all_passes earlier w (drop (i + 1) lanes) in

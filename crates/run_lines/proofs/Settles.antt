@@ -1,4 +1,4 @@
--- A whole round, and rounds one after the other.
+-- A whole round, and rounds in order.
 use Rattle.std.proofs.Common.{◌≡◌, ℕ, suc, ◌+◌, ◌-◌, ◌<◌, ◌≤◌, Bool, false, List, length, map, nat_lt, sym, ap, subst, ◌∙◌, arith}
 use Rattle.std.specs.Prelude.{Option, Result, Ok, Err, MatchResult, if◌then◌else◌, sum_by}
 use Rattle.std.proofs.lemmas.Bool.{lt-ltb}
@@ -10,7 +10,7 @@ use Rattle.net_model.specs.Action.{Action}
 use Rattle.run_model.specs.Script.{Script, Looks, Ends, then_comes}
 use Rattle.run_model.specs.Play.{Played}
 use Rattle.run_model.specs.Lines.{ticks, all_passes, all_lanes, on_wires, settle}
-use Rattle.run_acts.specs.Acting.{IsReady}
+use Rattle.run_ops.specs.Acting.{IsReady}
 use Rattle.run_lines.specs.declared.stop.Stop.{Stop}
 use Rattle.run_lines.specs.Going.{Reached}
 use Rattle.run_lines.specs.Running.{Finishes, Stops}

@@ -1,13 +1,13 @@
--- What a sink took of one text after another.
+-- The texts that a sink took, in order.
 use Rattle.std.proofs.Common.{◌≡◌, ℕ, List, [], ◌∷◌, ◌++◌, take, drop, refl, sym, ap, ◌∙◌}
 use Rattle.std.specs.Prelude.{Option, Some, None}
 use Rattle.std.proofs.lemmas.List.{append_assoc, append-nil, map-append, take-append-drop}
 use Rattle.std.proofs.lemmas.List.Concat.{flat_map-append}
 use Rattle.std.specs.Io.KnownBytes.{Appends}
 use Rattle.edge_io.specs.Writes.{AppendsPrefix}
-use Rattle.report_items.specs.declared.item.Item.{Item}
-use Rattle.report_items.specs.declared.item.NumberedItem.{NumberedItem}
-use Rattle.report_items.specs.Texts.{line_text, report_text}
+use Rattle.run_types.specs.declared.item.Item.{Item}
+use Rattle.run_types.specs.declared.item.NumberedItem.{NumberedItem}
+use Rattle.run_types.specs.Texts.{line_text, report_text}
 use Rattle.run_model.specs.Play.{numbered}
 use Rattle.run_model.specs.Headline.{Took, TookFirst}
 
@@ -35,7 +35,7 @@ pub first_after : (a b c : Option (List ℕ)) (x y : List ℕ) → Took a b x �
 first_after a b c x y p q =
     (x ++ q.0, q.1, ap (λ (bs : List ℕ). x ++ bs) q.2 ∙ sym (append_assoc x q.0 q.1), took_on a b c x q.0 p q.3)
 
--- the text of what is reported one after the other
+-- the text of items is the concatenation of their texts
 
 pub text_on : (nodes : List (List ℕ)) (xs ys : List NumberedItem) → report_text nodes (xs ++ ys) ≡ report_text nodes xs ++ report_text nodes ys
 unfolding report_text

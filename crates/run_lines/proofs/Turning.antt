@@ -1,17 +1,17 @@
--- Lines that have a turn.
+-- Lines that run as a single turn.
 use Rattle.std.proofs.Common.{◌≡◌, ℕ, true, List, refl, ap, subst, ◌∙◌}
 use Rattle.net_model.specs.declared.event.Event.{Event}
 use Rattle.declared_site.specs.declared.site.Site.{Site as Declared}
 use Rattle.declared_site.specs.SiteOf.{site_of}
 use Rattle.net_model.specs.Site.{Site}
 use Rattle.net_model.specs.Action.{Outcome, Ok, Ask}
-use Rattle.scenario_lines.specs.declared.command.Command.{Command}
-use Rattle.scenario_lines.specs.declared.command.Command.TheVariants as commands
-use Rattle.report_items.specs.declared.item.Item.{Item}
+use Rattle.run_types.specs.declared.command.Command.{Command}
+use Rattle.run_types.specs.declared.command.Command.TheVariants as commands
+use Rattle.run_types.specs.declared.item.Item.{Item}
 use Rattle.run_model.specs.Script.{asks}
 use Rattle.run_model.specs.Turn.{HttpTexts, turn_of, at_node}
 use Rattle.run_model.specs.Lines.{script_of, script_of_turn}
-use Rattle.run_acts.specs.Runnable.{IsFit, IsTurnFor, IsCommandFor}
+use Rattle.run_ops.specs.Runnable.{IsFit, IsTurnFor, IsCommandFor}
 use Rattle.run_lines.specs.Commands.{any_texts, acts_once}
 
 pub turn_fits : (d : Declared) (command : Command) → acts_once command ≡ true → IsCommandFor d command → IsTurnFor d (turn_of any_texts (site_of d) command)

@@ -1,4 +1,4 @@
--- Rounds of a settle, node by node and frame by frame.
+-- The rounds of a settle line, node by node and frame by frame.
 use Rattle.std.proofs.Common.{◌≡◌, ℕ, zero, suc, ◌+◌, ◌-◌, ◌<◌, ◌≤◌, Bool, true, false, List, [], ◌∷◌, ◌++◌, length, drop, refl, sym, ap, subst, ◌∙◌, inl, inr, arith, length-append}
 use Rattle.std.specs.Prelude.{if◌then◌else◌, Option, Result, Ok, Err}
 use Rattle.std.proofs.lemmas.Bool.{cases_lt}
@@ -7,12 +7,12 @@ use Rattle.qkd_base.specs.declared.lane.Lane.{Lane}
 use Rattle.net_model.specs.Site.{Site, count_up}
 use Rattle.net_model.specs.World.{Network, World}
 use Rattle.net_model.specs.Action.{Action, Deliver, Ok as Fine}
-use Rattle.report_items.specs.declared.item.Item.TheVariants as items
+use Rattle.run_types.specs.declared.item.Item.TheVariants as items
 use Rattle.run_model.specs.Script.{Script, Ends, Looks, asks, then_comes}
 use Rattle.run_model.specs.Play.{play}
 use Rattle.run_model.specs.Outcomes.{frame_items}
 use Rattle.run_model.specs.Lines.{ticked, ticks, passes}
-use Rattle.run_acts.specs.Acting.{IsReady}
+use Rattle.run_ops.specs.Acting.{IsReady}
 use Rattle.run_lines.specs.declared.stop.Stop.{Stop}
 use Rattle.run_lines.specs.Running.{Finishes, Ran}
 use Rattle.run_lines.proofs.Going.{Ways, reached_none, finishes}

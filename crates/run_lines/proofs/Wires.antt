@@ -1,4 +1,4 @@
--- What comes to a receiver leaves all wires as they are.
+-- Bringing frames to a receiver changes no wire.
 use Rattle.std.proofs.Common.{◌≡◌, ℕ, zero, suc, ◌+◌, ◌-◌, Bool, true, false, List, [], ◌∷◌, length, refl, ◌∙◌, Option, Some, None}
 use Rattle.std.specs.Prelude.{if◌then◌else◌, slice_get, nat_lt, not, ◌&&◌, ◌||◌}
 use Rattle.std.specs.List.{list_all}
@@ -32,7 +32,7 @@ module _ (net : Network) (w : World) where
   abbrev either_way : Bool → World × Outcome → World × Outcome → World × Outcome
   either_way b x y = if b then x else y
 
-  -- refused, out of memory, without entropy, stopped or done
+  -- whichever choice is made, the wires stay the same
   choices_keep : (b c d e : Bool) (o p q r s : Outcome) (x y : World) → x.wire ≡ w.wire → y.wire ≡ w.wire →
       (either_way b (w, o) (either_way c (w, p) (either_way d (w, q) (either_way e (x, r) (y, s))))).0.wire ≡ w.wire
   choices_keep true c d e o p q r s x y h k = refl
@@ -84,7 +84,7 @@ module _ (net : Network) (w : World) where
   delivery_keeps l number (Forge k octets environment) is = cc
   delivery_keeps l number WantMemory is = cc
 
--- ---- scripts that ask for nothing else
+-- ---- scripts whose only actions bring frames
 
 pub record IsDelivery (action : Action) : Type 0 where
   pub lane : Lane

@@ -1,12 +1,12 @@
--- Items written one after the other.
+-- Items that are written in order.
 use Rattle.std.proofs.Common.{◌≡◌, ℕ, ◌+◌, ◌<◌, List, [], ◌∷◌, ◌++◌, length, get_or, take, drop, map, sym, ap, subst, ◌∙◌}
 use Rattle.std.specs.Prelude.{Option, Some, None, Err}
 use Rattle.std.proofs.lemmas.List.{take_more, append_assoc, append-nil, map-append, take-append-drop}
 use Rattle.std.specs.Io.KnownBytes.{Appends}
 use Rattle.edge_io.specs.Writes.{AppendsPrefix, Adds}
-use Rattle.report_items.specs.declared.item.Item.{Item}
-use Rattle.report_items.specs.declared.item.NumberedItem.{NumberedItem}
-use Rattle.report_items.specs.Texts.{line_text, report_text}
+use Rattle.run_types.specs.declared.item.Item.{Item}
+use Rattle.run_types.specs.declared.item.NumberedItem.{NumberedItem}
+use Rattle.run_types.specs.Texts.{line_text, report_text}
 use Rattle.run_model.specs.Play.{numbered}
 use Rattle.run_model.specs.Headline.{Took, TookFirst}
 use Rattle.run_lines.specs.declared.stop.Stop.{Stop}
@@ -36,7 +36,7 @@ module _ (nodes : List (List ℕ)) (number : ℕ) where
       TookFirst a b (text (item ∷ []))
   one_first item line told a b same is h = subst (TookFirst a b) (same ∙ is ∙ sym (text_one nodes number item)) (first_of a b told h)
 
-  -- one after the other
+  -- several items, in order
 
   pub none_took : (a : Option (List ℕ)) → Took a a (text [])
   none_took a = subst (Took a a) (sym (text_none nodes)) (took_none a)

@@ -1,15 +1,15 @@
 -- Kinds of lines.
 use Rattle.std.specs.Prelude.{ℕ, Bool, true, false, [], if◌then◌else◌}
-use Rattle.scenario_lines.specs.declared.command.Command.{Command}
-use Rattle.scenario_lines.specs.declared.command.Command.TheVariants as commands
+use Rattle.run_types.specs.declared.command.Command.{Command}
+use Rattle.run_types.specs.declared.command.Command.TheVariants as commands
 use Rattle.run_model.specs.Turn.{HttpTexts, AnswersAtOnce}
-use Rattle.run_acts.specs.Runnable.{is_arming}
+use Rattle.run_ops.specs.Runnable.{is_arming}
 
--- any texts of HTTP: a line that is no request has the same turn whatever they are
+-- any rule for HTTP; a line that is no HTTP request doesn't use it
 abbrev pub any_texts : HttpTexts
 any_texts = record { request = λ v octets. AnswersAtOnce 0 []; response = λ event reply. (0, []) }
 
--- how often a line arms a disk
+-- the number of times that a line arms a disk
 abbrev pub armings_of : Command → ℕ
 armings_of command = if is_arming command then 1 else 0
 
@@ -17,7 +17,7 @@ abbrev pub is_request : Command → Bool
 is_request (commands.Http v octets) = true
 is_request _ = false
 
--- lines of a manager's life, of disks and links, and those that ask one event but a plan
+-- lines about managers, disks and links, and lines that ask a manager to handle one event, except for ticks
 abbrev pub acts_once : Command → Bool
 acts_once (commands.Bits link at count) = false
 acts_once (commands.Tick v) = false

@@ -1,4 +1,4 @@
--- How many frames stand on wires.
+-- The number of frames on wires.
 use Rattle.std.specs.Prelude.{◌≡◌, ℕ, List, length, map, sum_by, nat_lt, if◌then◌else◌}
 use Rattle.qkd_base.specs.declared.lane.Lane.{Lane}
 use Rattle.net_model.specs.Site.{Site, count_up}
@@ -10,12 +10,12 @@ use Rattle.run_lines.specs.declared.settling.Frames.{Frames}
 abbrev pub on_wire : World → Lane → ℕ
 on_wire w l = length (w.wire l)
 
--- these are the frames of the wires of these lanes, wire by wire and on all of them
+-- the numbers of frames on the wires of these lanes, one by one and together
 pub record AreOn (lanes : List Lane) (w : World) (frames : Frames) : Type 0 where
   pub each : frames.each.items ≡ map (on_wire w) lanes
   pub all : frames.all ≡ sum_by (on_wire w) lanes
 
--- A round, and what is done after it where a frame was put. What stood on the wires before it is passed over.
+-- A round, followed by `next` if a frame was put in it. Frames that were on the wires before the round aren't passed.
 abbrev pub round : Site → (next : Script) → Script
 round site next =
     Looks (λ before. then_comes (ticks site (count_up site.nodes)) (

@@ -1,44 +1,45 @@
--- What a sink took of a text, and why a run stopped.
+-- How much of a text a sink has, and why a run stopped.
 use Rattle.std.specs.Prelude.{◌≡◌, ℕ, ◌≤◌, List, [], ◌++◌, Option, Result, Ok, Err, IsErrOf, MatchResult}
 use Rattle.std.specs.List.{All, flat_map}
 use Rattle.qkd_base.specs.Faults.{Rose}
 use Rattle.edge_io.specs.Writes.{Adds}
-use Rattle.report_items.specs.declared.item.NumberedItem.{NumberedItem}
-use Rattle.report_items.specs.Texts.{line_text}
+use Rattle.run_types.specs.declared.item.NumberedItem.{NumberedItem}
+use Rattle.run_types.specs.Texts.{line_text}
 use Rattle.run_model.specs.Headline.{Took, TookFirst}
 use Rattle.run_lines.specs.declared.stop.Stop.{Stop}
 use Rattle.run_lines.specs.declared.stop.Stop.TheVariants.{WriteFault, Memory, Forged}
 
--- All of a text was taken, or where the sink failed or memory was wanting a first part of it. Nothing else stops a report.
+-- The sink has the whole text; or, if it failed or memory ran out, a prefix of it. Nothing else stops a report.
 abbrev pub Wrote : {T : Type 0} → Result T Stop → (old new : Option (List ℕ)) → List ℕ → Type 0
 Wrote (Ok done) old new text = Took old new text
 Wrote (Err WriteFault) old new text = TookFirst old new text
 Wrote (Err Memory) old new text = TookFirst old new text
 Wrote (Err (Forged line)) old new text = ⊥
 
--- A sink's count of faults never falls, and it rose where a run stopped for the sink.
+-- A sink's count of faults never falls, and it rose if the run stopped because of the sink.
 pub record IsBlamed {T : Type 0} (before now : ℕ) (result : Result T Stop) : Type 0 where
   pub later : before ≤ now
   pub rose : IsErrOf result WriteFault → Rose before now
 
--- ---- one piece for each line
+-- ---- one write for each line
 
--- the line of some item, over the names of the nodes
+-- the text of some item's line, with these names of nodes
 abbrev pub IsItemLine : List (List ℕ) → List ℕ → Type 0
 IsItemLine nodes line = (told : NumberedItem) × (line ≡ line_text nodes told)
 
--- a first part of such a line
+-- a prefix of such a line
 abbrev pub IsPart : (List ℕ → Type 0) → List ℕ → Type 0
 IsPart IsLine part = (line : List ℕ) × IsLine line × ((rest : List ℕ) × (line ≡ part ++ rest))
 
--- A sink took some lines, each as a piece of its own, and no other piece. Of octets it took those of these lines, in order, and behind them this part.
+-- The sink took these lines, one write for each, and no other write. Its octets are those of these lines, in order, followed by this
+-- part.
 pub record TookLines {S : Type 0} (taken : S → Option (List ℕ)) (pieces : S → Option (List (List ℕ))) (IsLine : List ℕ → Type 0) (old new : S) (part : List ℕ) : Type 0 where
   pub lines : List (List ℕ)
   pub each : All IsLine lines
   pub pieces_are : Adds (pieces old) (pieces new) lines
   pub text : Took (taken old) (taken new) (flat_map (λ line. line) lines ++ part)
 
--- The pieces that the sink took are just the lines of what it took, in order; where the report stopped, a first part of one more line may come behind them.
+-- The writes that the sink took are exactly the lines of its text, in order. If the report stopped, a prefix of one more line may follow.
 abbrev pub InLines : {S T E : Type 0} → (S → Option (List ℕ)) → (S → Option (List (List ℕ))) → (List ℕ → Type 0) → (old new : S) → Result T E → Type 0
 InLines taken pieces IsLine old new result =
     MatchResult result (λ done. TookLines taken pieces IsLine old new [])

@@ -8,22 +8,21 @@ ghost use Rattle.net_model.specs.Action.{Ok as Fine, Ask};
 ghost use Rattle.run_model.specs.Script.{Asks, Looks, asks, reports};
 ghost use Rattle.run_model.specs.Outcomes.{ledger_items};
 ghost use Rattle.run_model.specs.Lines.{ticked};
-ghost use Rattle.run_turns.specs.Reported.{reported};
-ghost use Rattle.run_acts.specs.Fitting.{is_fit};
+ghost use Rattle.run_ops.specs.Reported.{reported};
+ghost use Rattle.run_ops.specs.Fitting.{is_fit};
 ghost use Rattle.run_lines.specs.Reporting.{InLines, IsBlamed, IsItemLine};
 ghost use Rattle.run_lines.specs.Running.{Runs, IsReadySomewhere};
 
 use crate::Stop;
 use crate::report::{write_items, write_some};
 use edge_io::Sink;
-use kme_site::sender;
+use kme_base::sender;
 use net_model::Event;
 use qkd_base::{Lane, NodeNo};
-use run_acts::Acts;
-use run_turns::{Asked, ledger_item};
+use run_ops::{Acts, Asked, ledger_item};
 use std::alloc::Global;
 
-/// A manager is asked an event, and its reply is reported.
+/// Asks a manager to handle an event, and reports its reply.
 #[tactic(auto, using(crate::proofs::Lines::stopped_unwritten))]
 pub fn ask<S: Acts, W: Sink>(
     alloc: Global,
@@ -52,7 +51,7 @@ pub fn ask<S: Acts, W: Sink>(
     }
 }
 
-/// What became of the bytes of a lane, where the manager of its sender answers.
+/// Reports how the bytes of a lane were used, if the manager of the lane's sender answers.
 pub fn ledger<S: Acts, W: Sink>(
     alloc: Global,
     net: &mut S,
@@ -76,8 +75,8 @@ pub fn ledger<S: Acts, W: Sink>(
     write_some(alloc, net.declared(), number, item, sink)
 }
 
-/// A node plans, puts its frames on their wires and notes what became of them. A quiet tick leaves out that there was nothing
-/// to do.
+/// A tick: a node plans, puts its frames on their wires, and notes what became of them. A quiet tick doesn't report
+/// that there was nothing to do.
 #[tactic(auto, using(crate::proofs::Lines::stopped_unwritten))]
 pub fn tick<S: Acts, W: Sink>(
     alloc: Global,

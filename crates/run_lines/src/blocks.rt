@@ -1,12 +1,12 @@
-// Lines that have blocks of link bytes taken.
+// Lines by which ends of links take blocks of bytes.
 ghost use Rattle.std.specs.Prelude.{◌≡◌, true, Bool};
 ghost use Rattle.declared_site.specs.SiteOf.{site_of};
 ghost use Rattle.net_model.specs.Action.{Ok as Fine, TakeBlock};
-ghost use Rattle.scenario_lines.specs.declared.end.End.TheVariants as places;
+ghost use Rattle.run_types.specs.declared.end.End.TheVariants as places;
 ghost use Rattle.run_model.specs.Script.{Script};
 ghost use Rattle.run_model.specs.Lines.{node_at, is_taken, block_at_end, blocks, has_low, has_high};
-ghost use Rattle.run_turns.specs.Reported.{taken};
-ghost use Rattle.run_acts.specs.Fitting.{is_fit};
+ghost use Rattle.run_ops.specs.Reported.{taken};
+ghost use Rattle.run_ops.specs.Fitting.{is_fit};
 ghost use Rattle.run_lines.specs.Reporting.{InLines, IsBlamed, IsItemLine};
 ghost use Rattle.run_lines.specs.Running.{Runs, Goes, IsReadySomewhere};
 
@@ -14,12 +14,11 @@ use crate::Stop;
 use crate::report::write_some;
 use declared_site::Site;
 use edge_io::Sink;
-use kme_site::{receiver, sender};
+use kme_base::{receiver, sender};
 use net_model::Reply;
 use qkd_base::{Lane, LinkNo, NodeNo, Way};
-use run_acts::Acts;
-use run_turns::{BlockTake, block_item};
-use scenario_lines::{End, Ends};
+use run_ops::{Acts, BlockTake, block_item};
+use run_types::{End, Ends};
 use std::alloc::Global;
 
 // The node at an end of a link.
@@ -61,7 +60,7 @@ fn has_high(ends: Ends) -> bool
     }
 }
 
-// The next block is taken at an end that goes on. The answer is whether it goes on after that.
+// Takes the next block at an end, if `goes_on` is set. Returns whether this end goes on taking blocks.
 #[tactic(auto, using(crate::proofs::Lines::stopped_unwritten))]
 fn take_at<S: Acts, W: Sink>(
     alloc: Global,
@@ -96,7 +95,7 @@ fn take_at<S: Acts, W: Sink>(
     }
 }
 
-/// The ends of a link take so many blocks, the lower one first. An end that takes none is left out from there on.
+/// The ends of a link take `count` blocks each, the lower end first. An end that fails to take a block takes no more.
 pub fn bits<S: Acts, W: Sink>(
     alloc: Global,
     net: &mut S,

@@ -1,4 +1,4 @@
-// A line of a scenario.
+// One line of a scenario.
 #![tactic(auto, unfolding(run_model::specs::Turn::turn_of))]
 
 ghost use Rattle.std.specs.Prelude.{◌≡◌, ◌≤◌, ◌+◌, ◌^◌, Bool, true, OnOk};
@@ -7,8 +7,8 @@ ghost use Rattle.disk_model.specs.declared.arm.Arm.TheVariants as arms;
 ghost use Rattle.run_model.specs.Turn.{HttpTexts, turn_of, image_of};
 ghost use Rattle.run_model.specs.Lines.{script_of};
 ghost use Rattle.net_model.specs.Action as actions;
-ghost use Rattle.run_acts.specs.Acting.{fault_of};
-ghost use Rattle.run_acts.specs.Runnable.{IsTurnFor, IsCommandFor};
+ghost use Rattle.run_ops.specs.Acting.{fault_of};
+ghost use Rattle.run_ops.specs.Runnable.{IsTurnFor, IsCommandFor};
 ghost use Rattle.run_lines.specs.Reporting.{InLines, IsBlamed, IsItemLine};
 ghost use Rattle.run_lines.specs.Running.{Runs, IsReadySomewhere};
 ghost use Rattle.run_lines.specs.Commands.{acts_once, any_texts, armings_of, is_request};
@@ -24,12 +24,11 @@ use crate::requests::Requests;
 use crate::settling::settle;
 use disk_model::{Arm, Image};
 use edge_io::Sink;
-use run_acts::Acts;
-use run_turns::asked_by;
-use scenario_lines::{Command, Image as CutImage};
+use run_ops::{Acts, asked_by};
+use run_types::{Command, Image as CutImage};
 use std::alloc::Global;
 
-// The fault of a disk that fails from one of its calls on.
+// The fault of a disk that fails from its given call on.
 fn cut_of(call: u32, image: CutImage) -> Arm
     ensures { fault_of result ≡ actions.Cut call (image_of image) }
 {
@@ -41,7 +40,7 @@ fn cut_of(call: u32, image: CutImage) -> Arm
     Arm::Cut { call, image }
 }
 
-// A line of a manager's life, of a disk or a link, or one that asks an event.
+// Runs a line about a manager, a disk or a link, or one that asks a manager to handle an event.
 fn act_once<S: Acts, W: Sink>(
     alloc: Global,
     net: &mut S,
@@ -75,7 +74,7 @@ fn act_once<S: Acts, W: Sink>(
     }
 }
 
-// A line that is no request over HTTP.
+// Runs any line but an HTTP request.
 fn plain_command<S: Acts, W: Sink>(
     alloc: Global,
     net: &mut S,
@@ -115,8 +114,8 @@ fn plain_command<S: Acts, W: Sink>(
     }
 }
 
-/// Does what a line asks for, and reports it under the line's number. What the line names is declared. A network is armed
-/// 2^32 times at most.
+/// Runs a line of a scenario, and reports it under the line's number. All that the line names must be declared. The
+/// disks of a network can be armed at most 2^32 times.
 pub fn command<S: Acts, H: Requests, W: Sink>(
     alloc: Global,
     net: &mut S,

@@ -1,11 +1,11 @@
-// Lines that bring octets to a receiver that anybody made.
+// Lines that bring arbitrary octets to a receiver.
 ghost use Rattle.std.specs.Prelude.{◌≡◌, true};
 ghost use Rattle.declared_site.specs.SiteOf.{site_of};
 ghost use Rattle.net_model.specs.Action.{Ok as Fine, Forge};
-ghost use Rattle.report_items.specs.declared.item.Item.TheVariants as items;
+ghost use Rattle.run_types.specs.declared.item.Item.TheVariants as items;
 ghost use Rattle.run_model.specs.Script.{asks};
 ghost use Rattle.run_model.specs.Outcomes.{frame_items};
-ghost use Rattle.run_acts.specs.Fitting.{is_fit};
+ghost use Rattle.run_ops.specs.Fitting.{is_fit};
 ghost use Rattle.run_lines.specs.Reporting.{InLines, IsBlamed, IsItemLine};
 ghost use Rattle.run_lines.specs.Running.{Runs, IsReadySomewhere};
 
@@ -13,11 +13,10 @@ use crate::Stop;
 use crate::report::write_some;
 use edge_io::Sink;
 use qkd_base::Lane;
-use run_acts::{Acts, Tampered};
-use run_turns::forged_item;
+use run_ops::{Acts, Tampered, forged_item};
 use std::alloc::Global;
 
-/// These octets come to a lane's receiver.
+/// Brings these octets to a lane's receiver.
 #[tactic(auto, using(crate::proofs::Lines::stopped_unwritten))]
 pub fn forge<S: Acts, W: Sink>(
     alloc: Global,

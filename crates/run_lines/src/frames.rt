@@ -1,11 +1,11 @@
-// Lines that bring a frame of a wire to its receiver, as it is or changed.
+// Lines that bring a frame of a wire to its receiver, unchanged or changed.
 ghost use Rattle.std.specs.Prelude.{◌≡◌, true};
 ghost use Rattle.declared_site.specs.SiteOf.{site_of};
 ghost use Rattle.net_model.specs.Action.{Ok as Fine, Deliver, Flip};
-ghost use Rattle.report_items.specs.declared.item.Item.TheVariants as items;
+ghost use Rattle.run_types.specs.declared.item.Item.TheVariants as items;
 ghost use Rattle.run_model.specs.Script.{asks};
 ghost use Rattle.run_model.specs.Outcomes.{frame_items};
-ghost use Rattle.run_acts.specs.Fitting.{is_fit};
+ghost use Rattle.run_ops.specs.Fitting.{is_fit};
 ghost use Rattle.run_lines.specs.Reporting.{InLines, IsBlamed, IsItemLine};
 ghost use Rattle.run_lines.specs.Running.{Runs, IsReadySomewhere};
 
@@ -13,11 +13,10 @@ use crate::Stop;
 use crate::report::write_some;
 use edge_io::Sink;
 use qkd_base::Lane;
-use run_acts::{Acts, Tampered};
-use run_turns::{flipped_item, passed_item};
+use run_ops::{Acts, Tampered, flipped_item, passed_item};
 use std::alloc::Global;
 
-/// A frame of a lane's wire comes to the lane's receiver.
+/// Brings a frame of a lane's wire to the lane's receiver.
 #[tactic(auto, using(crate::proofs::Lines::stopped_unwritten))]
 pub fn pass<S: Acts, W: Sink>(
     alloc: Global,
@@ -44,7 +43,7 @@ pub fn pass<S: Acts, W: Sink>(
     }
 }
 
-/// A frame of a lane's wire comes with one bit changed.
+/// Brings a frame of a lane's wire to the lane's receiver, with one bit flipped.
 #[tactic(auto, using(crate::proofs::Lines::stopped_unwritten))]
 pub fn flip<S: Acts, W: Sink>(
     alloc: Global,

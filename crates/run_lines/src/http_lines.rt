@@ -1,4 +1,4 @@
-// Lines that are requests over HTTP.
+// Lines that are HTTP requests.
 ghost use Rattle.std.specs.Prelude.{◌≡◌, ◌<◌, length, OnOk};
 ghost use Rattle.run_model.specs.Turn.{HttpTexts, http_turn};
 ghost use Rattle.run_model.specs.Lines.{script_of_turn};
@@ -10,11 +10,10 @@ use crate::report::write_item;
 use crate::requests::{Answer, Asked, Requests};
 use edge_io::Sink;
 use qkd_base::{NodeNo, Octets};
-use run_acts::Acts;
-use run_turns::http_item;
+use run_ops::{Acts, http_item};
 use std::alloc::Global;
 
-/// A request comes to a node over HTTP, and its answer is reported.
+/// Brings an HTTP request to a node, and reports the answer.
 #[tactic(auto, using(crate::proofs::Lines::stopped_unwritten))]
 pub fn http<S: Acts, H: Requests, W: Sink>(
     alloc: Global,

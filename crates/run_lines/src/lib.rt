@@ -1,4 +1,4 @@
-//! The lines of a scenario over any network that can be asked, and their report.
+//! The lines of a scenario, run one by one over any simulated network, with their report.
 #![tactic(auto)]
 
 mod asking;

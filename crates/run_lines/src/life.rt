@@ -1,12 +1,12 @@
-// Lines about a manager's life, its disk and its links.
+// Lines about a manager's start and crash, its disk, and its links.
 ghost use Rattle.std.specs.Prelude.{◌≡◌, ◌<◌, ◌≤◌, ◌+◌, ◌^◌, Bool, true};
 ghost use Rattle.declared_site.specs.SiteOf.{site_of};
 ghost use Rattle.net_model.specs.Action.{Start as Starts, Crash as Crashes, Arm as Arms, SetLink, Recovers};
 ghost use Rattle.run_model.specs.Script.{asks};
 ghost use Rattle.run_model.specs.Outcomes.{crash_items, start_items, arm_items, link_items};
 ghost use Rattle.run_model.specs.Lines.{begins};
-ghost use Rattle.run_acts.specs.Fitting.{is_fit};
-ghost use Rattle.run_acts.specs.Acting.{fault_of};
+ghost use Rattle.run_ops.specs.Fitting.{is_fit};
+ghost use Rattle.run_ops.specs.Acting.{fault_of};
 ghost use Rattle.run_lines.specs.Reporting.{InLines, IsBlamed, IsItemLine};
 ghost use Rattle.run_lines.specs.Running.{Runs, IsReadySomewhere};
 
@@ -15,12 +15,11 @@ use crate::report::write_item;
 use disk_model::Arm;
 use edge_io::Sink;
 use qkd_base::{LinkNo, NodeNo};
-use report_items::StartResult;
-use run_acts::Acts;
-use run_turns::{arm_item, crash_item, link_item, start_item};
+use run_ops::{Acts, arm_item, crash_item, link_item, start_item};
+use run_types::StartResult;
 use std::alloc::Global;
 
-/// A node's manager crashes.
+/// Crashes a node's manager.
 pub fn crash<S: Acts, W: Sink>(
     alloc: Global,
     net: &mut S,
@@ -40,7 +39,7 @@ pub fn crash<S: Acts, W: Sink>(
     write_item(alloc, net.declared(), number, &crash_item(was_up), sink)
 }
 
-/// A node's manager is started on its disk.
+/// Starts a node's manager on its disk.
 #[tactic(auto, using(crate::proofs::Lines::stopped_unwritten))]
 pub fn start<S: Acts, W: Sink>(
     alloc: Global,
@@ -63,7 +62,8 @@ pub fn start<S: Acts, W: Sink>(
     }
 }
 
-/// A declared node is started at the beginning. Nothing is reported where it starts, and where it wants memory the run ends.
+/// Starts a declared node at the beginning of a run. A start that succeeds isn't reported. If memory runs out, the
+/// run ends.
 #[tactic(auto, using(crate::proofs::Lines::stopped_unwritten))]
 pub fn begin<S: Acts, W: Sink>(
     alloc: Global,
@@ -96,7 +96,7 @@ pub fn begin<S: Acts, W: Sink>(
     }
 }
 
-/// A node's disk is armed with a fault. A disk is armed 2^32 times at most.
+/// Arms a node's disk with a fault. A disk can be armed at most 2^32 times.
 pub fn arm<S: Acts, W: Sink>(
     alloc: Global,
     net: &mut S,
@@ -118,7 +118,7 @@ pub fn arm<S: Acts, W: Sink>(
     write_item(alloc, net.declared(), number, &arm_item(), sink)
 }
 
-/// A link is up or down from here on.
+/// Sets a link up or down.
 pub fn set_link<S: Acts, W: Sink>(
     alloc: Global,
     net: &mut S,

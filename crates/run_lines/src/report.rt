@@ -1,19 +1,19 @@
-// Items on their way to a sink.
+// Report items written to a sink.
 ghost use Rattle.std.specs.Prelude.{◌≡◌, ◌∷◌, [], OnOk, map};
 ghost use Rattle.std.specs.Option.{option_to_list};
 ghost use Rattle.edge_io.specs.Writes.{Adds};
-ghost use Rattle.report_items.specs.Texts.{line_text, report_text};
+ghost use Rattle.run_types.specs.Texts.{line_text, report_text};
 ghost use Rattle.run_model.specs.Play.{numbered};
 ghost use Rattle.run_lines.specs.Reporting.{InLines, IsBlamed, IsItemLine, Wrote};
 
 use crate::Stop;
 use declared_site::Site;
 use edge_io::{Failed, Sink};
-use report_items::Item;
-use report_writer::line_text;
+use report_text::line_text;
+use run_types::Item;
 use std::alloc::Global;
 
-/// Writes what an item says, under the number of its line, in one write. For a sink that tells nothing no text is made.
+/// Writes the text of an item, with its line's number, in one write. If the sink keeps nothing, no text is made.
 #[tactic(auto, using(crate::proofs::Lines::stopped_unwritten))]
 pub fn write_item<W: Sink>(
     alloc: Global,
@@ -39,7 +39,7 @@ pub fn write_item<W: Sink>(
     }
 }
 
-/// Writes what an item says, if there is one.
+/// Writes the text of an item, if there is one.
 #[tactic(auto, using(crate::proofs::Lines::none_lined))]
 pub fn write_some<W: Sink>(
     alloc: Global,
@@ -58,7 +58,7 @@ pub fn write_some<W: Sink>(
     }
 }
 
-/// Writes what items say, a write for each. After an `Err` a first part of their text was taken.
+/// Writes the texts of items, one write for each. After an `Err`, the sink has only a prefix of the text.
 pub fn write_items<W: Sink>(
     alloc: Global,
     site: &Site,

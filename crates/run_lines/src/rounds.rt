@@ -1,4 +1,4 @@
-// The ticks and the passes of a settle's rounds.
+// The ticks and passes of a settle line's rounds.
 ghost use Rattle.std.specs.Prelude.{◌≡◌, ◌<◌, ◌-◌, true, length, IfOk, if◌then◌else◌};
 ghost use Rattle.declared_site.specs.SiteOf.{IsDeclared, site_of};
 ghost use Rattle.net_model.specs.Site.{count_up};
@@ -13,10 +13,10 @@ use crate::asking::tick;
 use crate::frames::pass;
 use edge_io::Sink;
 use qkd_base::{Lane, Memory, NodeNo};
-use run_acts::Acts;
+use run_ops::Acts;
 use std::alloc::Global;
 
-// A node ticks quietly, if it is up.
+// A quiet tick of a node, if it is up.
 fn tick_if_up<S: Acts, W: Sink>(
     alloc: Global,
     net: &mut S,
@@ -39,7 +39,7 @@ fn tick_if_up<S: Acts, W: Sink>(
     }
 }
 
-/// All nodes that are up tick quietly, in order.
+/// A quiet tick of each node that is up, in order.
 pub fn tick_all<S: Acts, W: Sink>(
     alloc: Global,
     net: &mut S,
@@ -65,7 +65,7 @@ pub fn tick_all<S: Acts, W: Sink>(
     Ok(())
 }
 
-// The number of a frame in a report. No memory holds more of them than a report can count.
+// The number of a frame, for a report. An `Err` (out of memory) if it doesn't fit in 32 bits.
 fn reported_number(frame: u64) -> Result<u32, Memory>
     ensures { IfOk result (λ number. number ≡ frame) }
 {
@@ -75,7 +75,7 @@ fn reported_number(frame: u64) -> Result<u32, Memory>
     }
 }
 
-/// The frames of a lane's wire from one number up to another come to the lane's receiver.
+/// Brings the frames of a lane's wire with numbers from `from` to `to` - 1 to the lane's receiver.
 pub fn pass_from<S: Acts, W: Sink>(
     alloc: Global,
     net: &mut S,

@@ -1,10 +1,10 @@
-// Settles: rounds of ticks and passes.
+// Settle lines: rounds of ticks and passes.
 ghost use Rattle.std.specs.Prelude.{◌≡◌, ◌+◌, IfOk, MatchResult, map, nat_lt, if◌then◌else◌};
 ghost use Rattle.declared_site.specs.SiteOf.{IsDeclared, site_of};
 ghost use Rattle.net_model.specs.World.{Network, World};
 ghost use Rattle.run_model.specs.Script.{Script, Ends};
 ghost use Rattle.run_model.specs.Lines.{all_lanes, all_passes, settle};
-ghost use Rattle.run_acts.specs.Acting.{IsReady};
+ghost use Rattle.run_ops.specs.Acting.{IsReady};
 ghost use Rattle.run_lines.specs.Reporting.{InLines, IsBlamed, IsItemLine};
 ghost use Rattle.run_lines.specs.Going.{Reached};
 ghost use Rattle.run_lines.specs.Running.{Finishes, Stops, Runs, IsReadySomewhere};
@@ -15,17 +15,17 @@ use crate::lanes::all_lanes;
 use crate::rounds::{pass_from, tick_all};
 use edge_io::Sink;
 use qkd_base::{Lane, Memory};
-use run_acts::Acts;
+use run_ops::Acts;
 use std::alloc::Global;
 
-/// How many frames stand on each of some wires, and on all of them.
+/// The number of frames on each of some wires, and on all of them.
 #[derive(Drop)]
 pub struct Frames {
     pub each: Vec<u64>,
     pub all: u64,
 }
 
-// The frames on these lanes' wires.
+// Counts the frames on these lanes' wires.
 fn count_frames<S: Acts>(alloc: Global, net: &S, lanes: &[Lane]) -> Result<Frames, Memory>
     requires { lanes.now ≡ all_lanes (site_of (S.site net.now)) }
     ensures { IfOk result (λ frames. (n : Network) (w : World) → S.stands net.now n w → AreOn lanes.now w frames) }
@@ -40,7 +40,7 @@ fn count_frames<S: Acts>(alloc: Global, net: &S, lanes: &[Lane]) -> Result<Frame
     Ok(Frames { each, all })
 }
 
-// So many frames and as many more. No memory holds more of them than this counts.
+// The sum of two numbers of frames. An `Err` (out of memory) if it overflows.
 fn more_frames(frames: u64, more: u64) -> Result<u64, Memory>
     ensures { IfOk result (λ sum. sum ≡ frames + more) }
 {
@@ -50,7 +50,8 @@ fn more_frames(frames: u64, more: u64) -> Result<u64, Memory>
     }
 }
 
-// On each wire the frames come to their receivers that weren't there before the round. The answer counts all that stand there now.
+// Brings the frames that were put in this round to their receivers, wire by wire. Returns the number of frames on the
+// wires.
 fn pass_new<S: Acts, W: Sink>(
     alloc: Global,
     net: &mut S,
@@ -91,7 +92,7 @@ fn pass_new<S: Acts, W: Sink>(
     Ok(Frames { each, all })
 }
 
-// A round. The answer counts the frames that stand on the wires after it.
+// Runs one round. Returns the number of frames on the wires after it.
 fn round<S: Acts, W: Sink>(
     alloc: Global,
     net: &mut S,
@@ -118,7 +119,7 @@ fn round<S: Acts, W: Sink>(
     }
 }
 
-/// So many rounds at most, and none after one in which no frame was put.
+/// Runs at most `rounds` rounds. It ends after a round in which no frame was put on a wire.
 pub fn settle<S: Acts, W: Sink>(
     alloc: Global,
     net: &mut S,

@@ -1,4 +1,4 @@
-// Why a run ends before its lines do.
+// Why a run ends early.
 ghost use Rattle.std.specs.Prelude.{◌≡◌};
 ghost use Rattle.run_lines.specs.declared.stop.Stop.TheVariants.{Memory as WantOfMemory};
 
@@ -6,14 +6,14 @@ use qkd_base::Memory;
 use std::error::Error;
 use std::fmt;
 
-/// Why a run ends before its lines do.
+/// Why a run ends before all its lines are done.
 #[derive(Clone, Copy, Debug, PartialEq, Eq)]
 pub enum Stop {
     /// The sink failed.
     WriteFault,
-    /// Memory was wanting.
+    /// Out of memory.
     Memory,
-    /// At the line of this number came octets that nobody put on a wire, with a right tag.
+    /// The line of this number brought octets with a valid tag that no manager had put on the wire.
     Forged(u32),
 }
 

@@ -1,4 +1,5 @@
--- What the call is given beside its words and its scenario, and what the bench's parts tell after it.
+-- The bench of a run: what the call is given beside its words and its scenario, and what the parts of the bench show
+-- after it.
 use Rattle.std.specs.Prelude.{◌≡◌, ◌⊎◌, ℕ, ◌+◌, ◌≤◌, List, [], ◌∷◌, length, Option, Some, None}
 use Rattle.qkd_base.specs.declared.lane.Lane.{Lane}
 use Rattle.net_model.specs.declared.record.Record.{Record}
@@ -7,33 +8,34 @@ use Rattle.net_model.specs.Sealing.{Sealing}
 use Rattle.net_model.specs.Action.{Fault}
 use Rattle.run_model.specs.Turn.{HttpTexts}
 
--- what other layers define: how payloads become frames, the texts of HTTP, and the batches that a disk's octets stand for, if they do
+-- what other layers define: how payloads become frames, the texts of HTTP, and which batches the octets of a disk
+-- encode, if they encode any
 pub record Layers : Type 0 where
   pub sealing : Sealing
   pub http : HttpTexts
   pub batches : List ℕ → Option (List (List Record))
 
--- the octets that each link's device and each node's entropy tell, where they tell them
+-- the octets of each link's device and of each node's entropy, or None where contracts don't know them
 pub record Sources : Type 0 where
   pub devices : ℕ → Option (List ℕ)
   pub entropies : ℕ → Option (List ℕ)
 
--- what doesn't tell its octets has some
+-- the sequence has these octets if they are known, and otherwise any
 abbrev pub Tells : Option (List ℕ) → OctetSequence → Type 0
 Tells None stream = Unit {0}
 Tells (Some octets) stream = stream ≡ sequence_of octets
 
--- a count of faults before the call and after it, and the last value of its counter, where it stands still
+-- a count of faults before and after the call, and the greatest value of its counter, at which it stays
 pub record Count : Type 0 where
   pub old : ℕ
   pub new : ℕ
   pub greatest : ℕ
 
--- it rose by so many at least; but a counter at its last value says nothing
+-- the count rose by at least n, or it has reached its greatest value, and then nothing is known
 abbrev pub RoseBy : Count → ℕ → Type 0
 RoseBy c n = (c.old + n ≤ c.new) ⊎ (c.new ≡ c.greatest)
 
--- how often a disk was armed in the call, and the fault that it was armed with last, before and after
+-- how often a disk was armed in the call, and the last fault that it was armed with, before and after
 pub record Arming : Type 0 where
   pub times : ℕ
   pub old : Option Fault
@@ -43,12 +45,12 @@ abbrev pub last_of_both : Option Fault → List Fault → Option Fault
 last_of_both old [] = old
 last_of_both old (f ∷ fs) = last_of_both (Some f) fs
 
--- it was armed with just these, one after another
+-- the disk was armed with exactly these faults, in order
 abbrev pub IsArmedWith : Arming → List Fault → Type 0
 IsArmedWith a faults = (a.times ≡ length faults) × (a.new ≡ last_of_both a.old faults)
 
--- after the call: the counts of faults; the armings of disks; the frames of each wire that tells them; the octets of each disk's one image; and
--- what is left of each entropy that tells
+-- What is seen after the call: the counts of faults, the armings of disks, the frames of each wire whose frames are
+-- known, the content of each disk, and what is left of each entropy whose octets are known.
 pub record Seen : Type 0 where
   pub disk_count : ℕ → Count
   pub entropy_count : ℕ → Count

@@ -1,4 +1,4 @@
--- What a block reports: first what was answered without a manager's turn, then the managers' turns, last the frames.
+-- The report of a block: first the lines for which no manager was asked, then the managers' turns, and last the frames.
 use Rattle.std.specs.Prelude.{ℕ, ◌-◌, ◌==◌, ◌&&◌, ◌||◌, not, nat_lt, nat_le, Bool, true, false, List, [], ◌∷◌, ◌++◌, filter, slice_get, Option, Some, None, if◌then◌else◌}
 use Rattle.std.specs.List.{flat_map}
 use Rattle.qkd_base.specs.Lane.{lane_eq}
@@ -9,9 +9,9 @@ use Rattle.net_model.specs.World.{Network, World, Allocation}
 use Rattle.net_model.specs.Frames.{offset_or_zero}
 use Rattle.net_model.specs.Action.{Action, Transmit, Outcome, Put}
 use Rattle.net_model.specs.Step.{run}
-use Rattle.scenario_lines.specs.declared.line.Line.{Line}
-use Rattle.report_items.specs.declared.item.Item.{Item}
-use Rattle.report_items.specs.declared.item.NumberedItem.{NumberedItem}
+use Rattle.run_types.specs.declared.line.Line.{Line}
+use Rattle.run_types.specs.declared.item.Item.{Item}
+use Rattle.run_types.specs.declared.item.NumberedItem.{NumberedItem}
 use Rattle.run_model.specs.Outcomes.{put_items}
 use Rattle.run_model.specs.Turn.{HttpTexts, Turn, Unasked, Asked}
 use Rattle.run_model.specs.Lines.{all_lanes}
@@ -25,7 +25,7 @@ number_of (Some line) = line.number
 abbrev pub number_at : List Line → (place : ℕ) → ℕ
 number_at lines place = number_of (slice_get lines place)
 
--- ---- lines for which nobody is asked, in order
+-- ---- lines for which no manager is asked, in order
 
 abbrev pub unasked_items : Turn → List Item
 unasked_items (Unasked reported) = reported
@@ -44,9 +44,10 @@ abbrev pub turn_items : HttpTexts → Site → World → List Line → List Done
 turn_items http site w lines done =
     flat_map (λ (d : Done). numbered (number_at lines d.work.place) (outcome_items (turn_at http site w (slice_get lines d.work.place)) d.outcome)) done
 
--- ---- the frames, lane by lane: those on the wire in order of number, then those that it refused in order of offset, and at one offset of line
+-- ---- The frames, lane by lane. Those on the wire come first, in order of number. Then come those that the wire
+-- refused, in order of offset, and at the same offset in order of line.
 
--- a put as it is reported: its lane, its frame's offset, its line's place, and whether the wire took it
+-- a put as it is reported: its lane, its frame's offset, the place of its line, whether the wire took it, and its items
 pub record PutDone : Type 0 where
   pub lane : Lane
   pub offset : ℕ
@@ -54,7 +55,7 @@ pub record PutDone : Type 0 where
   pub took : Bool
   pub reported : List Item
 
--- the octets of a frame's payload
+-- how many octets the payload of a frame has
 abbrev pub payload_size : World → Option Allocation → ℕ
 payload_size w None = 0
 payload_size w (Some a) = need w.durable.facts a.item - 8
@@ -89,14 +90,14 @@ puts_on puts l = filter (λ (p : PutDone). lane_eq p.lane l && p.took) puts ++ s
 abbrev pub frame_items : Site → List Line → List PutDone → List NumberedItem
 frame_items site lines puts = flat_map (λ (p : PutDone). numbered (number_at lines p.place) p.reported) (flat_map (puts_on puts) (all_lanes site))
 
--- ---- the whole
+-- ---- the whole block
 
 unfoldable pub block_items : HttpTexts → Network → World → List Line → Works → List NumberedItem
 block_items http net w lines b =
     all_unasked http net.site w lines ++ turn_items http net.site w lines (flat (turns_done net w b)) ++
     frame_items net.site lines (puts_of (done_from net (claimed net w b) b.puts))
 
--- where the run wanted memory in it, it reports nothing of the block and ends
+-- The play of a block. If the run ran out of memory in it, nothing of the block is reported, and the run ends.
 abbrev pub play_block : HttpTexts → Network → World → List Line → Works → Played
 play_block http net w lines b =
     let after = run net w (block_run net b) in

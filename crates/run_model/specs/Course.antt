@@ -1,4 +1,4 @@
--- The run that a call makes: of a scenario, and of what connections asked after it.
+-- The course of a call: the run of a scenario, and then what connections asked for.
 use Rattle.std.specs.Prelude.{◌≡◌, ◌⊎◌, ℕ, ◌*◌, Bool, true, false, List, [], ◌++◌, length, take, nat_lt, if◌then◌else◌}
 use Rattle.std.specs.List.{flat_map, list_all}
 use Rattle.net_model.specs.declared.event.Event.{Event}
@@ -9,8 +9,8 @@ use Rattle.net_model.specs.Action.{Action, Ask}
 use Rattle.net_model.specs.Step.{run, IsRun}
 use Rattle.net_model.specs.BlockOrder.{AreChains}
 use Rattle.net_model.specs.Deliveries.{Delivery, deliveries}
-use Rattle.scenario_lines.specs.Passed.{site_of}
-use Rattle.scenario_lines.specs.declared.scenario.Scenario.{Scenario}
+use Rattle.declared_site.specs.SiteOf.{site_of}
+use Rattle.run_types.specs.declared.scenario.Scenario.{Scenario}
 use Rattle.run_model.specs.Play.{Played, Whole}
 use Rattle.run_model.specs.Report.{Task, tasks, Performed, report, actions_of, IsRunOf}
 use Rattle.run_model.specs.Bench.{Layers, Sources, Tells}
@@ -22,23 +22,24 @@ pub data Words : Type 0 where
   Load : (rounds : ℕ) → Words
   Serve : (workers connections port : ℕ) → Words
 
--- how many workers do its blocks
+-- how many workers do the blocks of lines
 abbrev pub workers_of : Words → ℕ
 workers_of (Run workers) = workers
 workers_of (Load rounds) = 1
 workers_of (Serve workers connections port) = workers
 
--- how many connections are served: each worker so many, but none where there is no node
+-- how many connections are served: `connections` for each worker, but none if there is no node
 abbrev pub served_by : Words → (nodes : ℕ) → ℕ
 served_by (Serve workers connections port) nodes = if nat_lt 0 nodes then workers * connections else 0
 served_by _ nodes = 0
 
--- A generated load has its scenario; that of the other words is what the source told.
+-- For `load`, the scenario is `load_scenario`. For the other words, it is the one that was read from the source.
 abbrev pub IsOfWords : Words → Scenario → Type 0
 IsOfWords (Load rounds) scenario = scenario ≡ load_scenario rounds
 IsOfWords _ scenario = Unit {0}
 
--- of a network: what was done for each task, and after that what connections had the managers do, one history for each node, in order of node
+-- A course has its network, what was done for each task, and what connections then had the managers do: one history for
+-- each node, in order of node.
 pub record Course : Type 0 where
   pub net : Network
   pub done : List Performed
@@ -50,7 +51,7 @@ lines_run c = actions_of c.net c.done
 abbrev pub whole_run : Course → List Action
 whole_run c = lines_run c ++ flat_map (λ h. h) c.served
 
--- the world after the first so many actions, and after all
+-- the world after the first n actions, and after all of them
 abbrev pub world_after : Course → ℕ → World
 world_after c n = run c.net first (take n (whole_run c))
 
@@ -60,15 +61,15 @@ last_world c = run c.net first (whole_run c)
 abbrev pub tasks_of : Scenario → List Task
 tasks_of scenario = tasks scenario.node_lines scenario.entries
 
--- what the lines reported, and how far they came
+-- what the lines reported, and how far they got
 abbrev pub lines_played : Layers → Scenario → Course → Played
 lines_played layers scenario c = report layers.http c.net first (tasks_of scenario) c.done
 
--- what its replies handed out
+-- what the replies of the run handed out
 abbrev pub handed_out : Course → List Delivery
 handed_out c = deliveries c.net first (whole_run c)
 
--- what a connection may have a manager do: the requests of GS QKD 014
+-- the events that a connection may ask of a manager: the requests of GS QKD 014
 abbrev pub is_request : Event → Bool
 is_request (Enc m s n bits) = true
 is_request (Dec s m names) = true
@@ -80,7 +81,8 @@ abbrev pub is_request_of : Action → Bool
 is_request_of (Ask v event environment) = is_request event
 is_request_of _ = false
 
--- Connections are served for `serve` alone, where all lines were done: each manager's turns are its own chain, of requests.
+-- Connections are served only for `serve`, and only after all lines were done. The turns of each manager are then a run
+-- of its own, of requests only.
 abbrev pub AreServed : Words → Layers → Scenario → Course → Type 0
 AreServed (Serve workers connections port) layers scenario c =
     (c.served ≡ []) ⊎
@@ -88,19 +90,19 @@ AreServed (Serve workers connections port) layers scenario c =
     (list_all (list_all is_request_of) c.served ≡ true))
 AreServed _ layers scenario c = c.served ≡ []
 
--- The run is the list of actions that the scenario's lines make from the first world, with what this bench's devices and entropies told and with
--- the answers that this bench gave.
+-- The run consists of the actions that the scenario's lines make, from the first world on. The devices and the
+-- entropies of this bench gave its octets, and this bench gave its answers.
 pub record IsCourseOf (words : Words) (layers : Layers) (sources : Sources) (scenario : Scenario) (c : Course) : Type 0 where
   pub network : IsNetwork c.net
   pub scenario_is : IsOfWords words scenario
   pub site : c.net.site ≡ site_of scenario.site
   pub sealing : c.net.sealing ≡ layers.sealing
-  -- each device told one list, which both ends read
+  -- each device gave one list of octets, which both ends read
   pub devices : (link : ℕ) → Tells (sources.devices link) (c.net.device link)
   pub entropies : (v : ℕ) → Tells (sources.entropies v) (c.net.entropy v)
-  -- the lines, with each block as its workers did it
+  -- the actions of the lines, with each block as its workers did it
   pub lines : IsRunOf layers.http c.net (workers_of words) first (tasks_of scenario) c.done
-  -- for `serve` the run goes on with the managers' turns that the connections made, in order of node
+  -- for `serve`, the run goes on with the managers' turns for the connections, in order of node
   pub served : AreServed words layers scenario c
-  -- the whole is one list of actions, each of which may happen
+  -- all of it is one list of actions, each of which may happen when it does
   pub steps : IsRun c.net first (whole_run c)

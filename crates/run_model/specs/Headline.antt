@@ -1,14 +1,14 @@
--- The headline: what the top call promises of a run. Each field has a plain sentence before it.
+-- The headline: what the top call promises of a run. A plain sentence precedes each field.
 use Rattle.std.specs.Prelude.{◌≡◌, ℕ, ◌<◌, ◌≤◌, Bool, true, false, List, [], ◌++◌, filter, drop, Option, Some, length}
 use Rattle.qkd_base.specs.declared.lane.Lane.{Lane}
 use Rattle.net_model.specs.declared.record.Record.{Record}
 use Rattle.net_model.specs.Journal.{is_blank}
 use Rattle.net_model.specs.Faults.{disk_faults, entropy_faults, device_faults, wire_faults, armings}
-use Rattle.scenario_lines.specs.declared.scenario.Scenario.{Scenario}
-use Rattle.report_items.specs.declared.item.Item.{Item}
-use Rattle.report_items.specs.declared.item.Item.TheVariants.{Counted, NotCounted}
-use Rattle.report_items.specs.declared.item.NumberedItem.{NumberedItem}
-use Rattle.report_items.specs.Texts.{report_text, handed_text, served_text}
+use Rattle.run_types.specs.declared.scenario.Scenario.{Scenario}
+use Rattle.run_types.specs.declared.item.Item.{Item}
+use Rattle.run_types.specs.declared.item.Item.TheVariants.{Counted, NotCounted}
+use Rattle.run_types.specs.declared.item.NumberedItem.{NumberedItem}
+use Rattle.run_types.specs.Texts.{report_text, handed_text, served_text}
 use Rattle.run_model.specs.Play.{Ending, Whole, ForgedAt}
 use Rattle.run_model.specs.Left.{wire_octets, IsFoldOf, to_masters, to_slaves}
 use Rattle.run_model.specs.Bench.{Layers, Sources, Seen, RoseBy, IsArmedWith}
@@ -30,7 +30,7 @@ is_ledger (Counted lane counts) = true
 is_ledger (NotCounted lane refusal) = true
 is_ledger _ = false
 
--- of a generated load the ledgers alone
+-- the items that are written: for a generated load, those of the ledgers alone
 abbrev pub written_of : Words → List NumberedItem → List NumberedItem
 written_of (Load rounds) items = filter (λ (i : NumberedItem). is_ledger i.item) items
 written_of _ items = items
@@ -38,7 +38,8 @@ written_of _ items = items
 abbrev pub lines_text : Words → Layers → Scenario → Course → List ℕ
 lines_text words layers scenario c = report_text scenario.site.nodes (written_of words (lines_played layers scenario c).items)
 
--- what comes after the lines: how many keys a generated load handed to masters and to slaves, or how many connections were served
+-- The text after the lines. For a generated load it says how many keys were handed to masters and to slaves. For
+-- `serve` it says how many connections were served.
 abbrev pub last_text : Words → Scenario → Course → List ℕ
 last_text (Run workers) scenario c = []
 last_text (Load rounds) scenario c = handed_text (to_masters (last_world c) (handed_out c)) (to_slaves (last_world c) (handed_out c))
@@ -48,16 +49,16 @@ abbrev pub after_all : Ending → List ℕ → List ℕ
 after_all Whole text = text
 after_all _ text = []
 
--- the report so far; where all lines are done, with what comes after them
+-- the report so far; once all lines are done, it includes the text after them
 abbrev pub text_so_far : Words → Layers → Scenario → Course → List ℕ
 text_so_far words layers scenario c =
     lines_text words layers scenario c ++ after_all (lines_played layers scenario c).ending (last_text words scenario c)
 
--- where the sink tells, it took this
+-- if contracts know what the sink took, this text was appended to it
 abbrev pub Took : (old new : Option (List ℕ)) → List ℕ → Type 0
 Took old new text = (before : List ℕ) → old ≡ Some before → new ≡ Some (before ++ text)
 
--- or some first part of it
+-- the sink took some prefix of this text
 abbrev pub TookFirst : (old new : Option (List ℕ)) → List ℕ → Type 0
 TookFirst old new text = (first : List ℕ) × (rest : List ℕ) × (text ≡ first ++ rest) × Took old new first
 
@@ -65,8 +66,9 @@ abbrev pub IsServe : Words → Type 0
 IsServe (Serve workers connections port) = Unit {0}
 IsServe _ = ⊥
 
--- Where all is done the sink took exactly the text of the run; at a forged match that of the run up to it; where a port or listener failed that of
--- the lines; where the sink failed or memory was wanting a first part of the text of the run so far.
+-- What the sink took, by how the call ended. Done: exactly the text of the run. ForgedMatch: the text of the lines up
+-- to the forged match. ListenFault: the text of all lines. WriteFault or Memory: a prefix of the text of the run so
+-- far.
 abbrev pub IsReported : Words → Stop → Layers → Scenario → Course → (old new : Option (List ℕ)) → Type 0
 IsReported words Done layers scenario c old new = ((lines_played layers scenario c).ending ≡ Whole) × Took old new (text_so_far words layers scenario c)
 IsReported words (ForgedMatch line) layers scenario c old new =
@@ -80,27 +82,28 @@ IsReported words Memory layers scenario c old new = TookFirst old new (text_so_f
 
 pub record Headline (words : Words) (stop : Stop) (layers : Layers) (sources : Sources) (scenario : Scenario) (seen : Seen) (old new : Option (List ℕ)) : Type 0 where
   pub course : Course
-  -- there is a run of this scenario over this bench
+  -- the run is one of this scenario over this bench
   pub run : IsCourseOf words layers sources scenario course
-  -- the sink took its report
+  -- the sink took the report of this run
   pub reported : IsReported words stop layers scenario course old new
-  -- each wire that tells holds exactly the spellings of its frames, in order; one of no link holds nothing
+  -- each wire whose frames are known has exactly the frames of its lane, in order; a wire of no link has none
   pub wires : (l : Lane) (frames : List (List ℕ)) → seen.wire l ≡ Some frames → frames ≡ wire_octets course.net (last_world course) l
-  -- each disk of a node that was started once stands for batches with the fold of those of its node's events, and where one is in doubt, of these or of
-  -- these with that one
+  -- The disk of each node that was ever started encodes batches. Their fold is that of the batches of the node's
+  -- events. A batch in doubt may or may not be among these.
   pub disks : (v : ℕ) → v < course.net.site.nodes → is_blank ((last_world course).journal v) ≡ false →
       (batches : List (List Record)) × (layers.batches (seen.disk v) ≡ Some batches) × IsFoldOf course.net (whole_run course) (last_world course) v batches
-  -- a disk of no node is as it was, which is empty
+  -- the disk of a number that no node has is empty, as it was before
   pub other_disks : (v : ℕ) → course.net.site.nodes ≤ v → seen.disk v ≡ []
-  -- what an entropy that tells has left is what it told, less what its node drew
+  -- what is left of an entropy is what it had, without the octets that its node drew
   pub left : (v : ℕ) (told rest : List ℕ) → sources.entropies v ≡ Some told → seen.entropy v ≡ Some rest → rest ≡ drop ((last_world course).drawn v) told
   -- all that is promised of keys and of lane bytes
   pub keys : KeysAndBytes course
-  -- A node answers `stopped`, at its starts too, at most as often as its disk failed; `no-random`, where its entropy had enough, at most as often as that
-  -- failed; a link `device-fault` at most as often as its device failed; and a lane `wire-fault` at most as often as its wire failed.
+  -- Failures have causes. A node answers `stopped`, at a start or later, at most as often as its disk failed. It
+  -- answers `no-random`, with enough octets left in its entropy, at most as often as the entropy failed. A link answers
+  -- `device-fault` at most as often as its device failed, and a lane `wire-fault` at most as often as its wire failed.
   pub disk_faults : (v : ℕ) → RoseBy (seen.disk_count v) (disk_faults course.net.site v (whole_run course))
   pub entropy_faults : (v : ℕ) → RoseBy (seen.entropy_count v) (entropy_faults v (whole_run course))
   pub device_faults : (link : ℕ) → RoseBy (seen.device_count link) (device_faults link (whole_run course))
   pub wire_faults : (l : Lane) → RoseBy (seen.wire_count l) (wire_faults l (whole_run course))
-  -- each disk was armed with just the faults of its node's `cut` and `fail` lines that were run, in order
+  -- each disk was armed with exactly the faults of those `cut` and `fail` lines of its node that were run, in order
   pub armed : (v : ℕ) → IsArmedWith (seen.arming v) (armings v (whole_run course))

@@ -1,4 +1,4 @@
--- What a run leaves: its wires, its disks, its entropies, what it handed out.
+-- What a run leaves: the frames on wires, the batches on disks, and the keys that were handed out.
 use Rattle.std.specs.Prelude.{◌≡◌, ℕ, ◌==◌, nat_lt, not, Bool, true, false, List, [], ◌∷◌, ◌++◌, map, filter, count_by, slice_get, Option, Some, None, if◌then◌else◌}
 use Rattle.qkd_base.specs.declared.lane.Lane.{Lane}
 use Rattle.net_model.specs.declared.fact.Fact.{Fact}
@@ -12,11 +12,11 @@ use Rattle.net_model.specs.Step.{step}
 use Rattle.net_model.specs.Start.{may_resolve}
 use Rattle.net_model.specs.Deliveries.{Delivery, is_of_name}
 
--- the frames on a lane's wire, each in its octets
+-- the octets of each frame on a lane's wire
 unfoldable pub wire_octets : Network → World → Lane → List (List ℕ)
 wire_octets net w l = map (λ j. frame_octets net w l (slice_get (w.frames l) j)) (w.wire l)
 
--- the same action, failing on a disk
+-- the same action, but with a fault of the disk
 abbrev pub failing : Action → Action
 failing (TakeBlock v link environment) = TakeBlock v link IoFault
 failing (Ask v event environment) = Ask v event IoFault
@@ -25,7 +25,7 @@ failing (Flip l number bit environment) = Flip l number bit IoFault
 failing (Forge l octets environment) = Forge l octets IoFault
 failing action = action
 
--- The durable changes of an event of a node are what would be in doubt had its disk failed in it.
+-- The durable changes of a node's event. They are the batch that would be in doubt if the disk had failed in the event.
 abbrev pub changes : Network → World → Action → ℕ → List Record
 changes net w a v = ((step net w (failing a)).0.in_doubt v).batch
 
@@ -36,13 +36,14 @@ abbrev pub none_or_one : List Record → List (List Record)
 none_or_one [] = []
 none_or_one (r ∷ rs) = (r ∷ rs) ∷ []
 
--- a batch in doubt that a start finds was made before it
+-- a batch in doubt that a start finds on the disk was made before the start
 abbrev pub found : World → Action → ℕ → List (List Record)
 found w (Start u (Recovers true)) v = if u == v then none_or_one (w.in_doubt v).batch else []
 found w (Start u (Resumes true)) v = if u == v then none_or_one (w.in_doubt v).batch else []
 found w a v = []
 
--- The batch that a node made in an action: of an event where its journal got longer, or of the event before its start.
+-- The batch that a node made durable in an action. It is that of an event if the journal grew, or that of the event
+-- before a start if the start found it.
 abbrev pub batch_made : Network → World → Action → ℕ → List (List Record)
 batch_made net w a v =
     if w.up v then (if is_longer (w.journal v) ((step net w a).0.journal v) then none_or_one (changes net w a v) else []) else found w a v
@@ -55,14 +56,14 @@ batches_made net v w (a ∷ rest) = batch_made net w a v ++ batches_made net v (
 abbrev pub with_doubt : Bool → InDoubt → List (List Record) → List (List Record)
 with_doubt committed d batches = if committed then batches ++ none_or_one d.batch else batches
 
--- A list of batches has the fold of those of a node's events, and where one is in doubt, of these or of these with that one, but as a checkpoint
--- has it that was made.
+-- The batches give the same view as the batches of the node's events (their fold). A batch in doubt counts among these
+-- or not. If a checkpoint was made, the batch counts exactly if the checkpoint has it.
 pub record IsFoldOf (net : Network) (run : List Action) (w : World) (v : ℕ) (batches : List (List Record)) : Type 0 where
   pub committed : Bool
   pub may : may_resolve (w.in_doubt v) committed ≡ true
   pub fold : recovered_view net.site v batches ≡ recovered_view net.site v (with_doubt committed (w.in_doubt v) (batches_made net v first run))
 
--- an application is the master of a key, the source of a chunk, or the master of a group key
+-- the application is the master of a key, the source of a chunk, or the master of a group key
 abbrev pub is_first_of : Option ℕ → ℕ → Bool
 is_first_of None sae = false
 is_first_of (Some first) sae = first == sae

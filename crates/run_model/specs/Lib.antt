@@ -7,7 +7,6 @@ pub mod Left
 pub mod Lines
 pub mod Load
 pub mod Outcomes
-pub mod Passed
 pub mod Play
 pub mod Refusals
 pub mod Report

@@ -1,4 +1,4 @@
--- The script of each line, and of the start of a node at the beginning.
+-- The script of each line, and of the start of each node at the beginning of a run.
 use Rattle.std.specs.Prelude.{ℕ, zero, suc, ◌+◌, ◌-◌, nat_lt, Bool, true, false, List, [], ◌∷◌, length, sum_by, if◌then◌else◌}
 use Rattle.std.specs.List.{flat_map}
 use Rattle.qkd_base.specs.declared.lane.Lane.{Lane}
@@ -11,18 +11,18 @@ use Rattle.net_model.specs.World.{World}
 use Rattle.net_model.specs.Handle.{frame_at}
 use Rattle.net_model.specs.Tick.{Emission, Again, New, tick_order, ordered}
 use Rattle.net_model.specs.Action.{Outcome, Ok, Recovers, Start, TakeBlock, Ask, Allocate, Transmit, Complete, Deliver, Replies, Allocated, StartStopped, StartMemory, ForeignAt}
-use Rattle.scenario_lines.specs.declared.end.End.{End}
-use Rattle.scenario_lines.specs.declared.end.End.TheVariants.{Low, High}
-use Rattle.scenario_lines.specs.declared.end.Ends.{Ends}
-use Rattle.scenario_lines.specs.declared.end.Ends.TheVariants as ends
-use Rattle.scenario_lines.specs.declared.command.Command.{Command}
-use Rattle.scenario_lines.specs.declared.command.Command.TheVariants as commands
-use Rattle.report_items.specs.declared.item.Item.TheVariants as items
+use Rattle.run_types.specs.declared.end.End.{End}
+use Rattle.run_types.specs.declared.end.End.TheVariants.{Low, High}
+use Rattle.run_types.specs.declared.end.Ends.{Ends}
+use Rattle.run_types.specs.declared.end.Ends.TheVariants as ends
+use Rattle.run_types.specs.declared.command.Command.{Command}
+use Rattle.run_types.specs.declared.command.Command.TheVariants as commands
+use Rattle.run_types.specs.declared.item.Item.TheVariants as items
 use Rattle.run_model.specs.Script.{Script, Ends as Ended, Reports, Looks, Asks, GivesUp, then_comes, reports, asks}
 use Rattle.run_model.specs.Outcomes.{block_items, plan_items, put_items, frame_items, ledger_items, start_items}
 use Rattle.run_model.specs.Turn.{HttpTexts, Turn, Unasked, Asked, turn_of}
 
--- ---- blocks of link bytes, low end first. An end that takes none is left out for the rest of the line.
+-- ---- Blocks of link bytes, for the low end first. An end that takes no block is left out for the rest of the line.
 
 abbrev pub node_at : Site → ℕ → End → ℕ
 node_at site link Low = site.low link
@@ -32,7 +32,7 @@ abbrev pub is_taken : Outcome → Bool
 is_taken (Replies (replies.Took number)) = true
 is_taken _ = false
 
--- at one end, where that isn't left out; and whether it goes on there
+-- one block at one end, unless the end is left out; `next` is told whether the end goes on
 abbrev pub block_at_end : Site → ℕ → End → (goes_on : Bool) → (Bool → Script) → Script
 block_at_end site link end false next = next false
 block_at_end site link end true next = Asks (TakeBlock (node_at site link end) link Ok) (λ out. Reports (block_items link end out) (next (is_taken out)))
@@ -49,13 +49,14 @@ abbrev pub has_high : Ends → Bool
 has_high ends.Low = false
 has_high _ = true
 
--- ---- a tick: one plan, its frames lane by lane, and then their note
+-- ---- a tick: a plan, its frames lane by lane, and then their note
 
 abbrev pub offset_in : Outcome → ℕ
 offset_in (Allocated offset) = offset
 offset_in _ = 0
 
--- A repeat is put; a new frame is claimed and put, and the frame claimed last is the one to be put. A frame has 24 octets more than its payload.
+-- A repeat is put again. A new frame is claimed and then put, so it is the one that was claimed last. A frame has 24
+-- octets more than its payload.
 unfoldable pub emitted : ℕ → List Emission → Script
 emitted v [] = Asks (Complete v) (λ out. Ended)
 emitted v (Again r ∷ rest) =
@@ -64,7 +65,7 @@ emitted v (New o ∷ rest) =
     Asks (Allocate (ordered o)) (λ claimed.
     Looks (λ w. Asks (Transmit o.lane (length (w.frames o.lane) - 1) Ok) (λ out. Reports (put_items o.lane (offset_in claimed) (payload_len o.payload) out) (emitted v rest))))
 
--- a plan that is refused orders nothing, and nothing is noted
+-- if a plan is refused, nothing is ordered and nothing is noted
 abbrev pub after_plan : Site → ℕ → Outcome → Script
 after_plan site v (Replies (replies.Planned orders repeats shorts)) = emitted v (tick_order (outgoing_lanes site v) repeats orders)
 after_plan site v _ = Ended
@@ -74,21 +75,22 @@ ticked site quiet v = Asks (Ask v events.Plan Ok) (λ out. Reports (plan_items q
 
 -- ---- a settle: rounds of ticks and passes
 
--- in order of link, up before down
+-- all lanes in order of link, up before down
 abbrev pub all_lanes : Site → List Lane
 all_lanes site = flat_map (λ link. lane_of link Up ∷ lane_of link Down ∷ []) (count_up site.links)
 
--- each of these nodes that is then up ticks, quietly
+-- each of these nodes that is up ticks; the tick of an idle node isn't reported
 abbrev pub ticks : Site → List ℕ → Script
 ticks site [] = Ended
 ticks site (v ∷ vs) = Looks (λ w. then_comes (if w.up v then ticked site true v else Ended) (ticks site vs))
 
--- so many frames of a wire are passed, from a number on
+-- passes `count` frames of a wire, from a number on
 abbrev pub passes : Lane → (number count : ℕ) → Script
 passes l number zero = Ended
 passes l number (suc more) = Asks (Deliver l number Ok) (λ out. Reports (frame_items (items.Passed l number) out) (passes l (number + 1) more))
 
--- On each wire all frames that weren't there before the round. What earlier rounds of the settle put was passed by them.
+-- The passes of a round: all frames that were put on wires in the round. Earlier rounds of the settle passed what they
+-- put.
 abbrev pub all_passes : (before now : World) → List Lane → Script
 all_passes before now [] = Ended
 all_passes before now (l ∷ ls) = then_comes (passes l (length (before.wire l)) (length (now.wire l) - length (before.wire l))) (all_passes before now ls)
@@ -96,14 +98,14 @@ all_passes before now (l ∷ ls) = then_comes (passes l (length (before.wire l))
 abbrev pub on_wires : Site → World → ℕ
 on_wires site w = sum_by (λ l. length (w.wire l)) (all_lanes site)
 
--- so many rounds, but none after one in which nothing was put
+-- at most this many rounds; a round in which nothing was put is the last one
 unfoldable pub settle : Site → (rounds : ℕ) → Script
 settle site zero = Ended
 settle site (suc rounds) =
     Looks (λ before. then_comes (ticks site (count_up site.nodes)) (
     Looks (λ now. then_comes (all_passes before now (all_lanes site)) (if nat_lt (on_wires site before) (on_wires site now) then settle site rounds else Ended))))
 
--- ---- lines
+-- ---- all lines
 
 abbrev pub script_of_turn : Turn → Script
 script_of_turn (Unasked reported) = reports reported
@@ -116,7 +118,8 @@ script_of http site (commands.Settle rounds) = settle site rounds
 script_of http site (commands.Ledger l) = Asks (Ask (sender site l) (events.Ledger l) Ok) (λ out. Looks (λ w. reports (ledger_items l w out)))
 script_of http site line = script_of_turn (turn_of http site line)
 
--- ---- a node is started at the beginning: nothing is reported where it starts, and want of memory ends the run
+-- ---- The start of a node at the beginning of a run. If it succeeds, nothing is reported. If memory runs out, the run
+-- ends.
 
 abbrev pub begun : Outcome → Script
 begun StartStopped = reports (start_items StartStopped)

@@ -1,4 +1,4 @@
--- What outcomes report. An outcome that its line never has reports nothing.
+-- The items that are reported of an outcome. An outcome that the line never has gives none.
 use Rattle.std.specs.Prelude.{ℕ, Bool, true, false, List, [], ◌∷◌, length, map, Option, Some, None, if◌then◌else◌}
 use Rattle.qkd_base.specs.Name.{Name}
 use Rattle.qkd_base.specs.declared.lane.Lane.{Lane}
@@ -10,20 +10,20 @@ use Rattle.net_model.specs.declared.reply.Reply.TheVariants as replies
 use Rattle.net_model.specs.World.{World}
 use Rattle.net_model.specs.Ledger.{ledger}
 use Rattle.net_model.specs.Action.{Outcome, Replies, Started, WasUp, StartStopped, StartMemory, ForeignAt, Crashed, Armed, LinkSet, Put, Unsent}
-use Rattle.scenario_lines.specs.declared.end.End.{End}
-use Rattle.scenario_lines.specs.declared.stream_call.StreamCall.{StreamCall}
-use Rattle.scenario_lines.specs.declared.stream_call.StreamCall.TheVariants as calls
-use Rattle.report_items.specs.declared.payload_kind.PayloadKind.{PayloadKind}
-use Rattle.report_items.specs.declared.frame_result.FrameResult.{FrameResult}
-use Rattle.report_items.specs.declared.frame_result.FrameResult.TheVariants as results
-use Rattle.report_items.specs.declared.start_result.StartResult.TheVariants as starts
-use Rattle.report_items.specs.declared.stream_answer.Chunk.{Chunk}
-use Rattle.report_items.specs.declared.stream_answer.StreamAnswer.{StreamAnswer}
-use Rattle.report_items.specs.declared.stream_answer.StreamAnswer.TheVariants as answers
-use Rattle.report_items.specs.declared.unsent_cause.UnsentCause.{UnsentCause}
-use Rattle.report_items.specs.declared.unsent_cause.UnsentCause.TheVariants as causes
-use Rattle.report_items.specs.declared.item.Item.{Item}
-use Rattle.report_items.specs.declared.item.Item.TheVariants as items
+use Rattle.run_types.specs.declared.end.End.{End}
+use Rattle.run_types.specs.declared.stream_call.StreamCall.{StreamCall}
+use Rattle.run_types.specs.declared.stream_call.StreamCall.TheVariants as calls
+use Rattle.run_types.specs.declared.payload_kind.PayloadKind.{PayloadKind}
+use Rattle.run_types.specs.declared.frame_result.FrameResult.{FrameResult}
+use Rattle.run_types.specs.declared.frame_result.FrameResult.TheVariants as results
+use Rattle.run_types.specs.declared.start_result.StartResult.TheVariants as starts
+use Rattle.run_types.specs.declared.stream_answer.Chunk.{Chunk}
+use Rattle.run_types.specs.declared.stream_answer.StreamAnswer.{StreamAnswer}
+use Rattle.run_types.specs.declared.stream_answer.StreamAnswer.TheVariants as answers
+use Rattle.run_types.specs.declared.unsent_cause.UnsentCause.{UnsentCause}
+use Rattle.run_types.specs.declared.unsent_cause.UnsentCause.TheVariants as causes
+use Rattle.run_types.specs.declared.item.Item.{Item}
+use Rattle.run_types.specs.declared.item.Item.TheVariants as items
 use Rattle.run_model.specs.Refusals.{refused_in, reported_by, kind_of_octet}
 
 -- ---- requests of applications
@@ -62,7 +62,7 @@ abbrev pub show_items : ℕ → Name → Outcome → List Item
 show_items v n (Replies (replies.Shown held bytes)) = items.Shown v n held bytes ∷ []
 show_items v n out = reported_by (items.NotShown v n) (refused_in out)
 
--- where the manager of its sender answers, the world's own count of the lane
+-- the world's own count of a lane, if the manager of its sender answers
 abbrev pub ledger_items : Lane → World → Outcome → List Item
 ledger_items l w (Replies (replies.Counted counts)) = items.Counted l (ledger w l) ∷ []
 ledger_items l w out = reported_by (items.NotCounted l) (refused_in out)
@@ -74,7 +74,7 @@ heard fresh name None = []
 heard true name (Some kind) = results.Taken kind name ∷ []
 heard false name (Some kind) = results.Again kind name ∷ []
 
--- of a frame that comes, as it is or changed
+-- the items of a frame that a receiver gets, unchanged or changed
 abbrev pub frame_items : (FrameResult → Item) → Outcome → List Item
 frame_items item (Replies (replies.HeardFact fresh kind name)) = map item (heard fresh name (kind_of_octet kind))
 frame_items item out = reported_by (λ r. item (results.Refused r)) (refused_in out)
@@ -83,13 +83,13 @@ abbrev pub cause_of : (for_memory : Bool) → UnsentCause
 cause_of true = causes.Memory
 cause_of false = causes.WireFault
 
--- of a frame that is put
+-- the items of a frame that is put
 abbrev pub put_items : Lane → (offset size : ℕ) → Outcome → List Item
 put_items l offset size (Put number) = items.Sent l number offset size ∷ []
 put_items l offset size (Unsent for_memory) = items.Unsent l offset (cause_of for_memory) ∷ []
 put_items l offset size _ = []
 
--- ---- a manager's life, disks and links
+-- ---- link bytes, starts and crashes of managers, disks and links
 
 abbrev pub block_items : ℕ → End → Outcome → List Item
 block_items link end (Replies (replies.Took number)) = items.Took link end number ∷ []
@@ -115,7 +115,8 @@ abbrev pub link_items : ℕ → Bool → Outcome → List Item
 link_items link up LinkSet = items.LinkSet link up ∷ []
 link_items link up _ = []
 
--- ---- a plan: its counts, and its shorts after it. One with nothing to do is idle, which a quiet one leaves out
+-- ---- A plan: its counts, and then the lanes that are short. A plan with nothing to do is idle; in a settle it isn't
+-- reported.
 
 abbrev pub is_idle : List Order → List Repeat → List ShortOf → Bool
 is_idle [] [] [] = true

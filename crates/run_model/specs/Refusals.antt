@@ -1,14 +1,14 @@
--- Which refusal of a report a manager's reply is, and an outcome of the network.
+-- The refusal that a report gives for a manager's reply, and for an outcome of the network.
 use Rattle.std.specs.Prelude.{ℕ, List, [], ◌∷◌, slice_get, Option, Some, None, ◌-◌}
 use Rattle.net_model.specs.declared.reply.Reply.{Reply}
 use Rattle.net_model.specs.declared.reply.Reply.TheVariants as replies
 use Rattle.net_model.specs.Action.{Outcome}
 use Rattle.net_model.specs.Action as outcomes
-use Rattle.report_items.specs.declared.refusal.Refusal.{Refusal}
-use Rattle.report_items.specs.declared.refusal.Refusal.TheVariants.{Down, Stopped, Memory, LinkFull, NoBlock, DeviceFault, NotAllowed, NoRoute, PoolFull, UnknownStream, JournalFull, NoRandom, NoFrame, NoBit, BadFrame, WrongLane, NoBits, BadTag, Few, Unknown, Repeated, Handed}
-use Rattle.report_items.specs.declared.item.Item.{Item}
-use Rattle.report_items.specs.declared.payload_kind.PayloadKind.{PayloadKind}
-use Rattle.report_items.specs.declared.payload_kind.PayloadKind.TheVariants as kinds
+use Rattle.run_types.specs.declared.refusal.Refusal.{Refusal}
+use Rattle.run_types.specs.declared.refusal.Refusal.TheVariants.{Down, Stopped, Memory, LinkFull, NoBlock, DeviceFault, NotAllowed, NoRoute, PoolFull, UnknownStream, JournalFull, NoRandom, NoFrame, NoBit, BadFrame, WrongLane, NoBits, BadTag, Few, Unknown, Repeated, Handed}
+use Rattle.run_types.specs.declared.item.Item.{Item}
+use Rattle.run_types.specs.declared.payload_kind.PayloadKind.{PayloadKind}
+use Rattle.run_types.specs.declared.payload_kind.PayloadKind.TheVariants as kinds
 
 abbrev pub refused_by : Reply → Option Refusal
 refused_by replies.Down = Some Down
@@ -40,11 +40,11 @@ refused_in (outcomes.NoFrame count) = Some (NoFrame count)
 refused_in (outcomes.NoBit bits) = Some (NoBit bits)
 refused_in _ = None
 
--- how a refusal is reported. An outcome that its line never has is not
+-- how a refusal is reported; an outcome that the line never has is not reported
 abbrev pub reported_by : (Refusal → Item) → Option Refusal → List Item
 reported_by item None = []
 reported_by item (Some refusal) = item refusal ∷ []
 
--- the kind of a payload by its kind octet, from 1 on
+-- the kind of a payload, from its kind octet, which is at least 1
 abbrev pub kind_of_octet : ℕ → Option PayloadKind
 kind_of_octet octet = slice_get (kinds.Key ∷ kinds.Stored ∷ kinds.Ack ∷ kinds.Open ∷ kinds.Joined ∷ kinds.Chunk ∷ kinds.Part ∷ []) (octet - 1)

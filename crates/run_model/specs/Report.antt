@@ -1,17 +1,18 @@
--- The run of a scenario, and what it reports.
+-- The run of a scenario, and its report.
 use Rattle.std.specs.Prelude.{◌≡◌, ℕ, ◌+◌, Bool, true, false, List, [], ◌∷◌, ◌++◌, map}
 use Rattle.std.specs.List.{flat_map}
 use Rattle.net_model.specs.World.{Network, World}
 use Rattle.net_model.specs.Action.{Action}
-use Rattle.scenario_lines.specs.declared.entry.Entry.{Entry}
-use Rattle.scenario_lines.specs.declared.entry.Entry.TheVariants as entries
+use Rattle.run_types.specs.declared.entry.Entry.{Entry}
+use Rattle.run_types.specs.declared.entry.Entry.TheVariants as entries
 use Rattle.run_model.specs.Turn.{HttpTexts}
 use Rattle.run_model.specs.Lines.{script_of, begins}
 use Rattle.run_model.specs.Play.{Ending, Whole, CutShort, Played, stopped_at, reporting, play, IsPlay, OneOf}
 use Rattle.run_model.specs.Works.{Works, block_run, IsBlockOf}
 use Rattle.run_model.specs.Block.{play_block}
 
--- what is done as one: a declared node is started at the beginning, reported under the number of its `node` line; or an entry of the scenario
+-- A task of a run. At the beginning, each declared node is started, which is reported under the number of its `node`
+-- line. The other tasks are the entries of the scenario.
 pub data Task : Type 0 where
   Begins : (number node : ℕ) → Task
   Does : (entry : Entry) → Task
@@ -24,12 +25,12 @@ starts_from v (number ∷ rest) = Begins number v ∷ starts_from (v + 1) rest
 abbrev pub tasks : (node_lines : List ℕ) → List Entry → List Task
 tasks node_lines entries = starts_from 0 node_lines ++ map Does entries
 
--- what was done for a task: actions, one after another, or the works of a block
+-- what was done for a task: actions in order, or the works of a block
 pub data Performed : Type 0 where
   Acts : (actions : List Action) → Performed
   Together : (works : Works) → Performed
 
--- what comes of a task. What doesn't fit it comes to nothing
+-- the play of a task; if what was done is of the wrong kind for the task, nothing is played
 unfoldable pub perform : HttpTexts → Network → World → Task → Performed → Played
 perform http net w (Begins number v) (Acts actions) = play net number w (begins v) actions
 perform http net w (Does (entries.Line line)) (Acts actions) = play net line.number w (script_of http net.site line.command) actions
@@ -47,18 +48,19 @@ abbrev pub is_whole : Ending → Bool
 is_whole Whole = true
 is_whole _ = false
 
--- what comes after a task is done where that came to its end
+-- the later tasks are played only if this one came to its end
 abbrev pub with_rest : Ending → Played → Played → Played
 with_rest Whole p rest = reporting p.items rest
 with_rest _ p rest = p
 
--- The report, task by task. Where nothing more was done it is whole if no task is left, and cut short otherwise.
+-- The report, task by task. If nothing more was done, it is whole if no task is left, and cut short otherwise.
 unfoldable pub report : HttpTexts → Network → World → List Task → List Performed → Played
 report http net w [] done = stopped_at w Whole
 report http net w (t ∷ ts) [] = stopped_at w CutShort
 report http net w (t ∷ ts) (d ∷ ds) = let p = perform http net w t d in with_rest p.ending p (report http net p.world ts ds)
 
--- What was done is a run of these tasks: each part answers its task, and after one that didn't come to its end there is nothing.
+-- What was done is a run of these tasks. Each part answers its task, and nothing follows a part that didn't come to its
+-- end.
 abbrev pub IsRunOf : HttpTexts → Network → (workers : ℕ) → World → List Task → List Performed → Type 0
 IsRunOf http net workers w tasks [] = Unit {0}
 IsRunOf http net workers w [] (d ∷ ds) = ⊥
@@ -70,6 +72,6 @@ abbrev pub actions_for : Network → Performed → List Action
 actions_for net (Acts actions) = actions
 actions_for net (Together works) = block_run net works
 
--- all that was done, one action after another
+-- all actions that were done, in order
 unfoldable pub actions_of : Network → List Performed → List Action
 actions_of net done = flat_map (actions_for net) done

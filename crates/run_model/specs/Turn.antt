@@ -1,4 +1,4 @@
--- Lines that ask for one action.
+-- Turns: lines that ask for one action.
 use Rattle.std.specs.Prelude.{ℕ, nat_le, true, false, List, [], ◌∷◌, if◌then◌else◌}
 use Rattle.net_model.specs.declared.event.Event.{Event}
 use Rattle.net_model.specs.declared.event.Event.TheVariants as events
@@ -6,18 +6,19 @@ use Rattle.net_model.specs.declared.reply.Reply.{Reply}
 use Rattle.net_model.specs.Site.{Site}
 use Rattle.net_model.specs.Action.{Action, Outcome, Ok, Recovers, Image}
 use Rattle.net_model.specs.Action as actions
-use Rattle.scenario_lines.specs.declared.image.Image.{Image as CutImage}
-use Rattle.scenario_lines.specs.declared.image.Image.TheVariants as images
-use Rattle.scenario_lines.specs.declared.stream_call.StreamCall.{StreamCall}
-use Rattle.scenario_lines.specs.declared.stream_call.StreamCall.TheVariants as calls
-use Rattle.scenario_lines.specs.declared.command.Command.{Command}
-use Rattle.scenario_lines.specs.declared.command.Command.TheVariants as commands
-use Rattle.report_items.specs.declared.item.Item.{Item}
-use Rattle.report_items.specs.declared.item.Item.TheVariants as items
+use Rattle.run_types.specs.declared.image.Image.{Image as CutImage}
+use Rattle.run_types.specs.declared.image.Image.TheVariants as images
+use Rattle.run_types.specs.declared.stream_call.StreamCall.{StreamCall}
+use Rattle.run_types.specs.declared.stream_call.StreamCall.TheVariants as calls
+use Rattle.run_types.specs.declared.command.Command.{Command}
+use Rattle.run_types.specs.declared.command.Command.TheVariants as commands
+use Rattle.run_types.specs.declared.item.Item.{Item}
+use Rattle.run_types.specs.declared.item.Item.TheVariants as items
 use Rattle.run_model.specs.Outcomes.{made_items, handed_items, status_items, stream_items, http_items, show_items, frame_items, crash_items, start_items, arm_items, link_items, plan_items}
 
--- What the octets of an HTTP request at a node ask for: a status and a body at once, or an event of its manager; and the status and the body
--- that answer a reply to an event. The texts of GS QKD 014 are not said here: they are given.
+-- The meaning of the octets of an HTTP request at a node: they are answered at once by a status and a body, or they ask
+-- for an event of the manager. A reply to this event is again answered by a status and a body. The texts of GS QKD 014
+-- are not defined here; they are a parameter.
 pub data Request : Type 0 where
   AnswersAtOnce : (status : ℕ) (body : List ℕ) → Request
   Calls : (event : Event) → Request
@@ -26,12 +27,12 @@ pub record HttpTexts : Type 0 where
   pub request : ℕ → List ℕ → Request
   pub response : Event → Reply → ℕ × List ℕ
 
--- nobody is asked; or one action is asked for, and its outcome reports
+-- a line that asks nobody, or one that asks for an action and reports its outcome
 pub data Turn : Type 0 where
   Unasked : (items : List Item) → Turn
   Asked : (action : Action) (items : Outcome → List Item) → Turn
 
--- a manager is asked
+-- a line that asks the manager of a node to handle an event
 abbrev pub at_node : ℕ → Event → (Outcome → List Item) → Turn
 at_node v event reported = Asked (actions.Ask v event Ok) reported
 
@@ -59,8 +60,8 @@ abbrev pub http_turn : ℕ → (Event → Reply → ℕ × List ℕ) → Request
 http_turn v response (AnswersAtOnce status body) = Unasked (items.Http v status body ∷ [])
 http_turn v response (Calls event) = at_node v event (http_items v (response event))
 
--- Keys are made at their master's home, chunks at their stream's first node. What isn't one action, link bytes, a settle or a ledger, has no
--- turn.
+-- Keys are made at their master's home, and chunks at the first node of their stream. Lines for link bytes, settles and
+-- ledgers take more than one action, or none, so they have no turn.
 unfoldable pub turn_of : HttpTexts → Site → Command → Turn
 turn_of http site (commands.Fill master slave bits count) = at_node (site.home master) (events.Fill master slave bits count) made_items
 turn_of http site (commands.Feed stream count) = at_node stream.node (events.Feed stream count) made_items

@@ -1,4 +1,4 @@
--- What workers do in a block of lines.
+-- The works of a block: what the workers do for its lines.
 use Rattle.std.specs.Prelude.{◌≡◌, ℕ, ◌+◌, ◌%◌, ◌==◌, ◌&&◌, not, nat_lt, Bool, true, false, List, [], ◌∷◌, ◌++◌, length, map, slice_get, count_by, Option, Some, None, if◌then◌else◌}
 use Rattle.std.specs.List.{list_all, list_any, flat_map}
 use Rattle.qkd_base.specs.Lane.{lane_eq}
@@ -12,16 +12,16 @@ use Rattle.net_model.specs.Tick.{Emission, Again, New, ordered}
 use Rattle.net_model.specs.Action.{Action, Transmit, Outcome, Replies}
 use Rattle.net_model.specs.Step.{step, run}
 use Rattle.net_model.specs.BlockOrder.{IsMerge, Parts, IsBlock, is_turn_of, block_actions}
-use Rattle.scenario_lines.specs.declared.command.Command.{Command}
-use Rattle.scenario_lines.specs.declared.command.Command.TheVariants as commands
-use Rattle.scenario_lines.specs.declared.line.Line.{Line}
-use Rattle.report_items.specs.declared.frame_result.FrameResult.TheVariants.{Refused}
-use Rattle.report_items.specs.declared.refusal.Refusal.TheVariants.{NoFrame}
-use Rattle.report_items.specs.declared.item.Item.TheVariants as items
+use Rattle.run_types.specs.declared.command.Command.{Command}
+use Rattle.run_types.specs.declared.command.Command.TheVariants as commands
+use Rattle.run_types.specs.declared.line.Line.{Line}
+use Rattle.run_types.specs.declared.frame_result.FrameResult.TheVariants.{Refused}
+use Rattle.run_types.specs.declared.refusal.Refusal.TheVariants.{NoFrame}
+use Rattle.run_types.specs.declared.item.Item.TheVariants as items
 use Rattle.run_model.specs.Turn.{HttpTexts, Turn, Unasked, Asked, turn_of}
 use Rattle.run_model.specs.Play.{plain}
 
--- the lines that a block may hold
+-- the lines that may be in a block
 abbrev pub may_stand_in_block : Command → Bool
 may_stand_in_block (commands.Fill master slave bits count) = true
 may_stand_in_block (commands.Feed stream count) = true
@@ -36,13 +36,14 @@ may_stand_in_block (commands.FillGroup master bits count slaves) = true
 may_stand_in_block (commands.EncGroup v master count bits slaves) = true
 may_stand_in_block _ = false
 
--- an action, and the place of its line among the block's lines, from 0
+-- an action, and the place of its line among the lines of the block, counted from 0
 pub record Work : Type 0 where
   pub place : ℕ
   pub action : Action
 
--- What was done in a block: each manager's history in order of node; the claims; and the puts, each for a line's tick. Where the run wanted
--- memory of its own in the block, the places of the lines that nobody was asked for: all else is done, and the run ends after it.
+-- What was done in a block: the history of each manager, in order of node; the claims; and the puts, each for a tick of
+-- a line. If the run itself ran out of memory in the block, `left_out` has the places of the lines for which nobody was
+-- asked. All other lines are done, and then the run ends.
 pub record Works : Type 0 where
   pub histories : List (List Work)
   pub claims : List Action
@@ -55,16 +56,16 @@ actions_in works = map (λ (x : Work). x.action) works
 abbrev pub parts : Works → Parts
 parts b = record { histories = map actions_in b.histories; claims = b.claims; puts = actions_in b.puts }
 
--- lists, one after another
+-- the concatenation of lists
 abbrev pub flat : {A : Type 0} → List (List A) → List A
 flat xss = flat_map (λ xs. xs) xss
 
 unfoldable pub block_run : Network → Works → List Action
 block_run net b = block_actions net (parts b)
 
--- ---- what its lines ask for, by the world at the block's start
+-- ---- what the lines ask for, in the world at the block's start
 
--- a frame that isn't on the wire at the block's start is reported so, and nobody is asked
+-- a frame that isn't on the wire at the block's start is reported as missing, and nobody is asked
 abbrev pub block_turn : HttpTexts → Site → World → Command → Turn
 block_turn http site w (commands.Pass lane number) =
     if nat_lt number (length (w.wire lane)) then turn_of http site (commands.Pass lane number)
@@ -83,7 +84,8 @@ abbrev pub asked_of : Site → ℕ → (place : ℕ) → Turn → List Work
 asked_of site v place (Unasked reported) = []
 asked_of site v place (Asked action reported) = if is_turn_of site v action then record { place = place; action = action } ∷ [] else []
 
--- What worker k of so many asks of the manager of node v, from a place on: it does the lines whose place leaves k, in their order.
+-- What worker k asks of the manager of node v, from a place on. The worker does, in order, the lines whose place leaves
+-- the remainder k when it is divided by the number of workers.
 unfoldable pub asked_by : HttpTexts → Site → World → Option (List ℕ) → (workers k v place : ℕ) → List Line → List Work
 asked_by http site w left_out workers k v place [] = []
 asked_by http site w left_out workers k v place (line ∷ rest) =
@@ -93,7 +95,7 @@ asked_by http site w left_out workers k v place (line ∷ rest) =
 abbrev pub plain_work : Work → Work
 plain_work x = record x { action = plain x.action }
 
--- ---- what comes of works that are done one after another
+-- ---- the outcomes of works that are done in order
 
 pub record Done : Type 0 where
   pub work : Work
@@ -104,7 +106,8 @@ unfoldable pub done_from : Network → World → List Work → List Done
 done_from net w [] = []
 done_from net w (x ∷ rest) = let out = step net w x.action in record { work = x; before = w; outcome = out.1 } ∷ done_from net out.0 rest
 
--- The managers' turns: each manager's history by itself from the block's start, which no other manager's changes.
+-- The turns of the managers. Each history is a run of its own from the block's start, since no manager changes what
+-- another one sees.
 abbrev pub turns_done : Network → World → Works → List (List Done)
 turns_done net w b = map (done_from net w) b.histories
 
@@ -112,9 +115,9 @@ turns_done net w b = map (done_from net w) b.histories
 abbrev pub claimed : Network → World → Works → World
 claimed net w b = let p = parts b in run net w (flat p.histories ++ p.claims)
 
--- ---- which works a block may have
+-- ---- the works that are possible for a block
 
--- a put is of a frame that a plan ordered, or had sent again
+-- the frame that is put is one that a plan ordered to be sent, for the first time or again
 abbrev pub is_frame_of : World → Emission → Lane → ℕ → Option Outgoing → Bool
 is_frame_of w e l j None = false
 is_frame_of w (Again r) l j (Some o) = not o.fresh && lane_eq r.lane l && (offset_or_zero (slice_get (w.frames l) j) == r.offset)
@@ -131,12 +134,13 @@ abbrev pub wanted_put : Outcome → List Emission
 wanted_put (Replies (replies.Planned orders repeats shorts)) = map Again repeats ++ map New orders
 wanted_put _ = []
 
--- each frame that a line's tick wants put is put once for that line
+-- each frame that the tick of a line wants to be put is put exactly once for this line
 abbrev pub are_put : World → List Done → List Work → Bool
 are_put w done puts = list_all (λ (d : Done). list_all (λ e. count_by (is_put_of w d.work.place e) puts == 1) (wanted_put d.outcome)) done
 
--- The lines of a block are done by so many workers: they are lines that a block may hold; it is a block of the network; each manager's history is
--- a merge of what the workers ask of it, but for the outside's answers; and each put is for its line.
+-- The works are possible for these lines and this number of workers. The lines may be in a block, and the works are a
+-- block of the network. Each manager's history is a merge of what the workers ask of this manager, except for the
+-- outside's answers. Each put is for its line.
 pub record IsBlockOf (http : HttpTexts) (net : Network) (workers : ℕ) (w : World) (lines : List Line) (b : Works) : Type 0 where
   pub may_stand : list_all (λ (line : Line). may_stand_in_block line.command) lines ≡ true
   pub block : IsBlock net w (parts b)

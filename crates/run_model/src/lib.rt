@@ -1,4 +1,2 @@
-//! What the run of a scenario is, what it reports and leaves, and what the network promises of it, over the abstract network.
+//! The run of a scenario over the abstract network: its actions, its report, what it leaves, and the headline.
 #![tactic(auto)]
-
-pub use report_items;

@@ -1,4 +1,4 @@
--- What is asked for the lines of a block.
+-- What the lines of a block ask for.
 use Rattle.std.proofs.Common.{◌≡◌, ℕ, suc, ◌+◌, ◌%◌, Bool, true, false, ◌&&◌, List, [], ◌∷◌, ◌++◌, map, refl, sym, ap, ◌∙◌, arith}
 use Rattle.std.specs.Prelude.{◌==◌, slice_get, if◌then◌else◌, Option, Some, None}
 use Rattle.std.specs.List.{AllByRecursion}
@@ -6,18 +6,17 @@ use Rattle.net_model.specs.Site.{Site, count_up}
 use Rattle.net_model.specs.World.{Network, World}
 use Rattle.net_model.specs.Action.{Action}
 use Rattle.net_model.specs.BlockOrder.{IsMerge, is_turn_of}
-use Rattle.scenario_lines.specs.declared.line.Line.{Line}
+use Rattle.run_types.specs.declared.line.Line.{Line}
 use Rattle.run_model.specs.Turn.{HttpTexts, Turn, Unasked, Asked}
-use Rattle.run_model.specs.Works.{Work, Works, Done, flat, plain_work, block_turn, done_from, turns_done, asked_of}
-use Rattle.run_model.specs.Works.{asked_by as asked_for_lines}
-use Rattle.run_blocks.specs.declared.job.Job.{Job}
-use Rattle.run_blocks.specs.Jobs.{asked_for, turn_for, asked_by}
-use Rattle.run_blocks.specs.Together.{AreWorks}
+use Rattle.run_model.specs.Works.{Work, Works, Done, flat, plain_work, block_turn, done_from, turns_done, asked_of, asked_by as asked_for_lines}
+use Rattle.run_ops.specs.declared.job.Job.{Job}
+use Rattle.run_ops.specs.Jobs.{asked_for, turn_for, asked_by}
+use Rattle.run_ops.specs.Together.{AreWorks}
 use Rattle.run_tasks.specs.declared.prepared.Place.{Place}
 use Rattle.run_tasks.specs.Prepared.{asked_in, AreOfLines}
 use Rattle.run_tasks.proofs.Merged.{all_on, all_as, all_mapped, all_before, of_parts}
 
--- ---- what the lines ask is what their jobs ask
+-- ---- lines ask what their jobs ask
 
 turn_asks : (site : Site) (v place : ℕ) (turn : Turn) → asked_of site v place turn ≡ turn_for site v place (asked_in turn)
 turn_asks site v place (Unasked said) = refl
@@ -49,13 +48,13 @@ module _ (http : HttpTexts) (site : Site) (w : World) where
       ap (λ (xs : List Work). xs ∷ map (λ k. asked_for_lines http site w None workers k v 0 lines) ks) (same_asked workers k v 0 lines jobs places h)
       ∙ ap (λ (xs : List (List Work)). asked_by site workers k v 0 jobs ∷ xs) (all_same_asked workers v lines jobs places h ks)
 
--- ---- what is done was asked at its place
+-- ---- each action was asked for at its place
 
 abbrev pub asks_at : Option Job → Option Action
 asks_at None = None
 asks_at (Some job) = asked_for job
 
--- a job at this place asks something
+-- The job at this place asks for something.
 pub record IsAsked (jobs : List Job) (first place : ℕ) : Type 0 where
   pub at : ℕ
   pub is : place ≡ first + at

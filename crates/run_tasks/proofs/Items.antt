@@ -1,4 +1,4 @@
--- What a block reports, place by place.
+-- The items that a block reports, place by place.
 use Rattle.std.proofs.Common.{◌≡◌, ℕ, zero, suc, List, [], ◌∷◌, ◌++◌, map, refl, sym, ap, subst, ◌∙◌, arith}
 use Rattle.std.specs.Prelude.{slice_get, Option, Some, None}
 use Rattle.std.specs.List.{AllByRecursion, flat_map}
@@ -7,19 +7,18 @@ use Rattle.net_model.specs.declared.reply.Reply.{Reply}
 use Rattle.net_model.specs.Site.{Site}
 use Rattle.net_model.specs.World.{Network, World}
 use Rattle.net_model.specs.Action.{Action, Outcome, Replies}
-use Rattle.scenario_lines.specs.declared.line.Line.{Line}
-use Rattle.report_items.specs.declared.item.Item.{Item}
-use Rattle.report_items.specs.declared.item.NumberedItem.{NumberedItem}
+use Rattle.run_types.specs.declared.line.Line.{Line}
+use Rattle.run_types.specs.declared.item.Item.{Item}
+use Rattle.run_types.specs.declared.item.NumberedItem.{NumberedItem}
 use Rattle.run_model.specs.Play.{numbered}
 use Rattle.run_model.specs.Turn.{HttpTexts, Turn, Unasked, Asked}
 use Rattle.run_model.specs.Works.{Works, Done, flat, block_turn, turn_at, turns_done}
-use Rattle.run_model.specs.Block.{PutDone, outcome_items, all_unasked, turn_items, block_items, number_at}
-use Rattle.run_model.specs.Block.{number_of as number_of_line}
-use Rattle.run_blocks.specs.declared.job.Job.{Job}
-use Rattle.run_blocks.specs.declared.done_block.DoneBlock.{DoneBlock}
-use Rattle.run_blocks.specs.declared.done_block.Turned.{Turned}
-use Rattle.run_blocks.specs.declared.done_block.PutFrame.{PutFrame}
-use Rattle.run_blocks.specs.Together.{AreWorks, turned, turn_done, frame_put, put_done, puts_reported}
+use Rattle.run_model.specs.Block.{PutDone, outcome_items, all_unasked, turn_items, block_items, number_at, number_of as number_of_line}
+use Rattle.run_ops.specs.declared.job.Job.{Job}
+use Rattle.run_ops.specs.declared.done_block.DoneBlock.{DoneBlock}
+use Rattle.run_ops.specs.declared.done_block.Turned.{Turned}
+use Rattle.run_ops.specs.declared.done_block.PutFrame.{PutFrame}
+use Rattle.run_ops.specs.Together.{AreWorks, turned, turn_done, frame_put, put_done, puts_reported}
 use Rattle.run_tasks.specs.declared.prepared.Place.{Place}
 use Rattle.run_tasks.specs.declared.prepared.Prepared.{Prepared}
 use Rattle.run_tasks.specs.Prepared.{asked_in, said_in, AreOfLines, IsPrepared, told_item}
@@ -27,7 +26,7 @@ use Rattle.run_tasks.specs.Reported.{number_in, reply_told, turn_told, turns_tol
 use Rattle.run_tasks.proofs.Merged.{all_before, all_after}
 use Rattle.run_tasks.proofs.Asked.{IsAsked, asks_at, turns_asked}
 
--- a turn that asks for an action reports what it says of the reply
+-- If a turn asks for an action, it reports the items that it has for the action's reply.
 asked_says : (turn : Turn) (action : Action) (reply : Reply) → asked_in turn ≡ Some action → outcome_items turn (Replies reply) ≡ said_in turn reply
 asked_says (Unasked said) action reply e = absurd (let wrong : None ≡ Some action = e in cc)
 asked_says (Asked asked said) action reply e = refl
@@ -105,7 +104,7 @@ module _ (http : HttpTexts) (site : Site) (w : World) where
       let said = frame_at lines in
       sym (flat_map-map said put_done ps) ∙ ap (flat_map said) (sym same) ∙ flat_map-map said frame_put fs ∙ each_frame lines jobs places h fs
 
--- ---- all of it
+-- ---- the whole report
 
 abbrev pub items_told : HttpTexts → Prepared → DoneBlock → List NumberedItem
 items_told http p done = map told_item p.told.items ++ turns_told http p.jobs.items p.places.items done.turns.items ++ frames_told p.places.items done.frames.items

@@ -1,9 +1,16 @@
 pub mod Tasking
 pub mod Writes
 pub mod Made
-pub mod Lines
+pub mod BlockLines
 pub mod Merged
 pub mod Asked
 pub mod Items
 pub mod Ran
 pub mod Allowing
+pub mod Keys
+pub mod Telling
+pub mod Hearing
+pub mod Tasks
+pub mod LoadEntries
+pub mod Reported
+pub mod Pieces

@@ -1,4 +1,4 @@
--- What lines of a block are made.
+-- The jobs that are made of the lines of a block.
 use Rattle.std.proofs.Common.{◌≡◌, ℕ, ◌<◌, Bool, true, false, ◌&&◌, List, [], ◌∷◌, length, refl, sym, ap, ◌∙◌, arith}
 use Rattle.std.proofs.lemmas.Bool.Decides.{nat_tests}
 use Rattle.std.specs.Prelude.{not, nat_lt, Some, if◌then◌else◌}
@@ -13,25 +13,25 @@ use Rattle.net_model.specs.BlockOrder.{is_block_event}
 use Rattle.net_model.specs.Action.{Outcome, Ok, Ask, Deliver}
 use Rattle.declared_site.specs.declared.site.Site.{Site as Declared}
 use Rattle.declared_site.specs.SiteOf.{site_of}
-use Rattle.scenario_lines.specs.declared.command.Command.{Command}
-use Rattle.scenario_lines.specs.declared.command.Command.TheVariants as commands
-use Rattle.scenario_lines.specs.declared.stream_call.StreamCall.TheVariants as calls
-use Rattle.report_items.specs.declared.frame_result.FrameResult.TheVariants.{Refused}
-use Rattle.report_items.specs.declared.refusal.Refusal.TheVariants.{NoFrame}
-use Rattle.report_items.specs.declared.item.Item.{Item}
-use Rattle.report_items.specs.declared.item.Item.TheVariants as items
+use Rattle.run_types.specs.declared.command.Command.{Command}
+use Rattle.run_types.specs.declared.command.Command.TheVariants as commands
+use Rattle.run_types.specs.declared.stream_call.StreamCall.TheVariants as calls
+use Rattle.run_types.specs.declared.frame_result.FrameResult.TheVariants.{Refused}
+use Rattle.run_types.specs.declared.refusal.Refusal.TheVariants.{NoFrame}
+use Rattle.run_types.specs.declared.item.Item.{Item}
+use Rattle.run_types.specs.declared.item.Item.TheVariants as items
 use Rattle.run_model.specs.Outcomes.{frame_items, http_items}
 use Rattle.run_model.specs.Turn.{HttpTexts, Turn, Unasked, Asked, AnswersAtOnce, Calls, turn_of, at_node, http_turn}
 use Rattle.run_model.specs.Works.{block_turn, may_stand_in_block}
 use Rattle.run_model.specs.Block.{unasked_items}
-use Rattle.run_turns.specs.declared.reporting.Reporting.{Reporting}
-use Rattle.run_turns.specs.Reported.{reported}
-use Rattle.run_turns.specs.Asking.{asks_an_event}
-use Rattle.run_acts.specs.Fitting.{is_plan}
-use Rattle.run_acts.specs.Runnable.{IsFit, IsCommandFor}
-use Rattle.run_blocks.specs.declared.job.Job.{Job}
-use Rattle.run_blocks.specs.declared.job.Job.TheVariants as jobs
-use Rattle.run_blocks.specs.Jobs.{asked_for, is_job}
+use Rattle.run_ops.specs.declared.reporting.Reporting.{Reporting}
+use Rattle.run_ops.specs.Reported.{reported}
+use Rattle.run_ops.specs.Asking.{asks_an_event}
+use Rattle.run_ops.specs.Fitting.{is_plan}
+use Rattle.run_ops.specs.Runnable.{IsFit, IsCommandFor}
+use Rattle.run_ops.specs.declared.job.Job.{Job}
+use Rattle.run_ops.specs.declared.job.Job.TheVariants as jobs
+use Rattle.run_ops.specs.Jobs.{asked_for, is_job}
 use Rattle.run_lines.specs.Commands.{any_texts}
 use Rattle.run_tasks.specs.declared.prepared.Telling.{Telling}
 use Rattle.run_tasks.specs.declared.prepared.Telling.TheVariants as tellings
@@ -49,7 +49,7 @@ module _ (http : HttpTexts) (site : Site) (w : World) where
   at_once : (command : Command) (item : Item) → block_turn http site w command ≡ Unasked (item ∷ []) → IsLineMade http site w command (makings.Told item)
   at_once command item is = (record { asks = ap asked_in (sym is); told = λ reply. ap (λ (t : Turn). said_in t reply) (sym is) }, ap unasked_items is)
 
-  -- a frame
+  -- ---- a frame
 
   refused : Lane → ℕ → Turn
   refused l number = Unasked (items.Passed l number (Refused (NoFrame (length (w.wire l)))) ∷ [])
@@ -62,7 +62,7 @@ module _ (http : HttpTexts) (site : Site) (w : World) where
       of_turn (commands.Pass l number) (jobs.Pass l j) (tellings.Passed l number) (Asked (Deliver l number Ok) (frame_items (items.Passed l number)))
       (ap (λ (b : Bool). if b then turn_of http site (commands.Pass l number) else refused l number) yes) (ap (λ (k : ℕ). Some (Deliver l k Ok)) same) (λ reply. refl) refl
 
-  -- a request
+  -- ---- an HTTP request
 
   pub http_job : (v : ℕ) (octets : List ℕ) (event : Event) → http.request v octets ≡ Calls event →
       IsLineMade http site w (commands.Http v octets) (makings.Job (jobs.Ask v event) (tellings.Answered v))
@@ -76,7 +76,7 @@ module _ (http : HttpTexts) (site : Site) (w : World) where
   http_told v octets status body item asks is =
       at_once (commands.Http v octets) item (ap (http_turn v http.response) asks ∙ ap (λ (i : Item). Unasked (i ∷ [])) (sym is))
 
-  -- an event
+  -- ---- an event
 
   as_it_is : (command : Command) → asks_an_event command ≡ true → block_turn http site w command ≡ turn_of http site command
   as_it_is (commands.Pass l number) asks = cc
@@ -87,9 +87,9 @@ module _ (http : HttpTexts) (site : Site) (w : World) where
   asked_job command v event reporting asks turn =
       of_turn command (jobs.Ask v event) (tellings.Asked reporting) (at_node v event (reported reporting)) (as_it_is command asks ∙ turn) refl (λ reply. refl) refl
 
--- ---- what is asked may be asked
+-- ---- each job is allowed
 
--- an event of a block
+-- ---- an event of a block
 all_four : (a b c d e : Bool) → (a && b && c && d) ≡ true → e ≡ true → (a && b && e && d) ≡ true
 all_four true true true true true h k = refl
 all_four true true true true false h k = cc

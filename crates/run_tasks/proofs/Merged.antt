@@ -1,4 +1,4 @@
--- What holds of each element of lists holds of each of their merge.
+-- If each element of some lists has a property, so has each element of their merge.
 use Rattle.std.proofs.Common.{List, [], ◌∷◌, ◌++◌, map}
 use Rattle.std.specs.List.{AllByRecursion}
 use Rattle.net_model.specs.BlockOrder.{IsMerge, Done, Next}
@@ -27,7 +27,7 @@ module _ {A : Type 0} (P : A → Type 0) where
   abbrev AreAll : List (List A) → Type 0
   AreAll parts = AllByRecursion (AllByRecursion P) parts
 
-  -- the first of a part, and what is left
+  -- If the elements of all parts have the property, so has the first element of a part, and so have the parts without it.
   taken : (before after : List (List A)) (x : A) (rest : List A) → AreAll (before ++ (x ∷ rest) ∷ after) → P x × AreAll (before ++ rest ∷ after)
   taken [] after x rest h = (h.0.0, (h.0.1, h.1))
   taken (part ∷ before) after x rest h = let p = taken before after x rest h.1 in (p.0, (h.0, p.1))

@@ -10,21 +10,20 @@ use Rattle.net_model.specs.World.{Network, World}
 use Rattle.net_model.specs.Action.{Action}
 use Rattle.net_model.specs.Step.{run}
 use Rattle.net_model.specs.BlockOrder.{IsMerge}
-use Rattle.scenario_lines.specs.declared.line.Line.{Line}
-use Rattle.scenario_lines.specs.declared.entry.Entry.TheVariants as entries
-use Rattle.report_items.specs.declared.item.NumberedItem.{NumberedItem}
-use Rattle.report_items.specs.Texts.{report_text}
+use Rattle.run_types.specs.declared.line.Line.{Line}
+use Rattle.run_types.specs.declared.entry.Entry.TheVariants as entries
+use Rattle.run_types.specs.declared.item.NumberedItem.{NumberedItem}
+use Rattle.run_types.specs.Texts.{report_text}
 use Rattle.run_model.specs.Turn.{HttpTexts}
 use Rattle.run_model.specs.Play.{Whole, NoMemory, Played, reporting, stopped_at}
-use Rattle.run_model.specs.Works.{Work, Works, may_stand_in_block, plain_work, block_run, IsBlockOf}
-use Rattle.run_model.specs.Works.{asked_by as asked_for_lines}
+use Rattle.run_model.specs.Works.{Work, Works, may_stand_in_block, plain_work, block_run, IsBlockOf, asked_by as asked_for_lines}
 use Rattle.run_model.specs.Block.{block_items}
 use Rattle.run_model.specs.Report.{Task, Does, Together, perform, report, actions_of}
 use Rattle.run_model.specs.Headline.{TookFirst}
-use Rattle.run_acts.specs.Acting.{IsReady}
-use Rattle.run_acts.specs.Runnable.{IsBlockLineFor}
-use Rattle.run_blocks.specs.declared.done_block.DoneBlock.{DoneBlock}
-use Rattle.run_blocks.specs.Together.{AreWorks, DoesTogether, LeftTogether}
+use Rattle.run_ops.specs.Acting.{IsReady}
+use Rattle.run_ops.specs.Runnable.{IsBlockLineFor}
+use Rattle.run_ops.specs.declared.done_block.DoneBlock.{DoneBlock}
+use Rattle.run_ops.specs.Together.{AreWorks, DoesTogether, LeftTogether}
 use Rattle.run_lines.specs.declared.stop.Stop.{Stop}
 use Rattle.run_lines.specs.declared.stop.Stop.TheVariants.{WriteFault, Memory, Forged}
 use Rattle.run_lines.specs.Reporting.{Wrote}
@@ -38,7 +37,7 @@ use Rattle.run_tasks.proofs.Tasking.{LeadsOn, leads_one, nothing_more, all_done,
 use Rattle.run_tasks.proofs.Asked.{all_same_asked}
 use Rattle.run_tasks.proofs.Items.{items_told, same_items}
 
--- what was done is a block of these lines
+-- What was done is a block of these lines.
 block_is : (http : HttpTexts) (net : Network) (workers : ℕ) (w : World) (d : Declared) (lines : List Line) (p : Prepared) (works : Works) → All (IsBlockLineFor d) lines →
     IsPrepared http net.site w lines p → AreWorks net workers w p.jobs.items works → IsBlockOf http net workers w lines works
 block_is http net workers w d lines p works fit is are = record {
@@ -51,7 +50,7 @@ block_is http net workers w d lines p works fit is are = record {
   put = are.put;
 }
 
--- and none was left out
+-- A block that left nothing out reports its items, and is whole.
 block_said : (http : HttpTexts) (net : Network) (w : World) (lines : List Line) (works : Works) → works.left_out ≡ None →
     perform http net w (Does (entries.Block lines)) (Together works) ≡ record { items = block_items http net w lines works; world = run net w (block_run net works); ending = Whole }
 unfolding perform
@@ -69,7 +68,7 @@ acts_together net works = append-nil (block_run net works)
 
 module _ {S : Type 0} (Stands Rests : S → Network → World → Type 0) (Tallied : S → S → Site → List Action → Type 0) (ways : Ways Stands Rests Tallied) (nodes : List (List ℕ)) (http : HttpTexts)
     (net : Network) (workers : ℕ) where
-  -- nothing was done
+  -- Nothing was done.
   pub nothing_done : (T : Type 0) (a b : S) (r : Option (List ℕ)) (w : World) (tasks : List Task) → Rests b net w → Tallied a b net.site [] →
       RanTasks {T = T} Stands Rests Tallied nodes a b r r http net workers w tasks (Err Memory)
   nothing_done T a b r w tasks rests tallied = record {
@@ -85,7 +84,7 @@ module _ {S : Type 0} (Stands Rests : S → Network → World → Type 0) (Talli
   block_leads w lines works is whole =
       leads_one http net workers w (run net w (block_run net works)) (Does (entries.Block lines)) [] (Together works) (block_items http net w lines works) is (block_said http net w lines works whole)
 
-  -- it was done, and the run ended in its report
+  -- The block was done, and the run stopped in its report.
   block_stopped : (T : Type 0) (a b : S) (r t : Option (List ℕ)) (w : World) (lines : List Line) (works : Works) (stop : Stop) → IsBlockOf http net workers w lines works →
       works.left_out ≡ None → Rests b net (run net w (block_run net works)) → Tallied a b net.site (block_run net works) →
       Wrote {T = Unit {0}} (Err stop) r t (report_text nodes (block_items http net w lines works)) →
@@ -129,7 +128,7 @@ module _ {S : Type 0} (Stands Rests : S → Network → World → Type 0) (Talli
       block_stopped T a b r t w lines works Memory is whole (ways.rest b net _ ready.stands) tallied wrote
   block_ran {T = T} a b r t w lines works (Err (Forged line)) is whole ready tallied wrote = absurd wrote
 
-  -- it was done, and reported
+  -- The block was done and reported.
   pub block_told : {T : Type 0} (d : Declared) (a b : S) (r t : Option (List ℕ)) (w : World) (lines : List Line) (p : Prepared) (done : DoneBlock) (names : List (List ℕ)) (result : Result T Stop) →
       All (IsBlockLineFor d) lines → IsPrepared http net.site w lines p → DoesTogether Stands Tallied a b net workers w p.jobs.items done → names ≡ nodes →
       Wrote result r t (report_text names (items_told http p done)) → RanTasks Stands Rests Tallied nodes a b r t http net workers w (Does (entries.Block lines) ∷ []) result
@@ -138,7 +137,7 @@ module _ {S : Type 0} (Stands Rests : S → Network → World → Type 0) (Talli
       (subst (λ (xs : List NumberedItem). Wrote result r t (report_text nodes xs)) (same_items http net workers w lines p did.works done is did.are did.turns did.frames)
       (subst (λ (ns : List (List ℕ)). Wrote result r t (report_text ns (items_told http p done))) named wrote))
 
-  -- memory was wanting, before it or behind it
+  -- Memory ran out before the block was done or after it.
   pub block_left : (T : Type 0) (d : Declared) (a b : S) (r : Option (List ℕ)) (w : World) (lines : List Line) (p : Prepared) → All (IsBlockLineFor d) lines →
       IsPrepared http net.site w lines p → LeftTogether Rests Tallied a b net workers w p.jobs.items →
       RanTasks {T = T} Stands Rests Tallied nodes a b r r http net workers w (Does (entries.Block lines) ∷ []) (Err Memory)

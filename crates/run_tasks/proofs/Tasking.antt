@@ -1,4 +1,4 @@
--- Tasks one after the other.
+-- Tasks that are done in order.
 use Rattle.std.proofs.Common.{◌≡◌, ℕ, ◌+◌, ◌<◌, ◌≤◌, Bool, true, false, List, [], ◌∷◌, ◌++◌, length, get_or, drop, refl, sym, ap, subst, ◌∙◌, add-one, arith}
 use Rattle.std.specs.Prelude.{if◌then◌else◌, count_by, Option, Result, Ok, Err}
 use Rattle.std.proofs.Math.Seq.{drop-cons}
@@ -8,20 +8,20 @@ use Rattle.std.proofs.lemmas.List.Sums.{sum_by-cons}
 use Rattle.net_model.specs.Site.{Site}
 use Rattle.net_model.specs.World.{Network, World}
 use Rattle.net_model.specs.Action.{Action}
-use Rattle.report_items.specs.declared.item.NumberedItem.{NumberedItem}
-use Rattle.report_items.specs.Texts.{report_text}
-use Rattle.scenario_lines.specs.declared.line.Line.{Line}
-use Rattle.scenario_lines.specs.declared.entry.Entry.{Entry}
-use Rattle.scenario_lines.specs.declared.entry.Entry.TheVariants as entries
+use Rattle.run_types.specs.declared.item.NumberedItem.{NumberedItem}
+use Rattle.run_types.specs.Texts.{report_text}
+use Rattle.run_types.specs.declared.line.Line.{Line}
+use Rattle.run_types.specs.declared.entry.Entry.{Entry}
+use Rattle.run_types.specs.declared.entry.Entry.TheVariants as entries
 use Rattle.run_model.specs.Script.{Script}
 use Rattle.run_model.specs.Turn.{HttpTexts}
 use Rattle.run_model.specs.Lines.{script_of, begins}
 use Rattle.run_model.specs.Play.{Ending, Whole, CutShort, ForgedAt, NoMemory, Played, numbered, reporting, stopped_at, play, OneOf, IsPlay}
 use Rattle.run_model.specs.Report.{Task, Begins, Does, Performed, Acts, starts_from, perform, IsPerformed, is_whole, with_rest, report, IsRunOf, actions_for, actions_of}
 use Rattle.run_model.specs.Headline.{Took, TookFirst}
-use Rattle.run_plays.proofs.Plays.{reported}
-use Rattle.run_acts.specs.Acting.{IsReady}
-use Rattle.run_acts.specs.Runnable.{arms_a_disk}
+use Rattle.run_ops.proofs.Plays.{reported}
+use Rattle.run_ops.specs.Acting.{IsReady}
+use Rattle.run_ops.specs.Runnable.{arms_a_disk}
 use Rattle.run_lines.specs.declared.stop.Stop.{Stop}
 use Rattle.run_lines.specs.declared.stop.Stop.TheVariants.{WriteFault, Memory, Forged}
 use Rattle.run_lines.specs.Running.{StopsAs, Finishes, Stops, Ran}
@@ -29,7 +29,7 @@ use Rattle.run_tasks.specs.Tasks.{RanTasks}
 use Rattle.run_lines.proofs.Taking.{took_none, took_on, text_on, text_none}
 use Rattle.run_lines.proofs.Going.{Ways, stops_as}
 
--- What was done begins these tasks, reports these items and leads to a world where these are left.
+-- What was done is a first part of a run of these tasks. It reports these items and leads to a world where `rest` is left to do.
 pub record LeadsOn (http : HttpTexts) (net : Network) (workers : ℕ) (w : World) (tasks : List Task) (done : List Performed) (items : List NumberedItem) (after : World) (rest : List Task) : Type 0 where
   pub is : (more : List Performed) → IsRunOf http net workers after rest more → IsRunOf http net workers w tasks (done ++ more)
   pub said : (more : List Performed) → report http net w tasks (done ++ more) ≡ reporting items (report http net after rest more)
@@ -43,7 +43,7 @@ pub record DidSo {S : Type 0} (Stands : S → Network → World → Type 0) (Tal
   pub tallied : Tallied old now net.site (actions_of net done)
   pub took : Took before taken (report_text nodes items)
 
--- what a task asks for, and under which number
+-- The task plays this script, and reports under this number.
 pub record IsTask (http : HttpTexts) (net : Network) (workers : ℕ) (w : World) (task : Task) (number : ℕ) (script : Script) : Type 0 where
   pub is : (actions : List Action) → IsPlay net w script actions → IsPerformed http net workers w task (Acts actions)
   pub said : (actions : List Action) → perform http net w task (Acts actions) ≡ play net number w script actions
@@ -56,11 +56,11 @@ pub line_is : (http : HttpTexts) (net : Network) (workers : ℕ) (w : World) (li
 unfolding perform
 line_is http net workers w line = record { is = λ actions h. h; said = λ actions. refl }
 
--- how many of them arm a disk
+-- the number of entries that arm a disk
 pub one_more : (entry : Entry) (list : List Entry) → count_by arms_a_disk (entry ∷ list) ≡ (if arms_a_disk entry then 1 else 0) + count_by arms_a_disk list
 one_more entry list = sum_by-cons (λ (e : Entry). if arms_a_disk e then 1 else 0) entry list
 
--- the nodes from one on
+-- The starts from node i on are the start of node i, and then those of the nodes after it.
 pub one_begins : (lines : List ℕ) (i : ℕ) → i < length lines → starts_from i (drop i lines) ≡ Begins (get_or lines i 0) i ∷ starts_from (i + 1) (drop (i + 1) lines)
 one_begins lines i below =
     ap (starts_from i) (drop-cons lines i 0 below) ∙ ap (λ (n : ℕ). Begins (get_or lines i 0) i ∷ starts_from (i + 1) (drop n lines)) (sym (add-one i))
@@ -128,7 +128,7 @@ leads_on http net workers w m after tasks mid rest first second told more_told p
       ∙ reported told more_told (report http net after rest more) _ (q.said more);
 }
 
--- all tasks of a list, before others
+-- A whole run of some tasks leads on to the tasks after them.
 
 follow_one : (http : HttpTexts) (net : Network) (workers : ℕ) (w : World) (task : Task) (tasks last : List Task) (d : Performed) (ds : List Performed) (e : Ending) → (perform http net w task d).ending ≡ e →
     IsPerformed http net workers w task d → OneOf (is_whole e) (IsRunOf http net workers (perform http net w task d).world tasks ds) (ds ≡ []) →
@@ -154,7 +154,7 @@ leads_all http net workers last (task ∷ tasks) [] w is ends = absurd (let wron
 leads_all http net workers last (task ∷ tasks) (d ∷ ds) w is ends =
     follow_one http net workers w task tasks last d ds (perform http net w task d).ending refl is.0 is.1 ends (leads_all http net workers last tasks ds)
 
--- tasks that weren't all done, before others: what was done reports the same
+-- If not all tasks were done, tasks after them change nothing: what was done is a run of the longer list, and reports the same.
 
 pub record SameBefore (http : HttpTexts) (net : Network) (workers : ℕ) (w : World) (tasks last : List Task) (done : List Performed) : Type 0 where
   pub is : IsRunOf http net workers w (tasks ++ last) done
@@ -190,7 +190,7 @@ same_before http net workers last (task ∷ tasks) (d ∷ ds) w is =
     let all = same_one http net workers p tasks last ds p.ending is.1 (same_before http net workers last tasks ds) in
     record { is = (is.0, all.0); world = all.1; items = all.2; forged = all.3 }
 
--- ---- where it stops
+-- ---- where a run stops
 
 cut_world : (e : Ending) (p q : Played) → q.world ≡ p.world → (with_rest e p q).world ≡ p.world
 cut_world Whole p q same = same
@@ -298,7 +298,7 @@ module _ {S : Type 0} (Stands Rests : S → Network → World → Type 0) (Talli
         told = stops_as nodes _ _ p.items r t u stop said p.took q.told;
       }
 
-  -- ---- tasks after others
+  -- ---- tasks that follow others
 
   pub did_all : {T : Type 0} (answer : T) (a b : S) (r t : Option (List ℕ)) (w : World) (tasks last : List Task) → (p : RanTasks {T = T} Stands Rests Tallied nodes a b r t http net workers w tasks (Ok answer)) →
       DidSo Stands Tallied nodes a b r t http net workers w (tasks ++ last) (report http net w tasks p.done).world last
@@ -342,7 +342,7 @@ module _ {S : Type 0} (Stands Rests : S → Network → World → Type 0) (Talli
         told = told_before w tasks last p.done stop r t same p.told;
       }
 
-  -- ---- one task that is a line, by itself
+  -- ---- a single task that is a line
 
   pub ran_line : {T : Type 0} (a b : S) (r t : Option (List ℕ)) (w : World) (task : Task) (number : ℕ) (script : Script) (result : Result T Stop) → IsTask http net workers w task number script →
       Ran Stands Rests Tallied nodes a b r t number net w script result → RanTasks Stands Rests Tallied nodes a b r t http net workers w (task ∷ []) result

@@ -1,18 +1,18 @@
--- What is told, a part at a time.
+-- Writing a report in parts.
 use Rattle.std.proofs.Common.{◌≡◌, ℕ, ◌+◌, ◌<◌, ◌≤◌, List, [], ◌∷◌, ◌++◌, length, get_or, drop, map, refl, sym, ap, subst, ◌∙◌, add-one}
 use Rattle.std.specs.Prelude.{Option, Result, Ok, Err}
 use Rattle.std.specs.List.{flat_map}
 use Rattle.std.proofs.Math.Seq.{drop-cons}
 use Rattle.std.proofs.lemmas.List.{append_assoc, append-nil, drop_all}
-use Rattle.report_items.specs.declared.item.NumberedItem.{NumberedItem}
-use Rattle.report_items.specs.Texts.{report_text}
+use Rattle.run_types.specs.declared.item.NumberedItem.{NumberedItem}
+use Rattle.run_types.specs.Texts.{report_text}
 use Rattle.run_model.specs.Headline.{Took, TookFirst}
 use Rattle.run_lines.specs.declared.stop.Stop.{Stop}
 use Rattle.run_lines.specs.declared.stop.Stop.TheVariants.{WriteFault, Memory, Forged}
 use Rattle.run_lines.specs.Reporting.{Wrote}
 use Rattle.run_lines.proofs.Taking.{took_none, took_on, first_within, first_after, text_on, text_none}
 
--- some first items of the whole were told, and these are left
+-- Some first items of the report were written, and these are left.
 pub record IsTold (nodes : List (List ℕ)) (before taken : Option (List ℕ)) (whole left : List NumberedItem) : Type 0 where
   pub said : List NumberedItem
   pub is : whole ≡ said ++ left
@@ -55,7 +55,7 @@ module _ (nodes : List (List ℕ)) where
       told_ends {T = Unit {0}} a b c whole left (Err stop) p
       (subst (Wrote {T = Unit {0}} (Err stop) b c) (sym (ap (report_text nodes) e ∙ text_on nodes next rest)) (within b c _ (report_text nodes rest) stop wrote))
 
--- elements one after another
+-- the elements of a list, in order
 
 pub one_left : {A : Type 0} (f : A → List NumberedItem) (xs : List A) (i : ℕ) (x d : A) → i < length xs → x ≡ get_or xs i d →
     flat_map f (drop i xs) ≡ f x ++ flat_map f (drop (i + 1) xs)

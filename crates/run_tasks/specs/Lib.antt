@@ -1,3 +1,10 @@
 pub mod Prepared
 pub mod Reported
 pub mod Tasks
+pub mod Entries
+pub mod Told
+pub mod Counting
+pub mod Leading
+pub mod Lines
+pub mod Loaded
+pub mod Pieces

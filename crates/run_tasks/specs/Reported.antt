@@ -1,12 +1,12 @@
--- What a block reports, place by place.
+-- The line numbers under which a block reports.
 use Rattle.std.specs.Prelude.{ℕ, List, [], ◌∷◌, slice_get, Option, Some, None}
 use Rattle.std.specs.List.{flat_map}
-use Rattle.report_items.specs.declared.item.NumberedItem.{NumberedItem}
+use Rattle.run_types.specs.declared.item.NumberedItem.{NumberedItem}
 use Rattle.run_model.specs.Turn.{HttpTexts}
 use Rattle.run_model.specs.Play.{numbered}
-use Rattle.run_blocks.specs.declared.job.Job.{Job}
-use Rattle.run_blocks.specs.declared.done_block.Turned.{Turned}
-use Rattle.run_blocks.specs.declared.done_block.PutFrame.{PutFrame}
+use Rattle.run_ops.specs.declared.job.Job.{Job}
+use Rattle.run_ops.specs.declared.done_block.Turned.{Turned}
+use Rattle.run_ops.specs.declared.done_block.PutFrame.{PutFrame}
 use Rattle.run_tasks.specs.declared.prepared.Place.{Place}
 use Rattle.run_tasks.specs.Prepared.{tells}
 

@@ -1,19 +1,20 @@
--- What becomes of tasks that are done one after the other.
+-- The outcome of tasks that are done in order.
 use Rattle.std.specs.Prelude.{◌≡◌, ℕ, List, Option, Result, MatchResult}
 use Rattle.net_model.specs.Site.{Site}
 use Rattle.net_model.specs.World.{Network, World}
 use Rattle.net_model.specs.Action.{Action}
-use Rattle.report_items.specs.Texts.{report_text}
+use Rattle.run_types.specs.Texts.{report_text}
 use Rattle.run_model.specs.Turn.{HttpTexts}
 use Rattle.run_model.specs.Play.{Whole}
 use Rattle.run_model.specs.Report.{Task, Performed, IsRunOf, report, actions_of}
 use Rattle.run_model.specs.Headline.{Took}
-use Rattle.run_acts.specs.Acting.{IsReady}
+use Rattle.run_ops.specs.Acting.{IsReady}
 use Rattle.run_lines.specs.declared.stop.Stop.{Stop}
 use Rattle.run_lines.specs.Running.{StopsAs}
 
--- What was done is a run of these tasks by so many workers. Where all are done the network is ready for the world behind them and the sink took exactly the
--- text of the report; where the run stopped short, what is left rests in that world, and the report stopped as that says.
+-- What was done is a run of these tasks by `workers` workers. If all tasks were done, the network is ready for the world after them, and the sink
+-- took exactly the text of the report. If the run stopped early, what is left rests in the world where it stopped, and the report ends as that stop
+-- says.
 pub record RanTasks {S T : Type 0} (Stands Rests : S → Network → World → Type 0) (Tallied : S → S → Site → List Action → Type 0) (nodes : List (List ℕ)) (old new : S)
     (before taken : Option (List ℕ)) (http : HttpTexts) (net : Network) (workers : ℕ) (w : World) (tasks : List Task) (result : Result T Stop) : Type 0 where
   pub done : List Performed

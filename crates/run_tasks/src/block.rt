@@ -1,13 +1,13 @@
-// A block of lines.
+// Doing and reporting a block of lines.
 ghost use Rattle.std.specs.Prelude.{◌≡◌, ◌≤◌, ◌∷◌, [], ℕ, OnOk};
 ghost use Rattle.std.specs.List.{All};
 ghost use Rattle.net_model.specs.World.{Network, World};
-ghost use Rattle.scenario_lines.specs.declared.entry.Entry.TheVariants as entries;
+ghost use Rattle.run_types.specs.declared.entry.Entry.TheVariants as entries;
 ghost use Rattle.run_model.specs.Turn.{HttpTexts};
 ghost use Rattle.run_model.specs.Report.{Does};
-ghost use Rattle.run_acts.specs.Acting.{IsReady};
-ghost use Rattle.run_acts.specs.Runnable.{IsBlockLineFor};
-ghost use Rattle.run_blocks.specs.Doing.{MayTogether, DidTogether};
+ghost use Rattle.run_ops.specs.Acting.{IsReady};
+ghost use Rattle.run_ops.specs.Runnable.{IsBlockLineFor};
+ghost use Rattle.run_ops.specs.Doing.{MayTogether, DidTogether};
 ghost use Rattle.run_lines.specs.Reporting.{InLines, IsBlamed, IsItemLine};
 ghost use Rattle.run_lines.specs.Running.{IsReadySomewhere};
 ghost use Rattle.run_tasks.specs.Tasks.{RanTasks};
@@ -16,14 +16,13 @@ use crate::prepared::{Prepared, prepare};
 use crate::reporting::report;
 use edge_io::Sink;
 use qkd_base::Memory;
-use run_acts::Acts;
-use run_blocks::{DoneBlock, Job};
 use run_lines::{Requests, Stop};
-use scenario_lines::Lines;
+use run_ops::{Acts, DoneBlock, Job};
+use run_types::Lines;
 use std::alloc::Global;
 
-/// Lines of a block are done side by side by so many workers, as `together` has them do it, and then reported: first what was answered
-/// without a manager, then the managers' replies in order of node, last the frames.
+/// `workers` workers do the lines of a block side by side, through `together`. Then the block is reported: first the answers
+/// that needed no manager, then the managers' replies in order of node, and last the frames.
 #[tactic(auto, using(run_lines::proofs::Lines::stopped_unwritten))]
 pub fn do_block<
     S: Acts,

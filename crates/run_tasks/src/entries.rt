@@ -1,13 +1,13 @@
-// The tasks of a scenario.
+// Running the tasks of a scenario.
 ghost use Rattle.std.specs.Prelude.{◌≡◌, ◌≤◌, ◌+◌, ◌^◌, ◌∷◌, [], if◌then◌else◌, ℕ, map, length, count_by, OnOk};
 ghost use Rattle.std.specs.List.{All};
 ghost use Rattle.declared_site.specs.SiteOf.{IsDeclared};
 ghost use Rattle.net_model.specs.World.{Network, World};
 ghost use Rattle.run_model.specs.Turn.{HttpTexts};
 ghost use Rattle.run_model.specs.Report.{starts_from, tasks, Does};
-ghost use Rattle.run_acts.specs.Acting.{IsReady};
-ghost use Rattle.run_acts.specs.Runnable.{IsEntryFor, arms_a_disk};
-ghost use Rattle.run_blocks.specs.Doing.{MayTogether, DidTogether};
+ghost use Rattle.run_ops.specs.Acting.{IsReady};
+ghost use Rattle.run_ops.specs.Runnable.{IsEntryFor, arms_a_disk};
+ghost use Rattle.run_ops.specs.Doing.{MayTogether, DidTogether};
 ghost use Rattle.run_lines.specs.Reporting.{InLines, IsBlamed, IsItemLine};
 ghost use Rattle.run_lines.specs.Running.{IsReadySomewhere};
 ghost use Rattle.run_tasks.specs.Tasks.{RanTasks};
@@ -15,10 +15,9 @@ ghost use Rattle.run_tasks.specs.Tasks.{RanTasks};
 use crate::block::do_block;
 use edge_io::Sink;
 use qkd_base::{Memory, NodeNo};
-use run_acts::Acts;
-use run_blocks::{DoneBlock, Job};
 use run_lines::{Requests, Stop, begin, command};
-use scenario_lines::{Entries, Entry, Line};
+use run_ops::{Acts, DoneBlock, Job};
+use run_types::{Entries, Entry, Line};
 use std::alloc::Global;
 
 // Starts the declared nodes in order, each reported under the number of its line.
@@ -47,7 +46,7 @@ fn begin_all<S: Acts, W: Sink>(
     Ok(())
 }
 
-// Does an entry: a line, or a block of lines that so many workers do.
+// Does an entry: a line, or a block of lines that `workers` workers do.
 fn do_entry<S: Acts, T: Fn(&mut S, u32, &[Job]) -> Result<DoneBlock, Memory>, H: Requests, W: Sink>(
     alloc: Global,
     net: &mut S,
@@ -119,8 +118,9 @@ fn do_all<S: Acts, T: Fn(&mut S, u32, &[Job]) -> Result<DoneBlock, Memory>, H: R
     Ok(())
 }
 
-/// Runs a scenario: starts the declared nodes in order, each reported under the number of its line, and then does the entries,
-/// each block by so many workers, as `together` has them do it. What they name is declared, and 2^32 of them at most arm a disk.
+/// Runs a scenario. It starts the declared nodes in order and reports each under the number of its line. Then it does the
+/// entries in order; `workers` workers do each block, through `together`. What the entries name must be declared, and at most
+/// 2^32 of them may arm a disk.
 pub fn run_entries<
     S: Acts,
     T: Fn(&mut S, u32, &[Job]) -> Result<DoneBlock, Memory>,

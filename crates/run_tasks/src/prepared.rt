@@ -1,36 +1,33 @@
-// A block's lines as jobs.
+// The lines of a block as jobs.
 ghost use Rattle.std.specs.Prelude.{◌≡◌, ◌<◌, ◌++◌, ◌∷◌, [], true, length, IfOk, OnOk};
 ghost use Rattle.std.specs.List.{All};
 ghost use Rattle.declared_site.specs.SiteOf.{site_of};
 ghost use Rattle.declared_site.specs.declared.site.Site.{Site as SiteValue};
 ghost use Rattle.net_model.specs.World.{Network, World};
 ghost use Rattle.net_model.specs.Events.{is_lane};
-ghost use Rattle.scenario_lines.specs.declared.command.Command.TheVariants as commands;
+ghost use Rattle.run_types.specs.declared.command.Command.TheVariants as commands;
 ghost use Rattle.run_model.specs.Turn.{HttpTexts};
 ghost use Rattle.run_model.specs.Works.{may_stand_in_block};
-ghost use Rattle.run_acts.specs.Acting.{IsReady};
-ghost use Rattle.run_acts.specs.Runnable.{IsBlockLineFor, IsCommandFor};
+ghost use Rattle.run_ops.specs.Acting.{IsReady};
+ghost use Rattle.run_ops.specs.Runnable.{IsBlockLineFor, IsCommandFor};
 ghost use Rattle.run_tasks.specs.Prepared.{IsAllowed, IsMadeAllowed, IsLineMade, IsPrepared, job_made, place_made, told_made};
 
 use qkd_base::{Lane, Memory, NodeNo, Octets};
-use report_items::{FrameResult, Item, Refusal};
-use run_acts::Acts;
-use run_blocks::Job;
 use run_lines::{Answer, Asked, Requests};
-use run_turns::{Reporting, asked_by, http_item};
-use scenario_lines::{Command, Line, Lines};
+use run_ops::{Acts, Job, Reporting, asked_by, http_item};
+use run_types::{Command, FrameResult, Item, Line, Lines, Refusal};
 use std::alloc::Global;
 
-/// How a line's reply is told.
+/// Which part of the reply to a line is reported.
 #[derive(Clone, Copy)]
 pub enum Telling {
-    /// Nobody is asked.
+    /// Nothing: the line asks nobody.
     Nothing,
-    /// By what was asked.
+    /// The part that this reporting picks.
     Asked(Reporting),
-    /// As what came of a frame.
+    /// What came of a frame.
     Passed { lane: Lane, frame: u32 },
-    /// As the answer to a request over HTTP.
+    /// The answer to an HTTP request.
     Answered { node: NodeNo },
 }
 
@@ -39,7 +36,7 @@ pub enum Telling {
 pub struct Place {
     /// The line's number.
     pub number: u32,
-    /// How the reply to it is told.
+    /// Which part of the reply is reported.
     pub telling: Telling,
 }
 
@@ -51,10 +48,10 @@ pub struct Told {
     pub item: Item,
 }
 
-/// A block's lines.
+/// The lines of a block, ready to be done.
 #[derive(Drop)]
 pub struct Prepared {
-    /// What each line asks.
+    /// The job of each line.
     pub jobs: Vec<Job>,
     /// The place of each line.
     pub places: Vec<Place>,
@@ -62,14 +59,14 @@ pub struct Prepared {
     pub told: Vec<Told>,
 }
 
-// A line's job and how its reply is told, or what is reported of it at once.
+// A line's job and which part of the reply is reported, or what is reported of the line at once.
 #[derive(Drop)]
 enum Made {
     Job(Job, Telling),
     Told(Item),
 }
 
-// A frame that doesn't stand on its wire is refused at once.
+// Makes a job of a frame's pass. A frame that isn't on its wire is refused at once.
 fn pass<S: Acts>(net: &S, lane: &Lane, frame: u32) -> Made
     requires lane { is_lane (site_of (S.site net.now)) lane.now ≡ true }
     ensures made { (http : HttpTexts) (n : Network) (w : World) → IsReady S.stands net.now n w → IsLineMade http (site_of (S.site net.now)) w (commands.Pass lane.now frame) result }
@@ -94,7 +91,7 @@ fn pass<S: Acts>(net: &S, lane: &Lane, frame: u32) -> Made
     }
 }
 
-// A request over HTTP asks an event, or is answered at once.
+// Makes a job of an HTTP request that asks for an event, or answers the request at once.
 fn http<H: Requests>(
     alloc: Global,
     requests: &H,
@@ -117,7 +114,7 @@ fn http<H: Requests>(
     }
 }
 
-// What a line of a block is made.
+// Makes a job of a line, or finds what is reported of the line at once.
 fn line_made<S: Acts, H: Requests>(
     alloc: Global,
     net: &S,
@@ -146,7 +143,7 @@ fn line_made<S: Acts, H: Requests>(
     }
 }
 
-// Adds what the line of a number is made.
+// Adds what was made of the line with this number.
 fn add(prepared: &mut Prepared, number: u32, made: Made) -> Result<(), Memory>
     ensures jobs { OnOk result (prepared.new.jobs.items ≡ prepared.old.jobs.items ++ job_made made ∷ []) }
     ensures places { OnOk result (prepared.new.places.items ≡ prepared.old.places.items ++ place_made number made ∷ []) }
@@ -167,7 +164,7 @@ fn add(prepared: &mut Prepared, number: u32, made: Made) -> Result<(), Memory>
     Ok(())
 }
 
-/// The lines of a block, each as a job or with what is reported of it.
+/// Makes a job of each line of a block, or finds what is reported of the line at once.
 pub fn prepare<S: Acts, H: Requests>(
     alloc: Global,
     net: &S,

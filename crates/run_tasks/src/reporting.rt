@@ -1,7 +1,7 @@
 // The report of a block.
 ghost use Rattle.std.specs.Prelude.{◌≡◌, ◌++◌, IfOk, map};
 ghost use Rattle.std.specs.Option.{option_to_list};
-ghost use Rattle.report_items.specs.Texts.{report_text};
+ghost use Rattle.run_types.specs.Texts.{report_text};
 ghost use Rattle.run_model.specs.Turn.{HttpTexts};
 ghost use Rattle.run_lines.specs.Reporting.{InLines, IsBlamed, IsItemLine, Wrote};
 ghost use Rattle.run_tasks.specs.declared.prepared.Telling.TheVariants as tellings;
@@ -13,13 +13,12 @@ use declared_site::Site;
 use edge_io::Sink;
 use net_model::Reply;
 use qkd_base::{Items, Memory, NodeNo};
-use report_items::Item;
-use run_blocks::{DoneBlock, Job, PutFrame, Turned};
 use run_lines::{Answer, Requests, Stop, write_item, write_items};
-use run_turns::{Delivery, http_item, passed_item};
+use run_ops::{Delivery, DoneBlock, Job, PutFrame, Turned, http_item, passed_item};
+use run_types::Item;
 use std::alloc::Global;
 
-// One item, if there is one.
+// The list of this one item, or the empty list.
 fn listed(alloc: Global, item: Option<Item>) -> Result<Items<Item>, Memory>
     ensures { IfOk result (λ items. items ≡ option_to_list item) }
 {
@@ -31,7 +30,7 @@ fn listed(alloc: Global, item: Option<Item>) -> Result<Items<Item>, Memory>
     Ok(items)
 }
 
-// The answer to a request, if a job is one.
+// The answer to a request, if the job is one.
 fn answered<H: Requests>(
     alloc: Global,
     requests: &H,
@@ -51,7 +50,7 @@ fn answered<H: Requests>(
     }
 }
 
-// What a place tells of its reply.
+// What is reported of the reply to a job.
 fn told_of<H: Requests>(
     alloc: Global,
     requests: &H,
@@ -75,7 +74,7 @@ fn told_of<H: Requests>(
     }
 }
 
-// Writes what is told of lines that ask nobody.
+// Writes what is reported of lines that ask nobody.
 fn write_told<W: Sink>(alloc: Global, site: &Site, told: &[Told], sink: &mut W) -> Result<(), Stop>
     ensures wrote { Wrote result (W.taken sink.old) (W.taken sink.new) (report_text site.now.nodes (map told_item told.now)) }
     ensures blame { IsBlamed (W.faults sink.old) (W.faults sink.new) result }
@@ -90,7 +89,7 @@ fn write_told<W: Sink>(alloc: Global, site: &Site, told: &[Told], sink: &mut W) 
     Ok(())
 }
 
-// Writes what the place of a reply tells of it.
+// Writes what is reported of one reply.
 #[tactic(auto, using(run_lines::proofs::Lines::stopped_unwritten, run_lines::proofs::Lines::none_lined))]
 fn write_turn<H: Requests, W: Sink>(
     alloc: Global,
@@ -118,7 +117,7 @@ fn write_turn<H: Requests, W: Sink>(
     }
 }
 
-// Writes what is told of each reply.
+// Writes what is reported of each reply.
 fn write_turns<H: Requests, W: Sink>(
     alloc: Global,
     site: &Site,
@@ -141,7 +140,7 @@ fn write_turns<H: Requests, W: Sink>(
     Ok(())
 }
 
-// The number of the line at a place; 0 where there is none.
+// The number of the line at a place; 0 if there is no such place.
 fn number_at(places: &[Place], place: usize) -> u32
     ensures { result ≡ number_in places.now place }
 {
@@ -173,7 +172,7 @@ fn write_frames<W: Sink>(
     Ok(())
 }
 
-/// Writes what a block reports: what is told of lines that ask nobody, the managers' replies, and the frames.
+/// Writes the report of a block: the items of lines that ask nobody, then the managers' replies, and last the frames.
 pub fn report<H: Requests, W: Sink>(
     alloc: Global,
     site: &Site,

@@ -1,4 +1,4 @@
--- The set of allowed pairs, as the rows of the applications keep it.
+-- The set of allowed pairs, computed from the rows of the applications.
 use Rattle.std.proofs.Common.{◌≡◌, ℕ, zero, suc, ◌+◌, ◌<◌, ◌==◌, ◌&&◌, ◌||◌, Bool, true, false, List, [], ◌∷◌, ◌++◌, length, map, get_or, cond, Option, Some, None, subst, inl, inr, ◌⊎◌, set, replicate, refl, sym, ap, ◌∙◌, arith}
 use Rattle.std.proofs.lemmas.List.Folds.{list_any-append}
 use Rattle.std.proofs.lemmas.Bool.{and_parts, eqb-true}
@@ -60,7 +60,7 @@ slaves_any (true ∷ row) (suc s) = ap (λ b. b || list_any (λ y. suc s == y) (
 slaves_any (false ∷ row) zero = any_map (λ y. zero == y) (λ n. n + 1) (slaves_of row) ∙ any_none _ never (slaves_of row)
 slaves_any (false ∷ row) (suc s) = any_map (λ y. suc s == y) (λ n. n + 1) (slaves_of row) ∙ any_same _ (λ y. s == y) (later s) (slaves_of row) ∙ slaves_any row s
 
--- the row of an application
+-- the row of application m
 abbrev pub row_at : List Application → ℕ → List Bool
 row_at [] m = []
 row_at (a ∷ rest) zero = a.slaves
@@ -104,7 +104,7 @@ pairs_any (a ∷ rest) (suc m) s =
     ∙ ap (λ b. b || list_any (is_pair (suc m, s)) others) here
     ∙ there
 
--- what the set holds is what the row says
+-- the set holds a pair exactly if the row of its master does
 pub contains_row : (all : List Application) (m s : ℕ) → contains (from_list {R = pair_cmp} (pairs_of all)) (m, s) ≡ get_or (row_at all m) s false
 contains_row all m s =
     contains-from_list pair_total (pairs_of all) (m, s)
@@ -189,7 +189,7 @@ place_saes : (all : List Application) (id : List ℕ) (i : ℕ) → position_fro
 place_saes [] id i = refl
 place_saes (a ∷ rest) id i = ap (λ (o : Option ℕ). cond (bytes_eq a.id id) (Some i) o) (place_saes rest id (i + 1))
 
--- where an ID stands among the applications, it stands in their view
+-- an ID has the same place among the stored applications as in their view
 pub find_at : (all items : List Application) (g : Grants) (id : List ℕ) → items ≡ all → grants_of all ≡ g → position_from (λ (a : Application). bytes_eq a.id id) 0 items ≡ find_sae g.saes id
 find_at all items g id is view =
     ap (position_from (λ (a : Application). bytes_eq a.id id) 0) is

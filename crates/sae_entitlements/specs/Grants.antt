@@ -1,4 +1,4 @@
--- Applications with their homes, and the pairs that are allowed.
+-- Applications with their homes, and the allowed pairs of them.
 use Rattle.std.specs.Prelude.{◌≡◌, ℕ, ◌<◌, List, [], ◌∷◌, ◌++◌, length, slice_get, Option, Some, Bool, refl}
 use Rattle.std.specs.List.{position_from}
 use Rattle.std.specs.Option.{option_map}
@@ -7,12 +7,12 @@ use Rattle.std.specs.Coded.{Coded, code_by, coded×, coded_ℕ, coded_list}
 use Rattle.std.specs.FinSet as set
 use Rattle.sae_entitlements.specs.Pair.{pair_cmp}
 
--- an application: its ID, and the node where it gets its keys
+-- an application: its ID, and the node at which it gets its keys
 pub record Sae : Type 0 where
   pub id : List ℕ
   pub home : ℕ
 
--- the applications by number, and the pairs of a master and a slave that are allowed
+-- the applications in order of their numbers, and the allowed pairs of a master and a slave
 pub record Grants : Type 0 where
   pub saes : List Sae
   pub allowed : set.FinSet pair_cmp
@@ -48,6 +48,6 @@ with_pair g master slave = record g { allowed = set.insert g.allowed (master, sl
 abbrev pub IsKnown : Grants → ℕ → Type 0
 IsKnown g n = n < length g.saes
 
--- no two applications have one ID: each is found by its own
+-- no two applications have the same ID, so each is found by its own
 abbrev pub HasDistinctIds : List Sae → Type 0
 HasDistinctIds saes = (n : ℕ) (s : Sae) → slice_get saes n ≡ Some s → find_sae saes s.id ≡ Some n

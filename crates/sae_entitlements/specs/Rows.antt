@@ -1,4 +1,4 @@
--- How the applications keep the pairs: each has a row with one answer for each slave.
+-- How the applications store the allowed pairs: each has a row that says for each slave whether the pair is allowed.
 use Rattle.std.specs.Prelude.{ℕ, ◌+◌, ◌≤◌, List, [], ◌∷◌, ◌++◌, length, map, Bool, true, false}
 use Rattle.std.specs.FinSet as set
 use Rattle.sae_entitlements.specs.declared.application.Application.{Application}
@@ -7,7 +7,7 @@ use Rattle.sae_entitlements.specs.Grants.{Sae, Grants, HasDistinctIds}
 abbrev pub sae_of : Application → Sae
 sae_of a = record { id = a.id; home = a.home }
 
--- the places of a row that say yes
+-- the places of a row that hold true
 abbrev pub slaves_of : List Bool → List ℕ
 slaves_of [] = []
 slaves_of (true ∷ row) = 0 ∷ map (λ n. n + 1) (slaves_of row)

@@ -1,4 +1,4 @@
-// Which applications there are, and which pairs of them are allowed.
+// The applications, and the allowed pairs of them.
 ghost use Rattle.std.specs.Prelude.{◌≡◌, ℕ, ◌==◌, ◌&&◌, ◌||◌, ◌<◌, ◌≤◌, ◌↔◌, IfOk, IfSome, IsOk, OnOk, OnErr, IsSome, None, length, true, false};
 ghost use Rattle.std.specs.List.{position_from};
 ghost use Rattle.std.specs.Option.{option_copied};
@@ -12,7 +12,9 @@ use qkd_base::{Memory, NodeNo, Replica, SaeNo, Text};
 use std::alloc::Global;
 use std::marker::Model;
 
-/// The applications (SAEs) with their homes, at most 256, numbered from 0 in the order in which they were added, and the pairs of a master SAE and a slave SAE that are allowed (ETSI GS QKD 014 V1.1.1, Get key). What is allowed in one order isn't thereby allowed in the other.
+/// The applications (SAEs) with their homes, and the allowed pairs of a master SAE and a slave SAE (ETSI GS QKD 014
+/// V1.1.1, Get key). There are at most 256 applications, numbered from 0 in the order in which they were added. A pair
+/// that is allowed in one order need not be allowed in the other.
 #[derive(Drop)]
 pub struct Entitlements {
     applications: Vec<Application>,
@@ -33,7 +35,7 @@ impl Model for Entitlements {
 }
 
 impl Entitlements {
-    /// No application. It takes no memory.
+    /// No applications. No memory is allocated.
     pub fn new(alloc: Global) -> Self
         ensures first { result ≡ none }
         ensures pairs { (m s : ℕ) → is_allowed result m s ≡ false }
@@ -43,12 +45,12 @@ impl Entitlements {
         }
     }
 
-    /// Adds an application, which gets the next number.
+    /// Adds an application. It gets the next number.
     pub fn add_sae(&mut self, id: &str, home: NodeNo) -> Result<SaeNo, AddRefusal>
         ensures ok { IfOk result (λ sae. (sae ≡ length self.old.saes) × (self.new ≡ with_sae self.old id.now home)) }
         ensures known { (result ≡ Err AddRefusal.Known) ↔ IsSome (find_sae self.old.saes id.now) }
 
-        // Only one that isn't known is refused for want of room.
+        // An ID that is known is refused as such, even if there are 256 applications.
         ensures full { (result ≡ Err AddRefusal.Full) ↔ ((find_sae self.old.saes id.now ≡ None) × (length self.old.saes ≡ 256)) }
         ensures err { OnErr result (self.new ≡ self.old) }
     {
@@ -62,7 +64,7 @@ impl Entitlements {
         Ok(number)
     }
 
-    // One more application, where memory is there.
+    // Adds one more application. This fails if memory runs out.
     fn push(&mut self, id: &str, home: NodeNo) -> Result<(), Memory>
         requires room { length self.old.saes < 256 }
         requires unknown { find_sae self.old.saes id.now ≡ None }
@@ -78,7 +80,7 @@ impl Entitlements {
         Ok(())
     }
 
-    /// Allows the master to have keys for the slave. It takes no memory.
+    /// Allows the master to have keys for the slave. No memory is allocated.
     pub fn allow(&mut self, master: SaeNo, slave: SaeNo)
         requires master { IsKnown self.old master }
         requires slave { IsKnown self.old slave }
@@ -94,7 +96,7 @@ impl Entitlements {
         ensures first { result ≡ find_sae self.now.saes id.now }
         ensures known { IfSome result (λ sae. IsKnown self.now sae) }
 
-        // What holds of the applications at any time.
+        // The invariant of the applications.
         ensures distinct { HasDistinctIds self.now.saes }
         ensures room { length self.now.saes ≤ 256 }
     {
@@ -111,7 +113,7 @@ impl Entitlements {
         Some(application.id.as_str())
     }
 
-    /// The node where an application gets its keys.
+    /// The node at which an application gets its keys.
     pub fn home(&self, sae: SaeNo) -> Result<NodeNo, UnknownSae>
         ensures node { result_ok result ≡ home_of self.now sae }
         ensures known { IsOk result ↔ IsKnown self.now sae }
@@ -145,7 +147,7 @@ impl Entitlements {
     }
 }
 
-// The first place of an ID.
+// The place of the first application with this ID.
 fn place_of(applications: &[Application], id: &str) -> Option<usize>
     ensures place { result ≡ position_from (λ a. bytes_eq a.id id.now) 0 applications.now }
     ensures within { IfSome result (λ place. place < length applications.now) }

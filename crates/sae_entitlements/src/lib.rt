@@ -1,10 +1,9 @@
+//! Applications (SAEs) with their homes, and which of them may have keys for which others.
 #![tactic(auto)]
 
 mod application;
 mod entitlements;
 mod refusal;
-#[cfg(test)]
-mod tests;
 
 pub use entitlements::Entitlements;
 pub use refusal::{AddRefusal, EntitlementRefusal, UnknownSae};

@@ -1,4 +1,4 @@
-// Why a call on entitlements is refused.
+// The refusals of calls about applications and their entitlements.
 ghost use Rattle.std.specs.Prelude.{◌≡◌};
 ghost use Rattle.sae_entitlements.specs.declared.refusal.AddRefusal.TheVariants.{Memory};
 
@@ -9,11 +9,11 @@ use std::fmt;
 /// Why an application isn't added. The cases are tried in this order.
 #[derive(Clone, Copy, Debug, PartialEq, Eq)]
 pub enum AddRefusal {
-    /// An application of this ID is there.
+    /// An application with this ID is already there.
     Known,
-    /// 256 applications are there.
+    /// There are 256 applications already.
     Full,
-    /// Memory is wanting.
+    /// Memory ran out.
     Memory,
 }
 
@@ -40,9 +40,9 @@ impl Error for AddRefusal {}
 /// Why a master gets no key for a slave. The cases are tried in this order.
 #[derive(Clone, Copy, Debug, PartialEq, Eq)]
 pub enum EntitlementRefusal {
-    /// One of both isn't known.
+    /// One of the two numbers is not that of an application.
     UnknownSae,
-    /// The pair isn't allowed in this order.
+    /// The pair is not allowed in this order.
     NotAllowed,
 }
 

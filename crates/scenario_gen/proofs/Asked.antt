@@ -1,4 +1,4 @@
--- What the generated load asks for, the ring can say.
+-- The commands of the generated load can be written for its ring of eight nodes.
 use Rattle.std.proofs.Common.{◌≡◌, ℕ, zero, suc, ◌+◌, ◌*◌, ◌^◌, ◌≤◌, ◌<◌, true, ◌||◌, eqb, List, [], ◌∷◌, ◌++◌, length, Some, refl, sym, ◌∙◌, arith, length-append, subst, lit≤}
 use Rattle.std.specs.Prelude.{map, is_some}
 use Rattle.std.specs.List.{flat_map}
@@ -14,18 +14,18 @@ use Rattle.qkd_base.specs.Name.{Name, IsName}
 use Rattle.net_model.specs.Site.{lane_of, count_up}
 use Rattle.route_table.specs.Table.{ends_of}
 use Rattle.declared_site.specs.declared.site.Site.{Site}
-use Rattle.scenario_lines.specs.declared.command.Command.{Command}
-use Rattle.scenario_lines.specs.declared.command.Command.TheVariants as commands
-use Rattle.scenario_reader.specs.Words.{is_name}
-use Rattle.scenario_reader.specs.Fields.{node_of, sae_of, link_of}
-use Rattle.scenario_reader.specs.Line.{rounds_with}
-use Rattle.scenario_spelling.specs.Spelling.{spelled, node_word, sae_word, name_word}
-use Rattle.scenario_spelling.specs.Readable.{HasNode, HasSae, HasLink, CanSay}
-use Rattle.scenario_spelling.proofs.Numerals.{number_in_is}
+use Rattle.run_types.specs.declared.command.Command.{Command}
+use Rattle.run_types.specs.declared.command.Command.TheVariants as commands
+use Rattle.scenario_text.specs.Words.{is_name}
+use Rattle.scenario_text.specs.Fields.{node_of, sae_of, link_of}
+use Rattle.scenario_text.specs.Line.{rounds_with}
+use Rattle.scenario_format.specs.Spelling.{spelled, node_word, sae_word, name_word}
+use Rattle.scenario_format.specs.Readable.{HasNode, HasSae, HasLink, CanSay}
+use Rattle.scenario_format.proofs.Numerals.{number_in_is}
 use Rattle.run_model.specs.Load.{load_site, round_lines, master_in, slave_in, names_before}
 use Rattle.scenario_gen.specs.LoadText.{bits_of, ledgers_of, load_commands}
 
--- ---- what the ring has
+-- ---- the ring's nodes, applications and links
 
 pub has_node : (v : ℕ) → v < 8 → HasNode load_site v
 unfolding is_name node_of digits
@@ -69,7 +69,7 @@ link_read site l h there = rw (number_in_is 0 31 l (omega arith) (omega arith) (
 pub has_link : (l : ℕ) → l < 8 → HasLink load_site l
 has_link l h = record { small = omega arith; read = link_read load_site l (omega arith) (link_there l h) }
 
--- ---- how long words are
+-- ---- lengths of words
 
 node_short : (v : ℕ) → v < 8 → length (node_word load_site v) ≤ 32
 unfolding is_name
@@ -87,7 +87,7 @@ name_short n = by_index_length 36 _
 
 -- ---- each command
 
--- it can be said, adds few rounds, and is short
+-- The command can be written for the ring, adds at most 40 rounds of settles, and has a short line.
 pub record IsGood (c : Command) : Type 0 where
   pub can : CanSay load_site c
   pub rounds : (k : ℕ) → rounds_with k c ≤ k + 40
@@ -137,7 +137,7 @@ good_dec slave master node before s m n b = record {
       simp length-append (omega arith);
 }
 
--- ---- a round
+-- ---- the commands of a round
 
 pub length_up : (n : ℕ) → length (count_up n) ≡ n
 length_up zero = refl
@@ -163,7 +163,7 @@ both_good : (cs ds : List Command) → AllGood cs → AllGood ds → AllGood (cs
 both_good [] ds a b = b
 both_good (c ∷ cs) ds a b = (a.0, both_good cs ds a.1 b)
 
--- the same for each of the first numbers
+-- If the commands of each index below n are good, so are the commands of all these indexes together.
 each_good : (f : ℕ → List Command) (n : ℕ) → ((i : ℕ) → i < n → AllGood (f i)) → AllGood (flat_map f (count_up n))
 each_good f zero good = tt
 each_good f (suc n) good =

@@ -1,17 +1,17 @@
--- The lines that declare the ring are read as its site.
+-- The lines that declare the ring are read as the ring's site.
 use Rattle.std.proofs.Common.{◌≡◌, ℕ, ◌+◌, ◌-◌, ◌≤◌, Bool, true, false, not, ◌&&◌, eqb, List, [], ◌∷◌, ◌++◌, length, get_or, Option, Some, None, refl, sym, ap, ◌∙◌, arith, append_assoc, append-nil, length-append, lit≤}
 use Rattle.std.specs.Prelude.{nat_le, map}
 use Rattle.std.specs.List.{list_all}
 use Rattle.std.specs.Str.Lines.{strip_carriage_return}
-use Rattle.scenario_reader.specs.declared.reading.Reading.{Reading}
-use Rattle.scenario_reader.specs.Words.{words_of, is_name}
-use Rattle.scenario_reader.specs.Fields.{node_of, sae_of}
-use Rattle.scenario_reader.specs.Declaring.{declared_node, declared_link, declared_sae, declared_pair}
-use Rattle.scenario_reader.specs.Line.{Step, Goes, Ends, is_printable, nothing_read, line_at, words_at, declaration_at}
-use Rattle.scenario_reader.specs.Text.{parts_from, parts_of}
-use Rattle.scenario_spelling.specs.Spelling.{with_ends}
-use Rattle.scenario_spelling.proofs.Clean.{and_left, and_right, no_feeds}
-use Rattle.scenario_spelling.proofs.Texts.{one_line}
+use Rattle.scenario_text.specs.declared.reading.Reading.{Reading}
+use Rattle.scenario_text.specs.Words.{words_of, is_name}
+use Rattle.scenario_text.specs.Fields.{node_of, sae_of}
+use Rattle.scenario_text.specs.Declaring.{declared_node, declared_link, declared_sae, declared_pair}
+use Rattle.scenario_text.specs.Line.{Step, Goes, Ends, is_printable, nothing_read, line_at, words_at, declaration_at}
+use Rattle.scenario_text.specs.Text.{parts_from, parts_of}
+use Rattle.scenario_format.specs.Spelling.{with_ends}
+use Rattle.scenario_format.proofs.Clean.{and_left, and_right, no_feeds}
+use Rattle.scenario_format.proofs.Texts.{one_line}
 use Rattle.run_model.specs.Load.{load_site, load_nodes, load_pairs}
 use Rattle.net_model.specs.Site.{count_up}
 use Rattle.std.specs.FinSet as set
@@ -23,7 +23,7 @@ use Rattle.route_table.specs.Table.{no_links}
 use Rattle.sae_entitlements.specs.Grants.{none}
 use Rattle.scenario_gen.specs.LoadText.{declared_lines, node_name, sae_name}
 
--- what lines make of what was read, where none is refused or the last
+-- The state of reading after a line. There is none after a refused line or after the last one.
 abbrev now_in : Option Step → Option Reading
 now_in None = None
 now_in (Some Ends) = None
@@ -43,7 +43,7 @@ is_plain line = list_all is_printable line && not (eqb (get_or line (length line
 abbrev pub are_plain : List (List ℕ) → Bool
 are_plain lines = list_all is_plain lines
 
--- the ring was declared
+-- the state of reading once the ring is declared
 abbrev pub declared : Reading
 declared = record nothing_read { site = load_site; node_lines = map (λ v. v + 1) load_nodes }
 
@@ -70,7 +70,7 @@ sae_lines_are : run links_read 17 (map (λ v. codes "sae" ++ sae_name v ++ node_
 unfolding line_at words_at words_of declaration_at declared_sae node_of sae_of is_name digits
 sae_lines_are = refl
 
--- the pairs one after another
+-- The pairs are inserted into the set in their order.
 abbrev inserted : set.FinSet pair_cmp → List (ℕ × ℕ) → set.FinSet pair_cmp
 inserted s [] = s
 inserted s (p ∷ ps) = inserted (set.insert s p) ps
@@ -86,7 +86,7 @@ all_plain : are_plain declared_lines ≡ true
 unfolding digits
 all_plain = refl
 
--- ---- the pairs are a set
+-- ---- the set of all pairs
 
 inserts : (ps rest : List (ℕ × ℕ)) → inserted (set.from_list ps) rest ≡ set.from_list (ps ++ rest)
 inserts ps [] = ap set.from_list (sym (append-nil ps))
@@ -98,7 +98,7 @@ inserts ps (p ∷ rest) =
 pairs_are : pairs_read ≡ declared
 pairs_are = ap (λ (s : set.FinSet pair_cmp). record nodes_read { site = record { nodes = load_site.nodes; routes = load_site.routes; entitlements = record { saes = load_site.entitlements.saes; allowed = s } } }) (inserts [] load_pairs)
 
--- ---- lines one after another
+-- ---- lines in order
 
 not_true : (b : Bool) → not b ≡ true → b ≡ false
 not_true true h = absurd cc
@@ -155,7 +155,7 @@ reads_lines left n r to (line ∷ lines) rest goes lined room =
     reads_one (line_at r n line) left n r to line lines rest refl goes (and_left (is_plain line) (are_plain lines) lined) room
     (λ now on_now. reads_lines (left - (length line + 1)) (n + 1) now to lines rest on_now (and_right (is_plain line) (are_plain lines) lined) (omega (arith, long)))
 
--- ---- the ring
+-- ---- the whole ring
 
 all_read : run nothing_read 1 declared_lines ≡ Some pairs_read
 unfolding line_at words_at words_of declaration_at declared_node declared_link declared_sae declared_pair node_of sae_of is_name digits

@@ -1,4 +1,4 @@
--- What grows line by line, and round by round.
+-- How the text grows by a line, and by a round.
 use Rattle.std.proofs.Common.{◌≡◌, ℕ, ◌+◌, ◌*◌, ◌%◌, Bool, true, false, cond, ◌||◌, eqb, List, [], ◌∷◌, ◌++◌, refl, sym, ap, ◌∙◌, add-one, append_assoc, append-nil, arith}
 use Rattle.std.specs.Prelude.{map, count_by}
 use Rattle.std.specs.List.{flat_map}
@@ -8,8 +8,8 @@ use Rattle.std.proofs.lemmas.List.Sums.{sum_by-append}
 use lib.Chars.{codes}
 use Rattle.net_model.specs.Site.{count_up}
 use Rattle.declared_site.specs.declared.site.Site.{Site}
-use Rattle.scenario_lines.specs.declared.command.Command.{Command}
-use Rattle.scenario_spelling.specs.Spelling.{spelled, with_ends, lines_of}
+use Rattle.run_types.specs.declared.command.Command.{Command}
+use Rattle.scenario_format.specs.Spelling.{spelled, with_ends, lines_of}
 use Rattle.run_model.specs.Load.{load_site, master_in, slave_in, names_before, round_lines}
 use Rattle.scenario_gen.specs.LoadText.{declared_lines, bits_of, ledgers_of, load_commands, load_text}
 
@@ -21,7 +21,7 @@ lines_append site cs ds = ap with_ends (map-append (spelled site) cs ds) ∙ fla
 next_up : (n : ℕ) → count_up (n + 1) ≡ count_up n ++ n ∷ []
 next_up n = rw add-one refl
 
--- one command more
+-- Each index has a command. The command's line at the next index extends the text of the indexes before.
 pub one_line_more : (text old : List ℕ) (f : ℕ → Command) (n : ℕ) → old ≡ text ++ lines_of load_site (map f (count_up n)) → (new : List ℕ) → new ≡ old ++ (spelled load_site (f n) ++ 10 ∷ []) → new ≡ text ++ lines_of load_site (map f (count_up (n + 1)))
 one_line_more text old f n e new g =
     let more : lines_of load_site (map f (count_up (n + 1))) ≡ lines_of load_site (map f (count_up n)) ++ (spelled load_site (f n) ++ 10 ∷ []) =
@@ -31,7 +31,7 @@ one_line_more text old f n e new g =
     ∙ ap (λ (t : List ℕ). lines_of load_site (map f (count_up n)) ++ t) (append-nil (spelled load_site (f n) ++ 10 ∷ [])) in
     g ∙ ap (λ (t : List ℕ). t ++ (spelled load_site (f n) ++ 10 ∷ [])) e ∙ append_assoc text (lines_of load_site (map f (count_up n))) (spelled load_site (f n) ++ 10 ∷ []) ∙ ap (λ (t : List ℕ). text ++ t) (sym more)
 
--- the commands of one number more
+-- Each index has commands. Their lines at the next index extend the text of the indexes before.
 pub some_lines_more : (text old : List ℕ) (f : ℕ → List Command) (n : ℕ) → old ≡ text ++ lines_of load_site (flat_map f (count_up n)) → (new : List ℕ) → new ≡ old ++ lines_of load_site (f n) → new ≡ text ++ lines_of load_site (flat_map f (count_up (n + 1)))
 some_lines_more text old f n e new g =
     let more : lines_of load_site (flat_map f (count_up (n + 1))) ≡ lines_of load_site (flat_map f (count_up n)) ++ lines_of load_site (f n) =
@@ -41,7 +41,7 @@ some_lines_more text old f n e new g =
     ∙ ap (λ (cs : List Command). lines_of load_site (flat_map f (count_up n)) ++ lines_of load_site cs) (append-nil (f n)) in
     g ∙ ap (λ (t : List ℕ). t ++ lines_of load_site (f n)) e ∙ append_assoc text (lines_of load_site (flat_map f (count_up n))) (lines_of load_site (f n)) ∙ ap (λ (t : List ℕ). text ++ t) (sym more)
 
--- ---- names
+-- ---- names of keys
 
 abbrev gives : ℕ → ℕ → Bool
 gives node round = eqb (master_in round) node || eqb (slave_in round) node
@@ -83,6 +83,6 @@ whole rounds head bits keys ledgers text a b c d e =
     ∙ regroup (with_ends declared_lines) (lines_of load_site f) (lines_of load_site g) (lines_of load_site h) (codes "end\n")
     ∙ ap (λ (t : List ℕ). with_ends declared_lines ++ (t ++ codes "end\n")) (sym all)
 
--- a round's four lines
+-- Four pieces, added in order, are added as one.
 pub four_lines : (t0 t1 t2 t3 t4 a b c d : List ℕ) → t1 ≡ t0 ++ a → t2 ≡ t1 ++ b → t3 ≡ t2 ++ c → t4 ≡ t3 ++ d → t4 ≡ t0 ++ (a ++ (b ++ (c ++ (d ++ []))))
 four_lines t0 t1 t2 t3 t4 a b c d e f g h = rw (h, g, f, e) (simp (append_assoc, append-nil))

@@ -1,8 +1,8 @@
--- The names of the ring.
+-- How the nodes and applications of the ring are named.
 use Rattle.std.proofs.Common.{◌≡◌, ℕ, zero, suc, ◌<◌, ◌++◌, refl, arith}
 use Rattle.std.specs.Fmt.{decimal}
 use lib.Chars.{codes}
-use Rattle.scenario_spelling.specs.Spelling.{node_word, sae_word}
+use Rattle.scenario_format.specs.Spelling.{node_word, sae_word}
 use Rattle.run_model.specs.Load.{load_site}
 
 pub node_is : (v : ℕ) → v < 8 → node_word load_site v ≡ codes "n" ++ decimal v

@@ -1,4 +1,4 @@
--- The whole text of the load is read as its scenario.
+-- The text of the generated load is read as the load's scenario.
 use Rattle.std.proofs.Common.{◌≡◌, ℕ, zero, suc, ◌+◌, ◌-◌, ◌*◌, ◌≤◌, List, [], ◌∷◌, ◌++◌, length, take, Ok, refl, ap, ◌∙◌, arith, length-append, lit≤}
 use Rattle.std.specs.Prelude.{map}
 use Rattle.std.specs.List.{flat_map}
@@ -6,14 +6,14 @@ use Rattle.std.proofs.lemmas.List.{take_all}
 use Rattle.std.proofs.lemmas.Grind.{flat_map-append}
 use lib.Chars.{codes}
 use Rattle.net_model.specs.Site.{count_up}
-use Rattle.scenario_lines.specs.declared.command.Command.{Command}
-use Rattle.scenario_lines.specs.declared.entry.Entry.{Entry}
-use Rattle.scenario_lines.specs.declared.entry.Entry.TheVariants as entries
-use Rattle.scenario_reader.specs.Line.{nothing_read, rounds_with}
-use Rattle.scenario_reader.specs.Text.{parts_from, parts_of, meaning_of, text_limit}
-use Rattle.scenario_spelling.specs.Spelling.{spelled, with_ends, lines_of, numbered}
-use Rattle.scenario_spelling.specs.Readable.{CanSayAll, RoundsFit}
-use Rattle.scenario_spelling.proofs.Texts.{reads_text}
+use Rattle.run_types.specs.declared.command.Command.{Command}
+use Rattle.run_types.specs.declared.entry.Entry.{Entry}
+use Rattle.run_types.specs.declared.entry.Entry.TheVariants as entries
+use Rattle.scenario_text.specs.Line.{nothing_read, rounds_with}
+use Rattle.scenario_text.specs.Text.{parts_from, parts_of, meaning_of, text_limit}
+use Rattle.scenario_format.specs.Spelling.{spelled, with_ends, lines_of, numbered}
+use Rattle.scenario_format.specs.Readable.{CanSayAll, RoundsFit}
+use Rattle.scenario_format.proofs.Texts.{reads_text}
 use Rattle.run_model.specs.Load.{load_site, load_scenario, load_entries, numbered_from, round_lines}
 use Rattle.scenario_gen.specs.LoadText.{declared_lines, bits_of, ledgers_of, load_commands, load_text}
 use Rattle.scenario_gen.proofs.Declared.{declared, few_octets, ring_is_read}
@@ -81,7 +81,7 @@ text_is_read rounds low high =
     ∙ reads_text (text_limit - length (with_ends declared_lines)) 81 declared (load_commands rounds) refl (all_can (load_commands rounds) good) (rounds_fit 0 (load_commands rounds) good (omega arith)) (omega arith)
     ∙ ap (λ (es : List Entry). Ok (record { site = load_site; node_lines = declared.node_lines; entries = es })) (entries_are rounds)
 
--- no octet is past the limit
+-- The text is no longer than a scenario may be.
 text_short : (rounds : ℕ) → 1 ≤ rounds → rounds ≤ 500 → length (load_text rounds) ≤ text_limit + 1
 unfolding load_text
 text_short rounds low high =

@@ -1,14 +1,14 @@
--- The text of the generated load: the lines that declare its ring, those that ask for something, and the last one.
+-- The text of the generated load: the lines that declare its ring, the lines of its commands, and `end`.
 use Rattle.std.specs.Prelude.{ℕ, ◌+◌, ◌*◌, List, [], ◌∷◌, ◌++◌, map}
 use Rattle.std.specs.List.{flat_map}
 use Rattle.std.specs.Fmt.{decimal}
 use lib.Chars.{codes}
 use Rattle.qkd_base.specs.declared.lane.Way.TheVariants.{Up, Down}
 use Rattle.net_model.specs.Site.{lane_of, count_up}
-use Rattle.scenario_lines.specs.declared.end.Ends.TheVariants.{Both}
-use Rattle.scenario_lines.specs.declared.command.Command.{Command}
-use Rattle.scenario_lines.specs.declared.command.Command.TheVariants as commands
-use Rattle.scenario_spelling.specs.Spelling.{with_ends, lines_of}
+use Rattle.run_types.specs.declared.end.Ends.TheVariants.{Both}
+use Rattle.run_types.specs.declared.command.Command.{Command}
+use Rattle.run_types.specs.declared.command.Command.TheVariants as commands
+use Rattle.scenario_format.specs.Spelling.{with_ends, lines_of}
 use Rattle.run_model.specs.Load.{load_nodes, load_pairs, load_site, round_lines}
 
 abbrev pub node_name : ℕ → List ℕ
@@ -17,7 +17,7 @@ node_name v = codes " n" ++ decimal v
 abbrev pub sae_name : ℕ → List ℕ
 sae_name v = codes " s" ++ decimal v
 
--- 8 nodes in a ring, an application at each, and all pairs
+-- Eight nodes in a ring, an application at each node, and all pairs of applications.
 abbrev pub declared_lines : List (List ℕ)
 declared_lines =
     map (λ v. codes "node" ++ node_name v) load_nodes

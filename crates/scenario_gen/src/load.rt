@@ -1,9 +1,9 @@
-// The whole text.
+// The whole text of the generated load.
 ghost use Rattle.std.specs.Prelude.{◌≡◌, ◌++◌, ◌∷◌, [], ◌<◌, ◌≤◌, OnOk, IfOk, Ok, map};
 ghost use Rattle.std.specs.List.{flat_map};
 ghost use Rattle.net_model.specs.Site.{count_up};
-ghost use Rattle.scenario_reader.specs.Text.{meaning_of};
-ghost use Rattle.scenario_spelling.specs.Spelling.{spelled, lines_of};
+ghost use Rattle.scenario_text.specs.Text.{meaning_of};
+ghost use Rattle.scenario_format.specs.Spelling.{spelled, lines_of};
 ghost use Rattle.run_model.specs.Load.{load_site, load_scenario, round_lines};
 ghost use Rattle.scenario_gen.specs.LoadText.{bits_of, ledgers_of, load_text};
 
@@ -13,7 +13,7 @@ use crate::words::{number, word};
 use qkd_base::{Memory, Octets};
 use std::alloc::Global;
 
-// Link bytes for two blocks of each lane in each round.
+// The line `bits` that gives a link's two ends two blocks of each lane for each round.
 fn bits_line(text: &mut Octets, link: u8, rounds: u32) -> Result<(), Memory>
     requires { rounds ≤ 500 }
     ensures { OnOk result (text.new ≡ text.old ++ (spelled load_site (bits_of rounds link) ++ 10 ∷ [])) }
@@ -25,7 +25,7 @@ fn bits_line(text: &mut Octets, link: u8, rounds: u32) -> Result<(), Memory>
     text.extend(b"\n")
 }
 
-// What became of the bytes of both lanes of a link.
+// The lines that ask for the ledgers of both lanes of a link.
 fn ledger_lines(text: &mut Octets, link: u8) -> Result<(), Memory>
     ensures { OnOk result (text.new ≡ text.old ++ lines_of load_site (ledgers_of link)) }
 {
@@ -65,8 +65,9 @@ fn all_ledgers(text: &mut Octets) -> Result<(), Memory>
     Ok(())
 }
 
-/// The text of the generated load of 1 to 500 rounds: eight nodes in a ring with an application at each, link bytes for
-/// two blocks of each lane in each round, the rounds, and the ledgers of all lanes. It is read as a scenario.
+/// The text of the generated load of 1 to 500 rounds. It declares eight nodes in a ring with an application at each. It
+/// gives the links two blocks of each lane for each round. Behind the rounds it asks for the ledgers of all lanes. The
+/// text is read as the load's scenario. The only error is that memory runs out.
 pub fn scenario_of(alloc: Global, rounds: u32) -> Result<Octets, Memory>
     requires least { 1 ≤ rounds }
     requires most { rounds ≤ 500 }

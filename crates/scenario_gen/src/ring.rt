@@ -1,9 +1,9 @@
 // The lines that declare the ring.
 ghost use Rattle.std.specs.Prelude.{◌≡◌};
-ghost use Rattle.scenario_spelling.specs.Spelling.{with_ends};
+ghost use Rattle.scenario_format.specs.Spelling.{with_ends};
 ghost use Rattle.scenario_gen.specs.LoadText.{declared_lines};
 
-/// Eight nodes in a ring, an application at each, and all pairs.
+/// Declares eight nodes in a ring, an application at each node, and all pairs of applications.
 pub fn ring_lines() -> &'static str
     ensures { result.now ≡ with_ends declared_lines }
 {

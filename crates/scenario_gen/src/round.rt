@@ -1,15 +1,14 @@
 // The lines of a round.
-ghost use Rattle.std.specs.Prelude.{◌≡◌, ◌+◌, ◌*◌, ◌%◌, ◌==◌, ◌||◌, ◌++◌, ◌∷◌, [], ◌<◌, ◌≤◌, OnOk};
-ghost use Rattle.std.specs.Prelude.{map};
+ghost use Rattle.std.specs.Prelude.{◌≡◌, ◌+◌, ◌*◌, ◌%◌, ◌==◌, ◌||◌, ◌++◌, ◌∷◌, [], ◌<◌, ◌≤◌, OnOk, map};
 ghost use Rattle.qkd_base.specs.declared.key_name.NameKind.TheVariants.{Key};
-ghost use Rattle.scenario_lines.specs.declared.command.Command.TheVariants as commands;
-ghost use Rattle.scenario_spelling.specs.Spelling.{spelled, spaced, lines_of, name_word};
+ghost use Rattle.run_types.specs.declared.command.Command.TheVariants as commands;
+ghost use Rattle.scenario_format.specs.Spelling.{spelled, spaced, lines_of, name_word};
 ghost use Rattle.run_model.specs.Load.{load_site, round_lines, names_before};
 
 use crate::words::{name, node, number, sae};
 use qkd_base::{KeyName, Memory, NameKind, NodeNo, Octets};
 
-// Whether a node gives names in a round.
+// Whether a node is the home of the master or of the slave of a round.
 fn is_in(node: u32, round: u32) -> bool
     requires { round < 500 }
     ensures { result ≡ (round % 8 == node || (3 * round + 1) % 8 == node) }
@@ -17,7 +16,7 @@ fn is_in(node: u32, round: u32) -> bool
     round % 8 == node || (3 * round + 1) % 8 == node
 }
 
-// How many it gives.
+// How many names a node gives in a round: four for new keys, or four for the Stored notes of keys.
 fn names_in(node: u32, round: u32) -> u64
     requires { round < 500 }
     ensures sum { names_before node (round + 1) ≡ names_before node round + result }
@@ -26,7 +25,7 @@ fn names_in(node: u32, round: u32) -> u64
     if is_in(node, round) { 4 } else { 0 }
 }
 
-// How many names a node gave before a round.
+// How many names a node has given before a round.
 fn names_before(node: u32, round: u32) -> u64
     requires { round ≤ 500 }
     ensures { result ≡ names_before node round }
@@ -38,7 +37,7 @@ fn names_before(node: u32, round: u32) -> u64
     count
 }
 
-// Makes four keys.
+// The line that makes four keys for a master and a slave.
 fn fill_line(text: &mut Octets, master: u8, slave: u8) -> Result<(), Memory>
     requires master { master < 8 }
     requires slave { slave < 8 }
@@ -52,7 +51,7 @@ fn fill_line(text: &mut Octets, master: u8, slave: u8) -> Result<(), Memory>
     text.extend(b"\n")
 }
 
-// Brings them.
+// The line that brings the keys to the slave's node.
 fn settle_line(text: &mut Octets) -> Result<(), Memory>
     ensures { OnOk result (text.new ≡ text.old ++ (spelled load_site (commands.Settle 40) ++ 10 ∷ [])) }
 {
@@ -61,7 +60,7 @@ fn settle_line(text: &mut Octets) -> Result<(), Memory>
     text.extend(b"\n")
 }
 
-// Hands them to the master.
+// The line that hands the four keys to the master.
 fn enc_line(text: &mut Octets, master: u8, slave: u8) -> Result<(), Memory>
     requires master { master < 8 }
     requires slave { slave < 8 }
@@ -76,7 +75,7 @@ fn enc_line(text: &mut Octets, master: u8, slave: u8) -> Result<(), Memory>
     text.extend(b"\n")
 }
 
-// Adds the name of a key of a node of the ring.
+// Adds the name of one key of a node of the ring.
 fn key(text: &mut Octets, node: u8, count: u64) -> Result<(), Memory>
     requires node { node < 8 }
     requires some { 1 ≤ count }
@@ -92,7 +91,7 @@ fn key(text: &mut Octets, node: u8, count: u64) -> Result<(), Memory>
     }
 }
 
-// Adds the names of four keys.
+// Adds the names of four consecutive keys. The node gave `before` names before them.
 fn keys(text: &mut Octets, node: u8, before: u64) -> Result<(), Memory>
     requires node { node < 8 }
     requires few { before ≤ 4000 }
@@ -104,7 +103,7 @@ fn keys(text: &mut Octets, node: u8, before: u64) -> Result<(), Memory>
     key(text, node, before + 4)
 }
 
-// Hands them to the slave, by their names.
+// The line that hands the four keys to the slave, by their names.
 fn dec_line(text: &mut Octets, slave: u8, master: u8, before: u64) -> Result<(), Memory>
     requires master { master < 8 }
     requires slave { slave < 8 }
@@ -119,7 +118,7 @@ fn dec_line(text: &mut Octets, slave: u8, master: u8, before: u64) -> Result<(),
     text.extend(b"\n")
 }
 
-/// Adds a round: keys are made by one application for another, brought, and handed to both.
+/// Adds a round: four keys are made for a master and a slave, brought to the slave's node, and handed to both.
 pub fn round_lines(text: &mut Octets, round: u32) -> Result<(), Memory>
     requires { round ≤ 500 }
     ensures { OnOk result (text.new ≡ text.old ++ lines_of load_site (round_lines round)) }

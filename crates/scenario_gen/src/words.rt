@@ -1,12 +1,13 @@
 // The words of a line. Each call adds a space and a word behind what the text has so far.
 ghost use Rattle.std.specs.Prelude.{◌≡◌, ◌++◌, ◌∷◌, ◌<◌, OnOk};
 ghost use Rattle.std.specs.Fmt.{decimal};
-ghost use Rattle.scenario_spelling.specs.Spelling.{node_word, sae_word, name_word};
+ghost use Rattle.scenario_format.specs.Spelling.{node_word, sae_word, name_word};
 ghost use Rattle.run_model.specs.Load.{load_site};
 
 use itoa::Buffer;
-use qkd_base::uuid::Uuid;
+use key_uuid::to_uuid;
 use qkd_base::{KeyName, Memory, Octets};
+use uuid::Uuid;
 
 /// Adds a word.
 pub fn word(text: &mut Octets, word: &[u8]) -> Result<(), Memory>
@@ -29,7 +30,7 @@ pub fn name(text: &mut Octets, name: KeyName) -> Result<(), Memory>
     ensures { OnOk result (text.new ≡ text.old ++ 32 ∷ name_word name) }
 {
     let mut buffer = Uuid::encode_buffer();
-    let spelled = name.to_uuid().hyphenated().encode_lower(&mut buffer);
+    let spelled = to_uuid(name).hyphenated().encode_lower(&mut buffer);
     word(text, spelled.as_bytes())
 }
 

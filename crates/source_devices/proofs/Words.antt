@@ -1,4 +1,4 @@
--- Octets that are read by whole words, and reads one after another.
+-- A key stream that is read by whole words, and consecutive reads of it.
 use Rattle.std.proofs.Common.{◌≡◌, ℕ, zero, suc, ◌+◌, ◌*◌, ◌/◌, ◌%◌, ◌^◌, ◌<◌, ◌≤◌, List, [], ◌∷◌, ◌++◌, length, take, refl, sym, ap, ap₂, ◌∙◌, arith, add-zero}
 use Rattle.std.proofs.lemmas.List.{take_all}
 use Rattle.std.specs.Int.{w32, to_le_bytes}
@@ -12,7 +12,7 @@ unfolding octets_from
 length_from octet place zero = refl
 length_from octet place (suc n) = ap suc (length_from octet (place + 1) n)
 
--- octets after octets
+-- The first m octets and the n octets behind them are the first m + n octets.
 joined : (octet : ℕ → ℕ) (place m n : ℕ) → octets_from octet place (m + n) ≡ octets_from octet place m ++ octets_from octet (place + m) n
 unfolding octets_from
 joined octet place zero n = let e : 0 + n ≡ n = omega arith in rw (e, add-zero) refl
@@ -21,7 +21,7 @@ joined octet place (suc m) n =
     let f : place + suc m ≡ place + 1 + m = omega arith in
     rw (e, f) (ap (λ (r : List ℕ). octet place ∷ r) (joined octet (place + 1) m n))
 
--- one octet of a word
+-- Each octet of a word is an octet of the stream.
 word_octet : (letter number pos k j : ℕ) → pos < 2 ^ 68 → j < 4 → octet_of (stream_word letter number ((pos + k) % 2 ^ 68)) j ≡ stream_octet letter number (4 * pos + 4 * k + j)
 unfolding stream_octet
 word_octet letter number pos k j small less =
@@ -29,7 +29,7 @@ word_octet letter number pos k j small less =
     let within : (4 * pos + 4 * k + j) % 2 ^ 70 % 4 ≡ j = omega arith in
     ap₂ (λ (w i : ℕ). octet_of (stream_word letter number w) i) (sym word) (sym within)
 
--- the four octets of a word
+-- The four octets of a word are consecutive octets of the stream.
 four_octets : (letter number pos k : ℕ) → pos < 2 ^ 68 → to_le_bytes w32 (stream_word letter number ((pos + k) % 2 ^ 68)) ≡ octets_from (stream_octet letter number) (4 * pos + 4 * k) 4
 unfolding octets_from
 four_octets letter number pos k small =
@@ -39,7 +39,7 @@ four_octets letter number pos k small =
     ap₂ more (omega arith ∙ is 0 (omega arith) ∙ ap octet (omega arith))
     (ap₂ more (is 1 (omega arith)) (ap₂ more (is 2 (omega arith) ∙ ap octet (omega arith)) (ap₂ more (is 3 (omega arith) ∙ ap octet (omega arith)) refl)))
 
--- a generator that stands at a word
+-- the generator with this seed, before its word `pos`
 abbrev pub at_word : ℕ → ℕ → ℕ → ChaCha
 at_word letter number pos = record { key = key_of (seed letter number); stream = 0; word_pos = pos }
 
@@ -47,7 +47,7 @@ no_octets : (octet : ℕ → ℕ) (place : ℕ) → [] ≡ octets_from octet pla
 unfolding octets_from
 no_octets octet place = refl
 
--- the octets of some words, and where the generator stands after them
+-- k words are 4 * k octets of the stream, and the generator then stands k words further.
 words_are : (letter number pos k : ℕ) → pos < 2 ^ 68 →
     word_bytes (to_le_bytes w32) (next_word 10) k (at_word letter number pos) ≡ (octets_from (stream_octet letter number) (4 * pos) (4 * k), at_word letter number ((pos + k) % 2 ^ 68))
 unfolding word_bytes
@@ -62,7 +62,7 @@ words_are letter number pos (suc k) small =
     ap (λ (p : List ℕ × ChaCha). (p.0 ++ to_le_bytes w32 (next_word 10 p.1).0, (next_word 10 p.1).1)) before
     ∙ ap₂ (λ (xs : List ℕ) (p : ℕ). (xs, at_word letter number p)) (four ∙ ap (octets_from octet (4 * pos)) count) next
 
--- whole words that were read by a stream, which a contract sees as t
+-- Whole words were read: the n octets are the stream's, and the generator stands at the word behind them. t is the stream s as contracts see it.
 pub record HaveRead (s t : StreamForm) (n : ℕ) (given : List ℕ) (after : ChaCha) : Type 0 where
   pub octets : given ≡ next_octets t n
   pub stands : after ≡ at_word s.letter s.number (((s.place + n) % 2 ^ 70 + 3) / 4 % 2 ^ 68)
@@ -88,14 +88,14 @@ words_read s t n g h given seen low began whole stands filled =
       whole = omega arith;
     }
 
--- after the last octet come the first ones again
+-- The stream repeats after 2^70 octets: places that are equal modulo 2^70 have equal octets.
 again : (letter number place other n : ℕ) → place % 2 ^ 70 ≡ other % 2 ^ 70 → octets_from (stream_octet letter number) place n ≡ octets_from (stream_octet letter number) other n
 unfolding octets_from stream_octet
 again letter number place other zero same = refl
 again letter number place other (suc n) same =
     ap₂ (λ (x : ℕ) (xs : List ℕ). x ∷ xs) (ap (octet_at letter number) same) (again letter number (place + 1) (other + 1) n (omega arith))
 
--- a read after a read
+-- Two consecutive reads give what one read of both lengths gives.
 pub read_on : (s t : StreamForm) (a b : List ℕ) (m n : ℕ) → t ≡ moved s m → a ≡ next_octets s m → b ≡ next_octets t n → a ++ b ≡ next_octets s (m + n)
 read_on s t a b m n is first second =
     let same : (s.place + m) % 2 ^ 70 % 2 ^ 70 ≡ (s.place + m) % 2 ^ 70 = omega arith in

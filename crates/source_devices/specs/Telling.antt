@@ -1,16 +1,16 @@
--- What a device or an entropy that tells its octets may answer.
+-- What a device or an entropy may answer. Its octets may be known (`Some`) or unknown (`None`).
 use Rattle.std.specs.Prelude.{◌≡◌, ℕ, ◌+◌, ◌-◌, ◌*◌, true, false, List, Option, Some, None, Result, Ok, Err, option_map}
 use Rattle.net_model.specs.OctetSequence.{OctetSequence, has_octets, octets_from, block_at}
 use Rattle.source_devices.specs.declared.shortage.Shortage.{Shortage}
 use Rattle.source_devices.specs.declared.shortage.Shortage.TheVariants.{Failed, End}
 
--- what is left after the first n octets
+-- the rest of a sequence behind its first n octets
 pub record IsRest (t : OctetSequence) (n : ℕ) (rest : OctetSequence) : Type 0 where
   pub octet : (i : ℕ) → rest.octet i ≡ t.octet (n + i)
   pub last : rest.end ≡ option_map (λ (e : ℕ). e - n) t.end
 
--- A draw of n octets gives the first ones, and leaves the rest; it finds the end exactly where fewer are left, and a refusal takes nothing.
--- Where nothing is told there is no end.
+-- A draw of n octets gives the first n and leaves the rest. It finds the end exactly if fewer than n are left, and an error takes none.
+-- Unknown octets have no end.
 abbrev pub Draws : {T : Type 0} → Option OctetSequence → Option OctetSequence → Result T Shortage → ℕ → List ℕ → Type 0
 Draws None new (Err End) n into = ⊥
 Draws None new _ n into = Unit {0}
@@ -18,8 +18,8 @@ Draws (Some t) new (Ok _) n into = (has_octets t n ≡ true) × (into ≡ octets
 Draws (Some t) new (Err Failed) n into = (has_octets t n ≡ true) × (new ≡ Some t)
 Draws (Some t) new (Err End) n into = (has_octets t n ≡ false) × (new ≡ Some t)
 
--- Block number n is 1,024 octets of the list; the end is found exactly where the list has no such whole block. Where nothing is told there
--- is no end.
+-- Block n is the octets from 1,024 * n on. The end is found exactly if the sequence has no such whole block. Unknown octets have no
+-- end.
 abbrev pub GivesBlock : {T : Type 0} → Option OctetSequence → ℕ → Result T Shortage → List ℕ → Type 0
 GivesBlock None n (Err End) into = ⊥
 GivesBlock None n _ into = Unit {0}

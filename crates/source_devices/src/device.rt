@@ -1,4 +1,4 @@
-// Where the blocks of a link come from.
+// The trait of quantum key distribution links.
 ghost use Rattle.std.specs.Prelude.{◌≡◌, ◌≤◌, ℕ, Option, IsErrOf};
 ghost use Rattle.qkd_base.specs.Faults.{Rose};
 ghost use Rattle.net_model.specs.OctetSequence.{OctetSequence};
@@ -7,15 +7,15 @@ ghost use Rattle.source_devices.specs.Telling.{GivesBlock};
 
 use crate::Shortage;
 
-/// A quantum key distribution link: it has one list of octets, which both of its ends read in blocks of 1,024.
+/// The devices of a link (quantum key distribution). Both ends of the link read the same list of octets, in blocks of 1,024.
 pub trait Device {
-    /// The list, where it is told.
+    /// The list of octets, if it is known. With `None` the contracts say nothing of the octets.
     ghost told: { Self → Option OctetSequence };
 
-    /// How often a block failed.
+    /// How many calls of `block` have failed.
     ghost faults: { Self → ℕ };
 
-    /// The block of this number, from 0. A device that doesn't tell its list never answers `End`.
+    /// Copies block `number`, counted from 0, into the buffer. A device with an unknown list never returns `End`.
     fn block(&mut self, number: u32, into: &mut [u8; 1024]) -> Result<(), Shortage>
         ensures block { GivesBlock (told self.old) number result into.new }
         ensures told { told self.new ≡ told self.old }

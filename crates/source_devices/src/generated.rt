@@ -1,4 +1,4 @@
-// A device and an entropy that tell the same octets in each run.
+// A device and an entropy that give the same octets in each run.
 ghost use Rattle.std.specs.Prelude.{◌≡◌, ◌≤◌, ◌+◌, ◌%◌, ◌^◌, ℕ, Some, OnOk, IsErrOf, IsOk, length};
 ghost use Rattle.qkd_base.specs.Faults.{Rose};
 ghost use Rattle.source_devices.specs.declared.shortage.Shortage.TheVariants.{Failed as ShortageFailed};
@@ -10,10 +10,10 @@ use crate::{Device, Entropy, Shortage};
 use qkd_base::{LinkNo, NodeNo};
 use std::marker::Model;
 
-// How many whole blocks a generated device has.
+// The number of blocks of a generated device.
 const BLOCKS: u32 = 1024;
 
-/// The device of a link whose 1,048,576 octets are the first of a key stream of ChaCha20. It never fails.
+/// A link's device with 1,048,576 octets, the first ones of a key stream of ChaCha20. It never fails.
 #[derive(Drop)]
 pub struct GeneratedDevice {
     stream: KeyStream,
@@ -30,7 +30,7 @@ impl Model for GeneratedDevice {
 }
 
 impl GeneratedDevice {
-    /// The device of this link.
+    /// The generated device of a link.
     pub fn new(link: LinkNo) -> Self
         ensures { result ≡ link }
     {
@@ -59,7 +59,7 @@ impl Device for GeneratedDevice {
     }
 }
 
-/// The entropy of a node whose octets are a key stream of ChaCha20, without end. It never fails.
+/// A node's entropy without end: the octets of a key stream of ChaCha20. It never fails.
 #[derive(Drop)]
 pub struct GeneratedEntropy {
     stream: KeyStream,
@@ -77,7 +77,7 @@ impl Model for GeneratedEntropy {
 }
 
 impl GeneratedEntropy {
-    /// The entropy of this node, from its first octet on.
+    /// The generated entropy of a node, from its first octet on.
     #[tactic(auto, using(crate::proofs::Streams::starts))]
     pub fn new(node: NodeNo) -> Self
         ensures form { result ≡ record { letter = 0x45; number = node; place = 0 } }

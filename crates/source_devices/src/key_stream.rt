@@ -1,4 +1,4 @@
-// The octets of a key stream of ChaCha20.
+// Key streams of ChaCha20.
 ghost use Rattle.std.specs.Prelude.{◌≡◌, ◌+◌, ◌*◌, ◌%◌, ◌^◌, ◌<◌, length};
 ghost use Rattle.net_model.specs.OctetSequence.{octets_from};
 ghost use Rattle.source_devices.specs.KeyStream.{octet_at, octet_of, stream_octet, next_octets, moved};
@@ -8,17 +8,17 @@ use rand_core::SeedableRng;
 use rand_core::utils::{NextWord, fill_bytes_via_u32};
 use std::marker::Model;
 
-// How many octets a stream has: 2^68 words of four. After them it begins again.
+// The number of octets of a stream: 2^68 words of four. After them the stream repeats.
 const PERIOD: u128 = 1 << 70;
 
-/// The octets of a key stream of ChaCha20 (RFC 8439, with a block counter of 64 bits), from a place on. Its key is a
-/// letter, a number and thirty zeros, its stream 0; each word gives four octets, the lowest first.
+/// The octets of a key stream of ChaCha20 (RFC 8439, with a block counter of 64 bits), from a place on. The key is a letter,
+/// a number and thirty zeros, and the stream's number is 0. Each word gives four octets, the lowest first.
 #[derive(Drop)]
 pub struct KeyStream {
     letter: u8,
     number: u8,
     generator: ChaCha20Rng,
-    // The word of which some octets are left.
+    // The word that was last begun. It is only used while some of its octets are left.
     held: u32,
     place: u128,
 }
@@ -54,7 +54,7 @@ impl KeyStream {
         }
     }
 
-    /// Goes to the octet at 1,024 times a number.
+    /// Moves to the octet at 1,024 * `number`.
     pub fn go_to_block(&mut self, number: u32)
         ensures { self.new ≡ record self.old { place = 1024 * number } }
     {
@@ -63,11 +63,11 @@ impl KeyStream {
         self.place = 4 * word;
     }
 
-    // A place is below the period.
+    // The place of the next octet is below the period.
     fn within(&self)
         ensures { self.now.place < 2 ^ 70 }
     {
-        // A read shows what holds of it at any time.
+        // Reading a field makes its invariant known here.
         let _holds = &self.place;
     }
 
@@ -84,7 +84,7 @@ impl KeyStream {
         ((self.held >> (8 * within)) % 256) as u8
     }
 
-    // How many octets are left of the word that was begun.
+    // How many octets of the word that was last begun are left.
     fn left_of_word(&self) -> usize
         ensures whole { (self.now.place + result) % 4 ≡ 0 }
         ensures within { self.now.place < 2 ^ 70 }
@@ -103,7 +103,7 @@ impl KeyStream {
         }
     }
 
-    // Fills the buffer with whole words.
+    // Fills the buffer with whole words. The stream stands at the first octet of a word.
     fn read_words(&mut self, into: &mut [u8])
         requires begun { self.old.place % 4 ≡ 0 }
         requires whole { length into.old % 4 ≡ 0 }
@@ -114,7 +114,7 @@ impl KeyStream {
         self.place = (self.place + into.len() as u128) % PERIOD;
     }
 
-    // Fills the buffer from the first octet of a word on.
+    // Fills the buffer. The stream stands at the first octet of a word.
     fn read_from_word(&mut self, into: &mut [u8])
         requires begun { self.old.place % 4 ≡ 0 }
         ensures octets { into.new ≡ next_octets self.old (length into.old) }

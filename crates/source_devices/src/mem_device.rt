@@ -10,8 +10,8 @@ use crate::parts::copy_part;
 use crate::{Device, Shortage};
 use std::marker::Model;
 
-/// A device over octets in memory. Calls are numbered from 0; where the octets have the block, those on a list fail. A
-/// refusal leaves the buffer as it was.
+/// A device over octets in memory. Its calls are numbered from 0, and those on a list fail if the octets have the block. An
+/// error leaves the buffer as it was.
 #[derive(Debug, Drop)]
 pub struct MemDevice {
     octets: Vec<u8>,
@@ -29,7 +29,7 @@ impl Model for MemDevice {
 }
 
 impl MemDevice {
-    /// A device of these octets, with the numbers of the calls that are to fail.
+    /// A device with these octets. `fails` has the numbers of the calls that are to fail.
     pub fn new(octets: Vec<u8>, fails: Vec<u64>) -> Self
         ensures { result ≡ record { octets = octets.items; fails = fails.items; calls = 0; faults = 0 } }
     {

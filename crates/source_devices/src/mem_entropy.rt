@@ -10,8 +10,8 @@ use crate::parts::copy_part;
 use crate::{Entropy, Shortage};
 use std::marker::Model;
 
-/// An entropy over octets in memory. Calls are numbered from 0; where so many octets are left, those on a list fail. A
-/// refusal leaves the buffer as it was.
+/// An entropy over octets in memory. Its calls are numbered from 0, and those on a list fail if enough octets are left. An
+/// error leaves the buffer as it was.
 #[derive(Debug, Drop)]
 pub struct MemEntropy {
     octets: Vec<u8>,
@@ -33,7 +33,7 @@ impl Model for MemEntropy {
 }
 
 impl MemEntropy {
-    /// An entropy of these octets, with the numbers of the calls that are to fail.
+    /// An entropy with these octets. `fails` has the numbers of the calls that are to fail.
     pub fn new(octets: Vec<u8>, fails: Vec<u64>) -> Self
         ensures { result ≡ record { left = octets.items; fails = fails.items; calls = 0; faults = 0 } }
     {
@@ -46,7 +46,7 @@ impl MemEntropy {
         }
     }
 
-    // Copies the next octets, of which there are enough.
+    // Copies the next octets. Enough of them must be left.
     fn take(&mut self, into: &mut [u8])
         requires enough { length into.old ≤ length self.old.left }
         ensures given { into.new ≡ take (length into.old) self.old.left }

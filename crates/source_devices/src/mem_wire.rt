@@ -11,13 +11,13 @@ use qkd_base::{FrameOctets, Memory};
 use std::alloc::Global;
 use std::marker::Model;
 
-/// A wire in memory. Its calls of `send_new` and `send_again` are numbered together from 0; those on a list fail. A frame
-/// that is sent again takes no further room for its octets.
+/// A wire in memory. Its calls of `send_new` and `send_again` are numbered together from 0, and those on a list fail. Sending
+/// a frame again stores its octets no second time.
 #[derive(Debug, Drop)]
 pub struct MemWire {
-    // The octets of each new frame, one frame after another.
+    // The octets of all new frames, in order.
     octets: Vec<u8>,
-    // Where each frame begins among them, and its length.
+    // Each frame's start among these octets, and its length.
     spans: Vec<(usize, usize)>,
     fails: Vec<u64>,
     calls: u64,
@@ -35,7 +35,7 @@ impl Model for MemWire {
 }
 
 impl MemWire {
-    /// An empty wire, with the numbers of the calls that are to fail.
+    /// An empty wire. `fails` has the numbers of the calls that are to fail.
     pub fn new(alloc: Global, fails: Vec<u64>) -> Self
         ensures { result ≡ record { frames = []; fails = fails.items; calls = 0; faults = 0 } }
     {
@@ -48,7 +48,7 @@ impl MemWire {
         }
     }
 
-    // Counts a call, and answers whether it fails.
+    // Counts a call, and returns whether it is to fail.
     fn begin(&mut self) -> bool
         ensures listed { result ≡ is_cut self.old }
         ensures later { self.old.faults ≤ self.new.faults }
@@ -80,7 +80,7 @@ impl MemWire {
         Ok(number as u64)
     }
 
-    // Adds the frame of a number once more.
+    // Adds the frame with this number once more.
     #[tactic(auto, using(crate::proofs::Spans::length_frames))]
     fn add_again(&mut self, number: u64) -> Result<u64, Memory>
         requires there { number < length self.old.frames }
@@ -96,7 +96,7 @@ impl MemWire {
     }
 }
 
-// Copies a frame to the front of the room.
+// Copies a frame to the front of the buffer.
 fn copy_out(octets: &[u8], start: usize, size: usize, into: &mut FrameOctets)
     requires inside { start + size ≤ length octets.now }
     requires short { size ≤ 600 }

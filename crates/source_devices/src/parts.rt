@@ -1,7 +1,7 @@
-// Parts of a list.
+// Copies of parts of a list.
 ghost use Rattle.std.specs.Prelude.{◌≡◌, ◌+◌, ◌≤◌, length, take, drop};
 
-// Copies the octets from a place on, as many as there is room for.
+// Fills the buffer with the octets from a place on.
 pub(crate) fn copy_part(octets: &[u8], from: usize, into: &mut [u8])
     requires inside { from + length into.old ≤ length octets.now }
     ensures { into.new ≡ take (length into.old) (drop from octets.now) }

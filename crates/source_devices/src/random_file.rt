@@ -8,8 +8,8 @@ use crate::{Entropy, Shortage};
 use std::io::Read;
 use std::marker::Model;
 
-/// An entropy over a file of random octets, or any other reader. It tells nothing of them, and counts each draw that
-/// failed: by an error, or at the end of the file.
+/// An entropy over a file of random octets, or over any other reader. Its octets are unknown to the contracts. It counts
+/// each draw that failed, by an error or at the end of the file.
 #[derive(Drop)]
 pub struct RandomFile<R> {
     file: R,
@@ -25,7 +25,7 @@ impl<R> Model for RandomFile<R> {
 }
 
 impl<R> RandomFile<R> {
-    /// An entropy over this file, that has not failed yet.
+    /// An entropy over this file, without faults so far.
     pub fn new(file: R) -> Self
         ensures { result ≡ 0 }
     {
@@ -40,7 +40,7 @@ impl<R> RandomFile<R> {
     }
 }
 
-// Fills the buffer. The answer is whether that went to its end.
+// Fills the buffer, and returns whether that worked to its end.
 fn read_whole<R: Read>(file: &mut R, into: &mut [u8]) -> bool {
     let mut at = 0;
     for _ in 0..u64::MAX {

@@ -1,13 +1,13 @@
-// Why a device or an entropy gave nothing.
+// Errors of devices and entropies.
 use std::error::Error;
 use std::fmt;
 
-/// Why a device or an entropy gave nothing.
+/// Why a device or an entropy gave no octets.
 #[derive(Clone, Copy, Debug, PartialEq, Eq)]
 pub enum Shortage {
-    /// The call failed. The object's count of faults rose.
+    /// The call failed. The count of faults rose by one, unless it was at its greatest.
     Failed,
-    /// Its list has not so many octets left.
+    /// The list has too few octets left.
     End,
 }
 

@@ -1,4 +1,4 @@
-// Where frames go.
+// The trait of wires, which carry frames.
 ghost use Rattle.std.specs.Prelude.{◌≡◌, ◌+◌, ◌≤◌, ◌<◌, ℕ, List, Option, IsErrOf, IfSome, MatchResult, MatchOption, length, drop};
 ghost use Rattle.qkd_base.specs.Faults.{Rose};
 ghost use Rattle.source_devices.specs.declared.wire.WireFailed.TheVariants.{Fault};
@@ -11,9 +11,9 @@ use std::fmt;
 /// Why a frame was not sent.
 #[derive(Clone, Copy, Debug, PartialEq, Eq)]
 pub enum WireFailed {
-    /// The call failed. The wire's count of faults rose.
+    /// The call failed. The wire's count of faults rose by one, unless it was at its greatest.
     Fault,
-    /// Memory was wanting.
+    /// Memory ran out.
     Memory,
 }
 
@@ -28,18 +28,18 @@ impl fmt::Display for WireFailed {
 
 impl Error for WireFailed {}
 
-/// The wire of a lane. It takes frames, each of at most 600 octets, and numbers them from 0.
+/// The wire of a lane. It takes frames of at most 600 octets each, and numbers them from 0.
 pub trait Wire {
-    /// The frames that were taken, in this order, where they are told.
+    /// The frames that were taken, in order, if they are known. With `None` the contracts say nothing of them.
     ghost frames: { Self → Option (List (List ℕ)) };
 
-    /// How many they are.
+    /// How many frames were taken.
     ghost counted: { Self → ℕ };
 
-    /// How often a sending failed.
+    /// How many calls of `send_new` and `send_again` have failed.
     ghost faults: { Self → ℕ };
 
-    /// Takes a frame, and answers its number. After a failure it was not taken.
+    /// Takes a frame, and returns its number. On an error no frame was taken.
     fn send_new(&mut self, bytes: &[u8]) -> Result<u64, WireFailed>
         requires short { length bytes.now ≤ 600 }
         ensures number { MatchResult result (λ n. (n ≡ counted self.old) × (counted self.new ≡ counted self.old + 1)) (λ _. counted self.new ≡ counted self.old) }
@@ -48,7 +48,7 @@ pub trait Wire {
         ensures later { faults self.old ≤ faults self.new }
         ensures calm { (IsErrOf result Fault → ⊥) → faults self.new ≡ faults self.old };
 
-    /// Takes the frame of this number once more, and answers the number that it then has too. After a failure it was not
+    /// Takes the frame with this number once more, and returns the further number that it gets. On an error no frame was
     /// taken.
     fn send_again(&mut self, number: u64) -> Result<u64, WireFailed>
         requires there { number < counted self.old }
@@ -62,13 +62,13 @@ pub trait Wire {
     fn count(&self) -> u64
         ensures { result ≡ counted self.now };
 
-    /// Copies the frame of this number into the room, and answers its length. None comes exactly where no frame has that
-    /// number.
+    /// Copies the frame with this number to the front of the buffer, and returns its length in octets. It returns `None`
+    /// exactly if no frame has that number.
     fn frame(&self, number: u64, into: &mut FrameOctets) -> Option<usize>
         ensures frame { MatchOption result
             ((counted self.now ≤ number) × (into.new ≡ into.old))
             (λ n. (number < counted self.now) × (n ≤ 600) × IsFrame (frames self.now) number n into.new.octets × (drop n into.new.octets ≡ drop n into.old.octets)) };
 
-    /// Frames that are told are as many as are counted.
+    /// If the frames are known, their number is the count of frames.
     ghost all_counted: { (wire : Self) → IfSome (frames wire) (λ all. length all ≡ counted wire) };
 }

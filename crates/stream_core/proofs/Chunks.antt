@@ -12,7 +12,7 @@ use Rattle.end_store.proofs.Counted.{count_is, number_of}
 use Rattle.stream_core.specs.Tallied.{is_given, was_given, IsTally}
 use Rattle.end_store.proofs.Numbers.{number_upto, number_rest}
 
--- so many chunks stand before a place, and the source has got so many of them
+-- `chunks` chunks of the stream are before the place `from`, and the source has got `given` of them
 pub record HasChunks (facts : List Fact) (handed : List (Name × ℕ)) (s : Name) (source from chunks given : ℕ) : Type 0 where
   pub of_stream : chunks ≡ number_of (is_chunk_of s) (take from facts)
   pub of_source : given ≡ number_of (is_given handed s source) (take from facts)
@@ -34,7 +34,7 @@ number_before t [] (suc f) = omega arith
 number_before t (x ∷ xs) zero = omega arith
 number_before t (x ∷ xs) (suc f) = let r = number_before t xs f in let b = at_most_one (t x) in omega arith
 
--- what passes the second test passes the first
+-- a fact that isn't a chunk of the stream doesn't count as given
 given_none : (handed : List (Name × ℕ)) (s : Name) (source : ℕ) (f : Fact) → is_chunk_of s f ≡ false → is_given handed s source f ≡ false
 given_none handed s source f miss = ap (λ (b : Bool). b && was_handed handed (name_of f) source) miss
 

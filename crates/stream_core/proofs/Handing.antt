@@ -1,4 +1,4 @@
--- Tallies, kept by what is handed.
+-- The tallies stay right when a chunk is handed out.
 use Rattle.std.proofs.Common.{◌≡◌, ℕ, ◌+◌, ◌≤◌, Bool, true, false, ◌&&◌, ◌||◌, List, [], ◌∷◌, ◌++◌, length, refl, sym, ◌∙◌, ap, subst, arith, Option, Some, None}
 use Rattle.std.specs.Prelude.{slice_get, count_by, is_some, ◌==◌, if◌then◌else◌}
 use Rattle.std.proofs.lemmas.List.Folds.{list_any-append}
@@ -49,7 +49,7 @@ is_chunk s (Part name key master slave route bytes) h = cc
 pub not_equal : (a b : ℕ) → (a == b) ≡ false → a ≡ b → ⊥
 not_equal a b miss e = let t : true ≡ false = sym (eq_same b) ∙ ap (λ (x : ℕ). x == b) (sym e) ∙ miss in let u : ⊥ = cc in u
 
--- the chunk of a name at its place
+-- the place of the chunk that has this name
 pub record IsChunkAt (facts : List Fact) (n s : Name) : Type 0 where
   pub place : ℕ
   pub fact : Fact
@@ -196,7 +196,7 @@ module _ (facts : List Fact) (handed : List (Name × ℕ)) (n : Name) (x : ℕ) 
             let w : ⊥ = cc in
             w)
 
--- where it was handed out already, or nothing is counted, nothing changes
+-- handing out a pair that is recorded already, or that is no chunk's, changes no tally
 
 pub handing_twice : (facts : List Fact) (handed : List (Name × ℕ)) (n : Name) (x : ℕ) (old : List (List ℕ × Tally)) → was_handed handed n x ≡ true → AreTallies facts handed old → AreTallies facts (marked handed n x) old
 handing_twice facts handed n x old was right =

@@ -1,4 +1,4 @@
--- Tallies of what is kept, and what they tell of a stream.
+-- The tallies of a store, and what they say of a stream.
 use Rattle.std.proofs.Common.{◌≡◌, ℕ, zero, suc, ◌+◌, ◌-◌, ◌≤◌, Bool, true, false, cond, ◌&&◌, not, List, [], ◌∷◌, ◌++◌, length, refl, sym, ◌∙◌, ap, subst, arith, take}
 use Rattle.std.specs.Prelude.{count_by, if◌then◌else◌}
 use Rattle.qkd_base.specs.Name.{Name}
@@ -14,7 +14,7 @@ use Rattle.stream_core.specs.declared.tallies.Tally.{Tally}
 use Rattle.stream_core.specs.Tallied.{is_given, IsTally, AreTallies, all_but_last}
 use Rattle.end_store.proofs.Numbers.{number_split}
 
--- what was learned
+-- learning a fact
 
 length_push : {A : Type 0} (xs : List A) (x : A) → length (xs ++ x ∷ []) ≡ length xs + 1
 length_push [] x = refl
@@ -51,7 +51,7 @@ learned_known facts after handed now ts f new h is same told none =
     let e = is ∙ ap (λ (b : Bool). if b then facts else facts ++ f ∷ []) known in
     subst (λ (fs : List Fact). AreTallies fs now ts) (sym e) (subst (λ (pairs : List (Name × ℕ)). AreTallies facts pairs ts) (sym same) h)
 
--- what was forgotten
+-- overwriting the bytes of a fact
 
 number_forgotten : (t : Fact → Bool) (facts : List Fact) (place : ℕ) → ((f : Fact) → t (without_bytes f) ≡ t f) → number_of t (forgotten facts place) ≡ number_of t facts
 number_forgotten t [] place same = refl
@@ -86,7 +86,7 @@ forgotten_tallies facts after handed now ts place h is same =
       };
     }))
 
--- the chunks that a source hasn't got
+-- the number of chunks that the source hasn't got
 
 pub given_few : (facts : List Fact) (handed : List (Name × ℕ)) (s : Name) (t : Tally) → IsTally facts handed s t → t.given ≤ t.chunks
 given_few facts handed s t h =

@@ -1,4 +1,4 @@
--- Tallies by their streams.
+-- The map of tallies, by stream.
 use Rattle.std.proofs.Common.{◌≡◌, ℕ, Bool, true, false, List, refl, sym, ◌∙◌, ap, Some, None}
 use Rattle.std.specs.Prelude.{slice_index}
 use Rattle.std.specs.Ordering.{nat_cmp, is_eq}
@@ -15,7 +15,7 @@ pub false_from : (a b : Bool) → (a ≡ true → b ≡ true) → b ≡ false �
 false_from true b h miss = let t : true ≡ false = sym (h refl) ∙ miss in t
 false_from false b h miss = refl
 
--- a key tells its stream
+-- streams with equal keys are equal
 key_names : (s r : Name) → stream_key s ≡ stream_key r → s ≡ r
 key_names s r e = same_name s r (ap (λ (l : List ℕ). slice_index l 0) e) (ap (λ (l : List ℕ). slice_index l 1) e) (ap (λ (l : List ℕ). slice_index l 2) e)
 

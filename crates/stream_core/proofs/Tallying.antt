@@ -1,4 +1,4 @@
--- Tallies, kept by what is learned.
+-- The tallies stay right when a fact is learned.
 use Rattle.std.proofs.Common.{◌≡◌, ℕ, ◌+◌, ◌-◌, ◌<◌, Bool, true, false, cond, ◌&&◌, List, [], ◌∷◌, length, refl, sym, ◌∙◌, ap, subst, arith, Option, Some, None}
 use Rattle.std.specs.Prelude.{count_by}
 use Rattle.qkd_base.specs.Name.{Name, name_eq}
@@ -65,7 +65,7 @@ module _ (facts : List Fact) (f : Fact) (last : last_of_facts facts ≡ Some f) 
             subst (λ (r : Name). IsTally facts handed r u) same (subst (IsTally facts handed stream) (sym is) own)
         by s u h false e = same_tally s u (others s e) (right.right s u (sym (put.others s e) ∙ h))
 
--- a chunk is one of its stream alone
+-- a chunk belongs to one stream only
 pub other_stream : (s r : Name) (f : Fact) → is_chunk_of s f ≡ true → name_eq s r ≡ false → is_chunk_of r f ≡ false
 other_stream s r (Chunk name stream index route bytes) hit miss = ap (λ (n : Name). name_eq n r) (name_eq_from stream s hit) ∙ miss
 other_stream s r (Key name master slave route bytes) hit miss = refl
@@ -74,7 +74,7 @@ other_stream s r (Open stream source peer size route) hit miss = refl
 other_stream s r (Joined note about route) hit miss = refl
 other_stream s r (Part name key master slave route bytes) hit miss = refl
 
--- a stream that has a tally is another than one that has none
+-- a stream with a tally differs from a stream without one
 pub absent_stream : (ts : List (List ℕ × Tally)) (s r : Name) (t : Tally) → tally_at ts s ≡ None → tally_at ts r ≡ Some t → name_eq s r ≡ false
 absent_stream ts s r t absent there = not_true (name_eq s r) (λ e.
     let both : ◌≡◌ {A = Option Tally} None (Some t) = sym absent ∙ ap (tally_at ts) (name_eq_from s r e) ∙ there in

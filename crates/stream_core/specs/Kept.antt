@@ -1,4 +1,4 @@
--- What a node keeps with the closed ends of streams.
+-- The store of a node that is an end of keys and streams, as a value.
 use Rattle.std.specs.Prelude.{◌≡◌, ℕ, List, Option, Some, None}
 use Rattle.qkd_base.specs.Name.{Name}
 use Rattle.net_model.specs.declared.fact.Fact.{Fact}
@@ -8,13 +8,13 @@ use Rattle.end_store.specs.Waiting.{Ends}
 use Rattle.end_store.specs.Pooled.{Sees as SeesEnds}
 use Rattle.stream_core.specs.declared.opened.Opened.{Opened}
 
--- what an end of keys keeps, which application has closed its end of which stream, and for how many more of these there is room
+-- the node's keys, which application has closed its end of which stream, and for how many more of these pairs there is room
 pub record StreamEnds : Type 0 where
   pub ends : Ends
   pub closed : List (Name × ℕ)
   pub closed_spare : ℕ
 
--- a view has what is kept here
+-- a view agrees with a store in what the store keeps
 pub record Sees (v : View) (s : StreamEnds) : Type 0 where
   pub ends : SeesEnds v s.ends
   pub closed : v.closed ≡ s.closed

@@ -1,3 +1,2 @@
 pub mod Kept
-pub mod Passed
 pub mod Tallied

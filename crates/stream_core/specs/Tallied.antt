@@ -1,4 +1,4 @@
--- How many chunks of a stream are known, and how many of them its source has got.
+-- The number of chunks of a stream that are known, and how many of them its source has got.
 use Rattle.std.specs.Prelude.{◌≡◌, ℕ, ◌-◌, ◌&&◌, Bool, false, List, [], ◌∷◌, length, take, slice_get, count_by, Option, Some, None}
 use Rattle.std.specs.Ordering.{nat_cmp, is_eq}
 use Rattle.std.specs.Cmp.Lexicographic.{slice_cmp}
@@ -17,12 +17,12 @@ stream_key s = s.node ∷ kind_number s.kind ∷ s.count ∷ []
 abbrev pub tally_at : List (List ℕ × Tally) → Name → Option Tally
 tally_at tallies s = lookup (λ key. is_eq (slice_cmp nat_cmp (stream_key s) key)) tallies
 
--- the stream has this tally or none, and all others have what they had
+-- the stream now has this tally or none, and all other streams keep theirs
 pub record IsPut (old new : List (List ℕ × Tally)) (s : Name) (t : Tally) : Type 0 where
   pub own : (u : Tally) → tally_at new s ≡ Some u → u ≡ t
   pub others : (r : Name) → name_eq s r ≡ false → tally_at new r ≡ tally_at old r
 
--- a chunk of the stream that the application has got
+-- the fact is a chunk of the stream, and the application has got it
 abbrev pub is_given : List (Name × ℕ) → Name → ℕ → Fact → Bool
 is_given handed s sae f = is_chunk_of s f && was_handed handed (name_of f) sae
 
@@ -30,7 +30,7 @@ pub record IsTally (facts : List Fact) (handed : List (Name × ℕ)) (s : Name) 
   pub chunks : t.chunks ≡ count_by (is_chunk_of s) facts
   pub given : t.given ≡ count_by (is_given handed s t.source) facts
 
--- each tally that is there is right
+-- each cached tally is right
 pub record AreTallies (facts : List Fact) (handed : List (Name × ℕ)) (tallies : List (List ℕ × Tally)) : Type 0 where
   pub right : (s : Name) (t : Tally) → tally_at tallies s ≡ Some t → IsTally facts handed s t
 
@@ -46,12 +46,12 @@ abbrev pub chunk_stream : Option Fact → Option Name
 chunk_stream (Some (Chunk name stream index route bytes)) = Some stream
 chunk_stream _ = None
 
--- the source of an open stream
+-- the source of the stream that a fact opens
 abbrev pub source_of : Option Fact → Option ℕ
 source_of (Some (Open stream source peer size route)) = Some source
 source_of _ = None
 
--- what a fact says was handed to an application
+-- the application has got the key or chunk that this fact is
 abbrev pub was_given : List (Name × ℕ) → ℕ → Option Fact → Bool
 was_given handed sae (Some f) = was_handed handed (name_of f) sae
 was_given handed sae None = false

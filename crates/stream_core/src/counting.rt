@@ -1,4 +1,4 @@
-// How tallies keep up with what is learned and handed.
+// Functions that update the tallies of streams when a fact is learned or a chunk is handed out.
 ghost use Rattle.std.specs.Prelude.{◌≡◌, ◌+◌, ◌<◌, ◌^◌, cond, length, slice_get, true, Some};
 ghost use Rattle.net_model.specs.Table.{fact_at};
 ghost use Rattle.net_model.specs.Streams.{is_chunk_of};
@@ -11,14 +11,14 @@ use net_model::Fact;
 use qkd_base::{KeyName, SaeNo};
 use relay_core::{Known, fact_name};
 
-// 1 for yes, 0 for no.
+// 1 if true, 0 if false.
 fn one_if(yes: bool) -> u64
     ensures { result ≡ cond yes 1 0 }
 {
     if yes { 1 } else { 0 }
 }
 
-// Whether an application has got what is at a place.
+// Whether an application has got the key or chunk at a place.
 fn was_given(ends: &EndStore, place: usize, sae: SaeNo) -> bool
     ensures { result ≡ was_given ends.now.handed sae (slice_get ends.now.known.facts place) }
 {
@@ -28,7 +28,7 @@ fn was_given(ends: &EndStore, place: usize, sae: SaeNo) -> bool
     }
 }
 
-// The stream of the chunk of a name.
+// The stream of the chunk that has this name.
 fn chunk_stream(known: &Known, name: KeyName) -> Option<KeyName>
     ensures { result ≡ chunk_stream (fact_at known.now.facts name) }
 {
@@ -38,7 +38,7 @@ fn chunk_stream(known: &Known, name: KeyName) -> Option<KeyName>
     }
 }
 
-// The source of a stream that is known.
+// The source of a stream, if the stream is known.
 fn source_of(known: &Known, stream: KeyName) -> Option<SaeNo>
     ensures { result ≡ source_of (fact_at known.now.facts stream) }
 {
@@ -48,7 +48,7 @@ fn source_of(known: &Known, stream: KeyName) -> Option<SaeNo>
     }
 }
 
-/// Counts the chunks of a stream one by one.
+/// The tally of a stream for this source. It counts the chunks one by one.
 pub fn count_chunks(ends: &EndStore, stream: KeyName, source: SaeNo) -> Tally
     ensures source { result.source ≡ source }
     ensures tally { IsTally ends.now.known.facts ends.now.handed stream result }
@@ -80,7 +80,7 @@ pub fn count_chunks(ends: &EndStore, stream: KeyName, source: SaeNo) -> Tally
     }
 }
 
-// Counts the chunk of a stream that was learned last.
+// Updates the tally of a stream for its chunk that was learned last.
 fn tally_chunk(tallies: &mut Tallies, ends: &EndStore, fact: &Fact, stream: KeyName)
     requires last { last_of_facts ends.now.known.facts ≡ Some fact.now }
     requires chunk { is_chunk_of stream fact.now ≡ true }
@@ -89,7 +89,7 @@ fn tally_chunk(tallies: &mut Tallies, ends: &EndStore, fact: &Fact, stream: KeyN
 {
     match tallies.find(stream) {
         Some(tally) => {
-            // How many facts there are at most is what it says.
+            // The contract of `len` also bounds the number of facts.
             let _holds = ends.known().len();
             let given = ends.was_handed(fact_name(fact), tally.source);
             tallies.put(
@@ -108,7 +108,7 @@ fn tally_chunk(tallies: &mut Tallies, ends: &EndStore, fact: &Fact, stream: KeyN
     }
 }
 
-// Counts what was learned last.
+// Updates the tallies for this fact, which was learned last.
 fn tally_fact(tallies: &mut Tallies, ends: &EndStore, fact: &Fact)
     requires last { last_of_facts ends.now.known.facts ≡ Some fact.now }
     requires tallies { AreTallies (all_but_last ends.now.known.facts) ends.now.handed tallies.old }
@@ -123,7 +123,7 @@ fn tally_fact(tallies: &mut Tallies, ends: &EndStore, fact: &Fact)
     }
 }
 
-/// Counts what was learned last.
+/// Updates the tallies for the fact that was learned last.
 pub fn tally_last(tallies: &mut Tallies, ends: &EndStore)
     requires some { 0 < length ends.now.known.facts }
     requires tallies { AreTallies (all_but_last ends.now.known.facts) ends.now.handed tallies.old }
@@ -136,7 +136,8 @@ pub fn tally_last(tallies: &mut Tallies, ends: &EndStore)
     }
 }
 
-/// Counts a handing that is to be noted, where it is that of a chunk to its source and new.
+/// Updates the tallies for a pair of a name and an application that is about to be recorded. A tally changes only if
+/// the pair is new and hands a chunk to its source.
 pub fn tally_handing(tallies: &mut Tallies, ends: &EndStore, name: KeyName, sae: SaeNo)
     requires { AreTallies ends.now.known.facts ends.now.handed tallies.old }
     ensures { AreTallies ends.now.known.facts (marked ends.now.handed name sae) tallies.new }
@@ -144,7 +145,7 @@ pub fn tally_handing(tallies: &mut Tallies, ends: &EndStore, name: KeyName, sae:
     if tallies.is_empty() {
         return;
     }
-    // That names differ is what it says.
+    // The contract of `len` also says that all names differ.
     let _holds = ends.known().len();
     match chunk_stream(ends.known(), name) {
         None => {}

@@ -1,4 +1,5 @@
-//! What a node keeps of keys and streams, with the streams of chunks that have an end at it.
+//! What a node keeps of keys and streams: the facts it knows, what applications have got, closed ends of streams, and
+//! chunk counts.
 #![tactic(auto)]
 
 mod counting;

@@ -1,4 +1,4 @@
-// What is asked of streams.
+// Questions about streams.
 ghost use Rattle.std.specs.Prelude.{◌≡◌};
 ghost use Rattle.std.specs.Option.{option_copied};
 ghost use Rattle.net_model.specs.Table.{fact_at};
@@ -11,7 +11,7 @@ use crate::Streams;
 use net_model::Fact;
 use qkd_base::{KeyName, NodeNo, Route, SaeNo};
 
-/// A stream of chunks of so many octets, as its source opened it (ETSI GS QKD 004, OPEN_CONNECT).
+/// A stream as its source opened it, with chunks of `octets` octets each (ETSI GS QKD 004, OPEN_CONNECT).
 #[derive(Clone, Copy, Debug)]
 pub struct Opened {
     pub stream: KeyName,
@@ -22,7 +22,7 @@ pub struct Opened {
 }
 
 impl Streams {
-    /// The stream of a name, whether or not it has an end here.
+    /// The stream of a name, whether or not this node is one of its ends.
     pub fn opened(&self, stream: KeyName) -> Option<Opened>
         ensures { result ≡ opened_of (fact_at self.now.ends.known.facts stream) }
     {
@@ -46,14 +46,14 @@ impl Streams {
         }
     }
 
-    /// Whether the end of a stream that belongs to an application with this home is here and isn't closed.
+    /// Whether an application with this home has its end of a stream at this node, and hasn't closed it.
     pub fn has_end(&self, home: NodeNo, stream: KeyName, sae: SaeNo) -> bool
         ensures { (site : Site) (v : View) → Sees v self.now → home ≡ site.home sae → result ≡ has_end site v stream sae }
     {
         home == self.ends().known().me() && !self.was_closed(stream, sae)
     }
 
-    /// Whether it is known here that the peer of a stream has joined it.
+    /// Whether this node knows that the peer of a stream has joined it.
     pub fn has_joined(&self, stream: KeyName) -> bool
         ensures { (v : View) → Sees v self.now → result ≡ has_joined v stream }
     {

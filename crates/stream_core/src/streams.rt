@@ -1,4 +1,4 @@
-// What ends of keys and of streams keep.
+// The store of a node that is an end of keys and streams.
 ghost use Rattle.std.specs.Prelude.{◌≡◌, ◌+◌, ◌<◌, ◌≤◌, [], IfOk, IsOk, OnOk, OnErr, not, count_by};
 ghost use Rattle.net_model.specs.Table.{name_of, has_fact, learned, was_handed};
 ghost use Rattle.net_model.specs.Fold.{marked};
@@ -15,8 +15,8 @@ use qkd_base::{KeyName, Memory, NodeNo, SaeNo};
 use std::alloc::Global;
 use std::marker::Model;
 
-/// What a node knows, which application has got which key or chunk, and which application has closed its end of which stream
-/// (ETSI GS QKD 004).
+/// What a node knows, which application has got which key or chunk, and which application has closed its end of which
+/// stream (ETSI GS QKD 004).
 #[derive(Drop)]
 pub struct Streams {
     ends: EndStore,
@@ -24,7 +24,8 @@ pub struct Streams {
     tallies: Tallies,
 }
 
-/// Where a stream is fed: the next index, and how many chunks the source hasn't got.
+/// The point at which the feeding of a stream continues: the index of the next chunk, and how many chunks the source
+/// hasn't got.
 #[derive(Clone, Copy, Debug, PartialEq, Eq)]
 pub struct FeedPlace {
     pub next: u64,
@@ -43,7 +44,7 @@ impl Model for Streams {
 }
 
 impl Streams {
-    /// A node that knows nothing. It takes no memory.
+    /// The store of a node that knows nothing. It allocates nothing.
     pub fn new(alloc: Global, me: NodeNo) -> Self
         ensures known { (result.ends.known.me ≡ me) × (result.ends.known.facts ≡ []) × (result.ends.known.acked ≡ []) }
         ensures handed { result.ends.handed ≡ [] }
@@ -56,14 +57,14 @@ impl Streams {
         }
     }
 
-    /// What is known, and which application has got which key or chunk.
+    /// The facts that are known, and which application has got which key or chunk.
     pub fn ends(&self) -> &EndStore
         ensures { result.now ≡ self.now.ends }
     {
         &self.ends
     }
 
-    /// The pairs of a stream and an application that has closed its end, in order of closing.
+    /// The pairs of a stream and an application that has closed its end, in the order in which the ends were closed.
     pub fn closed(&self) -> &[(KeyName, SaeNo)]
         ensures { result.now ≡ self.now.closed }
     {
@@ -77,7 +78,7 @@ impl Streams {
         self.closed.has(stream, sae)
     }
 
-    // The tally of a stream with this source.
+    // The tally of a stream for this source.
     fn tally(&self, stream: KeyName, source: SaeNo) -> Tally
         ensures source { result.source ≡ source }
         ensures tally { IsTally self.now.ends.known.facts self.now.ends.handed stream result }
@@ -94,7 +95,7 @@ impl Streams {
         }
     }
 
-    /// The next index of a stream's chunks, and how many of them this source hasn't got.
+    /// The index of a stream's next chunk, and how many of its chunks this source hasn't got.
     pub fn feed_place(&self, stream: KeyName, source: SaeNo) -> FeedPlace
         ensures next { result.next ≡ count_by (is_chunk_of stream) self.now.ends.known.facts }
         ensures waiting { result.waiting ≡ waiting (ends_view self.now.ends) stream source }
@@ -106,7 +107,7 @@ impl Streams {
         }
     }
 
-    /// Makes room for so many more facts. An `Err` changes nothing.
+    /// Reserves memory for `more` further facts. An `Err` changes nothing.
     pub fn room(&mut self, more: u32) -> Result<(), Memory>
         ensures known { (self.new.ends.known.me ≡ self.old.ends.known.me) × (self.new.ends.known.facts ≡ self.old.ends.known.facts)
             × (self.new.ends.known.acked ≡ self.old.ends.known.acked) × (self.new.ends.known.acked_spare ≡ self.old.ends.known.acked_spare) }
@@ -119,7 +120,7 @@ impl Streams {
         Ok(())
     }
 
-    /// Makes room for so many more acknowledgements. An `Err` changes nothing.
+    /// Reserves memory for `more` further acknowledgements. An `Err` changes nothing.
     pub fn room_acked(&mut self, more: u32) -> Result<(), Memory>
         ensures known { (self.new.ends.known.me ≡ self.old.ends.known.me) × (self.new.ends.known.facts ≡ self.old.ends.known.facts)
             × (self.new.ends.known.acked ≡ self.old.ends.known.acked) × (self.new.ends.known.facts_spare ≡ self.old.ends.known.facts_spare) }
@@ -132,7 +133,7 @@ impl Streams {
         Ok(())
     }
 
-    /// Makes room for so many more handings. An `Err` changes nothing.
+    /// Reserves memory for `more` further pairs of a key and an application. An `Err` changes nothing.
     pub fn room_handed(&mut self, more: u32) -> Result<(), Memory>
         ensures known { self.new.ends.known ≡ self.old.ends.known }
         ensures marks { (self.new.ends.handed ≡ self.old.ends.handed) × (self.new.closed ≡ self.old.closed)
@@ -144,7 +145,7 @@ impl Streams {
         Ok(())
     }
 
-    /// Makes room for so many more closed ends. An `Err` changes nothing.
+    /// Reserves memory for `more` further closed ends of streams. An `Err` changes nothing.
     pub fn room_closed(&mut self, more: u32) -> Result<(), Memory>
         ensures kept { (self.new.ends ≡ self.old.ends) × (self.new.closed ≡ self.old.closed) }
         ensures ok { OnOk result (more ≤ self.new.closed_spare) }
@@ -154,8 +155,8 @@ impl Streams {
         Ok(())
     }
 
-    /// Learns a fact, unless its name is known, and answers whether it was new. Where there is room for it, it takes no
-    /// memory. An `Err` changes nothing.
+    /// Learns a fact, unless its name is known, and returns whether it was new. If room was reserved for it, it can't
+    /// fail. An `Err` changes nothing.
     pub fn learn(&mut self, fact: Fact) -> Result<bool, Memory>
         ensures new { IfOk result (λ new. new ≡ not (has_fact self.old.ends.known.facts (name_of fact))) }
         ensures facts { OnOk result (self.new.ends.known.facts ≡ learned self.old.ends.known.facts fact) }
@@ -177,8 +178,8 @@ impl Streams {
         }
     }
 
-    /// Notes that the next node on its route has acknowledged the fact of a name, where it is owed to it. It takes no
-    /// memory.
+    /// Records that the next node of its route has acknowledged the fact of this name, if the fact is owed to that
+    /// node. It needs only the room that was reserved.
     pub fn acknowledge(&mut self, name: KeyName)
         requires room { 0 < self.old.ends.known.acked_spare }
         ensures acked { self.new.ends.known.acked ≡ acked_with self.old.ends.known.me self.old.ends.known.acked self.old.ends.known.facts name }
@@ -191,7 +192,8 @@ impl Streams {
         self.ends.acknowledge(name);
     }
 
-    /// Notes that an application has got a key or chunk, unless that is noted. It takes no memory.
+    /// Records that an application has got a key or chunk, unless that is recorded already. It needs only the room
+    /// that was reserved.
     pub fn mark(&mut self, name: KeyName, sae: SaeNo)
         requires room { 0 < self.old.ends.handed_spare }
         ensures handed { self.new.ends.handed ≡ marked self.old.ends.handed name sae }
@@ -203,7 +205,8 @@ impl Streams {
         self.ends.mark(name, sae);
     }
 
-    /// Notes that an application has closed its end of a stream, unless that is noted. It takes no memory.
+    /// Records that an application has closed its end of a stream, unless that is recorded already. It needs only the
+    /// room that was reserved.
     pub fn close(&mut self, stream: KeyName, sae: SaeNo)
         requires room { 0 < self.old.closed_spare }
         ensures closed { self.new.closed ≡ marked self.old.closed stream sae }
@@ -213,7 +216,7 @@ impl Streams {
         self.closed.mark(stream, sae);
     }
 
-    /// Overwrites the bytes of the fact at a place with zeros, if it has some. It takes no memory.
+    /// Overwrites the bytes of the fact at a place with zeros, if it has bytes. It allocates nothing.
     pub fn forget(&mut self, place: usize)
         ensures facts { self.new.ends.known.facts ≡ forgotten self.old.ends.known.facts place }
         ensures known { (self.new.ends.known.me ≡ self.old.ends.known.me) × (self.new.ends.known.acked ≡ self.old.ends.known.acked)

@@ -1,4 +1,4 @@
-// How many chunks of streams are known.
+// The tallies of streams: cached numbers of their chunks.
 ghost use Rattle.std.specs.Prelude.{◌≡◌, ◌↔◌, IsTrue, None, length};
 ghost use Rattle.qkd_base.specs.Name.{Name, kind_number};
 ghost use Rattle.stream_core.specs.Tallied.{stream_key, tally_at, IsPut};
@@ -8,7 +8,7 @@ use std::alloc::Global;
 use std::collections::BTreeMap;
 use std::marker::Model;
 
-/// How many chunks of a stream are known, and how many of them its source has got.
+/// The number of chunks of a stream that are known, and how many of them its source has got.
 #[derive(Clone, Copy, Debug)]
 pub struct Tally {
     pub source: SaeNo,
@@ -16,7 +16,7 @@ pub struct Tally {
     pub given: u64,
 }
 
-/// Tallies of streams. One may be missing where memory was wanting.
+/// The tallies of some streams. A stream has no tally if memory ran out when it was put.
 #[derive(Drop)]
 pub struct Tallies {
     tallies: BTreeMap<[u64; 3], Tally>,
@@ -31,7 +31,7 @@ impl Model for Tallies {
     ghost view = { λ t. t.tallies.entries };
 }
 
-// The number of a kind of names.
+// The number that stands for a kind of names.
 fn kind_number(kind: NameKind) -> u64
     ensures { result ≡ kind_number kind }
 {
@@ -42,7 +42,7 @@ fn kind_number(kind: NameKind) -> u64
     }
 }
 
-// The key of a stream.
+// The map key of a stream.
 fn stream_key(stream: KeyName) -> [u64; 3]
     ensures { result ≡ stream_key stream }
 {
@@ -54,7 +54,7 @@ fn stream_key(stream: KeyName) -> [u64; 3]
 }
 
 impl Tallies {
-    /// No tallies. It takes no memory.
+    /// A map without tallies. It allocates nothing.
     pub fn new(alloc: Global) -> Self
         ensures { (stream : Name) → tally_at result stream ≡ None }
     {
@@ -63,21 +63,21 @@ impl Tallies {
         }
     }
 
-    /// Whether there are none.
+    /// Whether the map has no tallies.
     pub fn is_empty(&self) -> bool
         ensures { IsTrue result ↔ (length self.now ≡ 0) }
     {
         self.tallies.is_empty()
     }
 
-    /// The tally of a stream.
+    /// The tally of a stream, if the map has one.
     pub fn find(&self, stream: KeyName) -> Option<Tally>
         ensures { result ≡ tally_at self.now stream }
     {
         self.tallies.get(&stream_key(stream)).copied()
     }
 
-    /// Puts the tally of a stream in the place of its former one. Where there is none and memory is wanting, none is put.
+    /// Sets the tally of a stream. If the stream has none and memory runs out, it still has none afterwards.
     pub fn put(&mut self, stream: KeyName, tally: Tally)
         ensures { IsPut self.old self.new stream tally }
     {

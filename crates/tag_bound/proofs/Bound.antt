@@ -1,4 +1,4 @@
--- Few keys give a chosen difference of hashes.
+-- Only few keys give a chosen difference of hashes.
 use Rattle.std.proofs.Common.{◌≡◌, ℕ, suc, ◌^◌, ◌<◌, ◌≤◌, Bool, true, false, cond, eqb, inl, inr, List, [], ◌∷◌, length, get_or, sym, ap, subst, ◌∙◌, arith}
 use Rattle.std.specs.Prelude.{bit_xor}
 use Rattle.std.specs.List.{All, AllByRecursion, IsDistinct, filter}
@@ -23,7 +23,7 @@ use Rattle.tag_bound.proofs.Texts.{AreOctets, blocks_length, coefficients, coeff
 hash_below : (k : ℕ) (text : List ℕ) → k < 2 ^ 64 → AreOctets text → length text < 2 ^ 64 → hash k text < 2 ^ 64
 hash_below k text lk all lt = subst (λ (h : ℕ). h < 2 ^ 64) (sym (hash_value k text lk all lt)) (product_below k (value k (coefficients text)) lk)
 
--- a key that gives the difference is a root of the polynomial whose constant term the difference is
+-- A key that gives the difference is a root of the polynomial that has the difference as its constant term.
 root_of_difference : (a b : List ℕ) (difference k : ℕ) → AreOctets a → AreOctets b → length a < 2 ^ 64 → length b < 2 ^ 64 → k < 2 ^ 64 → difference_under a b k ≡ difference →
     value k (difference ∷ sums (coefficients a) (coefficients b)) ≡ 0
 root_of_difference a b difference k aa ab la lb lk gives =
@@ -57,7 +57,7 @@ few_keys a b n difference (k ∷ ks) aa ab la lb apart na nb ek distinct gives =
     let most : length (sums ca cb) ≤ n = sums_length n ca cb (omega (arith, coefficients_length a)) (omega (arith, coefficients_length b)) in
     omega (arith, fewer, most)
 
--- ---- the law
+-- ---- the law of few keys
 
 pub distinct_is : (keys : List ℕ) → AreDistinct keys → IsDistinct eqb keys
 distinct_is keys apart = IsDistinct-from_apart eqb keys (λ i j d before within.
@@ -73,9 +73,9 @@ few_keys_law a b n difference keys ta tb apart na nb ks gives =
 pub frame_blocks : FrameBlocks
 frame_blocks text fits = omega (arith, blocks_length text)
 
--- ---- the count
+-- ---- the count of keys
 
--- what holds of the keys holds of those that pass a test
+-- what holds of all keys holds of those that pass a test
 kept : (P : ℕ → Type 0) (passes : Bool) (key : ℕ) (rest : List ℕ) → P key → AllByRecursion P rest → AllByRecursion P (cond passes (key ∷ rest) rest)
 kept P true key rest here all = (here, all)
 kept P false key rest here all = all

@@ -1,4 +1,4 @@
--- A polynomial that isn't zero has fewer roots than coefficients.
+-- A polynomial other than zero has fewer roots than coefficients.
 use Rattle.std.proofs.Common.{◌≡◌, ℕ, suc, ◌^◌, ◌<◌, false, eqb, List, [], ◌∷◌, length, refl, sym, ap, ◌∙◌, arith, inl, inr}
 use Rattle.std.specs.Prelude.{bit_xor}
 use Rattle.std.specs.List.{AllByRecursion, IsDistinct}
@@ -18,7 +18,7 @@ AreZero cs = AllByRecursion (λ c. c ≡ 0) cs
 abbrev pub AreRoots : List ℕ → List ℕ → Type 0
 AreRoots keys cs = AllByRecursion (λ k. value k cs ≡ 0) keys
 
--- what division by x - r leaves of c + x * p, for the coefficients of p
+-- the quotient of the polynomial c + x * p by x - r, from the coefficients of p
 quotient : ℕ → List ℕ → List ℕ
 quotient r [] = []
 quotient r (c ∷ cs) = value r (c ∷ cs) ∷ quotient r cs
@@ -33,7 +33,7 @@ unfolding quotient
 quotient_elements r [] lr all = tt
 quotient_elements r (c ∷ cs) lr all = (value_below r (c ∷ cs) lr all, quotient_elements r cs lr all.1)
 
--- a polynomial is its value at r, and x - r times the quotient
+-- the value of a polynomial is its value at r plus x - r times the value of the quotient
 divided : (x r c : ℕ) (cs : List ℕ) → x < 2 ^ 64 → r < 2 ^ 64 → c < 2 ^ 64 → AreElements cs →
     value x (c ∷ cs) ≡ bit_xor (value r (c ∷ cs)) (product (bit_xor x r) (value x (quotient r cs)))
 unfolding quotient
@@ -57,7 +57,7 @@ divided x r c (d ∷ ds) lx lr lc all =
     ∙ ap (bit_xor (bit_xor c (product r v))) (times_xor s v (product x w) ls lv (product_below x w lx) ∙ ap (λ (y : ℕ). bit_xor y (product s (product x w))) (product_xor x r v))
     ∙ xor_cancel c (product r v) (product x v) (product s (product x w)))
 
--- where r is a root and the quotient is zero, so is the polynomial
+-- if r is a root and the quotient is zero, the polynomial is zero
 zero_from_quotient : (r c : ℕ) (cs : List ℕ) → r < 2 ^ 64 → value r (c ∷ cs) ≡ 0 → AreZero (quotient r cs) → AreZero (c ∷ cs)
 unfolding quotient
 zero_from_quotient r c [] lr root none =
@@ -65,7 +65,7 @@ zero_from_quotient r c [] lr root none =
 zero_from_quotient r c (d ∷ ds) lr root none =
     (sym (xor_zero_r c) ∙ ap (bit_xor c) (sym (ap (product r) none.0 ∙ times_zero r lr)) ∙ sym (value_more r c (d ∷ ds)) ∙ root, zero_from_quotient r d ds lr none.0 none.1)
 
--- a root other than r is one of the quotient
+-- a root other than r is a root of the quotient
 root_of_quotient : (x r c : ℕ) (cs : List ℕ) → x < 2 ^ 64 → r < 2 ^ 64 → c < 2 ^ 64 → AreElements cs → eqb r x ≡ false → value r (c ∷ cs) ≡ 0 → value x (c ∷ cs) ≡ 0 → value x (quotient r cs) ≡ 0
 root_of_quotient x r c cs lx lr lc all apart at_r at_x =
     let q : ℕ = value x (quotient r cs) in

@@ -3,3 +3,8 @@ pub mod FewRoots
 pub mod Texts
 pub mod Bound
 pub mod Seen
+pub mod FirstLines
+pub mod Taking
+pub mod Distinct
+pub mod LongTexts
+pub mod Meant

@@ -9,7 +9,7 @@ use Rattle.gf64.proofs.Ring.{product_below, product_xor, zero_times, one_is_neut
 use Rattle.gf64.proofs.Powers.{power_below, power_none, power_more}
 use Rattle.wc_tags.proofs.Horner.{AreElements}
 
--- c0 + x * (c1 + x * (c2 + ..))
+-- the value of a polynomial at x: c0 + x * (c1 + x * (c2 + ..))
 pub value : ℕ → List ℕ → ℕ
 value x [] = 0
 value x (c ∷ cs) = bit_xor c (product x (value x cs))
@@ -42,7 +42,7 @@ pub times_exchange : (a b c : ℕ) → a < 2 ^ 64 → b < 2 ^ 64 → c < 2 ^ 64 
 times_exchange a b c la lb lc =
     sym (associates a b c la lb lc) ∙ ap (λ (p : ℕ). product p c) (commutes a b la lb) ∙ associates b a c lb la lc
 
--- a term twice is none
+-- adding an element twice changes nothing
 pub xor_twice : (a b : ℕ) → bit_xor a (bit_xor a b) ≡ b
 xor_twice a b = sym (xor_assoc a a b) ∙ ap (λ (x : ℕ). bit_xor x b) (xor_self a) ∙ xor_zero_l b
 
@@ -51,7 +51,7 @@ xor_cancel a b c d =
     ap (λ (x : ℕ). bit_xor (bit_xor a b) (bit_xor x d)) (xor_comm c b) ∙ ap (bit_xor (bit_xor a b)) (xor_assoc b c d)
     ∙ xor_assoc a b (bit_xor b (bit_xor c d)) ∙ ap (bit_xor a) (xor_twice b (bit_xor c d))
 
--- two elements without a difference are one
+-- two elements whose difference is 0 are equal
 pub same_from_xor : (a b : ℕ) → bit_xor a b ≡ 0 → a ≡ b
 same_from_xor a b none = sym (xor_zero_r a) ∙ ap (bit_xor a) (sym none) ∙ xor_twice a b
 
@@ -90,7 +90,7 @@ value_sums k (x ∷ xs) (y ∷ ys) lk ex ey =
     ∙ swap_middle x y (product k (value k xs)) (product k (value k ys))
     ∙ ap (λ (v : ℕ). bit_xor v (bit_xor y (product k (value k ys)))) (sym (value_more k x xs)) ∙ ap (bit_xor (value k (x ∷ xs))) (sym (value_more k y ys))
 
--- ---- one more term at the end
+-- ---- a polynomial with one more term at the end
 
 pub value_last : (k m : ℕ) (cs : List ℕ) → k < 2 ^ 64 → m < 2 ^ 64 → AreElements cs → value k (cs ++ m ∷ []) ≡ bit_xor (value k cs) (product m (power k (length cs)))
 value_last k m [] lk lm all =

@@ -1,4 +1,4 @@
--- A set of the keys that were seen.
+-- The set of the keys that were seen.
 use Rattle.std.proofs.Common.{◌≡◌, ℕ, ◌+◌, ◌<◌, ◌≤◌, Bool, true, false, cond, List, length, get_or, refl, sym, ap, ◌∙◌, arith, inl, inr}
 use Rattle.std.specs.Ordering.{nat_cmp, is_eq}
 use Rattle.std.specs.Cmp.{nat_cmp_is}
@@ -7,7 +7,7 @@ use Rattle.std.specs.BTreeMap.{is_at}
 use Rattle.std.proofs.lemmas.Bool.{cases_eq, cases_lt}
 use Rattle.tag_bound.specs.Keys.{IsRepeat, IsFirstRepeat, AreDistinct}
 
--- the set has the keys before this place and no others, and none of them is repeated
+-- the set holds exactly the keys before this place, and none of these is a repeat
 pub record IsSeen (has : ℕ → Bool) (keys : List ℕ) (place : ℕ) : Type 0 where
   pub all : (k : ℕ) → k < place → has (get_or keys k 0) ≡ true
   pub only : (q : ℕ) → has q ≡ true → (k : ℕ) × (k < place) × (get_or keys k 0 ≡ q)
@@ -79,7 +79,7 @@ seen_more has more keys place seen lt new put = record { all = all; only = only;
           (cc)
     ]
 
--- no other place is the first
+-- there is only one first repeat
 pub only_first : (keys : List ℕ) (place another : ℕ) → IsFirstRepeat keys place → IsFirstRepeat keys another → place ≡ another
 only_first keys place another first too = elim (cases_lt place another) [
   | inl less ↦ absurd (too.1 place less first.0)

@@ -1,4 +1,4 @@
--- Different texts have different blocks, so the difference of their hashes is a polynomial in the key that isn't zero.
+-- Different texts have different blocks. So the difference of their hashes is a polynomial in the key other than zero.
 use Rattle.std.proofs.Common.{◌≡◌, ℕ, zero, suc, ◌+◌, ◌-◌, ◌*◌, ◌/◌, ◌^◌, ◌<◌, List, [], ◌∷◌, ◌++◌, length, take, drop, replicate, get_or, refl, sym, ap, subst, ◌∙◌, arith, lit<, length-append, length-drop}
 use Rattle.std.specs.Prelude.{bit_xor, reverse}
 use Rattle.std.specs.List.{AllByRecursion}
@@ -79,7 +79,7 @@ unfolding blocks_of
 blocks_length text =
     length-append (numbers (block_count text) (padded text)) (length text ∷ []) ∙ ap (λ (n : ℕ). n + 1) (numbers_length (block_count text) (padded text))
 
--- one block tells its octets
+-- a block determines its octets
 octets_of_number : (xs ys : List ℕ) → AreOctets xs → AreOctets ys → length xs ≡ 8 → length ys ≡ 8 → from_be_bytes w64 xs ≡ from_be_bytes w64 ys → xs ≡ ys
 octets_of_number xs ys ax ay lx ly e =
     sym (be_bytes_8 xs (from_be_bytes w64 xs) lx (octet_at xs ax) refl) ∙ be_bytes_8 ys (from_be_bytes w64 xs) ly (octet_at ys ay) e
@@ -115,7 +115,7 @@ octets_of_numbers (suc n) xs ys ax ay lx ly e =
     (same_tail (from_be_bytes w64 (take 8 xs)) (from_be_bytes w64 (take 8 ys)) (numbers n (drop 8 xs)) (numbers n (drop 8 ys)) e) in
     sym (take-append-drop 8 xs) ∙ ap (λ (f : List ℕ). f ++ drop 8 xs) first ∙ ap (λ (r : List ℕ). take 8 ys ++ r) rest ∙ take-append-drop 8 ys
 
--- a text is told by its length and the blocks before it
+-- the length of a text and the blocks before the length block determine the text
 text_of_numbers : (a b : List ℕ) → AreOctets a → AreOctets b → length a ≡ length b → numbers (block_count a) (padded a) ≡ numbers (block_count b) (padded b) → a ≡ b
 text_of_numbers a b aa ab size e =
     let count : block_count a ≡ block_count b = ap (λ (n : ℕ). (n + 7) / 8) size in
@@ -126,7 +126,8 @@ text_of_numbers a b aa ab size e =
 
 -- ---- coefficients
 
--- the coefficients of the hash from the power 1 on: the length, and the blocks from the last one on
+-- the coefficients of the hash, from that of the key's first power on: the length, then the blocks from the last to the
+-- first
 pub coefficients : List ℕ → List ℕ
 coefficients text = reverse (blocks_of text)
 
@@ -138,7 +139,7 @@ pub coefficients_length : (text : List ℕ) → length (coefficients text) ≡ l
 unfolding coefficients
 coefficients_length text = length-reverse (blocks_of text)
 
--- equal lengths and no difference
+-- lists of equal length whose sums are all 0 are equal
 same_from_sums : (xs ys : List ℕ) → length xs ≡ length ys → AreZero (sums xs ys) → xs ≡ ys
 same_from_sums [] [] size none = refl
 same_from_sums [] (y ∷ ys) size none = absurd (omega arith)

@@ -3,7 +3,7 @@ use Rattle.std.specs.Prelude.{◌≡◌, ℕ, ◌<◌, ◌⊎◌, ◌==◌, List
 use Rattle.std.specs.List.{count_by}
 use Rattle.wc_tags.specs.Tag.{blocks_of, hash}
 
--- the difference in the field of two texts' hashes under a key
+-- the difference, in the field, of two texts' hashes under a key
 abbrev pub difference_under : List ℕ → List ℕ → ℕ → ℕ
 difference_under a b key = bit_xor (hash key a) (hash key b)
 
@@ -18,6 +18,6 @@ most_blocks a b = max (length (blocks_of a)) (length (blocks_of b))
 abbrev pub IsTooLong : List ℕ → List ℕ → Type 0
 IsTooLong a b = (600 < length a) ⊎ (600 < length b)
 
--- two different texts, neither of them too long
+-- two different texts, neither of which is too long
 abbrev pub AreCompared : List ℕ → List ℕ → Type 0
 AreCompared a b = ¬ (IsTooLong a b) × ¬ (a ≡ b)

@@ -1,3 +1,7 @@
 pub mod Keys
 pub mod Differences
 pub mod Laws
+pub mod Words
+pub mod KeyLines
+pub mod Counts
+pub mod TextLaws

@@ -1,23 +1,25 @@
-//! How many keys give two texts a chosen difference of hashes: at most as many as the text with more
-//! blocks has, whatever the texts and the difference are. So another text in place of a tagged one,
-//! with a tag changed by a chosen number, passes under few keys only, as Wegman and Carter show (New
-//! hash functions and their use in authentication and set equality, 1981). Nothing is said of how
-//! likely such a key is.
-//!
-//! Where a hash is the polynomial in the key whose coefficients are the blocks of a text, the
-//! difference of two hashes is one, too. The text's length is a block, so that it isn't constant for
-//! different texts, and a polynomial of degree n over a field has at most n roots.
+//! How many hash keys give the hashes of two texts a difference, and the texts that ask for it and tell it.
 #![tactic(auto)]
 
+mod count;
+mod key_lines;
 mod keys;
 mod laws;
+mod lines;
 mod refusal;
 mod roots;
+mod short_text;
+mod text_laws;
+mod text_refusal;
+mod words;
 
+pub use count::{bound_of, bound_text};
+pub use key_lines::{KEY_LIMIT, read_keys};
 pub use keys::Keys64;
 pub use laws::{law_few_keys, law_frame_blocks};
 pub use refusal::RootRefusal;
 pub use roots::{RootCount, roots_among};
-
-#[cfg(test)]
-mod tests;
+pub use short_text::ShortText;
+pub use text_laws::{law_first_bad_line, law_keys_meant, law_long_texts};
+pub use text_refusal::KeysRefusal;
+pub use words::number;

@@ -13,9 +13,9 @@ pub enum RootRefusal {
     TooLong,
     /// The texts are equal: every key gives them the difference 0.
     Equal,
-    /// The first place, counted from 0, of a key that stands at an earlier place, too.
+    /// The first place, counted from 0, of a key that is at an earlier place, too.
     Repeated(usize),
-    /// Memory is wanting.
+    /// Memory ran out.
     Memory,
 }
 

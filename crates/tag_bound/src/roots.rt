@@ -1,4 +1,4 @@
-// The keys that give two texts a chosen difference of hashes.
+// Counting the keys that give two texts a chosen difference of hashes.
 ghost use Rattle.std.specs.Prelude.{◌≡◌, ℕ, ◌<◌, ◌≤◌, ◌↔◌, IfOk, IsOk, length};
 ghost use Rattle.wc_tags.specs.Tag.{blocks_of};
 ghost use Rattle.tag_bound.specs.Keys.{IsFirstRepeat, AreDistinct};
@@ -9,24 +9,25 @@ use crate::refusal::RootRefusal;
 use std::alloc::Global;
 use wc_tags::hash;
 
-/// The longest text that is compared, in octets.
+/// The greatest length of a text that is compared, in octets.
 const LONGEST: usize = 600;
 
-/// How many keys gave a difference, and how many there can be.
+/// How many keys gave a difference, and how many can give it.
 #[derive(Clone, Copy, Debug, PartialEq, Eq)]
 pub struct RootCount {
-    /// The number of blocks of the text that has more of them, with its length block: 2 to 76.
+    /// How many blocks the text with more of them has, length block included: 2 to 76. At most this many keys can give
+    /// the difference.
     pub bound: u32,
-    /// How many of the keys gave the difference: at most the bound.
+    /// How many of the keys gave the difference. This is at most `bound`.
     pub found: u32,
 }
 
-/// Counts the keys under which the hashes of two different texts have this difference, which is their
-/// sum in the field. A text has at most 600 octets, and no key stands twice. Memory is taken for the
-/// keys that were seen, and let go again.
+/// Counts the keys under which the hashes of two different texts have this difference, which is their sum in the field.
+/// A text may have at most 600 octets, and no key may occur twice. The call allocates memory for the keys that it has
+/// seen, and frees it.
 ///
-/// That few keys give a difference is the reason why a tag holds (Wegman and Carter, New hash functions
-/// and their use in authentication and set equality, 1981).
+/// That only few keys give a difference is why a tag protects its text (Wegman and Carter, New hash functions and their
+/// use in authentication and set equality, 1981).
 pub fn roots_among(
     alloc: Global,
     a: &[u8],
@@ -37,14 +38,14 @@ pub fn roots_among(
     ensures too_long { (result ≡ Err RootRefusal.TooLong) ↔ IsTooLong a.now b.now }
     ensures equal { (result ≡ Err RootRefusal.Equal) ↔ (¬ (IsTooLong a.now b.now) × (a.now ≡ b.now)) }
 
-    // Memory may be wanting where two texts are compared under keys, and nowhere else.
+    // Memory can run out only if the texts can be compared and there is a key.
     ensures memory { result ≡ Err RootRefusal.Memory → AreCompared a.now b.now × (0 < length keys.now) }
     ensures repeated { (place : ℕ) → (result ≡ Err (RootRefusal.Repeated place)) ↔ (AreCompared a.now b.now × IsFirstRepeat keys.now place × ¬ (result ≡ Err RootRefusal.Memory)) }
     ensures counted { IsOk result ↔ (AreCompared a.now b.now × AreDistinct keys.now × ¬ (result ≡ Err RootRefusal.Memory)) }
     ensures bound { IfOk result (λ count. count.bound ≡ most_blocks a.now b.now) }
     ensures found { IfOk result (λ count. count.found ≡ count_giving a.now b.now difference keys.now) }
 
-    // Few keys give the difference.
+    // The bound on the number of keys that give the difference.
     ensures few { IfOk result (λ count. count.found ≤ count.bound) }
 {
     if a.len() > LONGEST || b.len() > LONGEST {
@@ -59,7 +60,7 @@ pub fn roots_among(
     Ok(count(a, b, difference, keys.as_slice()))
 }
 
-// The count for different texts and distinct keys.
+// The count for two different texts and keys of which no two are equal.
 fn count(a: &[u8], b: &[u8], difference: u64, keys: &[u64]) -> RootCount
     requires texts { AreCompared a.now b.now }
     requires keys { AreDistinct keys.now }
@@ -73,7 +74,7 @@ fn count(a: &[u8], b: &[u8], difference: u64, keys: &[u64]) -> RootCount
     }
 }
 
-// How many blocks a text has, with its length block.
+// How many blocks a text has, length block included.
 fn block_count(text: &[u8]) -> u32
     requires { length text.now ≤ 600 }
     ensures { result ≡ length (blocks_of text.now) }

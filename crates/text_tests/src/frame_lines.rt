@@ -2,7 +2,7 @@
 use crate::lines::{lane, name, says, site};
 use net_model::Counts4;
 use qkd_base::Way;
-use report_items::{FrameResult, Item, PayloadKind, Refusal, UnsentCause};
+use run_types::{FrameResult, Item, PayloadKind, Refusal, UnsentCause};
 
 const REFUSALS: [(Refusal, &str); 22] = [
     (Refusal::Down, "down"),

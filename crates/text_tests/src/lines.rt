@@ -2,11 +2,11 @@
 ghost use Rattle.std.specs.Prelude.{◌<◌, ◌^◌, ◌≡◌};
 
 use declared_site::Site;
-use declared_site::route_table::RouteTable;
-use declared_site::sae_entitlements::Entitlements;
 use qkd_base::{Items, KeyName, Lane, LinkNo, Memory, NameKind, NodeNo, Octets, Text, Way};
-use report_items::Item;
-use report_writer::line_text;
+use report_text::line_text;
+use route_table::RouteTable;
+use run_types::Item;
+use sae_entitlements::Entitlements;
 use std::alloc::Global;
 use std::process::Abort;
 

@@ -1,5 +1,5 @@
 use scenario_gen::scenario_of;
-use scenario_reader::read_scenario;
+use scenario_text::read_scenario;
 
 // Written by a script of its own from what a load is.
 const LOAD_OF_ONE: &str = "node n0

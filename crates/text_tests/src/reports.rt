@@ -2,9 +2,8 @@
 use crate::lines::{link, name, node, octets, says, site};
 use net_model::Held;
 use qkd_base::{Items, Memory, Octets};
-use report_items::{Chunk, Item, Refusal, StartResult, StreamAnswer};
-use report_writer::{handed_text, served_text};
-use scenario_lines::End;
+use report_text::{handed_text, served_text};
+use run_types::{Chunk, End, Item, Refusal, StartResult, StreamAnswer};
 use std::alloc::Global;
 use std::process::Abort;
 

@@ -1,6 +1,6 @@
 use crate::lines::holds;
 use qkd_base::Memory;
-use scenario_reader::{ScenarioRefusal, read_scenario};
+use scenario_text::{ScenarioRefusal, read_scenario};
 use std::alloc::Global;
 
 const SITE: &str =

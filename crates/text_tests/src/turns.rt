@@ -1,12 +1,11 @@
 use crate::lines::{lane, node};
 use declared_site::Site;
-use declared_site::route_table::RouteTable;
-use declared_site::sae_entitlements::Entitlements;
 use net_model::{Orders, Repeats, Reply, ShortOf, Shorts};
 use qkd_base::{Memory, Texts, Way};
-use report_items::{FrameResult, Item, Refusal};
-use run_turns::{Delivery, Reporting, asked_by, frame_result};
-use scenario_lines::Command;
+use route_table::RouteTable;
+use run_ops::{Delivery, Reporting, asked_by, frame_result};
+use run_types::{Command, FrameResult, Item, Refusal};
+use sae_entitlements::Entitlements;
 use std::alloc::Global;
 
 fn empty_site(alloc: Global) -> Site {

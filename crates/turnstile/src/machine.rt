@@ -1,27 +1,26 @@
-// What a turnstile lets its callers at.
 ghost use Rattle.std.specs.Prelude.{◌≡◌};
 
 /// A machine that answers one request at a time.
 pub trait Machine {
-    /// What it is asked.
+    /// The type of its requests.
     type Request;
 
-    /// What it answers.
+    /// The type of its replies.
     type Reply;
 
-    /// What no turn changes.
+    /// The type of its charter: the part of its state that no turn changes.
     type Charter;
 
-    /// Its charter.
+    /// The machine's charter.
     ghost charter: { Self → Self.Charter };
 
-    /// By its charter alone a machine says which requests it takes.
+    /// Whether a machine of this charter takes a request.
     ghost takes: { Self.Charter → Self.Request → Type 0 };
 
-    /// What a turn may leave and answer: of the machine before, the request, the reply and the machine after.
+    /// The result of a turn: a relation of the machine before, the request, the reply and the machine after.
     ghost turns: { Self → Self.Request → Self.Reply → Self → Type 0 };
 
-    /// One turn, on a request that its charter takes.
+    /// Takes one turn: answers a request that the charter takes.
     fn turn(&mut self, request: Self::Request) -> Self::Reply
         requires { takes (charter self.old) request }
         ensures turns { turns self.old request result self.new }

@@ -1,4 +1,4 @@
-// The rule of the table, and the names of its steps.
+// The invariant of a turnstile's table, and the steps on it.
 ghost use Rattle.turnstile.specs.Turns.{turn_of};
 ghost use Rattle.std.specs.Prelude.{ℕ, ◌-◌, List, []};
 ghost use Rattle.turnstile.specs.Views.{first_view, keeping, newcomer, joined, spent};
@@ -11,10 +11,10 @@ use crate::view::View;
 use atomic_table::{Join, Play, Split, TableRule};
 use std::marker::{Brand, PhantomData};
 
-/// What a seat of this machine knows.
+/// What a seat at a turnstile of this machine knows.
 pub type ViewOf<M> = View<M, <M as Machine>::Request, <M as Machine>::Reply>;
 
-/// The rule of a turnstile's table.
+/// The invariant of a turnstile's table, and its first seat.
 pub struct Order<M> {
     machine: PhantomData<M>,
 }
@@ -25,14 +25,14 @@ impl<M: Machine> TableRule<M, ViewOf<M>, Key<M>> for Order<M> {
     ghost first = { λ key. first_view key.opening.value key.calls };
 }
 
-/// A ticket is drawn.
+/// The step that draws a ticket.
 pub struct Draw;
 
 impl<M, Q, A> Play<M, View<M, Q, A>> for Draw {
     ghost then = { drawn };
 }
 
-/// Whose turn is it?
+/// The step that reads which ticket is served next.
 pub struct Look<M> {
     machine: PhantomData<M>,
 }
@@ -41,7 +41,7 @@ impl<M: Machine> Play<M, ViewOf<M>> for Look<M> {
     ghost then = { looked (turn_of M.charter M.takes M.turns) };
 }
 
-/// The call that a turn made, alone in a list. Each call of a program picks it.
+/// The call that a turn made, as a list of one. Each call of `serve` picks it.
 pub trait Made<Q, A> {
     ghost made: { List (Q × A) };
 }
@@ -50,7 +50,7 @@ impl<Q, A> Made<Q, A> for Brand {
     ghost made = { [] };
 }
 
-/// A turn is over.
+/// The step that ends a turn: the next ticket is served.
 pub struct Serve<J> {
     made: PhantomData<J>,
 }
@@ -59,7 +59,7 @@ impl<M, Q, A, J: Made<Q, A>> Play<M, View<M, Q, A>> for Serve<J> {
     ghost then = { turned J.made };
 }
 
-/// Two seats that became one compare what they have seen.
+/// The step after two seats were joined: the seat keeps the longer of the two prefixes of the history that it knows.
 pub struct Compare<M> {
     machine: PhantomData<M>,
 }
@@ -68,7 +68,7 @@ impl<M: Machine> Play<M, ViewOf<M>> for Compare<M> {
     ghost then = { compared (turn_of M.charter M.takes M.turns) };
 }
 
-/// How many calls go to a new seat. Each call of a program picks it.
+/// How many calls go to a new seat. Each call of `split` picks it.
 pub trait Portion {
     ghost portion: { ℕ };
 }
@@ -77,7 +77,7 @@ impl Portion for Brand {
     ghost portion = { 0 };
 }
 
-/// A seat gives a new one a part of its budget.
+/// The step by which a seat gives a part of its budget to a new seat.
 pub struct Cut<J> {
     portion: PhantomData<J>,
 }
@@ -88,7 +88,7 @@ impl<M, Q, A, J: Portion> Split<View<M, Q, A>> for Cut<J> {
     ghost right = { λ v. newcomer v J.portion };
 }
 
-/// A seat takes in another.
+/// The step by which a seat takes over the calls and the budget of another.
 pub struct Both;
 
 impl<M, Q, A> Join<View<M, Q, A>> for Both {

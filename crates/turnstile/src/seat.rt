@@ -1,14 +1,13 @@
-// A caller's place at a turnstile.
 ghost use Rattle.std.specs.Prelude.{◌≡◌, []};
 ghost use Rattle.turnstile.specs.Views.{resting};
 
 use crate::machine::Machine;
 use crate::order::ViewOf;
 
-/// A seat of the table.
+/// A caller's place in the table.
 pub type Place<M> = atomic_table::Seat<M, ViewOf<M>>;
 
-/// The right to some calls, with what is known of the history. It has no bytes.
+/// The right to some calls, with what is known of the history. It occupies no memory.
 pub struct Seat<M: Machine> {
     pub(crate) place: Place<M>,
     ghost rests: { place.me ≡ (resting place.me.0, []) },

@@ -1,4 +1,3 @@
-// A machine that many threads call.
 ghost use Rattle.std.specs.Prelude.{◌≡◌, ℕ, ◌+◌, ◌-◌, ◌<◌, ◌≤◌, ◌^◌, IfOk, IfErr, List, [], ◌∷◌, ◌++◌, length, false};
 ghost use mathlib.Core.List.{IsPrefix};
 
@@ -14,13 +13,13 @@ use std::snapshot::Snapshot;
 use std::sync::Wait;
 use std::thread::yield_now;
 
-// How often a caller looks whether nobody is in turn, before it lets others have its processor.
+// How often a caller looks whether the machine is free, before it yields its processor.
 const LOOKS: u32 = 4000;
 
-/// A machine that takes one call at a time, by any number of threads. All calls have one history: a list of requests and
-/// replies that is legal, which says that a chain of the machine's own turns leads through it. Each seat knows a beginning of
-/// that history, and its own calls with their places in it, counted from 0. Nothing is said of progress, or of the order of
-/// calls between callers that told each other nothing.
+/// A machine that takes one call at a time, from any number of threads. All calls stand in one history, a list of requests and
+/// replies. The history is legal: it results from a chain of the machine's own turns. Each seat knows a prefix of the history,
+/// and its own calls with their places in it, counted from 0. The contracts don't promise progress. They don't order the calls
+/// of callers that exchanged nothing.
 pub struct Turnstile<M: Machine> {
     table: Table<M, ViewOf<M>, Key<M>, Order<M>, Global>,
     ghost sized: { (table.shared.table_id.words ≡ 2) × (table.shared.table_id.slots ≡ 1) },
@@ -32,8 +31,8 @@ impl<M: Machine> Turnstile<M> {
     ghost use Rattle.turnstile.specs.Plays.{Enters, TurnedOn};
     ghost use Rattle.turnstile.specs.Names.{opening, all_calls, knows, Fits};
 
-    /// A turnstile with no call made, and a seat with the right to so many. It alone takes memory; where that is wanting the
-    /// machine comes back as it was.
+    /// Makes a turnstile at which no call was made, and a seat that may make `calls` calls. No other call allocates memory. If
+    /// memory runs out, the machine comes back unchanged.
     pub fn new(
         alloc: Global,
         machine: M,
@@ -61,8 +60,8 @@ impl<M: Machine> Turnstile<M> {
         }
     }
 
-    /// Waits for the turn, and answers the call's place in the history, and the reply. The history up to that place is legal,
-    /// what the seat had seen is a beginning of it, and the call stands at its end.
+    /// Waits for the caller's turn, makes the call, and returns the call's place in the history and the reply. The history up
+    /// to that place is legal and begins with all that the seat had seen. The call is its last entry.
     pub fn call<R: Wait>(&self, rt: &R, seat: &mut Seat<M>, request: M::Request) -> (u64, M::Reply)
         requires fits { Fits self.now seat.old }
         requires budget { 0 < (knows seat.old).budget }
@@ -85,7 +84,8 @@ impl<M: Machine> Turnstile<M> {
         (ticket, reply)
     }
 
-    // Looks a while whether nobody is in turn. No ticket is drawn yet, so a caller that isn't run meanwhile holds up none.
+    // Waits a while for the machine to be free. No ticket is drawn yet, so a caller whose thread is suspended meanwhile delays
+    // no other.
     fn await_lull(&self) {
         for _ in 0..2u32 {
             for _ in 0..LOOKS {
@@ -97,7 +97,7 @@ impl<M: Machine> Turnstile<M> {
         }
     }
 
-    // Looks until the ticket is the next one to be served. The seat then has the machine.
+    // Waits until the ticket is the next one to be served. The seat then holds the machine.
     fn await_turn<R: Wait>(&self, rt: &R, place: &mut Place<M>, ticket: u64)
         requires table { place.old.table_id ≡ self.now.table.shared.table_id }
         requires ticket { (place.old.me.0.tickets ≡ ticket ∷ []) × (place.old.me.0.turning ≡ false) × (place.old.me.1 ≡ []) }
@@ -113,7 +113,7 @@ impl<M: Machine> Turnstile<M> {
         unreachable!()
     }
 
-    // Gives the machine back, and lets the next ticket in.
+    // Gives the machine back, and serves the next ticket.
     fn serve<J: Made<M::Request, M::Reply>>(
         &self,
         place: &mut Place<M>,
@@ -134,7 +134,7 @@ impl<M: Machine> Turnstile<M> {
         self.table.shared.store::<Serve<J>>(place, 1, ticket + 1);
     }
 
-    /// A new seat, which has seen as much, has made no call, and takes a part of the budget.
+    /// Makes a new seat that has seen the same history, has made no call, and takes `budget` calls of this seat's budget.
     pub fn split(&self, seat: &mut Seat<M>, budget: u64) -> Seat<M>
         requires fits { Fits self.now seat.old }
         requires budget { budget ≤ (knows seat.old).budget }
@@ -145,7 +145,7 @@ impl<M: Machine> Turnstile<M> {
         self.cut::<Brand>(seat, budget)
     }
 
-    // The same, where the step's name tells the part.
+    // `split`, where a type parameter names the new seat's budget.
     fn cut<J: Portion>(&self, seat: &mut Seat<M>, budget: u64) -> Seat<M>
         requires fits { Fits self.now seat.old }
         requires portion { budget ≡ J.portion }
@@ -159,7 +159,7 @@ impl<M: Machine> Turnstile<M> {
         Seat { place }
     }
 
-    /// Takes in another seat, with its budget, its calls and all that it has seen.
+    /// Takes over another seat, with its budget, its calls and the history that it has seen.
     pub fn join(&self, seat: &mut Seat<M>, other: Seat<M>)
         requires fits { Fits self.now seat.old × Fits self.now other }
         ensures fits { Fits self.now seat.new }
@@ -176,7 +176,8 @@ impl<M: Machine> Turnstile<M> {
         self.table.shared.load::<Compare<M>>(&mut seat.place, 0);
     }
 
-    /// The machine at the end of its history, where this seat keeps or has made all calls.
+    /// Returns the machine at the end of its history. The calls that the seat has made and those that it has left must be all
+    /// that the turnstile allows.
     pub fn close(self, seat: Seat<M>) -> M
         requires fits { Fits self seat }
         requires whole { (knows seat).budget + length (knows seat).mine ≡ all_calls self }

@@ -1,4 +1,4 @@
--- The blocks of a text, one after the other.
+-- The blocks of a text, in order.
 use Rattle.std.proofs.Common.{◌≡◌, ℕ, zero, suc, ◌+◌, ◌-◌, ◌*◌, ◌^◌, ◌<◌, ◌≤◌, List, [], ◌∷◌, ◌++◌, length, take, drop, replicate, get_or, refl, sym, ap, ◌∙◌, min, arith, lit<, inl, inr}
 use Rattle.std.specs.Prelude.{bit_xor}
 use Rattle.std.specs.List.{AllByRecursion}
@@ -43,7 +43,7 @@ octets_drop zero xs a = a
 octets_drop (suc n) [] a = tt
 octets_drop (suc n) (x ∷ xs) a = octets_drop n xs a.1
 
--- ---- blocks are elements
+-- ---- each block is an element of the field
 
 number_below : (octets : List ℕ) → AreOctets octets → from_be_bytes w64 octets < 2 ^ 64
 number_below octets all = by_octet (octet_at octets all)
@@ -55,7 +55,7 @@ elements : (n size : ℕ) (octets : List ℕ) → AreOctets octets → size < 2 
 elements zero size octets all lt = (lt, tt)
 elements (suc n) size octets all lt = (number_below (take 8 octets) (octets_take 8 octets all), elements n size (drop 8 octets) (octets_drop 8 octets all) lt)
 
--- ---- what is still to be hashed
+-- ---- the blocks of a text that are not hashed yet
 
 pub rest_of : ℕ → List ℕ → List ℕ
 rest_of i text = numbers (block_count text - i) (drop (8 * i) (padded text)) ++ length text ∷ []
@@ -89,7 +89,7 @@ rest_more i text lt =
     ∙ ap (λ (o : List ℕ). from_be_bytes w64 (take 8 o) ∷ (numbers (block_count text - (i + 1)) (drop 8 (drop (8 * i) (padded text))) ++ length text ∷ [])) (drop_padded i text within)
     ∙ ap (λ (o : List ℕ). from_be_bytes w64 (take 8 (padded (drop (8 * i) text))) ∷ (numbers (block_count text - (i + 1)) o ++ length text ∷ [])) next
 
--- ---- the loop
+-- ---- the loop over the blocks
 
 pub to_the_end : (n : ℕ) (text : List ℕ) → take (length text - n) (drop n text) ≡ drop n text
 to_the_end n text = take_all (length text - n) (drop n text) (omega (arith, length-drop n text))
@@ -100,7 +100,7 @@ start key text lk lt small =
     let octets : AreOctets (padded text) = octets_append text (replicate (8 * block_count text - length text) 0) (octets_from text small) (octets_zeros (8 * block_count text - length text)) in
     ap (horner key 0) (rest_whole text) ∙ from_zero key (numbers (block_count text) (padded text) ++ length text ∷ []) lk (elements (block_count text) (length text) (padded text) octets lt)
 
--- the key's table is the first factor
+-- multiplying by the table of the key gives the product with the key
 turned : (key table x : ℕ) → key < 2 ^ 64 → x < 2 ^ 64 → table ≡ key → product table x ≡ product x key
 turned key table x lk lx e = ap (λ (k : ℕ). product k x) e ∙ commutes key x lk lx
 
@@ -117,7 +117,7 @@ pub done : (key table sum last i total : ℕ) (text : List ℕ) → key < 2 ^ 64
 done key table sum last i total text lk ls ll t le e h =
     e ∙ turned key table (bit_xor sum (length text)) lk (xor_lt 64 sum (length text) ls ll) t ∙ sym (last_one key sum (length text)) ∙ ap (horner key sum) (sym (rest_end i text le)) ∙ h
 
--- ---- one block
+-- ---- the first block
 
 pub first_octets : (text : List ℕ) (size : ℕ) → 0 < length text → size ≡ min (length text) 8 → take size text ++ drop size (replicate 8 0) ≡ take 8 (padded text)
 first_octets text size pos e = elim (cases_lt (length text) 8) [

@@ -1,4 +1,4 @@
--- Horner's rule: the weighed blocks are sums and products from the first block on.
+-- Horner's rule: the weighed sum of the blocks is computed from the first block on.
 use Rattle.std.proofs.Common.{◌≡◌, ℕ, ◌+◌, ◌^◌, ◌<◌, List, [], ◌∷◌, length, refl, sym, ap, ◌∙◌, add-one, lit<}
 use Rattle.std.specs.Prelude.{bit_xor}
 use Rattle.std.specs.List.{AllByRecursion}
@@ -9,12 +9,12 @@ use Rattle.gf64.proofs.Ring.{product_below, product_xor, zero_times, one_is_neut
 use Rattle.gf64.proofs.Powers.{power_below, power_none, power_more}
 use Rattle.wc_tags.specs.Tag.{weighed}
 
--- (.. ((h + m1) * k + m2) * k ..) * k
+-- the sum after Horner's rule: (.. ((h + m1) * k + m2) * k ..) * k
 pub horner : ℕ → ℕ → List ℕ → ℕ
 horner k h [] = h
 horner k h (m ∷ ms) = horner k (product (bit_xor h m) k) ms
 
--- numbers of 64 bits
+-- all of these are elements of the field, so numbers of 64 bits
 abbrev pub AreElements : List ℕ → Type 0
 AreElements ms = AllByRecursion (λ m. m < 2 ^ 64) ms
 

@@ -7,20 +7,20 @@ use Rattle.gf64.specs.Field.{product, power}
 abbrev pub block_count : List ℕ → ℕ
 block_count text = (length text + 7) / 8
 
--- a text with zero octets to the end of its last block
+-- a text, filled with zero octets to the end of its last block
 abbrev pub padded : List ℕ → List ℕ
 padded text = text ++ replicate (8 * block_count text - length text) 0
 
--- the first blocks, each a big-endian number
+-- the first n blocks, each as a big-endian number
 abbrev pub numbers : ℕ → List ℕ → List ℕ
 numbers zero octets = []
 numbers (suc n) octets = from_be_bytes w64 (take 8 octets) ∷ numbers n (drop 8 octets)
 
--- the blocks of a text, and after them its length in octets
+-- the blocks of a text, and then its length in octets
 unfoldable pub blocks_of : List ℕ → List ℕ
 blocks_of text = numbers (block_count text) (padded text) ++ length text ∷ []
 
--- m1 * k ^ n + .. + mn * k
+-- the weighted sum of the blocks: m1 * k ^ n + .. + mn * k
 unfoldable pub weighed : ℕ → List ℕ → ℕ
 weighed k [] = 0
 weighed k (m ∷ ms) = bit_xor (product m (power k (length ms + 1))) (weighed k ms)

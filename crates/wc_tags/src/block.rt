@@ -2,7 +2,7 @@ ghost use Rattle.std.specs.Prelude.{◌≡◌, ◌<◌, length, take};
 ghost use Rattle.std.specs.Int.{w64, from_be_bytes};
 ghost use Rattle.wc_tags.specs.Tag.{padded};
 
-/// The first block of a text that has one.
+/// The first block of a text that isn't empty.
 pub fn first_block(text: &[u8]) -> u64
     requires { 0 < length text.now }
     ensures { result ≡ from_be_bytes w64 (take 8 (padded text.now)) }

@@ -1,18 +1,13 @@
-//! Tags of texts: a hash under a key that is kept, masked by a number that is used once, as Wegman
-//! and Carter authenticate messages (New hash functions and their use in authentication and set
-//! equality, 1981).
+//! Wegman-Carter tags of texts: a hash under a key that is used again, masked by a number that is used once.
 //!
-//! A text is cut into blocks of 8 octets, and a block with its length follows. The hash is the
-//! polynomial in the key whose coefficients are the blocks, over the field of 2^64 elements. Two
-//! different texts therefore have a given difference of hashes under few keys only: at most as
-//! many as the longer one has blocks. No call takes memory or refuses.
+//! A text is cut into blocks of 8 octets, and its length is added as a last block. The hash is the polynomial in the
+//! key whose coefficients are the blocks, over the field of 2^64 elements. So only few keys give two different texts a
+//! chosen difference of hashes: at most as many as the longer text has blocks. This is the scheme of Wegman and Carter
+//! (New hash functions and their use in authentication and set equality, 1981). No call allocates memory, and none
+//! fails.
 #![tactic(auto)]
 
 mod block;
 mod tags;
 
-pub use gf64;
 pub use tags::{check, hash, tag};
-
-#[cfg(test)]
-mod tests;

@@ -16,15 +16,14 @@ pub fn hash(key: u64, text: &[u8]) -> u64
     multiples.times(sum ^ text.len() as u64)
 }
 
-/// The hash of a text with a mask, which is to be a number that nobody else knows and that masks no
-/// other tag.
+/// The tag of a text: its hash, masked. The mask is to be a number that nobody else knows and that masks no other tag.
 pub fn tag(key: u64, text: &[u8], mask: u64) -> u64
     ensures { result ≡ tag key text.now mask }
 {
     hash(key, text) ^ mask
 }
 
-/// Whether the tag that came with a text is the one that the key and the mask give.
+/// Whether the tag that came with a text is the text's tag under this key and mask.
 pub fn check(key: u64, text: &[u8], mask: u64, given: u64) -> bool
     ensures { IsTrue result ↔ (given ≡ tag key text.now mask) }
 {

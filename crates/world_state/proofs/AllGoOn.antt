@@ -1,12 +1,12 @@
--- All lanes that leave a node go on, one after another.
+-- All lanes that leave a node go on, in order.
 use Rattle.std.proofs.Common.{◌≡◌, inl, inr, ℕ, ◌+◌, ◌<◌, ◌≤◌, true, false, List, length, refl, sym, ap, ◌∙◌, arith, Option, Some}
 use Rattle.std.specs.Prelude.{◌==◌, slice_get, slice_set, if◌then◌else◌}
 use Rattle.std.proofs.lemmas.Bool.{cases_lt}
 use Rattle.std.proofs.lemmas.Option.{slice_get_within}
 use Rattle.net_model.specs.Site.{Site, sender}
 use Rattle.net_model.specs.View.{View}
-use Rattle.lane_sides.specs.Lane.{LaneForm}
-use Rattle.law_records.proofs.Base.{eq_from, when_true, when_false}
+use Rattle.lane_sender.specs.Lane.{LaneForm}
+use Rattle.law_base.proofs.Base.{eq_from, when_true, when_false}
 use Rattle.world_state.specs.Starting.{octets_in, lease_in, gone_on, gone_with, MayGoOn, MayAllGoOn, AllWentOn, WiresKept}
 use Rattle.world_state.proofs.Others.{each_placed, placed_length}
 
@@ -14,7 +14,7 @@ some_is : {A : Type 0} {a b : A} → ◌≡◌ {A = Option A} (Some a) (Some b) 
 some_is h = cc
 
 module _ {X : Type 0} (s : Site) (v : ℕ) (view : View) (old : List (LaneForm X)) where
-  -- those at the first n places did, and the others are as they were
+  -- The lanes at the first n places went on, and the others are as they were.
   pub record WentTo (n : ℕ) (now : List (LaneForm X)) : Type 0 where
     pub sides : length now ≡ length old
     pub done : (place : ℕ) (side : LaneForm X) → place < n → slice_get now place ≡ Some side → (before : LaneForm X) × (slice_get old place ≡ Some before) × (side ≡ gone_with s v view before)
@@ -45,7 +45,7 @@ module _ {X : Type 0} (s : Site) (v : ℕ) (view : View) (old : List (LaneForm X
     pub may_next : MayAllGoOn s v view old → (sender s side.lane == v) ≡ true → MayGoOn (octets_in view side.lane) (lease_in view side.lane) side
     may_next may is = may n side before (eq_from (sender s side.lane) v is)
 
-    -- the lane at the next place was put there again
+    -- The lane at the next place was put back after it went on.
     went_put : (next : LaneForm X) (after : List (LaneForm X)) → next ≡ gone_with s v view side → after ≡ slice_set now n next → WentTo (n + 1) after
     went_put next after is put = record {
       sides = placed_length now after n next put ∙ w.sides;
@@ -63,7 +63,7 @@ module _ {X : Type 0} (s : Site) (v : ℕ) (view : View) (old : List (LaneForm X
     pub went_past : (after : List (LaneForm X)) → (sender s side.lane == v) ≡ false → after ≡ slice_set now n side → WentTo (n + 1) after
     went_past after other put = went_put side after (sym (when_false (sender s side.lane == v) _ _ other)) put
 
-    -- or some of it, but for its wire
+    -- The lane at the next place was put back with its wire, whatever else it took.
     pub wires_broken : (next : LaneForm X) (after : List (LaneForm X)) → next.wire ≡ side.wire → after ≡ slice_set now n next → WiresKept old after
     wires_broken next after wire put = record {
       sides = placed_length now after n next put ∙ w.sides;

@@ -1,9 +1,9 @@
--- How often a disk was armed at most, where one post of a list is another.
+-- The highest count of armings, after one post of a list was replaced.
 use Rattle.std.proofs.Common.{◌≡◌, ℕ, zero, suc, ◌+◌, ◌<◌, ◌≤◌, Bool, List, [], ◌∷◌, refl, sym, ap, ◌∙◌, subst, arith, Option, Some}
 use Rattle.std.specs.Prelude.{max, slice_get, slice_set}
 use Rattle.disk_model.specs.declared.arm.Armings.{Armings}
-use Rattle.world_posts.specs.Passed.{Post}
-use Rattle.world_posts.specs.Counts.{disk_of, CountsBy, Counts}
+use Rattle.world_nodes.specs.Passed.{Post}
+use Rattle.world_nodes.specs.Counts.{disk_of, CountsBy, Counts}
 use Rattle.world_state.specs.Armed.{times_of, most_armed}
 
 some_is : {A : Type 0} {a b : A} → ◌≡◌ {A = Option A} (Some a) (Some b) → a ≡ b
@@ -44,7 +44,7 @@ module _ {K E : Type 0} (armings : K → Armings) where
       tail : (a m top : ℕ) → max a m < top → m < top
       tail a m top h = omega (arith, h)
 
-  -- a disk that is armed as before
+  -- The disk is armed as before.
   pub times_same : (disk_count : K → ℕ) (entropy_count : E → ℕ) (disk_fault entropy_fault : Bool) (p q : Post K E) → Counts disk_count armings entropy_count disk_fault entropy_fault p q → times q ≡ times p
   times_same disk_count entropy_count disk_fault entropy_fault p q c =
       ap (times_of armings) c.is ∙ ap (λ (a : Armings). a.count) c.arms ∙ sym (ap (times_of armings) c.was)

@@ -1,4 +1,4 @@
--- An event that is asked changes one manager.
+-- Handling an event changes only the manager that handles it.
 use Rattle.std.proofs.Common.{◌≡◌, ℕ, Bool, true, false, ◌&&◌, not, List, refl, sym, ap, subst, ◌∙◌, Option, Some}
 use Rattle.std.specs.Prelude.{◌==◌, nat_lt, slice_get}
 use Rattle.disk_model.specs.declared.arm.Armings.{Armings}
@@ -11,17 +11,17 @@ use Rattle.net_model.specs.Action.{Environment, Ask, Ok, Replies, is_io_fault, i
 use Rattle.net_model.specs.declared.reply.Reply.{Reply}
 use Rattle.net_model.specs.OctetSequence.{OctetSequence}
 use Rattle.declared_site.specs.SiteOf.{site_of}
-use Rattle.world_posts.specs.Passed.{Post}
-use Rattle.run_acts.specs.Acting.{IsReady, Does}
-use Rattle.world_posts.specs.Asking.{MayAsk, Asked}
+use Rattle.world_nodes.specs.Passed.{Post}
+use Rattle.run_ops.specs.Acting.{IsReady, Does}
+use Rattle.world_nodes.specs.Asking.{MayAsk, Asked}
 use Rattle.world_state.specs.Stands.{Stands}
 use Rattle.world_state.specs.Tallied.{Tallied}
 use Rattle.world_state.specs.declared.state.State.{State}
 use Rattle.net_model.specs.Step.{is_asked, is_enabled}
-use Rattle.law_records.proofs.Base.{and_left, and_right, eq_from, not_false, was_not}
-use Rattle.law_decisions.specs.May.{is_plan}
-use Rattle.run_acts.specs.Fitting.{is_fit}
-use Rattle.run_acts.specs.Fitting as fitting
+use Rattle.law_base.proofs.Base.{and_left, and_right, eq_from, not_false, was_not}
+use Rattle.law_invariant.specs.May.{is_plan}
+use Rattle.run_ops.specs.Fitting.{is_fit}
+use Rattle.run_ops.specs.Fitting as fitting
 use Rattle.world_state.proofs.Changes.{OnePost}
 use Rattle.world_state.proofs.OnePost.{ChangesPost, ChangesOne, happened}
 use Rattle.world_state.proofs.OneTallied.{CountsOne, CountsNoOther}
@@ -34,7 +34,7 @@ same_plan : (event : Event) → fitting.is_plan event ≡ is_plan event
 same_plan Plan = refl
 same_plan _ = refl
 
--- a fit event is no plan, and may be asked
+-- If asking for an event fits the site, the event is no plan.
 
 pub fit_no_plan : (s : Site) (v : ℕ) (event : Event) → is_fit s (Ask v event Ok) ≡ true → is_plan event ≡ false
 fit_no_plan s v event fit =

@@ -1,4 +1,4 @@
--- A node's manager is started: its post is changed, and then the lanes that leave it.
+-- Starting a node's manager changes its post, and then the lanes that leave the node.
 use Rattle.std.proofs.Common.{◌≡◌, ℕ, ◌+◌, ◌*◌, ◌/◌, ◌%◌, ◌<◌, Bool, true, false, ◌&&◌, List, [], ◌∷◌, length, refl, sym, ap, subst, ◌∙◌, arith, Option, Some}
 use Rattle.std.specs.Prelude.{◌==◌, slice_get, if◌then◌else◌}
 use Rattle.std.proofs.lemmas.Bool.{ltb-true, lt-ltb}
@@ -17,25 +17,23 @@ use Rattle.net_model.specs.Action.{Recovery, Recovers, Action, Start, Started}
 use Rattle.net_model.specs.Step.{step}
 use Rattle.declared_site.specs.SiteOf.{site_of}
 use Rattle.declared_site.specs.declared.site.Site.{Site as Declared}
-use Rattle.report_items.specs.declared.start_result.StartResult.{StartResult}
-use Rattle.report_items.specs.declared.start_result.StartResult.TheVariants as starts
+use Rattle.run_types.specs.declared.start_result.StartResult.{StartResult}
+use Rattle.run_types.specs.declared.start_result.StartResult.TheVariants as starts
 use Rattle.route_table.specs.Layer.{bit_is_set}
-use Rattle.world_posts.specs.Passed.{ManagerForm}
-use Rattle.world_posts.specs.Passed.{Post}
-use Rattle.world_posts.specs.Passed.{On, Off}
-use Rattle.law_records.proofs.Base.{eq_from, eq_same, not_false, not_both}
-use Rattle.law_others.proofs.Links.{step_link}
-use Rattle.lane_sides.specs.Lane.{LaneForm}
-use Rattle.run_turns.specs.Reported.{started}
+use Rattle.world_nodes.specs.Passed.{ManagerForm, Post, On, Off}
+use Rattle.law_base.proofs.Base.{eq_from, eq_same, not_false, not_both}
+use Rattle.law_locality.proofs.Links.{step_link}
+use Rattle.lane_sender.specs.Lane.{LaneForm}
+use Rattle.run_ops.specs.Reported.{started}
 use Rattle.run_model.specs.Play.{is_forged}
 use Rattle.run_model.specs.Script.{asks}
-use Rattle.run_acts.specs.Fitting.{is_fit}
-use Rattle.run_acts.specs.Acting.{IsReady, Does, Begins}
-use Rattle.world_lanes.specs.Stands.{IsRunning, LaneStands, WireStands}
-use Rattle.world_lanes.proofs.Going.{goes_on}
-use Rattle.world_posts.specs.Stands.{PostStands}
-use Rattle.world_posts.specs.Starting.{MayStart, HasStarted}
-use Rattle.world_posts.proofs.Going.{post_on}
+use Rattle.run_ops.specs.Fitting.{is_fit}
+use Rattle.run_ops.specs.Acting.{IsReady, Does, Begins}
+use Rattle.world_nodes.specs.LaneStands.{IsRunning, LaneStands, WireStands}
+use Rattle.world_nodes.proofs.LaneGoing.{goes_on}
+use Rattle.world_nodes.specs.Stands.{PostStands}
+use Rattle.world_nodes.specs.Starting.{MayStart, HasStarted}
+use Rattle.world_nodes.proofs.Going.{post_on}
 use Rattle.world_state.specs.Rests.{Rests}
 use Rattle.world_state.specs.Stands.{Stands, of_way, place_of}
 use Rattle.world_state.specs.Starting.{is_started, HasBegun, octets_in, lease_in, gone_on, gone_with, MayGoOn, MayAllGoOn, AllWentOn, WiresKept}
@@ -57,7 +55,7 @@ use Rattle.world_state.proofs.Takes.{goes_same}
 elsewhere : (v u : ℕ) → (u ≡ v → ⊥) → (v == u) ≡ false
 elsewhere v u other = not_false (v == u) (λ e. other (sym (eq_from v u e)))
 
--- what came of it
+-- the outcome of the start
 
 pub started_well : (r : StartResult) → is_started r ≡ true → started r ≡ Started
 started_well starts.Started is = refl
@@ -80,7 +78,7 @@ no_forgery starts.Stopped = refl
 no_forgery (starts.Foreign place) = refl
 no_forgery starts.Memory = refl
 
--- it is counted at its node alone
+-- A start adds only to the counts of its own node.
 start_counted : (s : Site) (v : ℕ) (recovery : Recovery) → CountsOne s (Start v recovery) v (is_interrupted recovery) false
 start_counted s v recovery = record {
   disk = λ h. sym (when_same (v == v) (is_interrupted recovery) (eq_same v)) ∙ h;
@@ -115,7 +113,7 @@ module _ {K Q E X : Type 0} (is_honest : K → Bool) (moment : K → ℕ) (image
   HasDone new r disk_count armed entropy_count device_count wire_count =
       Does (Stands is_honest moment image left told frames counted) (Tallied disk_count armed entropy_count device_count wire_count) old new net w (Start v (Recovers false)) (started r)
 
-  -- the post
+  -- ---- the post
 
   module _ (fit : is_fit (site_of old.site) (Start v (Recovers false)) ≡ true) (p : Post K E) (there : slice_get old.posts.items v ≡ Some p) where
     pub may_start : MayStart is_honest moment image left net w v old.site p
@@ -150,7 +148,7 @@ module _ {K Q E X : Type 0} (is_honest : K → Bool) (moment : K → ℕ) (image
               (record { devices = λ link. refl; wires = λ l. refl }) h.counts;
         }
 
-    -- and the lanes
+    -- ---- the lanes
 
     module _ (mid : State K Q E X) (r : StartResult) (h : HasBegun is_honest moment image left disk_count armed entropy_count device_count wire_count old mid net w v r) where
       abbrev a : Action
@@ -202,14 +200,14 @@ module _ {K Q E X : Type 0} (is_honest : K → Bool) (moment : K → ℕ) (image
           let nodes = h.nodes in
           omega (arith, below, nodes)
 
-      -- it isn't up now by this start
+      -- The start didn't bring the manager up.
       pub otherwise_done : is_started r ≡ false → Done mid
       otherwise_done none =
           let same = (started_as net w v h.recovery).1 (λ well. not_started r none (sym h.said ∙ well)) in
           done mid refl refl refl refl refl
           (λ k side at there. goes_on frames counted net w after k side ready.stands.running at (goes_same w after k same.durable same.frames same.wire) (stood k side at there)) h.tallied
 
-      -- it is
+      -- The start brought the manager up.
 
       module _ (is : is_started r ≡ true) where
         again : IsAgain net w v after
@@ -241,7 +239,7 @@ module _ {K Q E X : Type 0} (is_honest : K → Bool) (moment : K → ℕ) (image
             side_went = goes_on_there frames counted net w side ready.stands.running at s after began runs_on (octets_in m.view side.lane) (lease_in m.view side.lane)
                 (octets side.lane side at s from) (lease side.lane side at s from)
 
-          -- each side is that of its lane
+          -- A side that stands for a lane stands for the lane that it names.
           itself : (l : Lane) (side : LaneForm X) → is_lane net.site l ≡ true → LaneStands frames counted net w l side → (is_lane net.site side.lane ≡ true) × LaneStands frames counted net w side.lane side
           itself l side at s = (ap (is_lane net.site) s.lane ∙ at, subst (λ (k : Lane). LaneStands frames counted net w k side) (sym s.lane) s)
 
@@ -252,7 +250,7 @@ module _ {K Q E X : Type 0} (is_honest : K → Bool) (moment : K → ℕ) (image
               let own = itself (lane_at place) side at s in
               may_side side own.0 own.1 (ap (λ (x : Site). sender x side.lane) (ready.stands.sited ∙ sym (ap site_of (as_is ∙ h.site))) ∙ from)
 
-          -- a lane once it went on, or stayed
+          -- A lane went on or stayed as it was.
           lane_after : (l : Lane) (side : LaneForm X) → is_lane net.site l ≡ true → LaneStands frames counted net w l side → LaneStands frames counted net after l (gone_with net.site v m.view side)
           lane_after l side at s =
               let own = itself l side at s in

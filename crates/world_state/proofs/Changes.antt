@@ -1,8 +1,8 @@
--- A state of which one post was changed.
+-- A state in which one post changed.
 use Rattle.std.proofs.Common.{◌≡◌, ℕ, List, length, refl, ap, Option, Some}
 use Rattle.std.specs.Prelude.{slice_get, slice_set}
 use Rattle.std.specs.Vec.{with_item}
-use Rattle.world_posts.specs.Passed.{Post}
+use Rattle.world_nodes.specs.Passed.{Post}
 use Rattle.world_state.specs.declared.state.State.{State}
 use Rattle.world_state.proofs.Others.{each_placed, placed_length}
 
@@ -25,7 +25,7 @@ module _ {K Q E X : Type 0} (old new : State K Q E X) (v : ℕ) (p q : Post K E)
   pub posts_same : length new.posts.items ≡ length old.posts.items
   posts_same = placed_length old.posts.items new.posts.items v q one.posts
 
-  -- what holds of the changed post and of the others holds of all
+  -- What holds for the changed post and for each other post holds for all.
   pub each_post : (P : ℕ → Post K E → Type 0) → P v q → ((u : ℕ) (x : Post K E) → (u ≡ v → ⊥) → slice_get old.posts.items u ≡ Some x → P u x) →
       (u : ℕ) (x : Post K E) → slice_get new.posts.items u ≡ Some x → P u x
   each_post P mine others = each_placed old.posts.items new.posts.items v q one.posts P mine others

@@ -3,9 +3,9 @@ use Rattle.std.proofs.Common.{◌≡◌, ℕ, Bool, List, Option, Some}
 use Rattle.std.specs.Prelude.{slice_get}
 use Rattle.net_model.specs.OctetSequence.{OctetSequence}
 use Rattle.net_model.specs.World.{Network, World}
-use Rattle.world_posts.specs.Passed.{Post}
-use Rattle.world_posts.specs.Counts.{disk_of}
-use Rattle.world_posts.proofs.Counted.{post_disk}
+use Rattle.world_nodes.specs.Passed.{Post}
+use Rattle.world_nodes.specs.Counts.{disk_of}
+use Rattle.world_nodes.proofs.Counted.{post_disk}
 use Rattle.world_state.specs.Stands.{Stands}
 use Rattle.world_state.specs.declared.state.State.{State}
 

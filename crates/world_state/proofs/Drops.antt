@@ -1,4 +1,4 @@
--- What is left of a list behind a place, and of what a plan wants put on a lane.
+-- The rest of a list from a place on, and what a plan puts on a lane.
 use Rattle.std.proofs.Common.{◌≡◌, ℕ, zero, suc, ◌+◌, ◌<◌, ◌≤◌, Bool, true, false, List, [], ◌∷◌, ◌++◌, length, drop, map, refl, sym, ap, subst, ◌∙◌, arith, append_assoc}
 use Rattle.std.specs.Prelude.{get_or, filter}
 use Rattle.qkd_base.specs.Lane.{lane_eq}
@@ -6,7 +6,7 @@ use Rattle.qkd_base.specs.declared.lane.Lane.{Lane}
 use Rattle.net_model.specs.declared.order.Order.{Order}
 use Rattle.net_model.specs.declared.repeat.Repeat.{Repeat}
 use Rattle.net_model.specs.Tick.{Emission, Again, New, tick_order}
-use Rattle.law_records.proofs.Base.{when_true, when_false}
+use Rattle.law_base.proofs.Base.{when_true, when_false}
 use Rattle.world_state.specs.Sending.{repeats_on, orders_on}
 
 dropped : {A : Type 0} (xs : List A) (i : ℕ) (x : A) → i < length xs → x ≡ get_or xs i x → drop i xs ≡ x ∷ drop (suc i) xs
@@ -43,7 +43,7 @@ module _ (l : Lane) (os : List Order) (i : ℕ) (o : Order) (below : i < length 
   order_elsewhere e =
       ap (orders_on l) (drop_next os i o below is) ∙ ap (map New) (when_false (lane_eq o.lane l) (o ∷ filter (λ (x : Order). lane_eq x.lane l) (drop (i + 1) os)) _ e)
 
--- what is to be put on the next lane, and then on those behind it
+-- A tick puts what goes on the next lane, and then what goes on the lanes after it.
 
 module _ (ls : List Lane) (i : ℕ) (l : Lane) (rs : List Repeat) (os : List Order) where
   next_lane : (rest : List Lane) → tick_order (l ∷ rest) rs os ≡ repeats_on l rs ++ (orders_on l os ++ tick_order rest rs os)

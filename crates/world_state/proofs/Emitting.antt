@@ -1,4 +1,4 @@
--- The next order of a plan is put: what it is in the network and in its script.
+-- The next order of a plan is put: the actions in the network, and their part of the script.
 use Rattle.std.proofs.Common.{◌≡◌, ℕ, ◌+◌, ◌-◌, ◌≤◌, Bool, true, false, ◌&&◌, List, [], ◌∷◌, ◌++◌, length, length-append, refl, sym, ap, subst, ◌∙◌, arith, Option, Some, Result, Ok, Err}
 use Rattle.std.specs.Prelude.{slice_get, IsErrOf}
 use Rattle.qkd_base.specs.Faults.{Rose}
@@ -14,30 +14,29 @@ use Rattle.net_model.specs.Site.{sender}
 use Rattle.net_model.specs.Events.{is_lane, is_frame_size}
 use Rattle.net_model.specs.Frames.{allocate}
 use Rattle.net_model.specs.Tick.{Emission, New, item_in, ordered}
-use Rattle.net_model.specs.Action.{Environment, Action, Allocate, Transmit, Outcome, Allocated}
-use Rattle.net_model.specs.Action.{Ok as Fine}
+use Rattle.net_model.specs.Action.{Environment, Action, Allocate, Transmit, Outcome, Allocated, Ok as Fine}
 use Rattle.net_model.specs.Step.{step, is_enabled, is_step, IsStep, run, is_run, outcomes}
-use Rattle.report_items.specs.declared.item.Item.{Item}
+use Rattle.run_types.specs.declared.item.Item.{Item}
 use Rattle.source_devices.specs.declared.wire.WireFailed.{WireFailed}
 use Rattle.source_devices.specs.declared.wire.WireFailed.TheVariants.{Fault, Memory}
-use Rattle.lane_sides.specs.Lane.{LaneForm}
-use Rattle.lane_sides.specs.declared.sent.Sent.{Sent}
-use Rattle.lane_sides.specs.Sending.{answer_of}
-use Rattle.world_posts.specs.Passed.{Post}
-use Rattle.law_records.proofs.Base.{and_left, and_right, number_set_same}
-use Rattle.law_lanes.proofs.Lists.{lane_set_same}
-use Rattle.law_others.proofs.ManagerSteps.{claim_unseen, transmit_unseen}
-use Rattle.law_ticks.specs.Sending.{Sends, IsNew}
-use Rattle.law_ticks.proofs.Orders.{order_enabled, order_goes}
+use Rattle.lane_sender.specs.Lane.{LaneForm}
+use Rattle.lane_sender.specs.declared.sent.Sent.{Sent}
+use Rattle.lane_sender.specs.Sending.{answer_of}
+use Rattle.world_nodes.specs.Passed.{Post}
+use Rattle.law_base.proofs.Base.{and_left, and_right, number_set_same}
+use Rattle.law_base.proofs.Lists.{lane_set_same}
+use Rattle.law_locality.proofs.ManagerSteps.{claim_unseen, transmit_unseen}
+use Rattle.law_locality.specs.Sending.{Sends, IsNew}
+use Rattle.law_locality.proofs.Orders.{order_enabled, order_goes}
 use Rattle.run_model.specs.Outcomes.{put_items}
 use Rattle.run_model.specs.Script.{Script, Reports, Looks, Asks}
 use Rattle.run_model.specs.Play.{numbered, reporting, play, IsPlay, is_forged}
 use Rattle.run_model.specs.Lines.{offset_in, emitted}
-use Rattle.world_lanes.specs.Stands.{LaneStands}
-use Rattle.world_lanes.specs.Emitting.{wire_answer, wire_outcome, offset_of, order_placing, with_placing, MayEmit, emission, Emitted}
+use Rattle.world_nodes.specs.LaneStands.{LaneStands}
+use Rattle.world_nodes.specs.Emitting.{wire_answer, wire_outcome, offset_of, order_placing, with_placing, MayEmit, emission, Emitted}
 use Rattle.world_state.specs.Stands.{Stands, place_of}
 use Rattle.world_state.specs.Tallied.{Tallied}
-use Rattle.world_posts.specs.Counts.{disk_of}
+use Rattle.world_nodes.specs.Counts.{disk_of}
 use Rattle.world_state.specs.Sending.{Sending, Puts, PutsOn, Breaks}
 use Rattle.world_state.specs.declared.state.State.{State}
 use Rattle.world_state.proofs.OneSide.{OneSide}
@@ -49,7 +48,7 @@ use Rattle.world_state.proofs.Tallying.{emitted_tallied}
 use Rattle.world_state.proofs.Disks.{has_disks}
 use Rattle.world_state.proofs.Sendings.{puts_ends}
 
--- what a wire answers is no forged frame
+-- The answer of a wire is never a forged match.
 pub open_answer : (answer : Result ℕ WireFailed) → is_forged (wire_outcome answer) ≡ false
 open_answer (Ok n) = refl
 open_answer (Err Fault) = refl
@@ -158,7 +157,7 @@ module _ {K Q E X : Type 0} (is_honest : K → Bool) (moment : K → ℕ) (image
       sized = all_sized placings p sending.sized sized_after;
     }
 
-    -- its part of the script
+    -- the order's part of the script
 
     next_frame : length (w₁.frames l) - 1 ≡ length (w.frames l)
     unfolding step allocate
@@ -166,7 +165,7 @@ module _ {K Q E X : Type 0} (is_honest : K → Bool) (moment : K → ℕ) (image
         ap (λ (fs : List Allocation). length fs - 1) (lane_set_same w.frames l (w.frames l ++ record { offset = length (w.durable.own l); item = item_in order.payload } ∷ []))
         ∙ one_less (w.frames l) (record { offset = length (w.durable.own l); item = item_in order.payload })
 
-    -- what follows once it is claimed, and once it is put
+    -- the script after the order was claimed, and after its frame was put
 
     abbrev put_next : Outcome → Outcome → Script
     put_next claimed out = Reports (put_items l (offset_in claimed) (payload_len order.payload) out) (emitted v es)

@@ -1,4 +1,4 @@
--- What holds where a call succeeds, and where it fails.
+-- Facts about calls that succeed and calls that fail.
 use Rattle.std.specs.Prelude.{Result, Ok, Err, OnOk, OnErr, IfOk}
 
 pub ok_both : {T E P Q R : Type 0} (r : Result T E) → (P → Q → R) → OnOk r P → OnOk r Q → OnOk r R

@@ -1,4 +1,4 @@
--- What the next order of a plan asks of its lane.
+-- The next order of a plan is one that its lane may emit.
 use Rattle.std.proofs.Common.{◌≡◌, ℕ, Bool, true, List, ◌∷◌, refl, Option, Some}
 use Rattle.std.specs.Prelude.{slice_get}
 use Rattle.net_model.specs.OctetSequence.{OctetSequence}
@@ -7,9 +7,9 @@ use Rattle.net_model.specs.declared.order.Order.{Order}
 use Rattle.net_model.specs.declared.placing.Placing.{Placing}
 use Rattle.net_model.specs.World.{Network, World}
 use Rattle.net_model.specs.Tick.{Emission, New}
-use Rattle.lane_sides.specs.Lane.{LaneForm}
-use Rattle.world_lanes.proofs.Emissions.{is_formed}
-use Rattle.world_lanes.proofs.Going.{get_within}
+use Rattle.lane_sender.specs.Lane.{LaneForm}
+use Rattle.world_nodes.proofs.Emissions.{is_formed}
+use Rattle.world_nodes.proofs.LaneGoing.{get_within}
 use Rattle.world_state.specs.Stands.{place_of}
 use Rattle.world_state.specs.Sending.{Sending}
 use Rattle.world_state.specs.declared.state.State.{State}

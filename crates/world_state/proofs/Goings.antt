@@ -1,4 +1,4 @@
--- How far the frames of a plan have gone.
+-- The progress of a plan's frames.
 use Rattle.std.proofs.Common.{◌≡◌, ℕ, Bool, List, [], ◌∷◌, ◌++◌, refl, sym, ap, subst, ◌∙◌, append-nil, append_assoc, Option}
 use Rattle.disk_model.specs.declared.arm.Armings.{Armings}
 use Rattle.net_model.specs.declared.placing.Placing.{Placing}
@@ -12,7 +12,7 @@ use Rattle.world_state.proofs.Sendings.{puts_on_none, puts_on_more, puts_broken}
 
 module _ {K Q E X : Type 0} (is_honest : K → Bool) (moment : K → ℕ) (image : K → ℕ → List ℕ → Type 0) (left : E → Option OctetSequence) (told : Q → Option OctetSequence)
     (frames : X → Option (List (List ℕ))) (counted : X → ℕ) (disk_count : K → ℕ) (armed : K → Armings) (entropy_count : E → ℕ) (device_count : Q → ℕ) (wire_count : X → ℕ) where
-  -- these are still to be put, and others behind them
+  -- These frames are still to be put, and others after them.
   abbrev pub Before : State K Q E X → Network → World → ℕ → List Emission → Progress → Type 0
   Before s net w v es p = Sending is_honest moment image left told frames counted s net w v es p.placings
 
@@ -55,7 +55,7 @@ module _ {K Q E X : Type 0} (is_honest : K → Bool) (moment : K → ℕ) (image
         puts_broken is_honest moment image left told frames counted disk_count armed entropy_count device_count wire_count old mid new net w v (all ++ es) (head ++ (rest ++ es)) a.reported q.placings a.puts
         (next net a.puts.after (rest ++ es) a.puts.sending)
 
-  -- the same of equal lists
+  -- The same progress, with an equal list of frames still to be put.
   pub went_like : (old now : State K Q E X) (v : ℕ) (all rest other : List Emission) (p q : Progress) → rest ≡ other → Went old now v all rest p q → Went old now v all other p q
   went_like old now v all rest other p q same h = subst (λ (xs : List Emission). Went old now v all xs p q) same h
 
@@ -63,7 +63,7 @@ module _ {K Q E X : Type 0} (is_honest : K → Bool) (moment : K → ℕ) (image
   went_as old now now' v all rest p q q' state progress h =
       subst (λ (s : State K Q E X). Went old s v all rest p q') (sym state) (subst (λ (x : Progress). Went old now v all rest p x) (sym progress) h)
 
-  -- all that a plan wants put, with nothing noted before
+  -- All frames of a plan, with nothing noted before.
 
   module _ (old mid : State K Q E X) (v : ℕ) (es all : List Emission) (p q : Progress) (same : es ≡ all) (none : p.placings ≡ []) where
     whole : es ++ [] ≡ all

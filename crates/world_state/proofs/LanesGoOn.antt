@@ -1,4 +1,4 @@
--- A lane that an action doesn't change stands as before.
+-- If an action doesn't change a lane, the program's lane stands for it as before.
 use Rattle.std.proofs.Common.{◌≡◌, ℕ, ◌≤◌, Bool, true, false, ◌&&◌, ◌||◌, List, [], ◌∷◌, ◌++◌, refl, sym, ap, subst, arith, Option}
 use Rattle.std.specs.Prelude.{nat_lt, if◌then◌else◌}
 use Rattle.std.specs.List.{flat_map, list_any}
@@ -18,21 +18,21 @@ use Rattle.net_model.specs.Events.{is_lane}
 use Rattle.net_model.specs.Action.{Environment, Action, Start, Crash, Arm, SetLink, TakeBlock, Ask, Allocate, Transmit, Complete, Deliver, Flip, Forge, WantMemory}
 use Rattle.net_model.specs.Handle.{commit, stopped, perform, handle}
 use Rattle.net_model.specs.Step.{step, is_enabled}
-use Rattle.law_records.proofs.Base.{or_first, or_second, and_left}
-use Rattle.law_records.proofs.Walks.{perform_walk, handle_walk}
-use Rattle.law_decisions.specs.May.{is_plan}
-use Rattle.law_decisions.proofs.Decisions.{plan_is}
-use Rattle.law_windows.proofs.Orders.{plan_may}
-use Rattle.law_lanes.proofs.Lasting.{step_more}
-use Rattle.law_others.specs.Touched.{touches_lane, changes_part, PartStays, Blocks, Own, Lease, Wire}
-use Rattle.law_others.proofs.LaneParts.{step_part}
-use Rattle.lane_sides.specs.Lane.{LaneForm}
-use Rattle.world_lanes.specs.Stands.{IsRunning, LaneStands}
-use Rattle.world_lanes.specs.Going.{IsReplayed, brings}
-use Rattle.world_lanes.proofs.Going.{goes_on, batch_goes_on}
+use Rattle.law_base.proofs.Base.{or_first, or_second, and_left}
+use Rattle.law_base.proofs.Walks.{perform_walk, handle_walk}
+use Rattle.law_invariant.specs.May.{is_plan}
+use Rattle.law_invariant.proofs.Decisions.{plan_is}
+use Rattle.law_invariant.proofs.Orders.{plan_may}
+use Rattle.law_base.proofs.Lasting.{step_more}
+use Rattle.law_locality.specs.Touched.{touches_lane, changes_part, PartStays, Blocks, Own, Lease, Wire}
+use Rattle.law_locality.proofs.LaneParts.{step_part}
+use Rattle.lane_sender.specs.Lane.{LaneForm}
+use Rattle.world_nodes.specs.LaneStands.{IsRunning, LaneStands}
+use Rattle.world_nodes.specs.Going.{IsReplayed, brings}
+use Rattle.world_nodes.proofs.LaneGoing.{goes_on, batch_goes_on}
 use Rattle.world_state.specs.Changed.{changes_lane}
 
--- a part that isn't changed where the lane isn't
+-- An action that doesn't change a lane changes no part of it.
 each_part : (touched part others : Bool) → (touched && (part || others)) ≡ false → (touched && part) ≡ false
 each_part true true others h = h
 each_part true false others h = refl
@@ -51,7 +51,7 @@ no_plan : (p b : Bool) → p ≡ false → ((p && b) && p) ≡ false
 no_plan true b h = cc
 no_plan false b h = refl
 
--- a plan brings no block, and lowers no lease
+-- A plan brings no block and lowers no lease.
 
 no_block : (site s : Site) (v : ℕ) (see : View) (l : Lane) (ps : List Port) → list_any (brings site v l) (flat_map (leases_on s see) ps) ≡ false
 no_block site s v see l [] = refl

@@ -1,4 +1,4 @@
--- The lease that a manager reads of a lane that leaves its node.
+-- The lease that a manager's view has of a lane that leaves its node.
 use Rattle.std.proofs.Common.{◌≡◌, ℕ, ◌<◌, Bool, true, false, Option, Some, List, refl, sym, ap, subst, ◌∙◌}
 use Rattle.std.specs.Prelude.{◌==◌}
 use Rattle.std.proofs.lemmas.Bool.{ltb-true}
@@ -10,16 +10,13 @@ use Rattle.net_model.specs.World.{Network, World}
 use Rattle.net_model.specs.Needed.{view_of}
 use Rattle.net_model.specs.View.{View, Port, port_of}
 use Rattle.net_model.specs.Events.{is_lane}
-use Rattle.law_records.proofs.Base.{eq_same, or_left, or_right, not_both}
-use Rattle.world_posts.specs.Passed.{ManagerForm, lease_of}
-use Rattle.world_posts.specs.Passed.{Standing}
-use Rattle.world_posts.specs.Standings as standings
-use Rattle.world_posts.specs.Passed.{Post}
-use Rattle.world_posts.specs.Passed.{On, Off}
-use Rattle.world_lanes.specs.Stands.{IsRunning}
-use Rattle.world_lanes.proofs.Taking.{own_lane}
-use Rattle.world_posts.specs.Stands.{StandingStands, PostStands}
-use Rattle.world_posts.proofs.Ports.{port_there}
+use Rattle.law_base.proofs.Base.{eq_same, or_left, or_right, not_both}
+use Rattle.world_nodes.specs.Passed.{ManagerForm, lease_of, Standing, Post, On, Off}
+use Rattle.world_nodes.specs.Standings as standings
+use Rattle.world_nodes.specs.LaneStands.{IsRunning}
+use Rattle.world_nodes.proofs.Taking.{own_lane}
+use Rattle.world_nodes.specs.Stands.{StandingStands, PostStands}
+use Rattle.world_nodes.proofs.Ports.{port_there}
 
 pub incident_of : (s : Site) (l : Lane) → is_incident s (sender s l) l.link ≡ true
 incident_of s l = elim l.way as (λ way. is_incident s (of_way way (s.low l.link) (s.high l.link)) l.link ≡ true) [

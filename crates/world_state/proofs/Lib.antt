@@ -17,7 +17,6 @@ pub mod OneSide
 pub mod OneTallied
 pub mod OtherLanes
 pub mod Others
-pub mod Passed
 pub mod Passing
 pub mod PlanAndNote
 pub mod Plays
@@ -41,3 +40,4 @@ pub mod Tallying
 pub mod Tampers
 pub mod Ticks
 pub mod Ups
+pub mod Passed

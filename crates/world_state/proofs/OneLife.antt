@@ -1,4 +1,4 @@
--- A manager's life ends, and a disk is armed: one post is changed.
+-- A manager's life ends, or a disk is armed: one post changes.
 use Rattle.std.proofs.Common.{◌≡◌, ℕ, zero, suc, ◌+◌, ◌<◌, ◌≤◌, Bool, true, false, ◌&&◌, List, [], ◌∷◌, ◌++◌, length, refl, sym, ap, subst, ◌∙◌, arith, Option, Some, None}
 use Rattle.std.specs.Prelude.{◌==◌, nat_lt, slice_get, slice_set, if◌then◌else◌}
 use Rattle.std.specs.List.{list_all, filter_map, cons_option, insert, remove}
@@ -15,21 +15,17 @@ use Rattle.net_model.specs.Action.{Action, Outcome, Fault, Crash, Arm, Armed}
 use Rattle.net_model.specs.Faults.{disk_faults, entropy_faults, armings, fault_armed}
 use Rattle.net_model.specs.Step.{step, is_node, is_sent, is_quiet, is_enabled}
 use Rattle.declared_site.specs.SiteOf.{site_of}
-use Rattle.world_posts.specs.Passed.{HasDisk}
-use Rattle.world_posts.specs.Passed.{Standing}
-use Rattle.world_posts.specs.Passed.{Up, Down, Between}
-use Rattle.world_posts.specs.Passed.{Post}
-use Rattle.world_posts.specs.Passed.{On, Off}
-use Rattle.law_records.proofs.Base.{and_both, eq_same, eq_from, not_false, when_true}
-use Rattle.run_turns.specs.Reported.{crashed}
+use Rattle.world_nodes.specs.Passed.{HasDisk, Standing, Up, Down, Between, Post, On, Off}
+use Rattle.law_base.proofs.Base.{and_both, eq_same, eq_from, not_false, when_true}
+use Rattle.run_ops.specs.Reported.{crashed}
 use Rattle.run_model.specs.Bench.{last_of_both}
-use Rattle.run_acts.specs.Fitting.{is_fit}
-use Rattle.run_acts.specs.Quiet.{IsQuiet}
-use Rattle.run_acts.specs.Acting.{IsReady, Does, fault_of}
-use Rattle.world_posts.specs.Counts.{disk_in, disk_of, entropy_of, CountsBy}
-use Rattle.world_posts.specs.Handled.{OnDisk}
-use Rattle.world_posts.specs.Lives.{MayCrash, HasCrashed, MayArm, HasArmed, IsArmedWith}
-use Rattle.world_posts.proofs.Counted.{post_disk}
+use Rattle.run_ops.specs.Fitting.{is_fit}
+use Rattle.run_ops.specs.Quiet.{IsQuiet}
+use Rattle.run_ops.specs.Acting.{IsReady, Does, fault_of}
+use Rattle.world_nodes.specs.Counts.{disk_in, disk_of, entropy_of, CountsBy}
+use Rattle.world_nodes.specs.Handled.{OnDisk}
+use Rattle.world_nodes.specs.Lives.{MayCrash, HasCrashed, MayArm, HasArmed, IsArmedWith}
+use Rattle.world_nodes.proofs.Counted.{post_disk}
 use Rattle.world_state.specs.Armed.{times_of, most_armed}
 use Rattle.world_state.specs.Stands.{Stands}
 use Rattle.world_state.specs.Tallied.{IsArmedBy, PostTallied, Tallied}
@@ -43,7 +39,7 @@ use Rattle.world_state.proofs.OneTallied.{CountsOne, CountsNoOther, counted_once
 some_is : {A : Type 0} {a b : A} → ◌≡◌ {A = Option A} (Some a) (Some b) → a ≡ b
 some_is h = cc
 
--- an item that is taken out and put back changed
+-- An item is taken out of a list and put back changed.
 
 pub put_back : {A : Type 0} (xs : List A) (i : ℕ) (x y : A) → slice_get xs i ≡ Some x → insert (remove xs i) i y ≡ slice_set xs i y
 put_back [] i x y at = cc
@@ -58,7 +54,7 @@ put_in {A} xs taken now i x y there at is new ok =
 elsewhere : (v u : ℕ) → (u ≡ v → ⊥) → (v == u) ≡ false
 elsewhere v u other = not_false (v == u) (λ e. other (sym (eq_from v u e)))
 
--- a crash
+-- ---- a crash
 
 sent : (w : World) → IsQuiet w → (ls : List Lane) → list_all (λ l. is_nil (w.unclaimed l) && is_nil (w.outgoing l)) ls ≡ true
 sent w q [] = refl
@@ -102,7 +98,7 @@ module _ {K Q E X : Type 0} (is_honest : K → Bool) (moment : K → ℕ) (image
         done_counted is_honest moment image left told frames counted disk_count armed entropy_count device_count wire_count old new net w v p q change ready
         (Crash v) h.may (crash_one net.site v) h.stands (Crash v) (crashed was_up) refl h.said false false (crash_counted net.site v) (record { devices = λ link. refl; wires = λ l. refl }) h.counts
 
--- a disk is armed
+-- ---- arming a disk
 
 arm_one : (s : Site) (v : ℕ) (fault : Fault) → ChangesOne s (Arm v fault) v
 arm_one s v fault = record { nodes = λ u other. refl; lanes = λ l. refl; links = λ link. refl; sends = refl }

@@ -1,4 +1,4 @@
--- An action that changes one manager alone.
+-- Actions that change only one manager.
 use Rattle.std.proofs.Common.{◌≡◌, ◌⊎◌, inl, inr, ℕ, Bool, false, List, [], ◌∷◌, length, sym, ap, ◌∙◌, Option, Some}
 use Rattle.std.specs.Prelude.{slice_get}
 use Rattle.qkd_base.specs.declared.lane.Lane.{Lane}
@@ -9,16 +9,16 @@ use Rattle.net_model.specs.World.{Network, World}
 use Rattle.net_model.specs.Action.{Environment, Action, Outcome, is_io_fault, is_entropy_fault}
 use Rattle.net_model.specs.Step.{step, IsStep}
 use Rattle.declared_site.specs.SiteOf.{site_of}
-use Rattle.world_posts.specs.Passed.{Post}
-use Rattle.lane_sides.specs.Lane.{LaneForm}
+use Rattle.world_nodes.specs.Passed.{Post}
+use Rattle.lane_sender.specs.Lane.{LaneForm}
 use Rattle.route_table.specs.Layer.{bit_is_set}
 use Rattle.run_model.specs.Play.{plain}
-use Rattle.run_acts.specs.Acting.{IsReady, Does}
-use Rattle.law_others.specs.Touched.{touches_link}
-use Rattle.law_others.proofs.Links.{step_link}
-use Rattle.world_posts.specs.Stands.{PostStands}
-use Rattle.world_posts.specs.Counts.{Counts}
-use Rattle.world_posts.specs.Handled.{Happens}
+use Rattle.run_ops.specs.Acting.{IsReady, Does}
+use Rattle.law_locality.specs.Touched.{touches_link}
+use Rattle.law_locality.proofs.Links.{step_link}
+use Rattle.world_nodes.specs.Stands.{PostStands}
+use Rattle.world_nodes.specs.Counts.{Counts}
+use Rattle.world_nodes.specs.Handled.{Happens}
 use Rattle.world_state.specs.Changed.{changes_node, changes_lane, sends}
 use Rattle.world_state.specs.Stands.{Stands, place_of}
 use Rattle.world_state.specs.Moving.{Moves}
@@ -30,13 +30,13 @@ use Rattle.world_state.proofs.OneTallied.{CountsOne, CountsNoOther, one_post_tal
 use Rattle.world_state.proofs.QuietStays.{quiet_stays}
 use Rattle.world_state.proofs.StateGoesOn.{state_goes_on, enabled_of}
 
--- it changes this manager alone, and no lane and no link
+-- The action changes only this manager, and no lane and no link.
 pub record ChangesPost (site : Site) (a : Action) (v : ℕ) : Type 0 where
   pub nodes : (u : ℕ) → (u ≡ v → ⊥) → changes_node site a u ≡ false
   pub lanes : (l : Lane) → changes_lane site a l ≡ false
   pub links : (link : ℕ) → touches_link a link ≡ false
 
--- it also sends nothing
+-- The action changes only this manager, no lane and no link, and sends nothing.
 pub record ChangesOne (site : Site) (a : Action) (v : ℕ) : Type 0 where
   pub nodes : (u : ℕ) → (u ≡ v → ⊥) → changes_node site a u ≡ false
   pub lanes : (l : Lane) → changes_lane site a l ≡ false
@@ -66,7 +66,7 @@ module _ {K Q E X : Type 0} (is_honest : K → Bool) (moment : K → ℕ) (image
     pub stands_after : Stands is_honest moment image left told frames counted new net (step net w a).0
     stands_after = state_goes_on is_honest moment image left told frames counted old new net w a may stands moves
 
-  -- where nothing happened the other post may stand for the node, too
+  -- If nothing happened, the state with the other post stands for the same world.
   pub stands_still : PostStands is_honest moment image left net w v q → Stands is_honest moment image left told frames counted new net w
   stands_still there = record {
     running = stands.running;
@@ -104,7 +104,7 @@ module _ {K Q E X : Type 0} (is_honest : K → Bool) (moment : K → ℕ) (image
         (one_post_tallied disk_count armed entropy_count device_count wire_count net.site a old new
         (has_disks is_honest moment image left told frames counted old net w ready.stands) v p q disk_fault entropy_fault change counts rest c)
 
-  -- an action with an answer of the outside, at a post where it happened
+  -- The action happened at the post, with an answer of the environment.
   pub happened : (action : Environment → Action) (asked : Action) (outcome : Outcome) → ((environment : Environment) → ChangesOne net.site (action environment) v) →
       ((environment : Environment) → CountsOne net.site (action environment) v (is_io_fault environment) (is_entropy_fault environment)) → ((environment : Environment) → CountsNoOther (action environment)) →
       ((environment : Environment) → plain (action environment) ≡ asked) →

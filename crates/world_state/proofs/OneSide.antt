@@ -1,4 +1,4 @@
--- A state of which one lane's side was changed.
+-- A state in which the side of one lane changed.
 use Rattle.std.proofs.Common.{◌≡◌, ℕ, zero, suc, ◌+◌, ◌*◌, ◌<◌, Bool, true, false, ◌&&◌, List, [], ◌∷◌, length, refl, sym, ap, subst, ◌∙◌, arith, Option, Some}
 use Rattle.std.specs.Prelude.{◌==◌, slice_get, slice_set, get_or}
 use Rattle.std.specs.Vec.{with_item}
@@ -9,8 +9,8 @@ use Rattle.qkd_base.specs.declared.lane.Way.TheVariants.{Up, Down}
 use Rattle.qkd_base.specs.declared.lane.Lane.{Lane}
 use Rattle.net_model.specs.Site.{Site}
 use Rattle.net_model.specs.Events.{is_lane}
-use Rattle.law_records.proofs.Base.{and_true, eq_same, lane_eq_from, lane_same, not_both}
-use Rattle.lane_sides.specs.Lane.{LaneForm}
+use Rattle.law_base.proofs.Base.{and_true, eq_same, lane_eq_from, lane_same, not_both}
+use Rattle.lane_sender.specs.Lane.{LaneForm}
 use Rattle.world_state.specs.Stands.{of_way, place_of}
 use Rattle.world_state.specs.declared.state.State.{State}
 
@@ -36,7 +36,7 @@ set_length (z ∷ zs) (suc p) y = ap suc (set_length zs p y)
 pub some_same : {A : Type 0} {a b : A} → ◌≡◌ {A = Option A} (Some a) (Some b) → a ≡ b
 some_same h = cc
 
--- lanes that differ have different places
+-- Different lanes have different places.
 
 differ : (a b : ℕ) → (a == b) ≡ false → b ≡ a → ⊥
 differ a b h e = not_both (a == b) (subst (λ (n : ℕ). (a == n) ≡ true) (sym e) (eq_same a)) h
@@ -68,7 +68,7 @@ module _ {K Q E X : Type 0} (old new : State K Q E X) (l : Lane) (before now : L
   pub sides_same : length new.lanes.items ≡ length old.lanes.items
   sides_same = ap length one.lanes ∙ set_length old.lanes.items (place_of l) now
 
-  -- what holds of the changed side and of the others holds of all
+  -- What holds for the changed side and for each other side holds for all.
   pub each_side : (P : Lane → LaneForm X → Type 0) → P l now → ((k : Lane) (side : LaneForm X) → lane_eq k l ≡ false → slice_get old.lanes.items (place_of k) ≡ Some side → P k side) →
       (k : Lane) (side : LaneForm X) → slice_get new.lanes.items (place_of k) ≡ Some side → P k side
   each_side P mine others k side at =
@@ -80,7 +80,7 @@ module _ {K Q E X : Type 0} (old new : State K Q E X) (l : Lane) (before now : L
         | false ↦ λ e. others k side e (side_other k side e at)
       ] refl
 
--- what a place within holds
+-- the item at a place of a list
 
 pub read_at : {A : Type 0} (xs : List A) (p q : ℕ) (x : A) → p ≡ q → q < length xs → x ≡ get_or xs p x → slice_get xs q ≡ Some x
 read_at xs p q x same below is = read xs q x below (is ∙ ap (λ (n : ℕ). get_or xs n x) same)

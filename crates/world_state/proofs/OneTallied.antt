@@ -1,4 +1,4 @@
--- What is counted of one action that changes one post at most.
+-- The counts of one action that changes at most one post.
 use Rattle.std.proofs.Common.{◌≡◌, ℕ, ◌+◌, ◌-◌, ◌^◌, ◌≤◌, Bool, true, false, List, [], ◌∷◌, length, refl, sym, ap, subst, ◌∙◌, arith, Option, Some, None}
 use Rattle.std.specs.Prelude.{min, slice_get, slice_set, cond}
 use Rattle.std.specs.List.{filter_map, cons_option}
@@ -7,10 +7,10 @@ use Rattle.disk_model.specs.declared.arm.Armings.{Armings}
 use Rattle.net_model.specs.Site.{Site}
 use Rattle.net_model.specs.Action.{Action, Fault}
 use Rattle.net_model.specs.Faults.{disk_faults, entropy_faults, device_faults, wire_faults, armings, is_disk_fault, is_random_fault, is_block_fault, is_wire_fault, fault_armed}
-use Rattle.world_posts.specs.Passed.{Post}
-use Rattle.lane_sides.specs.Lane.{LaneForm}
-use Rattle.world_posts.specs.Counts.{disk_of, entropy_of, IsCounted, CountsBy, Counts}
-use Rattle.world_posts.proofs.Counted.{unchanged}
+use Rattle.world_nodes.specs.Passed.{Post}
+use Rattle.lane_sender.specs.Lane.{LaneForm}
+use Rattle.world_nodes.specs.Counts.{disk_of, entropy_of, IsCounted, CountsBy, Counts}
+use Rattle.world_nodes.proofs.Counted.{unchanged}
 use Rattle.world_state.specs.Stands.{place_of}
 use Rattle.world_state.specs.Tallied.{Counted, IsArmedBy, PostTallied, Tallied}
 use Rattle.world_state.specs.declared.state.State.{State}
@@ -21,7 +21,7 @@ use Rattle.world_state.proofs.Tallies.{none_counted}
 some_is : {A : Type 0} {a b : A} → ◌≡◌ {A = Option A} (Some a) (Some b) → a ≡ b
 some_is h = cc
 
--- counts of one action
+-- the counts of one action
 
 abbrev once : Bool → ℕ
 once fault = 0 + cond fault 1 0
@@ -50,7 +50,7 @@ not_armed : (f : Action → Option Fault) (a : Action) (before now : Armings) �
 not_armed f a before now none same =
     subst (λ (fs : List Fault). IsArmedBy fs before now) (sym (no_item f a none)) (subst (λ (n : Armings). IsArmedBy [] before n) (sym same) (record { times = omega arith; last = refl }))
 
--- an action at one post: what fails in it fails there, and no disk is armed
+-- The action is one at this post: only parts of this post can fail in it, and it arms no disk.
 pub record CountsOne (site : Site) (a : Action) (v : ℕ) (disk_fault entropy_fault : Bool) : Type 0 where
   pub disk : is_disk_fault site v a ≡ true → disk_fault ≡ true
   pub entropy : is_random_fault v a ≡ true → entropy_fault ≡ true
@@ -58,13 +58,13 @@ pub record CountsOne (site : Site) (a : Action) (v : ℕ) (disk_fault entropy_fa
   pub disks : (u : ℕ) → (u ≡ v → ⊥) → is_disk_fault site u a ≡ false
   pub entropies : (u : ℕ) → (u ≡ v → ⊥) → is_random_fault u a ≡ false
 
--- no device and no wire fails in it
+-- No device and no wire fails in the action.
 pub record CountsNoOther (a : Action) : Type 0 where
   pub devices : (link : ℕ) → is_block_fault link a ≡ false
   pub wires : (l : Lane) → is_wire_fault l a ≡ false
 
 module _ {K Q E X : Type 0} (disk_count : K → ℕ) (armed : K → Armings) (entropy_count : E → ℕ) (device_count : Q → ℕ) (wire_count : X → ℕ) (site : Site) (a : Action) where
-  -- at a post
+  -- the counts at the post of the action
   pub post_once : (v : ℕ) (disk_fault entropy_fault : Bool) (p q : Post K E) → (is_disk_fault site v a ≡ true → disk_fault ≡ true) → (is_random_fault v a ≡ true → entropy_fault ≡ true) →
       fault_armed v a ≡ None → Counts disk_count armed entropy_count disk_fault entropy_fault p q → PostTallied disk_count armed entropy_count site v (a ∷ []) p q
   unfolding disk_faults entropy_faults armings
@@ -79,7 +79,7 @@ module _ {K Q E X : Type 0} (disk_count : K → ℕ) (armed : K → Armings) (en
         (fewer entropy_fault (is_random_fault v a) (entropy_count (entropy_of p)) (entropy_count (entropy_of q)) entropy c.entropy);
   }
 
-  -- at a post that isn't changed
+  -- the counts at a post that doesn't change
   pub post_still : (v : ℕ) (p : Post K E) → (k : K) × (disk_of p ≡ Some k) → is_disk_fault site v a ≡ false → is_random_fault v a ≡ false → fault_armed v a ≡ None →
       PostTallied disk_count armed entropy_count site v (a ∷ []) p p
   post_still v p k disk entropy none = post_once v false false p p (λ is. sym disk ∙ is) (λ is. sym entropy ∙ is) none (unchanged disk_count armed entropy_count p k.0 k.1)
@@ -127,7 +127,7 @@ module _ {K Q E X : Type 0} (disk_count : K → ℕ) (armed : K → Armings) (en
     unfolding device_faults wire_faults
     all_tallied nodes links sides posts devices wires = record { nodes = nodes; posts = posts; links = links; devices = devices; sides = sides; wires = wires }
 
-    -- where one post is changed, and nothing else
+    -- If only one post changed, its counts give the counts of the whole state.
     pub one_post_tallied : HasDisks old → (v : ℕ) (p q : Post K E) (disk_fault entropy_fault : Bool) → OnePost old new v p q → CountsOne site a v disk_fault entropy_fault → CountsNoOther a →
         Counts disk_count armed entropy_count disk_fault entropy_fault p q → Tallied disk_count armed entropy_count device_count wire_count old new site (a ∷ [])
     one_post_tallied disks v p q disk_fault entropy_fault one counts rest c =

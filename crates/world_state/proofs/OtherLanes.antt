@@ -1,4 +1,4 @@
--- What is put on one lane leaves managers and other lanes.
+-- Putting a frame on one lane changes no manager and no other lane.
 use Rattle.std.proofs.Common.{◌≡◌, ℕ, ◌+◌, ◌*◌, ◌≤◌, Bool, true, false, ◌&&◌, ◌||◌, List, [], ◌∷◌, length, refl, sym, ap, subst, ◌∙◌, Option, Some, None}
 use Rattle.std.specs.Prelude.{slice_get}
 use Rattle.qkd_base.specs.Lane.{lane_eq}
@@ -11,15 +11,15 @@ use Rattle.net_model.specs.Action.{Environment, Action, Allocate, Transmit, Outc
 use Rattle.net_model.specs.Step.{step, IsStep}
 use Rattle.declared_site.specs.SiteOf.{site_of}
 use Rattle.route_table.specs.Layer.{bit_is_set}
-use Rattle.kme_site.specs.Up.{AreUp}
-use Rattle.world_posts.specs.Passed.{Post}
-use Rattle.lane_sides.specs.Lane.{LaneForm}
-use Rattle.law_records.proofs.Base.{by_test}
-use Rattle.law_others.specs.Touched.{ManagerStays, changes_part, Blocks, Own, Wire}
-use Rattle.law_others.proofs.ManagerSteps.{claim_unseen, transmit_unseen}
-use Rattle.world_lanes.specs.Stands.{IsRunning, LaneStands}
-use Rattle.world_posts.specs.Stands.{PostStands}
-use Rattle.world_posts.proofs.Going.{post_on}
+use Rattle.kme_base.specs.Up.{AreUp}
+use Rattle.world_nodes.specs.Passed.{Post}
+use Rattle.lane_sender.specs.Lane.{LaneForm}
+use Rattle.law_base.proofs.Base.{by_test}
+use Rattle.law_locality.specs.Touched.{ManagerStays, changes_part, Blocks, Own, Wire}
+use Rattle.law_locality.proofs.ManagerSteps.{claim_unseen, transmit_unseen}
+use Rattle.world_nodes.specs.LaneStands.{IsRunning, LaneStands}
+use Rattle.world_nodes.specs.Stands.{PostStands}
+use Rattle.world_nodes.proofs.Going.{post_on}
 use Rattle.world_state.specs.Changed.{changes_lane}
 use Rattle.world_state.specs.Stands.{Stands, place_of}
 use Rattle.world_state.specs.declared.state.State.{State}
@@ -27,7 +27,7 @@ use Rattle.world_state.proofs.LanesGoOn.{lane_goes_on}
 use Rattle.world_state.proofs.StateGoesOn.{running_on, enabled_of}
 use Rattle.world_state.proofs.OneSide.{OneSide, sides_same, each_side}
 
--- links stay up or down
+-- Links stay up or down.
 
 claimed_links : (net : Network) (w : World) (t : Transmission) → (step net w (Allocate t)).0.link_up ≡ w.link_up
 unfolding step allocate
@@ -43,7 +43,7 @@ put_links net w l j environment = one_links net w l environment (outgoing_of j (
 
 module _ {K Q E X : Type 0} (is_honest : K → Bool) (moment : K → ℕ) (image : K → ℕ → List ℕ → Type 0) (left : E → Option OctetSequence) (told : Q → Option OctetSequence)
     (frames : X → Option (List (List ℕ))) (counted : X → ℕ) (old : State K Q E X) (net : Network) (l : Lane) where
-  -- all of a state but a lane stands
+  -- All parts of the state but one lane stand for the world.
   pub record Others (w : World) : Type 0 where
     pub running : IsRunning net w
     pub posts : (v : ℕ) (p : Post K E) → slice_get old.posts.items v ≡ Some p → PostStands is_honest moment image left net w v p
@@ -71,7 +71,7 @@ module _ {K Q E X : Type 0} (is_honest : K → Bool) (moment : K → ℕ) (image
   others_put w j environment may s =
       others_on w (Transmit l j environment) may (λ v. transmit_unseen net w v l j environment) (λ k e. ap (λ (b : Bool). b && true) e) (put_links net w l j environment) s
 
-  -- and with the changed lane all of the new one
+  -- If the changed lane stands for the world too, so does the whole new state.
   pub stands_with : (w w' : World) (new : State K Q E X) (before now : LaneForm X) → OneSide old new l before now → Stands is_honest moment image left told frames counted old net w → Others w' →
       LaneStands frames counted net w' l now → Stands is_honest moment image left told frames counted new net w'
   stands_with w w' new before now one s others lane = record {

@@ -5,7 +5,7 @@ use Rattle.std.specs.Prelude.{slice_get, slice_set}
 some_is : {A : Type 0} {a b : A} → ◌≡◌ {A = Option A} (Some a) (Some b) → a ≡ b
 some_is h = cc
 
--- what stands at a place is the new item there, or what stood there
+-- Each item of the list is the new one or one that was there before.
 pub placed : {A : Type 0} (xs : List A) (i : ℕ) (x : A) (k : ℕ) (y : A) → slice_get (slice_set xs i x) k ≡ Some y →
     ((k ≡ i) × (y ≡ x)) ⊎ ((k ≡ i → ⊥) × (slice_get xs k ≡ Some y))
 placed [] i x k y h = inr (λ e. cc, h)
@@ -24,12 +24,12 @@ set_length [] i x = refl
 set_length (a ∷ xs) zero x = refl
 set_length (a ∷ xs) (suc i) x = ap suc (set_length xs i x)
 
--- the same of a list that is said to be so
+-- the same for a list that is equal to the changed one
 
 pub placed_length : {A : Type 0} (xs ys : List A) (i : ℕ) (x : A) → ys ≡ slice_set xs i x → length ys ≡ length xs
 placed_length xs ys i x is = ap length is ∙ set_length xs i x
 
--- what holds of the new item and of the others holds of all
+-- What holds for the new item and for each other one holds for all.
 pub each_placed : {A : Type 0} (xs ys : List A) (i : ℕ) (x : A) → ys ≡ slice_set xs i x → (P : ℕ → A → Type 0) → P i x → ((k : ℕ) (y : A) → (k ≡ i → ⊥) → slice_get xs k ≡ Some y → P k y) →
     (k : ℕ) (y : A) → slice_get ys k ≡ Some y → P k y
 each_placed {A} xs ys i x is P mine others k y at = elim (placed xs i x k y (ap (λ (zs : List A). slice_get zs k) (sym is) ∙ at)) [
@@ -37,7 +37,7 @@ each_placed {A} xs ys i x is P mine others k y at = elim (placed xs i x k y (ap 
   | inr other ↦ others k y other.0 other.1
 ]
 
--- the item that stood at a place, put there again
+-- If the item of a place is put there again, the list stays the same.
 pub put_back : {A : Type 0} (xs : List A) (i : ℕ) (x y : A) → slice_get xs i ≡ Some x → y ≡ x → slice_set xs i y ≡ xs
 put_back [] i x y at same = refl
 put_back (a ∷ xs) zero x y at same = ap (λ z. z ∷ xs) (same ∙ sym (some_is at))

@@ -1,4 +1,4 @@
--- A frame comes to its receiver: one post is changed, or nothing where no frame stands there.
+-- A frame comes to its receiver, and one post changes. If there is no such frame, nothing changes.
 use Rattle.std.proofs.Common.{◌≡◌, ℕ, ◌≤◌, Bool, true, ◌&&◌, List, length, take, length-take, refl, sym, ap, subst, ◌∙◌, arith, Option, Some, None}
 use Rattle.std.specs.Prelude.{◌==◌, slice_get, is_some}
 use Rattle.qkd_base.specs.declared.lane.Lane.{Lane}
@@ -9,17 +9,16 @@ use Rattle.net_model.specs.OctetSequence.{OctetSequence}
 use Rattle.net_model.specs.World.{Network, World}
 use Rattle.net_model.specs.Events.{is_lane}
 use Rattle.net_model.specs.Frames.{deliver, deliver_number}
-use Rattle.net_model.specs.Action.{Environment, Deliver, Outcome, Replies, NoFrame, is_io_fault, is_entropy_fault}
-use Rattle.net_model.specs.Action.{Ok as Fine}
+use Rattle.net_model.specs.Action.{Environment, Deliver, Outcome, Replies, NoFrame, is_io_fault, is_entropy_fault, Ok as Fine}
 use Rattle.net_model.specs.Step.{step, is_enabled}
 use Rattle.declared_site.specs.SiteOf.{site_of}
-use Rattle.world_posts.specs.Passed.{Post}
-use Rattle.law_records.proofs.Base.{and_right}
-use Rattle.run_acts.specs.Acting.{IsReady, Does}
-use Rattle.world_lanes.specs.Stands.{LaneStands}
-use Rattle.world_lanes.specs.Seeing.{IsTold, IsSeen}
-use Rattle.lane_sides.specs.Lane.{LaneForm}
-use Rattle.world_posts.specs.Hearing.{MayHear, HasHeard}
+use Rattle.world_nodes.specs.Passed.{Post}
+use Rattle.law_base.proofs.Base.{and_right}
+use Rattle.run_ops.specs.Acting.{IsReady, Does}
+use Rattle.world_nodes.specs.LaneStands.{LaneStands}
+use Rattle.world_nodes.specs.Seeing.{IsTold, IsSeen}
+use Rattle.lane_sender.specs.Lane.{LaneForm}
+use Rattle.world_nodes.specs.Hearing.{MayHear, HasHeard}
 use Rattle.world_state.specs.Frames.{IsOnWire}
 use Rattle.world_state.specs.Stands.{Stands, place_of}
 use Rattle.world_state.specs.Tallied.{Tallied}
@@ -62,7 +61,7 @@ pub itself : {X : Type 0} (frames : X → Option (List (List ℕ))) (counted : X
     LaneStands frames counted net w l side → LaneStands frames counted net w side.lane side
 itself frames counted net w l side s = subst (λ (k : Lane). LaneStands frames counted net w k side) (sym s.lane) s
 
--- what a wire that tells gave
+-- the octets that a wire gave
 
 pub short_of : (n : ℕ) (room octets : List ℕ) → n ≤ 600 → octets ≡ take n room → length octets ≤ 600
 short_of n room octets few is = let e : length octets ≡ length (take n room) = ap length is in let t = length-take n room in omega (arith, few, e, t)
@@ -93,14 +92,14 @@ module _ {K Q E X : Type 0} (is_honest : K → Bool) (moment : K → ℕ) (image
     abbrev Done : State K Q E X → Outcome → Type 0
     Done new outcome = Does (Stands is_honest moment image left told frames counted) (Tallied disk_count armed entropy_count device_count wire_count) old new net w (Deliver l number Fine) outcome
 
-    -- no frame stands there
+    -- There is no such frame.
     pub none_done : (count : ℕ) → count ≡ length (w.wire l) → slice_get (w.wire l) number ≡ None → Done old (NoFrame count)
     none_done count is none =
         subst (λ (n : ℕ). Done old (NoFrame n)) (sym is)
         (stays_done is_honest moment image left told frames counted disk_count armed entropy_count device_count wire_count old net w ready (Deliver l number Fine) (NoFrame (length (w.wire l)))
         refl (may_deliver net w l number at) refl (nothing_there net w l number none) (λ u. (no_part (v == u), refl, refl)) (record { devices = λ k. refl; wires = λ k. refl }))
 
-    -- one comes
+    -- The frame comes to its receiver.
 
     module _ (octets : List ℕ) (seen : IsOnWire net w l number octets) (p : Post K E) (there : slice_get old.posts.items v ≡ Some p) where
       pub may_hear : MayHear is_honest moment image left net w l number p octets old.up

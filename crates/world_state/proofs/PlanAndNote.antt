@@ -1,4 +1,4 @@
--- A plan is asked, and a note made, at one post of a state.
+-- A post of a state plans, and notes what became of its frames.
 use Rattle.std.proofs.Common.{◌≡◌, ℕ, ◌<◌, Bool, true, ◌&&◌, List, [], refl, arith, Option, Some}
 use Rattle.std.specs.Prelude.{slice_get}
 use Rattle.std.proofs.lemmas.Bool.{lt-ltb}
@@ -11,13 +11,13 @@ use Rattle.net_model.specs.World.{Network, World}
 use Rattle.net_model.specs.Events.{is_valid_event}
 use Rattle.net_model.specs.Action.{Ask, Complete, Ok}
 use Rattle.net_model.specs.Step.{step, is_node, is_enabled, IsStep}
-use Rattle.world_posts.specs.Passed.{Post}
-use Rattle.law_records.proofs.Base.{and_both}
-use Rattle.law_ticks.proofs.Completing.{may_complete, completes}
-use Rattle.run_acts.specs.Acting.{IsReady}
-use Rattle.world_posts.specs.Stands.{PostStands}
-use Rattle.world_posts.specs.Asking.{MayAsk}
-use Rattle.world_posts.specs.Noting.{MayNote}
+use Rattle.world_nodes.specs.Passed.{Post}
+use Rattle.law_base.proofs.Base.{and_both}
+use Rattle.law_locality.proofs.Completing.{may_complete, completes}
+use Rattle.run_ops.specs.Acting.{IsReady}
+use Rattle.world_nodes.specs.Stands.{PostStands}
+use Rattle.world_nodes.specs.Asking.{MayAsk}
+use Rattle.world_nodes.specs.Noting.{MayNote}
 use Rattle.world_state.specs.Stands.{Stands}
 use Rattle.world_state.specs.Sending.{Sending, are_sized}
 use Rattle.world_state.specs.declared.state.State.{State}

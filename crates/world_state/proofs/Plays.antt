@@ -1,4 +1,4 @@
--- An action that a script asks for is played.
+-- An action that a script asks for is done.
 use Rattle.std.proofs.Common.{◌≡◌, ℕ, ◌+◌, ◌-◌, Bool, true, false, List, [], ◌∷◌, ◌++◌, length, refl, sym, ap, subst, ◌∙◌, append-nil, append_assoc}
 use Rattle.std.specs.Prelude.{if◌then◌else◌, map}
 use Rattle.std.proofs.lemmas.List.{map-append}
@@ -6,8 +6,8 @@ use Rattle.net_model.specs.World.{Network, World}
 use Rattle.net_model.specs.Action.{Action, Outcome}
 use Rattle.net_model.specs.Step.{step, IsStep}
 use Rattle.net_model.specs.Tick.{Emission, Again, New}
-use Rattle.report_items.specs.declared.item.Item.{Item}
-use Rattle.report_items.specs.declared.item.NumberedItem.{NumberedItem}
+use Rattle.run_types.specs.declared.item.Item.{Item}
+use Rattle.run_types.specs.declared.item.NumberedItem.{NumberedItem}
 use Rattle.run_model.specs.Script.{Script, Asks}
 use Rattle.run_model.specs.Play.{Played, Ending, plain, numbered, reporting, play, IsPlay, OneOf, is_forged, stopped_at, ForgedAt, CutShort}
 use Rattle.run_model.specs.Lines.{emitted}
@@ -23,7 +23,7 @@ module _ (net : Network) (w : World) (action : Action) (next : Outcome → Scrip
   unfolding play
   asks_said number = ap (λ (t : Bool). if t then stopped_at out.0 (ForgedAt number) else play net number out.0 (next out.1) rest) open'
 
--- a script that was not begun is played by no action
+-- A play of a script may have no actions.
 
 pub none_is : (net : Network) (w : World) (v : ℕ) (es : List Emission) → IsPlay net w (emitted v es) []
 unfolding emitted
@@ -37,7 +37,7 @@ none_said net w v [] = refl
 none_said net w v (Again r ∷ es) = refl
 none_said net w v (New o ∷ es) = refl
 
--- reports in a row
+-- two reports in order
 
 pub reporting_both : (xs ys : List NumberedItem) (p : Played) → reporting xs (reporting ys p) ≡ reporting (xs ++ ys) p
 reporting_both xs ys p = λ i. record p { items = sym (append_assoc xs ys p.items) i }

@@ -1,4 +1,4 @@
--- What is counted of a plan, of a note, and of a note in vain.
+-- The counts of a plan, of a note, and of a note that failed.
 use Rattle.std.proofs.Common.{◌≡◌, ℕ, false, List, [], ◌∷◌, length, refl, sym, ap, subst, ◌∙◌, arith, Some}
 use Rattle.std.specs.Prelude.{slice_get}
 use Rattle.disk_model.specs.declared.arm.Armings.{Armings}
@@ -6,9 +6,9 @@ use Rattle.net_model.specs.declared.event.Event.{Event}
 use Rattle.net_model.specs.Site.{Site}
 use Rattle.net_model.specs.Action.{Environment, Ask, Complete, is_io_fault, is_entropy_fault}
 use Rattle.net_model.specs.Faults.{disk_faults, entropy_faults, armings}
-use Rattle.world_posts.specs.Passed.{Post}
-use Rattle.lane_sides.specs.Lane.{LaneForm}
-use Rattle.world_posts.specs.Counts.{disk_of, entropy_of, Counts}
+use Rattle.world_nodes.specs.Passed.{Post}
+use Rattle.lane_sender.specs.Lane.{LaneForm}
+use Rattle.world_nodes.specs.Counts.{disk_of, entropy_of, Counts}
 use Rattle.world_state.specs.Stands.{place_of}
 use Rattle.world_state.specs.Tallied.{IsArmedBy, PostTallied, Tallied}
 use Rattle.world_state.specs.declared.state.State.{State}
@@ -19,7 +19,7 @@ use Rattle.world_state.proofs.OneTallied.{CountsOne, CountsNoOther, one_post_tal
 use Rattle.world_state.proofs.Tallies.{none_tallied}
 use Rattle.world_state.proofs.Tallying.{no_less}
 
--- a note is counted nowhere
+-- A note adds to no count.
 
 note_one : (s : Site) (v : ℕ) → CountsOne s (Complete v) v false false
 note_one s v = record { disk = λ h. h; entropy = λ h. h; armed = λ u. refl; disks = λ u apart. refl; entropies = λ u apart. refl }
@@ -27,7 +27,7 @@ note_one s v = record { disk = λ h. h; entropy = λ h. h; armed = λ u. refl; d
 note_no_other : (v : ℕ) → CountsNoOther (Complete v)
 note_no_other v = record { devices = λ link. refl; wires = λ l. refl }
 
--- no arming is one of nothing
+-- A disk whose armings stayed the same was armed with no fault.
 unarmed : (before now : Armings) → now ≡ before → IsArmedBy [] before now
 unarmed before now same = subst (λ (n : Armings). IsArmedBy [] before n) (sym same) (record { times = omega arith; last = refl })
 

@@ -1,4 +1,4 @@
--- What doesn't send leaves the network quiet.
+-- An action that doesn't send leaves the network quiet.
 use Rattle.std.proofs.Common.{◌≡◌, ℕ, ◌+◌, Bool, true, false, ◌&&◌, List, [], ◌∷◌, length, refl, sym, ap, ◌∙◌, Option, Some, None}
 use Rattle.std.specs.Prelude.{◌==◌, if◌then◌else◌}
 use Rattle.qkd_base.specs.Family.{number_set}
@@ -15,15 +15,15 @@ use Rattle.net_model.specs.Handle.{commit, stopped, perform, handle}
 use Rattle.net_model.specs.Frames.{receive_item}
 use Rattle.net_model.specs.Start.{resolved, restarted, interrupted_start, recovers, start}
 use Rattle.net_model.specs.Step.{step, crash, complete_node, is_enabled}
-use Rattle.law_records.proofs.Base.{by_test}
-use Rattle.law_records.proofs.Walks.{perform_walk, handle_walk, take_block_walk, deliver_walk, tampered_walk, flip_walk}
-use Rattle.law_others.specs.Touched.{touches_lane, changes_part, Unclaimed, Outgoing}
-use Rattle.law_others.proofs.LaneParts.{step_part}
-use Rattle.world_lanes.specs.Stands.{IsRunning}
-use Rattle.run_acts.specs.Quiet.{IsQuiet}
+use Rattle.law_base.proofs.Base.{by_test}
+use Rattle.law_base.proofs.Walks.{perform_walk, handle_walk, take_block_walk, deliver_walk, tampered_walk, flip_walk}
+use Rattle.law_locality.specs.Touched.{touches_lane, changes_part, Unclaimed, Outgoing}
+use Rattle.law_locality.proofs.LaneParts.{step_part}
+use Rattle.world_nodes.specs.LaneStands.{IsRunning}
+use Rattle.run_ops.specs.Quiet.{IsQuiet}
 use Rattle.world_state.specs.Changed.{sends}
 
--- orders and what may be put
+-- orders that aren't claimed, and frames that may be put
 
 unclaimed_stays : (a : Action) → sends a ≡ false → changes_part Unclaimed a ≡ false
 unclaimed_stays (Ask v event environment) none = none
@@ -59,7 +59,7 @@ with_none : (touched changed : Bool) → changed ≡ false → (touched && chang
 with_none true changed none = none
 with_none false changed none = refl
 
--- what is to be noted
+-- placings that aren't noted
 
 module _ (net : Network) (w : World) (empty : (v : ℕ) → w.placings v ≡ []) where
   abbrev Noted : World → Type 0

@@ -11,8 +11,8 @@ use Rattle.net_model.specs.World.{Network, World}
 use Rattle.net_model.specs.Premises.{IsLink}
 use Rattle.net_model.specs.Events.{is_lane}
 use Rattle.declared_site.specs.SiteOf.{site_of}
-use Rattle.law_records.proofs.Base.{eq_from, not_false}
-use Rattle.run_acts.specs.Acting.{IsReady}
+use Rattle.law_base.proofs.Base.{eq_from, not_false}
+use Rattle.run_ops.specs.Acting.{IsReady}
 use Rattle.world_state.specs.Stands.{Stands}
 use Rattle.world_state.specs.declared.state.State.{State}
 

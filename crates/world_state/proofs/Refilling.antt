@@ -1,4 +1,4 @@
--- A lane takes block after block of the bytes that its sender's manager has.
+-- A lane takes the bytes that its sender's manager has, block after block.
 use Rattle.std.proofs.Common.{◌≡◌, ℕ, ◌+◌, ◌-◌, ◌*◌, ◌<◌, ◌≤◌, true, false, List, ◌++◌, length, take, drop, refl, sym, ap, ◌∙◌, arith}
 use Rattle.std.specs.Prelude.{◌==◌, ◌/◌, nat_le}
 use Rattle.std.proofs.lemmas.Bool.{leb-true}
@@ -6,8 +6,8 @@ use Rattle.std.proofs.lemmas.Bool.Decides.{nat_tests}
 use Rattle.std.proofs.lemmas.List.{length-take-le}
 use Rattle.std.proofs.Math.Seq.{take-add}
 use Rattle.pad_ledger.specs.Ledger.{Ledger, received_more}
-use Rattle.lane_sides.specs.Lane.{LaneForm}
-use Rattle.law_records.proofs.Base.{eq_from, eq_same, when_true, when_false}
+use Rattle.lane_sender.specs.Lane.{LaneForm}
+use Rattle.law_base.proofs.Base.{eq_from, eq_same, when_true, when_false}
 use Rattle.world_state.specs.Starting.{ledger_at, refilled, MayRefill}
 
 -- ledgers
@@ -18,7 +18,7 @@ at_same n l is = when_true (l.received == n) l _ (ap (λ (k : ℕ). k == n) is �
 at_more : (n : ℕ) (l : Ledger) → (l.received == n) ≡ false → ledger_at n l ≡ received_more l (n - l.received)
 at_more n l other = when_false (l.received == n) l _ other
 
--- the first bytes, and others
+-- the ledger after the first bytes, and after further bytes
 first_more : (l : Ledger) (k : ℕ) → (l.received == 0) ≡ true → received_more l k ≡ record { used = 8; end = 8; received = k; burnt = l.burnt }
 first_more l k none = when_true (l.received == 0) _ _ none
 
@@ -31,7 +31,7 @@ apart a b other = elim (a == b) as (λ t. (a == b) ≡ t → t ≡ false) [
   | false ↦ λ e. refl
 ] refl
 
--- more and then more again
+-- To receive k bytes and then m more is to receive k + m bytes.
 twice_more : (l : Ledger) (k m : ℕ) → 0 < k → received_more (received_more l k) m ≡ received_more l (k + m)
 twice_more l k m some = elim (l.received == 0) as (λ t. (l.received == 0) ≡ t → received_more (received_more l k) m ≡ received_more l (k + m)) [
   | true ↦ λ e.
@@ -69,7 +69,7 @@ more_at l n below = elim (l.received == n) as (λ t. (l.received == n) ≡ t →
 
 -- lanes
 
--- the first n blocks are there
+-- The lane has the first n blocks.
 pub record Filled {X : Type 0} (octets : List ℕ) (old : LaneForm X) (n : ℕ) (side : LaneForm X) : Type 0 where
   pub is : side ≡ refilled (take (1024 * n) octets) old
   pub later : old.ledger.received ≤ 1024 * n

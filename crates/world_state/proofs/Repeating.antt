@@ -1,4 +1,4 @@
--- The next repeat of a plan is put: what it is in the network and in its script.
+-- The next repeat of a plan is put: the action in the network, and its part of the script.
 use Rattle.std.proofs.Common.{◌≡◌, ℕ, ◌+◌, ◌-◌, ◌≤◌, Bool, true, false, List, [], ◌∷◌, ◌++◌, length, refl, sym, ap, subst, ◌∙◌, Option, Some, Result, Ok, Err}
 use Rattle.std.specs.Prelude.{slice_get, IsErrOf}
 use Rattle.qkd_base.specs.Faults.{Rose}
@@ -13,25 +13,24 @@ use Rattle.net_model.specs.Site.{sender}
 use Rattle.net_model.specs.Events.{is_lane, is_frame_size}
 use Rattle.net_model.specs.Handle.{frame_at}
 use Rattle.net_model.specs.Tick.{Emission, Again}
-use Rattle.net_model.specs.Action.{Environment, Action, Transmit, Outcome}
-use Rattle.net_model.specs.Action.{Ok as Fine}
+use Rattle.net_model.specs.Action.{Environment, Action, Transmit, Outcome, Ok as Fine}
 use Rattle.net_model.specs.Step.{step, IsStep}
-use Rattle.report_items.specs.declared.item.Item.{Item}
+use Rattle.run_types.specs.declared.item.Item.{Item}
 use Rattle.source_devices.specs.declared.wire.WireFailed.{WireFailed}
 use Rattle.source_devices.specs.declared.wire.WireFailed.TheVariants.{Fault}
-use Rattle.lane_sides.specs.Lane.{LaneForm}
-use Rattle.lane_sides.specs.declared.sent.Sent.{Sent}
-use Rattle.lane_sides.specs.Sending.{answer_of}
-use Rattle.law_records.proofs.Base.{number_set_same}
-use Rattle.law_others.proofs.ManagerSteps.{transmit_unseen}
-use Rattle.law_ticks.specs.Sending.{Sends, IsAgain, MayGoAgain}
-use Rattle.law_ticks.proofs.Repeats.{may_go_again, again_goes}
+use Rattle.lane_sender.specs.Lane.{LaneForm}
+use Rattle.lane_sender.specs.declared.sent.Sent.{Sent}
+use Rattle.lane_sender.specs.Sending.{answer_of}
+use Rattle.law_base.proofs.Base.{number_set_same}
+use Rattle.law_locality.proofs.ManagerSteps.{transmit_unseen}
+use Rattle.law_locality.specs.Sending.{Sends, IsAgain, MayGoAgain}
+use Rattle.law_locality.proofs.TickRepeats.{may_go_again, again_goes}
 use Rattle.run_model.specs.Outcomes.{put_items}
 use Rattle.run_model.specs.Script.{Script, Reports}
 use Rattle.run_model.specs.Play.{numbered, reporting, play, IsPlay, is_forged}
 use Rattle.run_model.specs.Lines.{emitted}
-use Rattle.world_lanes.specs.Stands.{LaneStands}
-use Rattle.world_lanes.specs.Emitting.{wire_answer, wire_outcome, repeat_placing, MayRepeat, Repeated}
+use Rattle.world_nodes.specs.LaneStands.{LaneStands}
+use Rattle.world_nodes.specs.Emitting.{wire_answer, wire_outcome, repeat_placing, MayRepeat, Repeated}
 use Rattle.world_state.specs.Stands.{Stands, place_of}
 use Rattle.world_state.specs.Sending.{Sending, Puts, PutsOn, Breaks}
 use Rattle.world_state.specs.declared.state.State.{State}
@@ -115,7 +114,7 @@ module _ {K Q E X : Type 0} (is_honest : K → Bool) (moment : K → ℕ) (image
       sized = all_sized placings p sending.sized sized_after;
     }
 
-    -- its part of the script
+    -- the repeat's part of the script
 
     abbrev put_next : Outcome → Script
     put_next out = Reports (put_items l repeat.offset (repeat.length - 24) out) (emitted v es)

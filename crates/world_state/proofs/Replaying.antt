@@ -18,19 +18,19 @@ use Rattle.net_model.specs.Doubt.{MayApply, MayReplay}
 use Rattle.net_model.specs.Frames.{octets_sent}
 use Rattle.net_model.specs.Events.{is_lane}
 use Rattle.pad_ledger.specs.Ledger.{Ledger, received_more}
-use Rattle.lane_sides.specs.Lane.{LaneForm}
-use Rattle.law_records.proofs.Base.{eq_from, when_true, when_false, lane_eq_from}
-use Rattle.law_records.proofs.Grow.{Grows}
-use Rattle.law_records.proofs.Growing.{replay_grows}
-use Rattle.law_lanes.proofs.Blocks.{lane_length}
-use Rattle.law_lanes.proofs.Lists.{lane_set_same}
-use Rattle.world_lanes.specs.Stands.{IsRunning, LaneStands}
-use Rattle.world_lanes.specs.Going.{IsReplayed}
-use Rattle.world_lanes.proofs.Going.{octets_kept}
-use Rattle.world_lanes.proofs.Wires.{wire_kept}
+use Rattle.lane_sender.specs.Lane.{LaneForm}
+use Rattle.law_base.proofs.Base.{eq_from, when_true, when_false, lane_eq_from}
+use Rattle.law_base.proofs.Grow.{Grows}
+use Rattle.law_base.proofs.Growing.{replay_grows}
+use Rattle.law_base.proofs.LaneBlocks.{lane_length}
+use Rattle.law_base.proofs.Lists.{lane_set_same}
+use Rattle.world_nodes.specs.LaneStands.{IsRunning, LaneStands}
+use Rattle.world_nodes.specs.Going.{IsReplayed}
+use Rattle.world_nodes.proofs.LaneGoing.{octets_kept}
+use Rattle.world_nodes.proofs.Wires.{wire_kept}
 use Rattle.world_state.specs.Starting.{ledger_at, refilled}
 
--- What a batch makes of a lane: it has no fewer blocks, the first of which brings its hash key, and its lease is no lower.
+-- A batch brings a lane blocks or none; the first block brings its hash key. It doesn't lower the lane's lease.
 pub record Gains (d d' : Durable) (l : Lane) : Type 0 where
   pub blocks : d.blocks l ≤ d'.blocks l
   pub own : d'.own l ≡ keyed_own (received d l) (received d' l) (d.own l)
@@ -52,7 +52,7 @@ gains_none d d' l blocks own lease =
       lease = subst (λ (n : ℕ). n ≤ d'.lease l) (sym (when_false (is_first (received d l) (received d' l)) 8 (d.lease l) same)) lease;
     }
 
--- first things first
+-- If a count rises from zero in one of two steps, it rises from zero over both.
 
 first_both : (a b c : ℕ) → a ≤ b → b ≤ c → is_first b c ≡ true → is_first a c ≡ true
 first_both a b c h k e = grind (arith, nat_tests)
@@ -177,7 +177,7 @@ counts_at g n own lease below c few = elim (g.received == n) as (λ t. (g.receiv
       ] refl)
 ] refl
 
--- the lane in a world where the batch is made
+-- the lane in a world where the batch is durable
 
 module _ {X : Type 0} (frames : X → Option (List (List ℕ))) (counted : X → ℕ) (net : Network) (w w' : World) (v : ℕ) (batch : List Record) (l : Lane) (side : LaneForm X)
     (running : IsRunning net w) (at : is_lane net.site l ≡ true) (made : IsReplayed net w w' v batch) (s : LaneStands frames counted net w l side) where

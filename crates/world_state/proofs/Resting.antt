@@ -1,4 +1,4 @@
--- What is left of a run that ends for want of memory, after an action that was asked for or before it.
+-- What is left of a run that ends because memory ran out: after an action that was asked for, or before it.
 use Rattle.std.proofs.Common.{◌≡◌, ℕ, Bool, false, List, [], ◌∷◌, length, refl, sym, ap, subst, ◌∙◌, Option}
 use Rattle.std.specs.Prelude.{slice_get}
 use Rattle.disk_model.specs.declared.arm.Armings.{Armings}
@@ -8,13 +8,13 @@ use Rattle.net_model.specs.World.{Network, World}
 use Rattle.net_model.specs.Action.{Action, Outcome}
 use Rattle.net_model.specs.Step.{step, IsStep}
 use Rattle.declared_site.specs.SiteOf.{site_of}
-use Rattle.world_posts.specs.Passed.{Post}
-use Rattle.lane_sides.specs.Lane.{LaneForm}
+use Rattle.world_nodes.specs.Passed.{Post}
+use Rattle.lane_sender.specs.Lane.{LaneForm}
 use Rattle.run_model.specs.Script.{Reports, Ends, asks}
 use Rattle.run_model.specs.Play.{Played, plain, play, is_forged}
-use Rattle.run_acts.specs.Acting.{Begins}
-use Rattle.world_lanes.specs.Stands.{IsRunning}
-use Rattle.world_posts.specs.Stands.{PostStands}
+use Rattle.run_ops.specs.Acting.{Begins}
+use Rattle.world_nodes.specs.LaneStands.{IsRunning}
+use Rattle.world_nodes.specs.Stands.{PostStands}
 use Rattle.world_state.specs.Rests.{KeepsAs, PostRests, Rests}
 use Rattle.world_state.specs.Stands.{Stands, place_of}
 use Rattle.world_state.specs.Tallied.{Tallied}
@@ -34,7 +34,7 @@ unfolding play
 stopped net w asked = refl
 
 module _ {S : Type 0} (R : S → Network → World → Type 0) (T : S → S → Site → List Action → Type 0) (old new : S) (net : Network) (w : World) (asked : Action) where
-  -- after it
+  -- The run ends after the action.
   pub rests_after : (a : Action) → plain a ≡ asked → IsStep net w a → is_forged (step net w a).1 ≡ false → R new net (step net w a).0 → T old new net.site (a ∷ []) →
       Begins R T old new net w (asks asked (λ outcome. []))
   rests_after a is may not_forged rests tallied = record {
@@ -45,11 +45,11 @@ module _ {S : Type 0} (R : S → Network → World → Type 0) (T : S → S → 
     tallied = tallied;
   }
 
-  -- before it
+  -- The run ends before the action.
   pub rests_before : R new net w → T old new net.site [] → Begins R T old new net w (asks asked (λ outcome. []))
   rests_before rests tallied = record { actions = []; is = tt; rests = subst (λ (x : World). R new net x) (sym (stopped net w asked)) rests; tallied = tallied }
 
--- a post that stands for its node may rest there
+-- A post that stands for its node also rests there.
 module _ (net : Network) (v : ℕ) (w : World) (running : IsRunning net w) where
   pub keeps_itself : KeepsAs net v w w
   keeps_itself = record { running = running; drawn = refl; journal = refl; doubt = refl; given = λ committed. refl }
@@ -58,7 +58,7 @@ module _ (net : Network) (v : ℕ) (w : World) (running : IsRunning net w) where
       PostStands is_honest moment image left net w v p → PostRests is_honest moment image left net w v p
   post_rests is_honest moment image left p stands = (w, keeps_itself, stands)
 
--- a state with the same parts
+-- Two states with the same parts.
 pub record SameParts {K Q E X : Type 0} (old new : State K Q E X) : Type 0 where
   pub site : new.site ≡ old.site
   pub posts : new.posts.items ≡ old.posts.items
@@ -68,7 +68,7 @@ pub record SameParts {K Q E X : Type 0} (old new : State K Q E X) : Type 0 where
 pub same_parts : {K Q E X : Type 0} (s : State K Q E X) → SameParts s s
 same_parts s = record { site = refl; posts = refl; lanes = refl; devices = refl }
 
--- where the post that was put at a place is the one that stood there
+-- If the post that was put back is the one that was there, the states have the same parts.
 pub one_same : {K Q E X : Type 0} (old new : State K Q E X) (v : ℕ) (p q : Post K E) → OnePost old new v p q → q ≡ p → SameParts old new
 one_same old new v p q one is = record {
   site = one.site;
@@ -82,7 +82,7 @@ module _ {K Q E X : Type 0} (is_honest : K → Bool) (moment : K → ℕ) (image
   abbrev RestsHere : State K Q E X → Type 0
   RestsHere s = Rests is_honest moment image left told frames counted s net w
 
-  -- it may rest wherever it stands
+  -- A state with the same parts as one that stands for a world rests in that world.
   pub rests_same : (old new : State K Q E X) → SameParts old new → Stands is_honest moment image left told frames counted old net w → RestsHere new
   rests_same old new same s = record {
     running = s.running;

@@ -1,4 +1,4 @@
--- A manager starts again: what is left of its lanes in the world is what its view has of them.
+-- A manager starts again: its view has just what the world has of its lanes.
 use Rattle.std.proofs.Common.{◌≡◌, ℕ, ◌+◌, ◌*◌, ◌/◌, ◌≤◌, Bool, true, List, ◌++◌, length, length-append, take, refl, sym, ap, subst, ◌∙◌, arith, Option, Some, None}
 use Rattle.std.specs.Prelude.{count_by, IfSome}
 use Rattle.std.proofs.lemmas.Bool.{ltb-true}
@@ -18,25 +18,23 @@ use Rattle.net_model.specs.Frames.{octets_sent}
 use Rattle.net_model.specs.Events.{is_lane}
 use Rattle.net_model.specs.Action.{Recovery, Recovers, Resumes, Interrupted, NoMemory, Foreign, Start, Outcome, Started}
 use Rattle.net_model.specs.Step.{step}
-use Rattle.world_posts.specs.Passed.{ManagerForm}
-use Rattle.world_posts.specs.Passed.{Standing}
-use Rattle.world_posts.specs.Standings as standings
-use Rattle.world_posts.specs.Passed.{On}
-use Rattle.lane_sides.specs.Lane.{LaneForm}
-use Rattle.law_records.proofs.Base.{by_test, number_set_same, not_both}
-use Rattle.law_records.proofs.Resuming.{resumed_durable}
-use Rattle.law_lanes.proofs.Blocks.{lane_length, lane_grows}
-use Rattle.world_lanes.specs.Stands.{IsRunning, spelled_wire, WireStands, LaneStands}
-use Rattle.world_lanes.specs.Going.{IsReplayed, made, MayRestart}
-use Rattle.world_lanes.proofs.Starts.{resolved_made, may_raise, within, stands_again}
-use Rattle.world_lanes.proofs.Taking.{own_lane}
-use Rattle.world_posts.specs.Stands.{StandingStands, PostStands}
-use Rattle.world_posts.proofs.Ports.{port_there}
+use Rattle.world_nodes.specs.Passed.{ManagerForm, Standing, On}
+use Rattle.world_nodes.specs.Standings as standings
+use Rattle.lane_sender.specs.Lane.{LaneForm}
+use Rattle.law_base.proofs.Base.{by_test, number_set_same, not_both}
+use Rattle.law_base.proofs.Resuming.{resumed_durable}
+use Rattle.law_base.proofs.LaneBlocks.{lane_length, lane_grows}
+use Rattle.world_nodes.specs.LaneStands.{IsRunning, spelled_wire, WireStands, LaneStands}
+use Rattle.world_nodes.specs.Going.{IsReplayed, made, MayRestart}
+use Rattle.world_nodes.proofs.LaneStarts.{resolved_made, may_raise, within, stands_again}
+use Rattle.world_nodes.proofs.Taking.{own_lane}
+use Rattle.world_nodes.specs.Stands.{StandingStands, PostStands}
+use Rattle.world_nodes.proofs.Ports.{port_there}
 use Rattle.world_state.specs.Starting.{octets_in, refilled, gone_on, MayRefill, MayGoOn}
 use Rattle.world_state.proofs.Leases.{incident_of}
 use Rattle.world_state.proofs.Replaying.{gains, refilled_stands}
 
--- a start that went well
+-- The start brought the manager up.
 
 pub record IsAgain (net : Network) (w : World) (v : ℕ) (after : World) : Type 0 where
   pub committed : Bool
@@ -45,7 +43,7 @@ pub record IsAgain (net : Network) (w : World) (v : ℕ) (after : World) : Type 
   pub wire : after.wire ≡ w.wire
   pub up : after.up v ≡ true
 
--- and any other, which changes no lane
+-- Any other start changes no lane.
 pub record IsUnchanged (w after : World) : Type 0 where
   pub durable : after.durable ≡ w.durable
   pub frames : after.frames ≡ w.frames
@@ -103,7 +101,7 @@ module _ {K E : Type 0} (is_honest : K → Bool) (moment : K → ℕ) (image : K
   pub manager_octets : (m : ManagerForm K E) → PostStands is_honest moment image left net w v (On m) → octets_in m.view l ≡ octets_sent net w l
   manager_octets m stands = standing_octets m m.standing stands.standing
 
--- the lane of its sender's manager goes on
+-- The lane goes on with what its sender's manager has.
 
 frames_same : (net : Network) (w : World) (v : ℕ) → (restarted net w v).frames ≡ w.frames
 unfolding restarted

@@ -1,15 +1,15 @@
--- A wire that is searched for octets.
+-- Searching a wire for a frame with given octets.
 use Rattle.std.proofs.Common.{◌≡◌, ℕ, zero, suc, ◌<◌, Bool, true, false, List, [], ◌∷◌, length, take, refl, sym, ap, ◌∙◌, Option, Some, None}
 use Rattle.std.specs.Prelude.{◌==◌, find, slice_get, is_some, if◌then◌else◌}
 use Rattle.std.proofs.lemmas.Option.{slice_get_within}
 use Rattle.qkd_base.specs.declared.lane.Lane.{Lane}
 use Rattle.net_model.specs.World.{Network, World}
 use Rattle.net_model.specs.Frames.{frame_octets, octets_eq}
-use Rattle.law_records.proofs.Base.{not_both, eq_same, and_both}
-use Rattle.lane_sides.specs.Lane.{LaneForm}
-use Rattle.world_lanes.specs.Stands.{LaneStands}
-use Rattle.world_lanes.specs.Seeing.{IsSeen}
-use Rattle.world_posts.specs.Tampering.{put_as}
+use Rattle.law_base.proofs.Base.{not_both, eq_same, and_both}
+use Rattle.lane_sender.specs.Lane.{LaneForm}
+use Rattle.world_nodes.specs.LaneStands.{LaneStands}
+use Rattle.world_nodes.specs.Seeing.{IsSeen}
+use Rattle.world_nodes.specs.Tampering.{put_as}
 use Rattle.world_state.specs.Frames.{frame_is}
 use Rattle.world_state.proofs.Passing.{on_wire_as}
 

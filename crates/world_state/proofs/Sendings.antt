@@ -1,4 +1,4 @@
--- Frames are put one after another, until all are put or the run ends.
+-- Frames are put in order, until all are put or the run ends.
 use Rattle.std.proofs.Common.{◌≡◌, ℕ, Bool, List, [], ◌∷◌, ◌++◌, refl, sym, ap, subst, ◌∙◌, append-nil, append_assoc, Option, Some}
 use Rattle.std.specs.Prelude.{slice_get}
 use Rattle.disk_model.specs.declared.arm.Armings.{Armings}
@@ -7,8 +7,8 @@ use Rattle.net_model.specs.OctetSequence.{OctetSequence}
 use Rattle.net_model.specs.World.{Network, World}
 use Rattle.net_model.specs.Action.{Action}
 use Rattle.net_model.specs.Tick.{Emission}
-use Rattle.report_items.specs.declared.item.Item.{Item}
-use Rattle.report_items.specs.declared.item.NumberedItem.{NumberedItem}
+use Rattle.run_types.specs.declared.item.Item.{Item}
+use Rattle.run_types.specs.declared.item.NumberedItem.{NumberedItem}
 use Rattle.run_model.specs.Play.{Played, numbered, reporting, play, IsPlay, stopped_at, CutShort}
 use Rattle.run_model.specs.Lines.{emitted}
 use Rattle.world_state.specs.Stands.{Stands}

@@ -1,4 +1,4 @@
--- A link is set up or down.
+-- Setting a link up or down.
 use Rattle.std.proofs.Common.{◌≡◌, inr, ℕ, ◌<◌, Bool, true, false, List, [], ◌∷◌, refl, sym, ap, subst, ◌∙◌, Option}
 use Rattle.std.specs.Prelude.{◌==◌, nat_lt, if◌then◌else◌}
 use Rattle.disk_model.specs.declared.arm.Armings.{Armings}
@@ -9,9 +9,9 @@ use Rattle.net_model.specs.Action.{Action, SetLink, LinkSet}
 use Rattle.net_model.specs.Step.{step, is_enabled, IsStep}
 use Rattle.declared_site.specs.SiteOf.{site_of}
 use Rattle.route_table.specs.Layer.{bit_is_set}
-use Rattle.law_records.proofs.Base.{and_both}
-use Rattle.run_acts.specs.Fitting.{is_fit}
-use Rattle.run_acts.specs.Acting.{IsReady, Does}
+use Rattle.law_base.proofs.Base.{and_both}
+use Rattle.run_ops.specs.Fitting.{is_fit}
+use Rattle.run_ops.specs.Acting.{IsReady, Does}
 use Rattle.world_state.specs.Stands.{Stands}
 use Rattle.world_state.specs.Moving.{Moves}
 use Rattle.world_state.specs.Tallied.{Tallied}

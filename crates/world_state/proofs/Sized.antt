@@ -1,4 +1,4 @@
--- A frame that is put has a frame's size.
+-- A frame that is put has the size of a frame.
 use Rattle.std.proofs.Common.{◌≡◌, ℕ, ◌+◌, ◌-◌, ◌≤◌, Bool, true, false, ◌&&◌, ◌||◌, List, [], ◌∷◌, ◌++◌, length, take, replicate, refl, sym, ap, subst, ◌∙◌, arith, Option, Some, None}
 use Rattle.std.specs.Prelude.{◌==◌, slice_get, nat_le, is_some}
 use Rattle.std.specs.List.{list_all}
@@ -22,12 +22,12 @@ use Rattle.net_model.specs.Events.{is_lane, is_frame_size}
 use Rattle.net_model.specs.Step.{step, is_enabled}
 use Rattle.frame_codec.proofs.Writes.{payload_range}
 use Rattle.hop_frames.proofs.Octets.{payload_is}
-use Rattle.law_records.proofs.Base.{and_both, and_left, and_right, by_test, number_set_same}
-use Rattle.law_records.proofs.Tables.{found_name, ranged_name}
-use Rattle.law_lanes.proofs.Growth.{sealable}
-use Rattle.law_lanes.proofs.Lists.{get_last}
-use Rattle.world_lanes.specs.Stands.{IsRunning}
-use Rattle.world_lanes.specs.Emitting.{with_placing}
+use Rattle.law_base.proofs.Base.{and_both, and_left, and_right, by_test, number_set_same}
+use Rattle.law_base.proofs.Tables.{found_name, ranged_name}
+use Rattle.law_base.proofs.Growth.{sealable}
+use Rattle.law_base.proofs.Lists.{get_last}
+use Rattle.world_nodes.specs.LaneStands.{IsRunning}
+use Rattle.world_nodes.specs.Emitting.{with_placing}
 use Rattle.world_state.specs.Sending.{are_sized}
 use Rattle.world_state.proofs.OneSide.{some_same}
 
@@ -53,7 +53,7 @@ module _ (net : Network) (w : World) (r : IsRunning net w) (l : Lane) (at : is_l
   pub sized_frame : is_frame_size (length (frame_octets net w l (Some a))) ≡ true
   sized_frame = sized_item a.item refl ((r.conserved.now.carried l).framed j a there)
 
--- what is noted of a frame has its octets
+-- The note on a frame has the frame's octets.
 
 taken_whole : (xs ys : List ℕ) → take (length xs) (xs ++ ys) ≡ xs
 taken_whole [] ys = refl
@@ -73,7 +73,7 @@ module _ (net : Network) (w w' : World) (r : IsRunning net w') (l : Lane) (o : O
   pub sized_like : (p : Placing) → p ≡ noted → slice_get (w'.placings v) n ≡ Some p → is_frame_size p.length ≡ true
   sized_like p is at = subst (λ (x : Placing). is_frame_size x.length ≡ true) (sym is) (noted_sized (at ∙ ap Some is))
 
--- what a put notes
+-- the note on a frame that is put
 
 module _ (net : Network) (w : World) (l : Lane) (j : ℕ) (environment : Environment) where
   record HasNoted (x : World) : Type 0 where
@@ -90,7 +90,7 @@ module _ (net : Network) (w : World) (l : Lane) (j : ℕ) (environment : Environ
   unfolding step transmit is_enabled
   has_noted may = one_noted (outgoing_of j (w.outgoing l)) (and_right (is_lane net.site l) (is_some (outgoing_of j (w.outgoing l))) may)
 
-  -- where it notes a placing behind those that were there, that is of a frame's size
+  -- If the put adds a placing to the notes, this placing has the size of a frame.
   pub put_sized : (w' : World) → w' ≡ (step net w (Transmit l j environment)).0 → IsRunning net w' → is_enabled net w (Transmit l j environment) ≡ true → (p : Placing) (ps : List Placing) →
       ps ≡ w.placings (sender net.site l) → w'.placings (sender net.site l) ≡ ps ++ p ∷ [] → is_frame_size p.length ≡ true
   put_sized w' is running may p ps older newer =

@@ -1,4 +1,4 @@
--- A state goes on by an action that does what it says to it.
+-- If an action does to a state what it does to the network, the state stands for the world after it.
 use Rattle.std.proofs.Common.{◌≡◌, ◌⊎◌, inl, inr, ℕ, Bool, true, false, ◌&&◌, List, length, refl, sym, ap, subst, ◌∙◌, Option, Some}
 use Rattle.std.specs.Prelude.{slice_get}
 use Rattle.qkd_base.specs.declared.lane.Lane.{Lane}
@@ -8,15 +8,15 @@ use Rattle.net_model.specs.Events.{is_lane}
 use Rattle.net_model.specs.Action.{Action, Start, Crash, Arm, SetLink, TakeBlock, Ask, Allocate, Transmit, Complete, Deliver, Flip, Forge, WantMemory, is_shown, environment_of}
 use Rattle.net_model.specs.Step.{step, is_enabled, IsStep}
 use Rattle.declared_site.specs.SiteOf.{site_of}
-use Rattle.world_posts.specs.Passed.{Post}
-use Rattle.lane_sides.specs.Lane.{LaneForm}
-use Rattle.law_records.proofs.Base.{and_left}
-use Rattle.law_steps.proofs.Steps.{step_keeps}
-use Rattle.law_others.specs.Touched.{touches_node, ManagerStays}
-use Rattle.law_others.proofs.ManagerSteps.{step_unseen, transmit_unseen}
-use Rattle.world_lanes.specs.Stands.{IsRunning, LaneStands}
-use Rattle.world_posts.specs.Stands.{PostStands}
-use Rattle.world_posts.proofs.Going.{post_on}
+use Rattle.world_nodes.specs.Passed.{Post}
+use Rattle.lane_sender.specs.Lane.{LaneForm}
+use Rattle.law_base.proofs.Base.{and_left}
+use Rattle.law_invariant.proofs.Steps.{step_keeps}
+use Rattle.law_locality.specs.Touched.{touches_node, ManagerStays}
+use Rattle.law_locality.proofs.ManagerSteps.{step_unseen, transmit_unseen}
+use Rattle.world_nodes.specs.LaneStands.{IsRunning, LaneStands}
+use Rattle.world_nodes.specs.Stands.{PostStands}
+use Rattle.world_nodes.proofs.Going.{post_on}
 use Rattle.world_state.specs.Changed.{changes_node, changes_lane}
 use Rattle.world_state.specs.Stands.{Stands, place_of}
 use Rattle.world_state.specs.Moving.{Moves}
@@ -29,7 +29,7 @@ running_on net w a r may = record { network = r.network; conserved = step_keeps 
 pub enabled_of : (net : Network) (w : World) (a : Action) → IsStep net w a → is_enabled net w a ≡ true
 enabled_of net w a may = and_left (is_enabled net w a) (is_shown (environment_of a) (step net w a).1) may
 
--- a manager that isn't changed
+-- A manager that the action doesn't change stays as it was.
 pub manager_on : (net : Network) (w : World) (a : Action) (v : ℕ) → IsRunning net w → is_enabled net w a ≡ true → changes_node net.site a v ≡ false → ManagerStays net v w (step net w a).0
 manager_on net w (Transmit l j environment) v r may none = transmit_unseen net w v l j environment
 manager_on net w (Start u recovery) v r may none = (step_unseen net w r.network r.conserved v (Start u recovery) may none).manager

@@ -6,9 +6,9 @@ use Rattle.net_model.specs.World.{Network, World}
 use Rattle.net_model.specs.Action.{Action, Outcome, is_shown, environment_of}
 use Rattle.net_model.specs.Faults.{is_disk_fault, is_random_fault, fault_armed}
 use Rattle.net_model.specs.Step.{step, is_enabled}
-use Rattle.law_records.proofs.Base.{and_both}
+use Rattle.law_base.proofs.Base.{and_both}
 use Rattle.run_model.specs.Play.{plain}
-use Rattle.run_acts.specs.Acting.{IsReady, Does}
+use Rattle.run_ops.specs.Acting.{IsReady, Does}
 use Rattle.world_state.specs.Stands.{Stands}
 use Rattle.world_state.specs.Tallied.{Tallied}
 use Rattle.world_state.specs.declared.state.State.{State}

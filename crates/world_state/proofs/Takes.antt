@@ -1,4 +1,4 @@
--- A node takes a block: its post and the link's device are changed, and then the lane that leaves it.
+-- A node takes a block: first its post and the link's device change, and then the lane that leaves it.
 use Rattle.std.proofs.Common.{◌≡◌, ℕ, ◌+◌, ◌<◌, ◌≤◌, Bool, true, false, ◌&&◌, ◌||◌, List, [], ◌∷◌, length, refl, sym, ap, subst, ◌∙◌, arith, Option, Some}
 use Rattle.std.specs.Prelude.{◌==◌, nat_lt, cond, slice_get, slice_set}
 use Rattle.std.proofs.lemmas.Bool.{ltb-true}
@@ -14,30 +14,29 @@ use Rattle.net_model.specs.OctetSequence.{OctetSequence, block_at}
 use Rattle.net_model.specs.World.{Network, World, Durable, Allocation}
 use Rattle.net_model.specs.Events.{is_lane}
 use Rattle.net_model.specs.Handle.{blocks_at}
-use Rattle.net_model.specs.Action.{Environment, OutOfMemory, EntropyFault, IoFault, DeviceFault, Action, TakeBlock, Outcome, Replies, DeviceFailed, is_io_fault, is_entropy_fault, is_device_fault}
-use Rattle.net_model.specs.Action.{Ok as Fine}
+use Rattle.net_model.specs.Action.{Environment, OutOfMemory, EntropyFault, IoFault, DeviceFault, Action, TakeBlock, Outcome, Replies, DeviceFailed, is_io_fault, is_entropy_fault, is_device_fault, Ok as Fine}
 use Rattle.net_model.specs.Faults.{is_block_fault, wire_faults}
 use Rattle.net_model.specs.Step.{step, is_enabled}
 use Rattle.declared_site.specs.SiteOf.{site_of}
 use Rattle.declared_site.specs.declared.site.Site.{Site as Declared}
-use Rattle.world_posts.specs.Passed.{Post}
+use Rattle.world_nodes.specs.Passed.{Post}
 use Rattle.route_table.specs.Layer.{bit_is_set}
-use Rattle.law_records.proofs.Base.{and_left, and_right}
-use Rattle.law_records.proofs.Extending.{end_of}
-use Rattle.law_others.proofs.Links.{step_link}
-use Rattle.lane_sides.specs.Lane.{LaneForm}
+use Rattle.law_base.proofs.Base.{and_left, and_right}
+use Rattle.law_base.proofs.Extending.{end_of}
+use Rattle.law_locality.proofs.Links.{step_link}
+use Rattle.lane_sender.specs.Lane.{LaneForm}
 use Rattle.run_model.specs.Play.{is_forged}
-use Rattle.run_acts.specs.Fitting.{is_fit}
-use Rattle.run_acts.specs.Acting.{IsReady, Does, Begins}
+use Rattle.run_ops.specs.Fitting.{is_fit}
+use Rattle.run_ops.specs.Acting.{IsReady, Does, Begins}
 use Rattle.run_model.specs.Script.{asks}
-use Rattle.world_lanes.specs.Stands.{IsRunning, LaneStands, WireStands}
-use Rattle.world_lanes.specs.Going.{GoesOn, IsReplayed}
-use Rattle.world_lanes.specs.Taking.{MayTake, TakesBlock, TakesOrStays}
-use Rattle.world_lanes.proofs.Going.{goes_on, batch_goes_on}
-use Rattle.world_lanes.proofs.TakeBlocks.{take_makes}
-use Rattle.world_posts.specs.Stands.{PostStands}
-use Rattle.world_posts.specs.Blocks.{MayTake as MayTakeBlock, IsTaken}
-use Rattle.world_posts.proofs.Going.{post_on}
+use Rattle.world_nodes.specs.LaneStands.{IsRunning, LaneStands, WireStands}
+use Rattle.world_nodes.specs.Going.{GoesOn, IsReplayed}
+use Rattle.world_nodes.specs.Taking.{MayTake, TakesBlock, TakesOrStays}
+use Rattle.world_nodes.proofs.LaneGoing.{goes_on, batch_goes_on}
+use Rattle.world_nodes.proofs.TakeBlocks.{take_makes}
+use Rattle.world_nodes.specs.Stands.{PostStands}
+use Rattle.world_nodes.specs.Blocks.{MayTake as MayTakeBlock, IsTaken}
+use Rattle.world_nodes.proofs.Going.{post_on}
 use Rattle.world_state.specs.Blocks.{IsBlockTaken}
 use Rattle.world_state.specs.Rests.{Rests}
 use Rattle.world_state.specs.Stands.{Stands, place_of}
@@ -70,7 +69,7 @@ takes : (net : Network) (w : World) (r : IsRunning net w) (v link : ℕ) (enviro
 unfolding step
 takes net w r v link environment incident = take_makes net w r v link incident environment
 
--- a lane of a world that changes nothing of any lane
+-- If no lane of the world changes, each lane goes on.
 pub goes_same : (w after : World) (k : Lane) → after.durable ≡ w.durable → after.frames ≡ w.frames → after.wire ≡ w.wire → GoesOn w after k
 goes_same w after k durable frames wire = record {
   facts = λ n f is. subst (λ (d : Durable). fact_at d.facts n ≡ Some f) (sym durable) is;
@@ -96,7 +95,7 @@ module _ {K Q E X : Type 0} (is_honest : K → Bool) (moment : K → ℕ) (image
   incident : is_incident net.site v link ≡ true
   incident = and_right (nat_lt v net.site.nodes && nat_lt link net.site.links) (is_incident net.site v link) fits
 
-  -- the node's post and the link's device
+  -- ---- the node's post and the link's device
 
   pub post_below : v < length old.posts.items
   post_below = let below = ltb-true v net.site.nodes node_there in let nodes = ready.stands.nodes in omega (arith, below, nodes)
@@ -160,7 +159,7 @@ module _ {K Q E X : Type 0} (is_honest : K → Bool) (moment : K → ℕ) (image
         tallied = tallied;
       }
 
-  -- and then the lane
+  -- ---- the lane
 
   module _ (disk_count : K → ℕ) (armed : K → Armings) (entropy_count : E → ℕ) (device_count : Q → ℕ) (wire_count : X → ℕ) (mid : State K Q E X) (block : List ℕ) (outcome : Outcome)
       (h : IsBlockTaken is_honest moment image left told disk_count armed entropy_count device_count wire_count old mid net w v link block outcome) where
@@ -179,7 +178,7 @@ module _ {K Q E X : Type 0} (is_honest : K → Bool) (moment : K → ℕ) (image
     stood : (k : Lane) (side : LaneForm X) → is_lane net.site k ≡ true → slice_get mid.lanes.items (place_of k) ≡ Some side → LaneStands frames counted net w k side
     stood k side at there = ready.stands.lanes k side at (ap (λ (xs : List (LaneForm X)). slice_get xs (place_of k)) (sym h.lanes) ∙ there)
 
-    -- all but the lanes
+    -- all parts except the lanes
     others : (new : State K Q E X) → new.site ≡ mid.site → new.posts.items ≡ mid.posts.items → new.devices.items ≡ mid.devices.items → new.up ≡ mid.up → length new.lanes.items ≡ length mid.lanes.items →
         ((k : Lane) (side : LaneForm X) → is_lane net.site k ≡ true → slice_get new.lanes.items (place_of k) ≡ Some side → LaneStands frames counted net after k side) →
         Tallied disk_count armed entropy_count device_count wire_count old new net.site (b ∷ []) → Done new
@@ -212,14 +211,14 @@ module _ {K Q E X : Type 0} (is_honest : K → Bool) (moment : K → ℕ) (image
     pub lane_below : place_of (outgoing_lane net.site v link) < length mid.lanes.items
     lane_below = place_within net.site (outgoing_lane net.site v link) _ link_there (ap length h.lanes ∙ ready.stands.sides)
 
-    -- no block was taken
+    -- No block was taken.
     pub none_done : ((number : ℕ) → outcome ≡ Replies (Took number) → ⊥) → Done mid
     none_done none =
         let same = made.otherwise (λ number is. none number (sym h.said ∙ is)) in
         others mid refl refl refl refl refl
         (λ k side at there. goes_on frames counted net w after k side ready.stands.running at (goes_same w after k same.0 same.1 same.2) (stood k side at there)) h.tallied
 
-    -- one was taken
+    -- A block was taken.
 
     module _ (number : ℕ) (took : outcome ≡ Replies (Took number)) where
       abbrev lane : Lane

@@ -1,4 +1,4 @@
--- What is counted of actions and of those after them is counted of all.
+-- The counts of two lists of actions in order add up to the counts of both.
 use Rattle.std.proofs.Common.{◌≡◌, ℕ, ◌+◌, ◌-◌, ◌^◌, ◌<◌, ◌≤◌, Bool, List, [], ◌∷◌, ◌++◌, length, refl, sym, ◌∙◌, ap, subst, arith, Option, Some, None, length-append}
 use Rattle.std.specs.Prelude.{min, slice_get, count_by, cond}
 use Rattle.std.specs.Option.{option_map}
@@ -11,14 +11,14 @@ use Rattle.disk_model.specs.declared.arm.Armings.{Armings}
 use Rattle.net_model.specs.Site.{Site}
 use Rattle.net_model.specs.Action.{Action, Fault}
 use Rattle.net_model.specs.Faults.{disk_faults, entropy_faults, device_faults, wire_faults, armings, is_disk_fault, is_random_fault, is_block_fault, is_wire_fault, fault_armed}
-use Rattle.world_posts.specs.Passed.{Post}
-use Rattle.lane_sides.specs.Lane.{LaneForm}
-use Rattle.world_lanes.proofs.Going.{get_within}
+use Rattle.world_nodes.specs.Passed.{Post}
+use Rattle.lane_sender.specs.Lane.{LaneForm}
+use Rattle.world_nodes.proofs.LaneGoing.{get_within}
 use Rattle.run_model.specs.Bench.{last_of_both}
-use Rattle.run_acts.specs.Acting.{fault_of}
+use Rattle.run_ops.specs.Acting.{fault_of}
 use Rattle.world_state.specs.Stands.{place_of}
 use Rattle.world_state.specs.Tallied.{Counted, IsArmedBy, PostTallied, Tallied}
-use Rattle.world_posts.specs.Counts.{disk_of, entropy_of}
+use Rattle.world_nodes.specs.Counts.{disk_of, entropy_of}
 use Rattle.world_state.specs.declared.state.State.{State}
 
 -- counts

@@ -1,4 +1,4 @@
--- What is counted of a frame that is put: its wire's faults alone.
+-- Putting a frame adds to no count but the faults of the frame's wire.
 use Rattle.std.proofs.Common.{◌≡◌, ℕ, ◌+◌, ◌-◌, ◌^◌, ◌≤◌, Bool, true, false, ◌&&◌, List, [], ◌∷◌, length, refl, sym, ap, subst, ◌∙◌, arith, Option, Some, Result, Ok, Err}
 use Rattle.std.specs.Prelude.{min, slice_get, cond, IsErrOf}
 use Rattle.qkd_base.specs.Faults.{Rose}
@@ -11,14 +11,14 @@ use Rattle.net_model.specs.Action.{Action, Allocate, Transmit, is_io_fault}
 use Rattle.net_model.specs.Faults.{disk_faults, entropy_faults, device_faults, wire_faults, armings}
 use Rattle.source_devices.specs.declared.wire.WireFailed.{WireFailed}
 use Rattle.source_devices.specs.declared.wire.WireFailed.TheVariants.{Fault, Memory}
-use Rattle.world_posts.specs.Passed.{Post}
-use Rattle.lane_sides.specs.Lane.{LaneForm}
-use Rattle.law_records.proofs.Base.{lane_same, not_both}
-use Rattle.law_ticks.proofs.Puts.{lanes_apart}
-use Rattle.world_lanes.specs.Emitting.{wire_answer}
+use Rattle.world_nodes.specs.Passed.{Post}
+use Rattle.lane_sender.specs.Lane.{LaneForm}
+use Rattle.law_base.proofs.Base.{lane_same, not_both}
+use Rattle.law_locality.proofs.TickPuts.{lanes_apart}
+use Rattle.world_nodes.specs.Emitting.{wire_answer}
 use Rattle.world_state.specs.Stands.{place_of}
 use Rattle.world_state.specs.Tallied.{Counted, PostTallied, Tallied}
-use Rattle.world_posts.specs.Counts.{disk_of}
+use Rattle.world_nodes.specs.Counts.{disk_of}
 use Rattle.world_state.specs.declared.state.State.{State}
 use Rattle.world_state.proofs.Tallies.{none_counted, none_tallied}
 use Rattle.world_state.proofs.OneSide.{some_same, OneSide, sides_same, each_side}
@@ -29,7 +29,7 @@ no_less a b h = least a b (2 ^ 64 - 1) h
     least : (a b top : ℕ) → a ≤ b → min (a + 0) top ≤ b
     least a b top h = omega (arith, h)
 
--- how often a wire failed, by what it answered
+-- the number of failures of a wire, by its answer
 abbrev pub failed : Bool → ℕ
 failed t = 0 + cond t 1 0
 

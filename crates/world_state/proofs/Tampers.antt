@@ -1,4 +1,4 @@
--- Octets that need not be a frame come to their receiver: one post is changed, or nothing.
+-- Octets that need not be a frame come to their receiver: one post changes, or nothing.
 use Rattle.std.proofs.Common.{◌≡◌, ℕ, ◌*◌, Bool, true, false, ◌&&◌, List, length, refl, sym, ap, subst, ◌∙◌, Option, Some, None}
 use Rattle.std.specs.Prelude.{◌==◌, nat_lt, nat_le, slice_get, is_some, if◌then◌else◌}
 use Rattle.std.specs.List.{list_all}
@@ -10,15 +10,14 @@ use Rattle.net_model.specs.OctetSequence.{OctetSequence}
 use Rattle.net_model.specs.World.{Network, World}
 use Rattle.net_model.specs.Events.{is_lane}
 use Rattle.net_model.specs.Frames.{with_flipped, flip_octets, flip_number, flip, tampered}
-use Rattle.net_model.specs.Action.{Environment, Flip, Forge, Outcome, NoFrame, NoBit, is_io_fault, is_entropy_fault}
-use Rattle.net_model.specs.Action.{Ok as Fine}
+use Rattle.net_model.specs.Action.{Environment, Flip, Forge, Outcome, NoFrame, NoBit, is_io_fault, is_entropy_fault, Ok as Fine}
 use Rattle.net_model.specs.Step.{step, is_enabled}
 use Rattle.declared_site.specs.SiteOf.{site_of}
-use Rattle.world_posts.specs.Passed.{Post}
-use Rattle.law_records.proofs.Base.{and_left, and_right}
-use Rattle.run_acts.specs.Fitting.{is_fit, fits_a_frame}
-use Rattle.run_acts.specs.Acting.{IsReady, Does}
-use Rattle.world_posts.specs.Tampering.{put_as, MayTamper, MayForge, MayFlip, HasForged, HasFlipped, tampered_outcome}
+use Rattle.world_nodes.specs.Passed.{Post}
+use Rattle.law_base.proofs.Base.{and_left, and_right}
+use Rattle.run_ops.specs.Fitting.{is_fit, fits_a_frame}
+use Rattle.run_ops.specs.Acting.{IsReady, Does}
+use Rattle.world_nodes.specs.Tampering.{put_as, MayTamper, MayForge, MayFlip, HasForged, HasFlipped, tampered_outcome}
 use Rattle.world_state.specs.Frames.{IsOnWire, IsChanged}
 use Rattle.world_state.specs.Stands.{Stands}
 use Rattle.world_state.specs.Tallied.{Tallied}
@@ -57,7 +56,7 @@ may_flip_there : (net : Network) (w : World) (l : Lane) (number bit : ℕ) → i
 unfolding is_enabled
 may_flip_there net w l number bit at = at
 
--- octets that fit may be made
+-- Octets that fit may be forged.
 
 three : (a b c d : Bool) → (a && (b && c) && d) ≡ true → (a && b && c && d) ≡ true
 three true true c d h = h
@@ -72,7 +71,7 @@ pub forges_on : (s : Site) (l : Lane) (octets : List ℕ) → is_fit s (Forge l 
 forges_on s l octets fit =
     and_left (is_lane s l) (fits_a_frame (length octets)) (and_left (is_lane s l && fits_a_frame (length octets)) (list_all (λ b. nat_lt b 256) octets) fit)
 
--- no frame stands there, or it has no such bit
+-- There is no such frame, or it has no such bit.
 
 no_frame : (net : Network) (w : World) (l : Lane) (number bit : ℕ) → slice_get (w.wire l) number ≡ None → step net w (Flip l number bit Fine) ≡ (w, NoFrame (length (w.wire l)))
 unfolding step flip
@@ -104,7 +103,7 @@ module _ {K Q E X : Type 0} (is_honest : K → Bool) (moment : K → ℕ) (image
   abbrev v : ℕ
   v = receiver net.site l
 
-  -- what is asked of the post
+  -- what the post is asked for
 
   module _ (octets : List ℕ) (on_wire : Bool) (put : on_wire ≡ is_some (put_as net w l octets)) (p : Post K E) (there : slice_get old.posts.items v ≡ Some p) where
     tampers : MayTamper is_honest moment image left net w l p octets on_wire old.up
@@ -119,7 +118,7 @@ module _ {K Q E X : Type 0} (is_honest : K → Bool) (moment : K → ℕ) (image
       enabled = may_forge_there net w l octets (subst (λ (s : Site). is_fit s (Forge l octets Fine) ≡ true) (sym ready.stands.sited) made);
     }
 
-  -- what comes of it
+  -- the outcome
 
   module _ (disk_count : K → ℕ) (armed : K → Armings) (entropy_count : E → ℕ) (device_count : Q → ℕ) (wire_count : X → ℕ) where
     abbrev Flips : ℕ → ℕ → State K Q E X → Outcome → Type 0

@@ -1,4 +1,4 @@
--- A tick as a play: a plan, what it wants put, and its note.
+-- A tick as a play: a plan, the frames that it puts, and its note.
 use Rattle.std.proofs.Common.{◌≡◌, ℕ, Bool, true, false, ◌&&◌, ◌||◌, not, ◌+◌, List, [], ◌∷◌, ◌++◌, refl, sym, ap, subst, ◌∙◌, append-nil, Option}
 use Rattle.std.specs.Prelude.{nat_lt}
 use Rattle.std.specs.List.{list_all}
@@ -13,25 +13,23 @@ use Rattle.net_model.specs.declared.reply.Reply.TheVariants.{Planned}
 use Rattle.net_model.specs.OctetSequence.{OctetSequence, has_octets}
 use Rattle.net_model.specs.Site.{Site, outgoing_lanes}
 use Rattle.net_model.specs.World.{Network, World}
-use Rattle.net_model.specs.Action.{Environment, Action, Ask, Complete, Outcome, Replies, is_no_memory, is_entropy_fault, is_io_fault}
-use Rattle.net_model.specs.Action.{Ok as Fine}
+use Rattle.net_model.specs.Action.{Environment, Action, Ask, Complete, Outcome, Replies, is_no_memory, is_entropy_fault, is_io_fault, Ok as Fine}
 use Rattle.net_model.specs.Journal.{journal_limit, added_len, is_nil}
 use Rattle.net_model.specs.Decision.{Effect}
 use Rattle.net_model.specs.Decide.{decide, random_need}
 use Rattle.net_model.specs.Handle.{is_numbered, commit, stopped, perform, handle}
 use Rattle.net_model.specs.Step.{step}
 use Rattle.net_model.specs.Tick.{Emission, tick_order}
-use Rattle.report_items.specs.declared.item.Item.{Item}
+use Rattle.run_types.specs.declared.item.Item.{Item}
 use Rattle.run_model.specs.Outcomes.{plan_items}
-use Rattle.run_model.specs.Script.{Script, Reports}
-use Rattle.run_model.specs.Script.{Ends as Ended}
+use Rattle.run_model.specs.Script.{Script, Reports, Ends as Ended}
 use Rattle.run_model.specs.Play.{Played, Whole, numbered, reporting, play, IsPlay, stopped_at, is_forged}
 use Rattle.run_model.specs.Lines.{emitted, after_plan, ticked}
-use Rattle.law_records.proofs.Base.{by_test}
-use Rattle.law_ticks.specs.Quiet.{IsQuiet as IsQuietBefore}
-use Rattle.law_ticks.proofs.Planning.{plan_noted, plan_rests, plan_goes}
-use Rattle.run_acts.specs.Quiet.{IsQuiet}
-use Rattle.run_acts.specs.Acting.{IsReady, Begins, Plays}
+use Rattle.law_base.proofs.Base.{by_test}
+use Rattle.law_locality.specs.Quiet.{IsQuiet as IsQuietBefore}
+use Rattle.law_locality.proofs.Planning.{plan_noted, plan_rests, plan_goes}
+use Rattle.run_ops.specs.Quiet.{IsQuiet}
+use Rattle.run_ops.specs.Acting.{IsReady, Begins, Plays}
 use Rattle.world_state.specs.Rests.{Rests}
 use Rattle.world_state.proofs.Resting.{post_rests}
 use Rattle.world_state.specs.Stands.{Stands}
@@ -42,7 +40,7 @@ use Rattle.world_state.specs.declared.state.State.{State}
 use Rattle.world_state.proofs.Plays.{asks_is, asks_said, none_is, none_said, numbered_both}
 use Rattle.world_state.proofs.Tallies.{tallied_more}
 
--- a reply that isn't a plan's
+-- The reply isn't a plan.
 abbrev pub IsOther : Reply → Type 0
 IsOther (Planned orders repeats shorts) = ⊥
 IsOther _ = Unit {0}
@@ -59,7 +57,7 @@ other_said : (reply : Reply) → IsOther reply → (orders : List Order) (repeat
 other_said (Planned a b d) other orders repeats shorts h = other
 other_said _ other orders repeats shorts h = cc
 
--- quiet
+-- ---- a quiet network
 
 quiet_before : (w : World) → IsQuiet w → IsQuietBefore w
 quiet_before w q = record { claimed = q.claimed; put = q.put; noted = q.noted }
@@ -67,7 +65,7 @@ quiet_before w q = record { claimed = q.claimed; put = q.put; noted = q.noted }
 quiet_after : (w : World) → IsQuietBefore w → IsQuiet w
 quiet_after w q = record { claimed = q.claimed; put = q.put; noted = q.noted }
 
--- a manager whose plan is replied is up
+-- A manager that replies with its plan is up.
 
 module _ (net : Network) (w : World) (v : ℕ) where
   abbrev StaysUp : World × Outcome → Type 0
@@ -115,7 +113,7 @@ module _ {K Q E X : Type 0} (is_honest : K → Bool) (moment : K → ℕ) (image
     devices = h.devices;
   }
 
-  -- the last action
+  -- ---- the last action
 
   module _ (old mid new : State K Q E X) (net : Network) (w : World) (v : ℕ) (from : List Emission) (reported : List Item) (placings : List Placing)
       (h : Puts is_honest moment image left told frames counted disk_count armed entropy_count device_count wire_count old mid net w v from [] reported placings) where
@@ -159,7 +157,7 @@ module _ {K Q E X : Type 0} (is_honest : K → Bool) (moment : K → ℕ) (image
       tallied = tallied_more disk_count armed entropy_count device_count wire_count net.site old mid new h.actions [] h.tallied k.tallied;
     }
 
-  -- the first action
+  -- ---- the first action
 
   module _ (old mid : State K Q E X) (net : Network) (w : World) (v : ℕ) (reply : Reply)
       (h : HasPlanned is_honest moment image left told frames counted disk_count armed entropy_count device_count wire_count old mid net w v reply) where
@@ -204,7 +202,7 @@ module _ {K Q E X : Type 0} (is_honest : K → Bool) (moment : K → ℕ) (image
     unfolding play
     ended quiet number = λ i. record { items = append-nil (numbered number (plan_items quiet v (Replies reply))) i; world = w₁; ending = Whole }
 
-    -- where the run ends behind it
+    -- The run ends after the plan.
 
     pub first_breaks : (s : Site) (quiet : Bool) → Begins Resting Counted old mid net w (ticked s quiet v)
     first_breaks s quiet = record {
@@ -214,7 +212,7 @@ module _ {K Q E X : Type 0} (is_honest : K → Bool) (moment : K → ℕ) (image
       tallied = h.tallied;
     }
 
-    -- where there is nothing to put
+    -- a tick with nothing to put
 
     pub nothing_planned : (quiet : Bool) → IsReady Standing old net w → IsOther reply → Plays Standing Counted old mid net w (ticked net.site quiet v) (plan_items quiet v (Replies reply))
     nothing_planned quiet ready other = record {
@@ -229,7 +227,7 @@ module _ {K Q E X : Type 0} (is_honest : K → Bool) (moment : K → ℕ) (image
       tallied = h.tallied;
     }
 
-  -- where there is
+  -- ---- a tick with frames to put
 
   module _ (old mid : State K Q E X) (net : Network) (w : World) (v : ℕ) (orders : List Order) (repeats : List Repeat) (shorts : List ShortOf)
       (h : HasPlanned is_honest moment image left told frames counted disk_count armed entropy_count device_count wire_count old mid net w v (Planned orders repeats shorts)) where

@@ -1,13 +1,9 @@
--- What is read of a state that stands for a world.
+-- Reading a state that stands for a world.
 use Rattle.std.proofs.Common.{◌≡◌, ℕ, ◌<◌, Bool, true, false, List, length, refl, sym, ap, ◌∙◌, Option, Some}
 use Rattle.net_model.specs.OctetSequence.{OctetSequence}
 use Rattle.net_model.specs.World.{Network, World}
-use Rattle.world_posts.specs.Passed.{ManagerForm, is_up}
-use Rattle.world_posts.specs.Passed.{Standing}
-use Rattle.world_posts.specs.Passed.{Up, Down, Between}
-use Rattle.world_posts.specs.Passed.{Post}
-use Rattle.world_posts.specs.Passed.{On, Off}
-use Rattle.world_posts.specs.Stands.{PostStands, StandingStands}
+use Rattle.world_nodes.specs.Passed.{ManagerForm, is_up, Standing, Up, Down, Between, Post, On, Off}
+use Rattle.world_nodes.specs.Stands.{PostStands, StandingStands}
 
 module _ {K E : Type 0} (is_honest : K → Bool) (moment : K → ℕ) (image : K → ℕ → List ℕ → Type 0) (left : E → Option OctetSequence) (net : Network) (w : World) (v : ℕ) where
   standing_up : (m : ManagerForm K E) (s : Standing K) → StandingStands is_honest moment image net w v m.site m.view s → is_up s ≡ w.up v

@@ -1,8 +1,8 @@
--- How often a disk of a state was armed, at most.
+-- The highest count of armings of a disk in a state.
 use Rattle.std.specs.Prelude.{ℕ, max, List, [], ◌∷◌, Option, Some, None}
 use Rattle.disk_model.specs.declared.arm.Armings.{Armings}
-use Rattle.world_posts.specs.Passed.{Post}
-use Rattle.world_posts.specs.Counts.{disk_of}
+use Rattle.world_nodes.specs.Passed.{Post}
+use Rattle.world_nodes.specs.Counts.{disk_of}
 
 abbrev pub times_of : {K : Type 0} → (K → Armings) → Option K → ℕ
 times_of armings None = 0

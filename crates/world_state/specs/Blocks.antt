@@ -1,4 +1,4 @@
--- A node takes a block of a link's device.
+-- A node takes a block from a link's device.
 use Rattle.std.specs.Prelude.{◌≡◌, ℕ, Bool, List, [], ◌∷◌, length, slice_get, Option, Some}
 use Rattle.disk_model.specs.declared.arm.Armings.{Armings}
 use Rattle.net_model.specs.declared.reply.Reply.TheVariants.{Took}
@@ -7,12 +7,12 @@ use Rattle.net_model.specs.World.{Network, World}
 use Rattle.net_model.specs.Handle.{blocks_at}
 use Rattle.net_model.specs.Action.{Environment, TakeBlock, Outcome, Replies}
 use Rattle.net_model.specs.Step.{step, IsStep}
-use Rattle.world_posts.specs.Passed.{Post}
-use Rattle.world_posts.specs.Stands.{PostStands}
+use Rattle.world_nodes.specs.Passed.{Post}
+use Rattle.world_nodes.specs.Stands.{PostStands}
 use Rattle.world_state.specs.Tallied.{Tallied}
 use Rattle.world_state.specs.declared.state.State.{State}
 
--- All is as the action leaves it but the lanes, which are as they were. Where the node took the block these are its octets.
+-- All parts are as the action leaves them, except the lanes, which stay as they were. If the node took the block, these are its octets.
 pub record IsBlockTaken {K Q E X : Type 0} (is_honest : K → Bool) (moment : K → ℕ) (image : K → ℕ → List ℕ → Type 0) (left : E → Option OctetSequence) (told : Q → Option OctetSequence)
     (disk_count : K → ℕ) (armed : K → Armings) (entropy_count : E → ℕ) (device_count : Q → ℕ) (wire_count : X → ℕ)
     (old new : State K Q E X) (net : Network) (w : World) (v link : ℕ) (block : List ℕ) (outcome : Outcome) : Type 0 where

@@ -3,10 +3,11 @@ pub mod Blocks
 pub mod Changed
 pub mod Frames
 pub mod Moving
-pub mod Passed
 pub mod Rests
 pub mod Sending
+pub mod Sized
 pub mod Stands
 pub mod Starting
 pub mod Tallied
 pub mod Ticking
+pub mod Passed

@@ -1,4 +1,4 @@
--- What an action does to a state.
+-- How an action changes a state.
 use Rattle.std.specs.Prelude.{◌≡◌, ◌⊎◌, ℕ, Bool, true, false, List, length, slice_get, Option, Some}
 use Rattle.qkd_base.specs.declared.lane.Lane.{Lane}
 use Rattle.net_model.specs.OctetSequence.{OctetSequence}
@@ -6,16 +6,16 @@ use Rattle.net_model.specs.World.{Network, World}
 use Rattle.net_model.specs.Events.{is_lane}
 use Rattle.net_model.specs.Action.{Action}
 use Rattle.net_model.specs.Step.{step}
-use Rattle.kme_site.specs.Up.{AreUp}
-use Rattle.world_posts.specs.Passed.{Post}
-use Rattle.lane_sides.specs.Lane.{LaneForm}
-use Rattle.world_lanes.specs.Stands.{LaneStands}
-use Rattle.world_posts.specs.Stands.{PostStands}
+use Rattle.kme_base.specs.Up.{AreUp}
+use Rattle.world_nodes.specs.Passed.{Post}
+use Rattle.lane_sender.specs.Lane.{LaneForm}
+use Rattle.world_nodes.specs.LaneStands.{LaneStands}
+use Rattle.world_nodes.specs.Stands.{PostStands}
 use Rattle.world_state.specs.Changed.{changes_node, changes_lane}
 use Rattle.world_state.specs.Stands.{place_of}
 use Rattle.world_state.specs.declared.state.State.{State}
 
--- What the action changes stands for what it is after it; each post and lane that it doesn't change is as it was.
+-- Each part that the action changes stands for the network's part after it. Each post and lane that the action doesn't change is as it was.
 pub record Moves {K Q E X : Type 0} (is_honest : K → Bool) (moment : K → ℕ) (image : K → ℕ → List ℕ → Type 0) (left : E → Option OctetSequence)
     (told : Q → Option OctetSequence) (frames : X → Option (List (List ℕ))) (counted : X → ℕ) (old new : State K Q E X) (net : Network) (w : World) (a : Action) : Type 0 where
   pub site : new.site ≡ old.site

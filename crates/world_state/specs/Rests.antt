@@ -1,4 +1,4 @@
--- What is left of a run where it ends for want of memory.
+-- What is left of a state when a run ends because memory ran out.
 use Rattle.std.specs.Prelude.{◌≡◌, ℕ, ◌*◌, Bool, true, List, length, slice_get, Option, Some}
 use Rattle.qkd_base.specs.declared.lane.Lane.{Lane}
 use Rattle.net_model.specs.OctetSequence.{OctetSequence}
@@ -6,16 +6,16 @@ use Rattle.net_model.specs.World.{Network, World}
 use Rattle.net_model.specs.Events.{is_lane}
 use Rattle.net_model.specs.Fold.{view_restarted}
 use Rattle.declared_site.specs.SiteOf.{site_of}
-use Rattle.world_posts.specs.Passed.{Post}
-use Rattle.world_posts.specs.Passed.{resolved_view}
-use Rattle.lane_sides.specs.Lane.{LaneForm}
-use Rattle.world_lanes.specs.Stands.{IsRunning, WireStands}
-use Rattle.world_posts.specs.Stands.{PostStands}
+use Rattle.world_nodes.specs.Passed.{Post}
+use Rattle.law_recovery.specs.Starting.{resolved_view}
+use Rattle.lane_sender.specs.Lane.{LaneForm}
+use Rattle.world_nodes.specs.LaneStands.{IsRunning, WireStands}
+use Rattle.world_nodes.specs.Stands.{PostStands}
 use Rattle.world_state.specs.Stands.{place_of}
 use Rattle.world_state.specs.declared.state.State.{State}
 
--- What a disk and an entropy keep of a node is the same in both worlds. What one life alone keeps may differ: a manager that had no
--- memory to note what became of its frames doesn't know it.
+-- A node's disk and entropy keep the same in both worlds. What belongs to one life may differ: a manager without memory for its notes doesn't know
+-- what became of its frames.
 pub record KeepsAs (net : Network) (v : ℕ) (u w : World) : Type 0 where
   pub running : IsRunning net u
   pub drawn : w.drawn v ≡ u.drawn v
@@ -26,8 +26,8 @@ pub record KeepsAs (net : Network) (v : ℕ) (u w : World) : Type 0 where
 abbrev pub PostRests : {K E : Type 0} → (K → Bool) → (K → ℕ) → (K → ℕ → List ℕ → Type 0) → (E → Option OctetSequence) → Network → World → ℕ → Post K E → Type 0
 PostRests is_honest moment image left net w v p = (u : World) × KeepsAs net v u w × PostStands is_honest moment image left net u v p
 
--- Each node has its post, each lane its wire and each link its device, as the world has them. What a lane's sender kept of its bytes
--- says nothing any more.
+-- Each node has its post, each lane its wire and each link its device, as the world has them. Nothing is said of what a lane's sender has of its
+-- bytes.
 pub record Rests {K Q E X : Type 0} (is_honest : K → Bool) (moment : K → ℕ) (image : K → ℕ → List ℕ → Type 0) (left : E → Option OctetSequence)
     (told : Q → Option OctetSequence) (frames : X → Option (List (List ℕ))) (counted : X → ℕ) (s : State K Q E X) (net : Network) (w : World) : Type 0 where
   pub running : IsRunning net w

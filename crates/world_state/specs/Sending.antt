@@ -1,4 +1,4 @@
--- A node sends what its plan wants put, one frame after another.
+-- A node sends the frames of its plan in order.
 use Rattle.std.specs.Prelude.{◌≡◌, ℕ, Bool, true, List, ◌++◌, map, filter, Option}
 use Rattle.std.specs.List.{list_all}
 use Rattle.qkd_base.specs.Lane.{lane_eq}
@@ -12,20 +12,20 @@ use Rattle.net_model.specs.Events.{is_frame_size}
 use Rattle.net_model.specs.Action.{Action}
 use Rattle.net_model.specs.Tick.{Emission, Again, New}
 use Rattle.disk_model.specs.declared.arm.Armings.{Armings}
-use Rattle.report_items.specs.declared.item.Item.{Item}
+use Rattle.run_types.specs.declared.item.Item.{Item}
 use Rattle.run_model.specs.Play.{numbered, reporting, play, IsPlay}
 use Rattle.run_model.specs.Lines.{emitted}
-use Rattle.law_ticks.specs.Sending.{Sends}
-use Rattle.run_acts.specs.Acting.{Begins}
+use Rattle.law_locality.specs.Sending.{Sends}
+use Rattle.run_ops.specs.Acting.{Begins}
 use Rattle.world_state.specs.Stands.{Stands}
 use Rattle.world_state.specs.Tallied.{Tallied}
 use Rattle.world_state.specs.declared.state.State.{State}
 
--- each is of a frame's size
+-- Each placing has the size of a frame.
 abbrev pub are_sized : List Placing → Bool
 are_sized placings = list_all (λ (p : Placing). is_frame_size p.length) placings
 
--- what a plan wants put on a lane: its repeats, and then its new orders
+-- what a plan puts on a lane: its repeats, and then its new orders
 
 abbrev pub repeats_on : Lane → List Repeat → List Emission
 repeats_on l repeats = map Again (filter (λ (r : Repeat). lane_eq r.lane l) repeats)
@@ -33,7 +33,7 @@ repeats_on l repeats = map Again (filter (λ (r : Repeat). lane_eq r.lane l) rep
 abbrev pub orders_on : Lane → List Order → List Emission
 orders_on l orders = map New (filter (λ (o : Order). lane_eq o.lane l) orders)
 
--- A manager that is up has just these still to put, and these placings are what became of the others.
+-- The manager is up and has exactly these frames still to put. The placings say what became of the others.
 pub record Sending {K Q E X : Type 0} (is_honest : K → Bool) (moment : K → ℕ) (image : K → ℕ → List ℕ → Type 0) (left : E → Option OctetSequence)
     (told : Q → Option OctetSequence) (frames : X → Option (List (List ℕ))) (counted : X → ℕ) (s : State K Q E X) (net : Network) (w : World)
     (v : ℕ) (es : List Emission) (placings : List Placing) : Type 0 where
@@ -43,7 +43,7 @@ pub record Sending {K Q E X : Type 0} (is_honest : K → Bool) (moment : K → �
   pub placed : placings ≡ w.placings v
   pub sized : are_sized placings ≡ true
 
--- What was put of it: the actions that lead from the script of the one to that of the other, what they report, and the world behind them.
+-- The frames that were put: the actions that lead from one script to the other, what they report, and the world after them.
 pub record Puts {K Q E X : Type 0} (is_honest : K → Bool) (moment : K → ℕ) (image : K → ℕ → List ℕ → Type 0) (left : E → Option OctetSequence)
     (told : Q → Option OctetSequence) (frames : X → Option (List (List ℕ))) (counted : X → ℕ)
     (disk_count : K → ℕ) (armed : K → Armings) (entropy_count : E → ℕ) (device_count : Q → ℕ) (wire_count : X → ℕ)
@@ -55,7 +55,7 @@ pub record Puts {K Q E X : Type 0} (is_honest : K → Bool) (moment : K → ℕ)
   pub sending : Sending is_honest moment image left told frames counted new net after v to placings
   pub tallied : Tallied disk_count armed entropy_count device_count wire_count old new net.site actions
 
--- with the items that are reported behind older ones
+-- The same frames, whose items are added to those reported before.
 pub record PutsOn {K Q E X : Type 0} (is_honest : K → Bool) (moment : K → ℕ) (image : K → ℕ → List ℕ → Type 0) (left : E → Option OctetSequence)
     (told : Q → Option OctetSequence) (frames : X → Option (List (List ℕ))) (counted : X → ℕ)
     (disk_count : K → ℕ) (armed : K → Armings) (entropy_count : E → ℕ) (device_count : Q → ℕ) (wire_count : X → ℕ)
@@ -64,7 +64,7 @@ pub record PutsOn {K Q E X : Type 0} (is_honest : K → Bool) (moment : K → �
   pub items : now ≡ before ++ reported
   pub puts : Puts is_honest moment image left told frames counted disk_count armed entropy_count device_count wire_count old new net w v from to reported placings
 
--- The run ends amid it: some first actions of the script were done.
+-- The run ends before all frames are put: some first actions of the script were done.
 abbrev pub Breaks : {K Q E X : Type 0} → (K → Bool) → (K → ℕ) → (K → ℕ → List ℕ → Type 0) → (E → Option OctetSequence) → (Q → Option OctetSequence) → (X → Option (List (List ℕ))) → (X → ℕ) →
     (K → ℕ) → (K → Armings) → (E → ℕ) → (Q → ℕ) → (X → ℕ) → State K Q E X → State K Q E X → Network → World → ℕ → List Emission → Type 0
 Breaks is_honest moment image left told frames counted disk_count armed entropy_count device_count wire_count old new net w v from =

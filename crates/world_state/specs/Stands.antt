@@ -1,4 +1,4 @@
--- What the state of a run stands for in the network.
+-- How the state of a run stands for a network.
 use Rattle.std.specs.Prelude.{◌≡◌, ℕ, ◌+◌, ◌*◌, Bool, true, List, length, slice_get, Option, Some}
 use Rattle.qkd_base.specs.declared.lane.Way.{Way}
 use Rattle.qkd_base.specs.declared.lane.Way.TheVariants.{Up, Down}
@@ -7,14 +7,14 @@ use Rattle.net_model.specs.OctetSequence.{OctetSequence}
 use Rattle.net_model.specs.World.{Network, World}
 use Rattle.net_model.specs.Events.{is_lane}
 use Rattle.declared_site.specs.SiteOf.{site_of}
-use Rattle.kme_site.specs.Up.{AreUp}
-use Rattle.world_posts.specs.Passed.{Post}
-use Rattle.lane_sides.specs.Lane.{LaneForm}
-use Rattle.world_lanes.specs.Stands.{IsRunning, LaneStands}
-use Rattle.world_posts.specs.Stands.{PostStands}
+use Rattle.kme_base.specs.Up.{AreUp}
+use Rattle.world_nodes.specs.Passed.{Post}
+use Rattle.lane_sender.specs.Lane.{LaneForm}
+use Rattle.world_nodes.specs.LaneStands.{IsRunning, LaneStands}
+use Rattle.world_nodes.specs.Stands.{PostStands}
 use Rattle.world_state.specs.declared.state.State.{State}
 
--- link by link, the lane up before the lane down
+-- the place of a way: the lane up before the lane down
 abbrev pub of_way : Way → ℕ
 of_way Up = 0
 of_way Down = 1
@@ -22,7 +22,7 @@ of_way Down = 1
 abbrev pub place_of : Lane → ℕ
 place_of l = 2 * l.link + of_way l.way
 
--- each node has its post, each lane its sender's side and its wire, each link its device, which tells its octets, and is up or down
+-- Each node has its post, and each lane its sender's side and its wire. Each link has its device, which tells its octets, and is up or down.
 pub record Stands {K Q E X : Type 0} (is_honest : K → Bool) (moment : K → ℕ) (image : K → ℕ → List ℕ → Type 0) (left : E → Option OctetSequence)
     (told : Q → Option OctetSequence) (frames : X → Option (List (List ℕ))) (counted : X → ℕ) (s : State K Q E X) (net : Network) (w : World) : Type 0 where
   pub running : IsRunning net w

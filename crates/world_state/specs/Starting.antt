@@ -1,4 +1,5 @@
--- A node's manager is started, and where it is up again the lanes that leave the node take what blocks its journal brought, and go on at its leases.
+-- Starting a node's manager. If it is up afterwards, each lane that leaves the node takes the blocks that it lacks, and goes on at the journal's
+-- lease.
 use Rattle.std.specs.Prelude.{◌≡◌, ℕ, ◌-◌, ◌*◌, ◌≤◌, ◌==◌, Bool, true, false, List, [], ◌∷◌, length, take, slice_get, Option, Some, if◌then◌else◌}
 use Rattle.qkd_base.specs.declared.lane.Lane.{Lane}
 use Rattle.disk_model.specs.declared.arm.Armings.{Armings}
@@ -9,13 +10,12 @@ use Rattle.net_model.specs.View.{View, port_of, incoming_octets}
 use Rattle.net_model.specs.Action.{Recovery, Start}
 use Rattle.net_model.specs.Step.{step, IsStep}
 use Rattle.pad_ledger.specs.Ledger.{Ledger, received_more}
-use Rattle.report_items.specs.declared.start_result.StartResult.{StartResult}
-use Rattle.report_items.specs.declared.start_result.StartResult.TheVariants as starts
-use Rattle.run_turns.specs.Reported.{started}
-use Rattle.world_posts.specs.Passed.{lease_of}
-use Rattle.world_posts.specs.Passed.{Post}
-use Rattle.lane_sides.specs.Lane.{LaneForm, burnt_to}
-use Rattle.world_posts.specs.Stands.{PostStands}
+use Rattle.run_types.specs.declared.start_result.StartResult.{StartResult}
+use Rattle.run_types.specs.declared.start_result.StartResult.TheVariants as starts
+use Rattle.run_ops.specs.Reported.{started}
+use Rattle.world_nodes.specs.Passed.{lease_of, Post}
+use Rattle.lane_sender.specs.Lane.{LaneForm, burnt_to}
+use Rattle.world_nodes.specs.Stands.{PostStands}
 use Rattle.world_state.specs.Tallied.{Tallied}
 use Rattle.world_state.specs.declared.state.State.{State}
 
@@ -23,7 +23,7 @@ abbrev pub is_started : StartResult → Bool
 is_started starts.Started = true
 is_started _ = false
 
--- All is as the start leaves it but the lanes, which are as they were.
+-- All parts are as the start leaves them, except the lanes, which stay as they were.
 pub record HasBegun {K Q E X : Type 0} (is_honest : K → Bool) (moment : K → ℕ) (image : K → ℕ → List ℕ → Type 0) (left : E → Option OctetSequence)
     (disk_count : K → ℕ) (armed : K → Armings) (entropy_count : E → ℕ) (device_count : Q → ℕ) (wire_count : X → ℕ)
     (old new : State K Q E X) (net : Network) (w : World) (v : ℕ) (result : StartResult) : Type 0 where
@@ -38,7 +38,7 @@ pub record HasBegun {K Q E X : Type 0} (is_honest : K → Bool) (moment : K → 
   pub up : new.up ≡ old.up
   pub tallied : Tallied disk_count armed entropy_count device_count wire_count old new net.site (Start v recovery ∷ [])
 
--- what a manager has of a lane that leaves its node
+-- the bytes that a manager has of a lane that leaves its node
 
 abbrev pub octets_in : View → Lane → List ℕ
 octets_in view l = incoming_octets l (port_of view l.link)
@@ -46,7 +46,7 @@ octets_in view l = incoming_octets l (port_of view l.link)
 abbrev pub lease_in : View → Lane → ℕ
 lease_in view l = lease_of (port_of view l.link)
 
--- the ledger of a lane that received so many bytes in all
+-- the ledger of a lane once it has received this many bytes in all
 abbrev pub ledger_at : ℕ → Ledger → Ledger
 ledger_at size l = if l.received == size then l else received_more l (size - l.received)
 
@@ -54,11 +54,11 @@ ledger_at size l = if l.received == size then l else received_more l (size - l.r
 abbrev pub refilled : {X : Type 0} → List ℕ → LaneForm X → LaneForm X
 refilled octets side = record side { bytes = octets; ledger = ledger_at (length octets) side.ledger }
 
--- and once it goes on at this lease
+-- the lane with all of these bytes, once it goes on at this lease
 abbrev pub gone_on : {X : Type 0} → List ℕ → ℕ → LaneForm X → LaneForm X
 gone_on octets lease side = record side { bytes = octets; ledger = burnt_to lease (ledger_at (length octets) side.ledger) }
 
--- the bytes of the lane are the first of these, and both are whole blocks
+-- The lane's bytes are the first of these bytes, and both are whole blocks.
 pub record MayRefill {X : Type 0} (octets : List ℕ) (side : LaneForm X) : Type 0 where
   pub held : ℕ
   pub size : length side.bytes ≡ 1024 * held
@@ -69,13 +69,13 @@ pub record MayRefill {X : Type 0} (octets : List ℕ) (side : LaneForm X) : Type
   pub within : held ≤ blocks
   pub few : blocks ≤ 512
 
--- nothing was claimed above the lease, and the lease is received
+-- The lane claimed nothing above the lease, and the lease is at most the number of received bytes.
 pub record MayGoOn {X : Type 0} (octets : List ℕ) (lease : ℕ) (side : LaneForm X) : Type 0 where
   pub refill : MayRefill octets side
   pub later : (ledger_at (length octets) side.ledger).end ≤ lease
   pub received : lease ≤ length octets
 
--- each lane that leaves the node may go on as its manager has it, and did so
+-- Each lane that leaves the node may go on with what its manager has.
 
 abbrev pub MayAllGoOn : {X : Type 0} → Site → ℕ → View → List (LaneForm X) → Type 0
 MayAllGoOn {X} s v view sides = (place : ℕ) (side : LaneForm X) → slice_get sides place ≡ Some side → sender s side.lane ≡ v → MayGoOn (octets_in view side.lane) (lease_in view side.lane) side
@@ -87,7 +87,7 @@ pub record AllWentOn {X : Type 0} (s : Site) (v : ℕ) (view : View) (old new : 
   pub sides : length new ≡ length old
   pub each : (place : ℕ) (side : LaneForm X) → slice_get new place ≡ Some side → (before : LaneForm X) × (slice_get old place ≡ Some before) × (side ≡ gone_with s v view before)
 
--- each lane has its wire
+-- Each lane keeps its wire.
 pub record WiresKept {X : Type 0} (old new : List (LaneForm X)) : Type 0 where
   pub sides : length new ≡ length old
   pub each : (place : ℕ) (side : LaneForm X) → slice_get new place ≡ Some side → (before : LaneForm X) × (slice_get old place ≡ Some before) × (side.wire ≡ before.wire)

@@ -1,4 +1,4 @@
--- What is counted of a run: how often each part failed, and with what each disk was armed.
+-- The counts of a run: how often each part failed, and with which faults each disk was armed.
 use Rattle.std.specs.Prelude.{◌≡◌, ℕ, ◌+◌, ◌-◌, ◌^◌, ◌≤◌, min, true, List, length, slice_get, Option, Some}
 use Rattle.std.specs.Option.{option_map}
 use Rattle.qkd_base.specs.declared.lane.Lane.{Lane}
@@ -7,24 +7,24 @@ use Rattle.net_model.specs.Site.{Site}
 use Rattle.net_model.specs.Events.{is_lane}
 use Rattle.net_model.specs.Action.{Action, Fault}
 use Rattle.net_model.specs.Faults.{disk_faults, entropy_faults, device_faults, wire_faults, armings}
-use Rattle.world_posts.specs.Passed.{Post}
-use Rattle.lane_sides.specs.Lane.{LaneForm}
+use Rattle.world_nodes.specs.Passed.{Post}
+use Rattle.lane_sender.specs.Lane.{LaneForm}
 use Rattle.run_model.specs.Bench.{last_of_both}
-use Rattle.run_acts.specs.Acting.{fault_of}
-use Rattle.world_posts.specs.Counts.{disk_of, entropy_of}
+use Rattle.run_ops.specs.Acting.{fault_of}
+use Rattle.world_nodes.specs.Counts.{disk_of, entropy_of}
 use Rattle.world_state.specs.Stands.{place_of}
 use Rattle.world_state.specs.declared.state.State.{State}
 
--- a count rose by so many at least, or stands at a counter's last value
+-- The count rose by at least n, or it is at its highest value, 2^64 - 1.
 abbrev pub Counted : (n before now : ℕ) → Type 0
 Counted n before now = min (before + n) (2 ^ 64 - 1) ≤ now
 
--- a disk was armed with just these, one after another
+-- The disk was armed with exactly these faults, in this order.
 pub record IsArmedBy (faults : List Fault) (before now : Armings) : Type 0 where
   pub times : now.count ≡ before.count + length faults
   pub last : option_map fault_of now.last ≡ last_of_both (option_map fault_of before.last) faults
 
--- what is counted of both
+-- the counts of a node's disk and of its entropy
 pub record PostTallied {K E : Type 0} (disk_count : K → ℕ) (armed : K → Armings) (entropy_count : E → ℕ) (site : Site) (v : ℕ) (actions : List Action) (old new : Post K E) : Type 0 where
   pub before : K
   pub now : K
@@ -34,7 +34,7 @@ pub record PostTallied {K E : Type 0} (disk_count : K → ℕ) (armed : K → Ar
   pub armed_with : IsArmedBy (armings v actions) (armed before) (armed now)
   pub refused : Counted (entropy_faults v actions) (entropy_count (entropy_of old)) (entropy_count (entropy_of new))
 
--- of all parts
+-- the counts of all parts
 pub record Tallied {K Q E X : Type 0} (disk_count : K → ℕ) (armed : K → Armings) (entropy_count : E → ℕ) (device_count : Q → ℕ) (wire_count : X → ℕ)
     (old new : State K Q E X) (site : Site) (actions : List Action) : Type 0 where
   pub nodes : length new.posts.items ≡ length old.posts.items

@@ -7,12 +7,12 @@ use Rattle.net_model.specs.OctetSequence.{OctetSequence}
 use Rattle.net_model.specs.World.{Network, World}
 use Rattle.net_model.specs.Action.{Environment, Ask, Complete, Replies}
 use Rattle.net_model.specs.Step.{step, IsStep}
-use Rattle.run_acts.specs.Acting.{IsReady}
+use Rattle.run_ops.specs.Acting.{IsReady}
 use Rattle.world_state.specs.Stands.{Stands}
 use Rattle.world_state.specs.Tallied.{Tallied}
 use Rattle.world_state.specs.declared.state.State.{State}
 
--- a node was asked its plan, with an answer of the outside
+-- A node was asked for its plan, with an answer of the environment.
 pub record HasPlanned {K Q E X : Type 0} (is_honest : K → Bool) (moment : K → ℕ) (image : K → ℕ → List ℕ → Type 0) (left : E → Option OctetSequence)
     (told : Q → Option OctetSequence) (frames : X → Option (List (List ℕ))) (counted : X → ℕ)
     (disk_count : K → ℕ) (armed : K → Armings) (entropy_count : E → ℕ) (device_count : Q → ℕ) (wire_count : X → ℕ)
@@ -23,7 +23,7 @@ pub record HasPlanned {K Q E X : Type 0} (is_honest : K → Bool) (moment : K �
   pub stands : Stands is_honest moment image left told frames counted new net (step net w (Ask v Plan environment)).0
   pub tallied : Tallied disk_count armed entropy_count device_count wire_count old new net.site (Ask v Plan environment ∷ [])
 
--- a node noted what became of its frames, and nothing is on its way to a wire
+-- A node noted what became of its frames, and no frame is on its way to a wire any more.
 pub record HasNoted {K Q E X : Type 0} (is_honest : K → Bool) (moment : K → ℕ) (image : K → ℕ → List ℕ → Type 0) (left : E → Option OctetSequence)
     (told : Q → Option OctetSequence) (frames : X → Option (List (List ℕ))) (counted : X → ℕ)
     (disk_count : K → ℕ) (armed : K → Armings) (entropy_count : E → ℕ) (device_count : Q → ℕ) (wire_count : X → ℕ)
@@ -34,7 +34,7 @@ pub record HasNoted {K Q E X : Type 0} (is_honest : K → Bool) (moment : K → 
   pub ready : IsReady (Stands is_honest moment image left told frames counted) new net (step net w (Complete v)).0
   pub tallied : Tallied disk_count armed entropy_count device_count wire_count old new net.site (Complete v ∷ [])
 
--- nothing happened
+-- Nothing happened.
 pub record HasStayed {K Q E X : Type 0} (is_honest : K → Bool) (moment : K → ℕ) (image : K → ℕ → List ℕ → Type 0) (left : E → Option OctetSequence)
     (told : Q → Option OctetSequence) (frames : X → Option (List (List ℕ))) (counted : X → ℕ)
     (disk_count : K → ℕ) (armed : K → Armings) (entropy_count : E → ℕ) (device_count : Q → ℕ) (wire_count : X → ℕ)

@@ -1,10 +1,10 @@
-// A manager of the state is asked.
+// Asking a manager of the state to handle an event.
 ghost use Rattle.std.specs.Prelude.{◌≡◌, true};
 ghost use Rattle.declared_site.specs.SiteOf.{site_of};
 ghost use Rattle.net_model.specs.World.{Network, World};
 ghost use Rattle.net_model.specs.Action.{Ask, Replies, Ok as Fine};
-ghost use Rattle.run_acts.specs.Fitting.{is_fit};
-ghost use Rattle.run_acts.specs.Acting.{IsReady, Does};
+ghost use Rattle.run_ops.specs.Fitting.{is_fit};
+ghost use Rattle.run_ops.specs.Acting.{IsReady, Does};
 ghost use Rattle.world_state.specs.Stands.{Stands};
 ghost use Rattle.world_state.specs.Tallied.{Tallied};
 ghost use Rattle.world_state.specs.Armed.{most_armed};
@@ -15,7 +15,7 @@ use net_model::{Event, Reply};
 use qkd_base::NodeNo;
 use source_devices::{Device, Entropy, Wire};
 
-/// Asks a node's manager an event, but for a plan.
+/// Asks a node's manager to handle an event, which must not be a plan.
 pub fn ask<K: Disk + Drop, Q: Device + Drop, E: Entropy + Drop, X: Wire + Drop>(
     state: &mut State<K, Q, E, X>,
     node: NodeNo,
@@ -31,6 +31,6 @@ pub fn ask<K: Disk + Drop, Q: Device + Drop, E: Entropy + Drop, X: Wire + Drop>(
     let up = state.up;
     match state.posts.get_mut(usize::from(node.get())) {
         None => Reply::Down,
-        Some(post) => world_posts::ask(post, event, up),
+        Some(post) => world_nodes::ask(post, event, up),
     }
 }

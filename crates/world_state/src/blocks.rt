@@ -6,9 +6,9 @@ ghost use Rattle.net_model.specs.Site.{outgoing_lane};
 ghost use Rattle.net_model.specs.World.{Network, World};
 ghost use Rattle.net_model.specs.Action.{TakeBlock, Replies, Ok as Fine};
 ghost use Rattle.run_model.specs.Script.{asks};
-ghost use Rattle.run_turns.specs.Reported.{taken};
-ghost use Rattle.run_acts.specs.Fitting.{is_fit};
-ghost use Rattle.run_acts.specs.Acting.{IsReady, Does, Begins};
+ghost use Rattle.run_ops.specs.Reported.{taken};
+ghost use Rattle.run_ops.specs.Fitting.{is_fit};
+ghost use Rattle.run_ops.specs.Acting.{IsReady, Does, Begins};
 ghost use Rattle.world_state.specs.Armed.{most_armed};
 ghost use Rattle.world_state.specs.Blocks.{IsBlockTaken};
 ghost use Rattle.world_state.specs.Rests.{Rests};
@@ -19,13 +19,13 @@ use crate::State;
 use crate::reading::lane_place;
 use declared_site::Site;
 use disk_model::Disk;
-use kme_site::sender;
+use kme_base::sender;
 use net_model::Reply;
 use qkd_base::{Lane, LinkNo, Memory, NodeNo, Way};
-use run_turns::BlockTake;
+use run_ops::BlockTake;
 use source_devices::{Device, Entropy, Wire};
 
-// The lane of a link that leaves a node of its ends.
+// The link's lane that leaves the node.
 fn outgoing(site: &Site, node: NodeNo, link: LinkNo) -> Lane
     ensures { result ≡ outgoing_lane (site_of site.now) node link }
 {
@@ -44,7 +44,7 @@ fn number(take: &BlockTake) -> Option<u32>
     }
 }
 
-// The node's manager takes the block. What it took is in the room, and comes to its lane next.
+// The node's manager takes the block. The block is in the buffer afterwards, for the lane that takes it next.
 fn hand<K: Disk + Drop, Q: Device + Drop, E: Entropy + Drop, X: Wire + Drop>(
     state: &mut State<K, Q, E, X>,
     node: NodeNo,
@@ -61,11 +61,11 @@ fn hand<K: Disk + Drop, Q: Device + Drop, E: Entropy + Drop, X: Wire + Drop>(
     let alloc = *state.posts.allocator();
     let post = &mut state.posts[usize::from(node.get())];
     let device = &mut state.devices[usize::from(link.get())];
-    world_posts::take_block(alloc, post, device, link, up, into)
+    world_nodes::take_block(alloc, post, device, link, up, into)
 }
 
-/// A node takes the next block of a link, and so does the lane of that link that leaves it, where the block is of its way. Want
-/// of memory there ends the run.
+/// A node takes the next block of a link. The link's lane that leaves the node takes it too, if the block's number belongs to
+/// the lane's way. If memory runs out there, the run ends.
 pub fn take_block<K: Disk + Drop, Q: Device + Drop, E: Entropy + Drop, X: Wire + Drop>(
     state: &mut State<K, Q, E, X>,
     node: NodeNo,
@@ -86,7 +86,7 @@ pub fn take_block<K: Disk + Drop, Q: Device + Drop, E: Entropy + Drop, X: Wire +
         None => Ok(take),
         Some(number) => {
             let lane = outgoing(&state.site, node, link);
-            match world_lanes::take(&mut state.lanes[lane_place(lane)], number, &block) {
+            match world_nodes::take(&mut state.lanes[lane_place(lane)], number, &block) {
                 Err(_) => Err(Memory),
                 Ok(()) => Ok(take),
             }

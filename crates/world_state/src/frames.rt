@@ -5,9 +5,9 @@ ghost use Rattle.net_model.specs.World.{Network, World};
 ghost use Rattle.net_model.specs.Events.{is_lane};
 ghost use Rattle.net_model.specs.Action.{Deliver, Replies, Ok as Fine};
 ghost use Rattle.run_model.specs.Script.{asks};
-ghost use Rattle.run_turns.specs.Reported.{delivered};
-ghost use Rattle.run_acts.specs.Fitting.{is_fit};
-ghost use Rattle.run_acts.specs.Acting.{IsReady, Does, Begins};
+ghost use Rattle.run_ops.specs.Reported.{delivered};
+ghost use Rattle.run_ops.specs.Fitting.{is_fit};
+ghost use Rattle.run_ops.specs.Acting.{IsReady, Does, Begins};
 ghost use Rattle.world_state.specs.Armed.{most_armed};
 ghost use Rattle.world_state.specs.Frames.{IsOnWire};
 ghost use Rattle.world_state.specs.Rests.{Rests};
@@ -18,13 +18,13 @@ use crate::State;
 use crate::places::at;
 use crate::reading::{lane_place, on_wire};
 use disk_model::Disk;
-use kme_site::receiver;
+use kme_base::receiver;
 use net_model::Reply;
 use qkd_base::{FrameOctets, Lane, Memory, Octets};
-use run_turns::Delivery;
+use run_ops::Delivery;
 use source_devices::{Device, Entropy, Wire};
 
-/// A copy of the frame of a number on a lane's wire, if one stands there.
+/// A copy of the frame with this number on a lane's wire, if there is one.
 pub fn seen<K: Disk + Drop, Q: Device + Drop, E: Entropy + Drop, X: Wire + Drop>(
     state: &State<K, Q, E, X>,
     lane: &Lane,
@@ -40,7 +40,7 @@ pub fn seen<K: Disk + Drop, Q: Device + Drop, E: Entropy + Drop, X: Wire + Drop>
         None => Ok(None),
         Some(side) => {
             let mut room = FrameOctets::new();
-            match world_lanes::frame(side, number, &mut room) {
+            match world_nodes::frame(side, number, &mut room) {
                 None => Ok(None),
                 Some(length) => {
                     let octets = Octets::from_slice(
@@ -54,7 +54,7 @@ pub fn seen<K: Disk + Drop, Q: Device + Drop, E: Entropy + Drop, X: Wire + Drop>
     }
 }
 
-// Octets of a frame of the wire come to the lane's receiver.
+// The octets of a frame on the wire come to the lane's receiver.
 fn come<K: Disk + Drop, Q: Device + Drop, E: Entropy + Drop, X: Wire + Drop>(
     state: &mut State<K, Q, E, X>,
     lane: &Lane,
@@ -71,11 +71,12 @@ fn come<K: Disk + Drop, Q: Device + Drop, E: Entropy + Drop, X: Wire + Drop>(
     let node = receiver(&state.site, *lane);
     match state.posts.get_mut(usize::from(node.get())) {
         None => Reply::Down,
-        Some(post) => world_posts::hear(post, *lane, octets, up),
+        Some(post) => world_nodes::hear(post, *lane, octets, up),
     }
 }
 
-/// The frame of a number on a lane's wire comes to the lane's receiver. Want of memory for its octets ends the run.
+/// The frame with this number on a lane's wire comes to the lane's receiver. If there is no memory for its octets, the run
+/// ends.
 pub fn pass<K: Disk + Drop, Q: Device + Drop, E: Entropy + Drop, X: Wire + Drop>(
     state: &mut State<K, Q, E, X>,
     lane: &Lane,

@@ -1,4 +1,4 @@
-// All that a plan wants put goes lane by lane.
+// Putting what a plan sends, lane by lane.
 ghost use Rattle.std.specs.Prelude.{◌≡◌, ◌++◌, List, OnOk, OnErr};
 ghost use Rattle.qkd_base.specs.Lane.{lane_eq};
 ghost use Rattle.net_model.specs.World.{Network, World};
@@ -66,7 +66,7 @@ fn put_orders<K: Disk + Drop, Q: Device + Drop, E: Entropy + Drop, X: Wire + Dro
     Ok(())
 }
 
-/// Puts what a plan wants put: on each lane its repeats, and then its new orders.
+/// Puts what a plan sends: on each lane its repeats, and then its new orders.
 pub fn put_lanes<K: Disk + Drop, Q: Device + Drop, E: Entropy + Drop, X: Wire + Drop>(
     state: &mut State<K, Q, E, X>,
     node: NodeNo,

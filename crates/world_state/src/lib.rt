@@ -1,4 +1,4 @@
-//! The state of a run: managers, lanes and devices, and the network that they stand for.
+//! The state of a run: its managers, lanes and devices, which stand for those of a network.
 #![tactic(auto)]
 
 mod asking;
@@ -33,4 +33,4 @@ pub use starting::start;
 pub use state::State;
 pub use tampering::{flip, forge};
 pub use ticking::tick;
-pub use world_posts;
+pub use world_nodes::{Post, frame, note};

@@ -1,11 +1,11 @@
-// Which links are up, by the bits of a number.
+// The links that are up, as the bits of a number.
 ghost use Rattle.std.specs.Prelude.{◌≡◌, ◌==◌, ◌<◌, ℕ, true, if◌then◌else◌};
 ghost use Rattle.declared_site.specs.SiteOf.{site_of};
 ghost use Rattle.net_model.specs.World.{Network, World};
 ghost use Rattle.net_model.specs.Action.{SetLink, LinkSet};
 ghost use Rattle.route_table.specs.Layer.{bit_is_set};
-ghost use Rattle.run_acts.specs.Fitting.{is_fit};
-ghost use Rattle.run_acts.specs.Acting.{IsReady, Does};
+ghost use Rattle.run_ops.specs.Fitting.{is_fit};
+ghost use Rattle.run_ops.specs.Acting.{IsReady, Does};
 ghost use Rattle.world_state.specs.Armed.{most_armed};
 ghost use Rattle.world_state.specs.Stands.{Stands};
 ghost use Rattle.world_state.specs.Tallied.{Tallied};
@@ -15,7 +15,7 @@ use disk_model::Disk;
 use qkd_base::LinkNo;
 use source_devices::{Device, Entropy, Wire};
 
-/// The number in which one link is up or down, and each other one as before.
+/// The same bits, but with this link up or down.
 pub fn with_link(links: u32, link: LinkNo, up: bool) -> u32
     ensures { (other : ℕ) → other < 32 → bit_is_set result other ≡ (if other == link then up else bit_is_set links other) }
 {
@@ -26,7 +26,7 @@ pub fn with_link(links: u32, link: LinkNo, up: bool) -> u32
     }
 }
 
-/// A link is up or down from here on.
+/// Sets a link up or down.
 pub fn set_link<K: Disk + Drop, Q: Device + Drop, E: Entropy + Drop, X: Wire + Drop>(
     state: &mut State<K, Q, E, X>,
     link: LinkNo,

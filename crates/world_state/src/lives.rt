@@ -1,11 +1,11 @@
-// A manager's life ends, and a disk is armed.
+// Ending a manager's life, and arming a disk.
 ghost use Rattle.std.specs.Prelude.{◌≡◌, ◌≤◌, ◌<◌, ◌+◌, ◌^◌, true};
 ghost use Rattle.declared_site.specs.SiteOf.{site_of};
 ghost use Rattle.net_model.specs.World.{Network, World};
 ghost use Rattle.net_model.specs.Action.{Armed, Crash as Crashes, Arm as Arms};
-ghost use Rattle.run_turns.specs.Reported.{crashed};
-ghost use Rattle.run_acts.specs.Fitting.{is_fit};
-ghost use Rattle.run_acts.specs.Acting.{IsReady, Does, fault_of};
+ghost use Rattle.run_ops.specs.Reported.{crashed};
+ghost use Rattle.run_ops.specs.Fitting.{is_fit};
+ghost use Rattle.run_ops.specs.Acting.{IsReady, Does, fault_of};
 ghost use Rattle.world_state.specs.Armed.{most_armed};
 ghost use Rattle.world_state.specs.Stands.{Stands};
 ghost use Rattle.world_state.specs.Tallied.{Tallied};
@@ -15,7 +15,7 @@ use disk_model::{Arm, Disk};
 use qkd_base::NodeNo;
 use source_devices::{Device, Entropy, Wire};
 
-/// Ends the life of a node's manager. It answers whether that was up.
+/// Ends the life of a node's manager, and returns whether it was up.
 pub fn crash<K: Disk + Drop, Q: Device + Drop, E: Entropy + Drop, X: Wire + Drop>(
     state: &mut State<K, Q, E, X>,
     node: NodeNo,
@@ -29,12 +29,12 @@ pub fn crash<K: Disk + Drop, Q: Device + Drop, E: Entropy + Drop, X: Wire + Drop
 {
     let place = usize::from(node.get());
     let post = state.posts.remove(place);
-    let (post, was_up) = world_posts::crash(post);
+    let (post, was_up) = world_nodes::crash(post);
     let _ = state.posts.insert(place, post);
     was_up
 }
 
-/// Arms a node's disk with a fault, in place of an older one.
+/// Arms a node's disk with a fault, which replaces an earlier one.
 pub fn arm<K: Disk + Drop, Q: Device + Drop, E: Entropy + Drop, X: Wire + Drop>(
     state: &mut State<K, Q, E, X>,
     node: NodeNo,
@@ -50,6 +50,6 @@ pub fn arm<K: Disk + Drop, Q: Device + Drop, E: Entropy + Drop, X: Wire + Drop>(
 {
     match state.posts.get_mut(usize::from(node.get())) {
         None => {}
-        Some(post) => world_posts::arm(post, arm),
+        Some(post) => world_nodes::arm(post, arm),
     }
 }

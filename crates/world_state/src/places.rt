@@ -1,4 +1,4 @@
-// What stands at a place of a list.
+// Reading an item of a list.
 ghost use Rattle.std.specs.Prelude.{◌≡◌, ◌≤◌, length, slice_get, Some, MatchOption};
 
 /// The item at a place, if there is one.

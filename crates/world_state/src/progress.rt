@@ -1,9 +1,9 @@
-// What a tick has done so far.
+// The progress of a tick.
 use net_model::Placings;
 use qkd_base::Items;
-use report_items::Item;
+use run_types::Item;
 
-/// What a tick reports so far, and what its node is to note of the frames that were put.
+/// What a tick has reported so far, and what its node is to note of the frames that were put.
 #[derive(Drop)]
 pub struct Progress {
     pub items: Items<Item>,

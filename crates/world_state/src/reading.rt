@@ -1,4 +1,4 @@
-// What is read of a state.
+// Reading a state.
 ghost use Rattle.std.specs.Prelude.{◌≡◌, ◌<◌, length, true};
 ghost use Rattle.declared_site.specs.SiteOf.{site_of};
 ghost use Rattle.net_model.specs.World.{Network, World};
@@ -12,9 +12,9 @@ use disk_model::Disk;
 use net_model::Counts4;
 use qkd_base::{Lane, NodeNo, Way};
 use source_devices::{Device, Entropy, Wire};
-use world_posts::kme_start::kme_store::Post;
+use world_nodes::Post;
 
-/// Where a lane stands in order of link, the lane up before the lane down.
+/// The place of a lane in order of link, the lane up before the lane down.
 pub fn lane_place(lane: Lane) -> usize
     ensures { result ≡ place_of lane }
 {
@@ -40,7 +40,7 @@ pub fn is_up<K: Disk + Drop, Q: Device + Drop, E: Entropy + Drop, X: Wire + Drop
     }
 }
 
-/// How many frames stand on a lane's wire.
+/// The number of frames on a lane's wire.
 pub fn on_wire<K: Disk + Drop, Q: Device + Drop, E: Entropy + Drop, X: Wire + Drop>(
     state: &State<K, Q, E, X>,
     lane: Lane,
@@ -54,7 +54,7 @@ pub fn on_wire<K: Disk + Drop, Q: Device + Drop, E: Entropy + Drop, X: Wire + Dr
     }
 }
 
-/// The bytes of a lane, by what became of them.
+/// Counts the bytes of a lane by what became of them.
 pub fn counts<K: Disk + Drop, Q: Device + Drop, E: Entropy + Drop, X: Wire + Drop>(
     state: &State<K, Q, E, X>,
     lane: Lane,
@@ -69,6 +69,6 @@ pub fn counts<K: Disk + Drop, Q: Device + Drop, E: Entropy + Drop, X: Wire + Dro
             spent: 0,
             burnt: 0,
         },
-        Some(side) => world_lanes::counts(side),
+        Some(side) => world_nodes::counts(side),
     }
 }

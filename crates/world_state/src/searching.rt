@@ -1,11 +1,11 @@
-// Whether octets stand on a lane's wire.
+// Searching a lane's wire for a frame with given octets.
 ghost use Rattle.std.specs.Prelude.{◌≡◌, is_some, slice_get, true};
 ghost use Rattle.declared_site.specs.SiteOf.{site_of};
 ghost use Rattle.net_model.specs.World.{Network, World};
 ghost use Rattle.net_model.specs.Events.{is_lane};
 ghost use Rattle.net_model.specs.Frames.{octets_eq};
-ghost use Rattle.world_lanes.specs.Stands.{IsRunning, LaneStands};
-ghost use Rattle.world_posts.specs.Tampering.{put_as};
+ghost use Rattle.world_nodes.specs.LaneStands.{IsRunning, LaneStands};
+ghost use Rattle.world_nodes.specs.Tampering.{put_as};
 ghost use Rattle.world_state.specs.Frames.{frame_is};
 ghost use Rattle.world_state.specs.Stands.{Stands};
 
@@ -13,7 +13,7 @@ use crate::State;
 use crate::places::at;
 use crate::reading::lane_place;
 use disk_model::Disk;
-use lane_sides::LaneSide;
+use lane_sender::LaneSide;
 use qkd_base::{FrameOctets, Lane};
 use source_devices::{Device, Entropy, Wire};
 
@@ -23,7 +23,7 @@ fn are_same(octets: &[u8], other: &[u8]) -> bool
     octets == other
 }
 
-// Whether the frame of a number has these octets.
+// Whether the frame with this number has these octets.
 fn has_octets<X: Wire>(
     side: &LaneSide<X>,
     number: u64,
@@ -34,7 +34,7 @@ fn has_octets<X: Wire>(
     ensures { (net : Network) (w : World) → IsRunning net w → LaneStands X.frames X.counted net w side.now.lane side.now
         → result ≡ frame_is net w side.now.lane octets.now (slice_get (w.wire side.now.lane) number) }
 {
-    match world_lanes::frame(side, number, room) {
+    match world_nodes::frame(side, number, room) {
         None => false,
         Some(length) => are_same(&room.octets[..length], octets),
     }
@@ -55,7 +55,7 @@ fn any_has<X: Wire>(side: &LaneSide<X>, octets: &[u8]) -> bool
     false
 }
 
-/// Whether octets stand on a lane's wire as a frame.
+/// Whether a frame on a lane's wire has these octets.
 pub fn is_put<K: Disk + Drop, Q: Device + Drop, E: Entropy + Drop, X: Wire + Drop>(
     state: &State<K, Q, E, X>,
     lane: &Lane,

@@ -1,28 +1,27 @@
-// Frames of a plan go on their wires.
+// Putting the frames of a plan on their wires.
 ghost use Rattle.std.specs.Prelude.{◌≡◌, ◌++◌, [], ◌∷◌, List, true, OnOk, OnErr};
 ghost use Rattle.net_model.specs.World.{Network, World};
 ghost use Rattle.net_model.specs.Events.{is_lane};
 ghost use Rattle.net_model.specs.Site.{sender};
 ghost use Rattle.net_model.specs.Tick.{Emission, Again, New};
-ghost use Rattle.lane_sides.specs.Sending.{answer_of};
-ghost use Rattle.run_turns.specs.Reported.{put};
-ghost use Rattle.world_lanes.specs.Emitting.{offset_of, wire_outcome};
+ghost use Rattle.lane_sender.specs.Sending.{answer_of};
+ghost use Rattle.run_ops.specs.Reported.{put};
+ghost use Rattle.world_nodes.specs.Emitting.{offset_of, wire_outcome};
 ghost use Rattle.world_state.specs.Stands.{Stands};
 ghost use Rattle.world_state.specs.Sending.{Sending, PutsOn, Breaks};
 
 use crate::places::at;
 use crate::{Progress, State, lane_place};
 use disk_model::Disk;
-use lane_sides::Sent;
+use lane_sender::Sent;
 use net_model::{Order, Placing, Repeat, spelled_len};
 use qkd_base::{Lane, Memory, NodeNo};
-use report_items::{Item, UnsentCause};
-use run_turns::put_item;
+use run_ops::put_item;
+use run_types::{Item, UnsentCause};
 use source_devices::{Device, Entropy, Wire, WireFailed};
-use world_lanes::{again, emit, order_placing, repeat_placing};
-use world_posts::kme_start::kme_store::Post;
+use world_nodes::{Post, again, emit, order_placing, repeat_placing};
 
-/// The end below which bytes of a lane that leaves a node may be claimed.
+/// The lease of a lane that leaves a node: bytes from there on may not be claimed.
 pub fn lease<K: Disk + Drop, Q: Device + Drop, E: Entropy + Drop, X: Wire + Drop>(
     state: &State<K, Q, E, X>,
     node: NodeNo,
@@ -38,7 +37,7 @@ pub fn lease<K: Disk + Drop, Q: Device + Drop, E: Entropy + Drop, X: Wire + Drop
     }
 }
 
-// Where the bytes of a frame begin on its lane.
+// The offset of a frame's first byte on its lane.
 fn offset(sent: &Sent) -> u64
     ensures { result ≡ offset_of sent.now }
 {
@@ -48,7 +47,7 @@ fn offset(sent: &Sent) -> u64
     }
 }
 
-// The number that the wire gave, or why it gave none.
+// The number that the wire gave the frame, or why the frame wasn't put.
 fn answer(sent: &Sent) -> Result<u64, UnsentCause>
     ensures { put result ≡ wire_outcome (answer_of sent.now) }
 {
@@ -71,7 +70,7 @@ fn add(progress: &mut Progress, item: Item, placing: Placing) -> Result<(), Memo
     Ok(())
 }
 
-/// Claims the bytes of the next order of a plan, and puts its frame on the wire or sees it refused.
+/// Claims bytes for the next order of a plan, and puts its frame on the wire or reports that it was refused.
 pub fn put_order<K: Disk + Drop, Q: Device + Drop, E: Entropy + Drop, X: Wire + Drop>(
     state: &mut State<K, Q, E, X>,
     node: NodeNo,
@@ -93,7 +92,7 @@ pub fn put_order<K: Disk + Drop, Q: Device + Drop, E: Entropy + Drop, X: Wire + 
     add(progress, item, order_placing(order, &sent))
 }
 
-/// Puts the frame of the next repeat of a plan on the wire once more, or sees it refused.
+/// Puts the frame of the next repeat of a plan on the wire again, or reports that it was refused.
 pub fn put_repeat<K: Disk + Drop, Q: Device + Drop, E: Entropy + Drop, X: Wire + Drop>(
     state: &mut State<K, Q, E, X>,
     node: NodeNo,

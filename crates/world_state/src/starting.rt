@@ -1,12 +1,12 @@
-// A node's manager is started, and its lanes go on.
+// Starting a node's manager, and letting its lanes go on.
 ghost use Rattle.std.specs.Prelude.{◌≡◌, [], OnOk, OnErr, IfOk, true, false};
 ghost use Rattle.declared_site.specs.SiteOf.{IsDeclared, site_of};
 ghost use Rattle.net_model.specs.World.{Network, World};
 ghost use Rattle.net_model.specs.Action.{Start as Starts, Recovers};
 ghost use Rattle.run_model.specs.Script.{asks};
-ghost use Rattle.run_turns.specs.Reported.{started};
-ghost use Rattle.run_acts.specs.Fitting.{is_fit};
-ghost use Rattle.run_acts.specs.Acting.{IsReady, Does, Begins};
+ghost use Rattle.run_ops.specs.Reported.{started};
+ghost use Rattle.run_ops.specs.Fitting.{is_fit};
+ghost use Rattle.run_ops.specs.Acting.{IsReady, Does, Begins};
 ghost use Rattle.world_state.specs.Armed.{most_armed};
 ghost use Rattle.world_state.specs.Rests.{Rests};
 ghost use Rattle.world_state.specs.Stands.{Stands};
@@ -16,13 +16,13 @@ ghost use Rattle.world_state.specs.Tallied.{Tallied};
 use crate::State;
 use declared_site::Site;
 use disk_model::Disk;
-use kme_site::sender;
-use lane_sides::LaneSide;
+use kme_base::sender;
+use lane_sender::LaneSide;
 use qkd_base::{Memory, NodeNo};
-use report_items::StartResult;
+use run_types::StartResult;
 use source_devices::{Device, Entropy, Wire};
 use std::alloc::Global;
-use world_posts::kme_start::kme_store::{Manager, Post};
+use world_nodes::{Manager, Post};
 
 fn is_started(answer: &StartResult) -> bool
     ensures { result ≡ is_started answer.now }
@@ -49,12 +49,12 @@ fn begin<K: Disk + Drop, Q: Device + Drop, E: Entropy + Drop, X: Wire + Drop>(
 {
     let place = usize::from(node.get());
     let post = state.posts.remove(place);
-    let (post, answer) = world_posts::start(alloc, post, &state.site, node);
+    let (post, answer) = world_nodes::start(alloc, post, &state.site, node);
     let _ = state.posts.insert(place, post);
     answer
 }
 
-// A lane takes the blocks that its sender's manager has and it has not. An `Err` leaves those that it took.
+// A lane takes the blocks that its sender's manager has and that it lacks. After an `Err`, it keeps those that it took.
 fn refill<K: Disk + Drop, E: Entropy + Drop, X: Wire + Drop>(
     side: &mut LaneSide<X>,
     manager: &Manager<K, E>,
@@ -74,7 +74,7 @@ fn refill<K: Disk + Drop, E: Entropy + Drop, X: Wire + Drop>(
     Ok(())
 }
 
-// A lane goes on at the lease that its sender's manager has, with all its blocks.
+// A lane takes the blocks that it lacks, and goes on at the lease that its sender's manager has.
 fn go_on<K: Disk + Drop, E: Entropy + Drop, X: Wire + Drop>(
     side: &mut LaneSide<X>,
     manager: &Manager<K, E>,
@@ -89,7 +89,7 @@ fn go_on<K: Disk + Drop, E: Entropy + Drop, X: Wire + Drop>(
     Ok(())
 }
 
-// All lanes that leave the manager's node go on. An `Err` leaves some that did and some that didn't.
+// Lets all lanes that leave the manager's node go on. After an `Err`, some of them have and some haven't.
 fn go_on_all<K: Disk + Drop, E: Entropy + Drop, X: Wire + Drop>(
     lanes: &mut Vec<LaneSide<X>>,
     site: &Site,
@@ -109,8 +109,8 @@ fn go_on_all<K: Disk + Drop, E: Entropy + Drop, X: Wire + Drop>(
     Ok(())
 }
 
-/// Starts a node's manager on its disk. Where that is up then, the lanes that leave it take what blocks its journal brought, and
-/// go on at its leases. Want of memory for a block ends the run.
+/// Starts a node's manager on its disk. If it is up afterwards, each lane that leaves the node takes the blocks that it lacks
+/// from the journal, and goes on at the journal's lease. If there is no memory for a block, the run ends.
 pub fn start<K: Disk + Drop, Q: Device + Drop, E: Entropy + Drop, X: Wire + Drop>(
     alloc: Global,
     state: &mut State<K, Q, E, X>,

@@ -6,9 +6,9 @@ ghost use Rattle.net_model.specs.Events.{is_lane};
 ghost use Rattle.net_model.specs.Frames.{with_flipped};
 ghost use Rattle.net_model.specs.Action.{Flip, Forge, Ok as Fine};
 ghost use Rattle.run_model.specs.Script.{asks};
-ghost use Rattle.run_acts.specs.Fitting.{is_fit};
-ghost use Rattle.run_acts.specs.Acting.{IsReady, Does, Begins, tampered};
-ghost use Rattle.world_posts.specs.Tampering.{tampered_outcome};
+ghost use Rattle.run_ops.specs.Fitting.{is_fit};
+ghost use Rattle.run_ops.specs.Acting.{IsReady, Does, Begins, tampered};
+ghost use Rattle.world_nodes.specs.Tampering.{tampered_outcome};
 ghost use Rattle.world_state.specs.Armed.{most_armed};
 ghost use Rattle.world_state.specs.Frames.{IsChanged};
 ghost use Rattle.world_state.specs.Rests.{Rests};
@@ -20,14 +20,13 @@ use crate::frames::seen;
 use crate::reading::on_wire;
 use crate::searching::is_put;
 use disk_model::Disk;
-use kme_site::receiver;
+use kme_base::receiver;
 use net_model::Reply;
 use qkd_base::{Lane, Memory, Octets};
-use run_acts::Tampered;
-use run_turns::Delivery;
+use run_ops::{Delivery, Tampered};
 use source_devices::{Device, Entropy, Wire};
 
-// What came of octets, by what their receiver's post answered.
+// What came of the octets, by the answer of the receiver's post.
 fn came(reply: Option<Reply>) -> Tampered
     ensures { tampered result ≡ tampered_outcome reply }
 {
@@ -37,7 +36,8 @@ fn came(reply: Option<Reply>) -> Tampered
     }
 }
 
-// Octets with one bit changed, counted from the highest of the first; or how many bits they have.
+// The octets with one bit changed, where bit 0 is the highest bit of the first octet. If they have no such bit, the number of
+// their bits.
 fn changed(octets: Octets, bit: u32) -> Result<Octets, u32>
     requires short { length octets ≤ 600 }
     ensures { MatchResult result (λ other. (nat_le (8 * length octets) bit ≡ false) × (other ≡ with_flipped octets bit)) (λ bits. (nat_le (8 * length octets) bit ≡ true) × (bits ≡ 8 * length octets)) }
@@ -71,7 +71,7 @@ fn bring_changed<K: Disk + Drop, Q: Device + Drop, E: Entropy + Drop, X: Wire + 
     let node = receiver(&state.site, *lane);
     match state.posts.get_mut(usize::from(node.get())) {
         None => Ok(Tampered::Came(Delivery::Replied(Reply::Down))),
-        Some(post) => match world_posts::flip(post, *lane, octets, stands, up) {
+        Some(post) => match world_nodes::flip(post, *lane, octets, stands, up) {
             Err(_) => Err(Memory),
             Ok(reply) => Ok(came(reply)),
         },
@@ -98,14 +98,15 @@ fn bring_made<K: Disk + Drop, Q: Device + Drop, E: Entropy + Drop, X: Wire + Dro
     let node = receiver(&state.site, *lane);
     match state.posts.get_mut(usize::from(node.get())) {
         None => Ok(Tampered::Came(Delivery::Replied(Reply::Down))),
-        Some(post) => match world_posts::forge(post, *lane, octets, stands, up) {
+        Some(post) => match world_nodes::forge(post, *lane, octets, stands, up) {
             Err(_) => Err(Memory),
             Ok(reply) => Ok(came(reply)),
         },
     }
 }
 
-/// The frame of a number on a lane's wire comes to the lane's receiver with one bit changed. Want of memory ends the run.
+/// The frame with this number on a lane's wire comes to the lane's receiver with one bit changed. If memory runs out, the run
+/// ends.
 pub fn flip<K: Disk + Drop, Q: Device + Drop, E: Entropy + Drop, X: Wire + Drop>(
     state: &mut State<K, Q, E, X>,
     lane: &Lane,
@@ -134,8 +135,8 @@ pub fn flip<K: Disk + Drop, Q: Device + Drop, E: Entropy + Drop, X: Wire + Drop>
     }
 }
 
-/// These octets come to a lane's receiver. Where they stand on the lane's wire they count as that frame. Want of memory ends the
-/// run.
+/// Octets that anybody made come to a lane's receiver. If they are those of a frame on the lane's wire, they count as that
+/// frame. If memory runs out, the run ends.
 pub fn forge<K: Disk + Drop, Q: Device + Drop, E: Entropy + Drop, X: Wire + Drop>(
     state: &mut State<K, Q, E, X>,
     lane: &Lane,

@@ -1,12 +1,12 @@
-// A node ticks.
+// The tick of a node.
 ghost use Rattle.std.specs.Prelude.{◌≡◌, ◌<◌, ◌++◌, ◌∷◌, List, [], length, OnOk, OnErr, IfOk};
 ghost use Rattle.declared_site.specs.SiteOf.{site_of, IsDeclared};
 ghost use Rattle.net_model.specs.Site.{outgoing_lanes};
 ghost use Rattle.net_model.specs.World.{Network, World};
 ghost use Rattle.net_model.specs.Tick.{Emission, tick_order};
-ghost use Rattle.report_items.specs.declared.item.Item.{Item as ItemValue};
+ghost use Rattle.run_types.specs.declared.item.Item.{Item as ItemValue};
 ghost use Rattle.run_model.specs.Lines.{emitted, ticked};
-ghost use Rattle.run_acts.specs.Acting.{IsReady, Begins, Plays};
+ghost use Rattle.run_ops.specs.Acting.{IsReady, Begins, Plays};
 ghost use Rattle.world_state.specs.Armed.{most_armed};
 ghost use Rattle.world_state.specs.Rests.{Rests};
 ghost use Rattle.world_state.specs.Sending.{Sending, Breaks};
@@ -17,15 +17,15 @@ ghost use Rattle.world_state.specs.Ticking.{HasPlanned, HasNoted, HasStayed};
 use crate::lanes::put_lanes;
 use crate::{Progress, State};
 use disk_model::Disk;
-use kme_site::outgoing_lanes;
+use kme_base::outgoing_lanes;
 use net_model::{Event, Order, Placings, Repeat, Reply};
 use qkd_base::{Items, Memory, NodeNo};
-use report_items::Item;
-use run_turns::tick_items;
+use run_ops::tick_items;
+use run_types::Item;
 use source_devices::{Device, Entropy, Wire};
 use std::alloc::Global;
 
-// Asks a node's manager what it wants sent.
+// Asks a node's manager for its plan: what it wants to send.
 fn plan<K: Disk + Drop, Q: Device + Drop, E: Entropy + Drop, X: Wire + Drop>(
     state: &mut State<K, Q, E, X>,
     node: NodeNo,
@@ -39,11 +39,11 @@ fn plan<K: Disk + Drop, Q: Device + Drop, E: Entropy + Drop, X: Wire + Drop>(
     let up = state.up;
     match state.posts.get_mut(usize::from(node.get())) {
         None => Reply::Down,
-        Some(post) => world_posts::ask(post, &Event::Plan, up),
+        Some(post) => world_nodes::ask(post, &Event::Plan, up),
     }
 }
 
-// A node's manager notes what became of the frames of its plan, all of which are put.
+// A node's manager notes what became of the frames of its plan, all of which were put or refused.
 fn note<K: Disk + Drop, Q: Device + Drop, E: Entropy + Drop, X: Wire + Drop>(
     state: &mut State<K, Q, E, X>,
     node: NodeNo,
@@ -59,13 +59,13 @@ fn note<K: Disk + Drop, Q: Device + Drop, E: Entropy + Drop, X: Wire + Drop>(
     match state.posts.get_mut(usize::from(node.get())) {
         None => Ok(()),
         Some(post) => {
-            world_posts::note(post, placings, up)?;
+            world_nodes::note(post, placings, up)?;
             Ok(())
         }
     }
 }
 
-// Puts what a plan wants put, and has it noted. What is reported of it stands behind the items.
+// Puts what a plan sends, and has the manager note it. The items are those before, followed by what this reports.
 fn send<K: Disk + Drop, Q: Device + Drop, E: Entropy + Drop, X: Wire + Drop>(
     alloc: Global,
     state: &mut State<K, Q, E, X>,
@@ -99,8 +99,8 @@ fn send<K: Disk + Drop, Q: Device + Drop, E: Entropy + Drop, X: Wire + Drop>(
     Ok(items)
 }
 
-/// A node plans, puts its frames on their wires and notes what became of them. It answers what is reported; a quiet tick of a node
-/// with nothing to send reports nothing. An `Err` is want of memory, which ends the run.
+/// A node plans, puts its frames on their wires and notes what became of them. Returns what the tick reports; a quiet tick of
+/// a node with nothing to send reports nothing. An `Err` means that memory ran out, which ends the run.
 pub fn tick<K: Disk + Drop, Q: Device + Drop, E: Entropy + Drop, X: Wire + Drop>(
     alloc: Global,
     state: &mut State<K, Q, E, X>,

@@ -1,5 +1,5 @@
 // What octets are answered, as one line.
-use http_front::edge_io::MemSource;
+use edge_io::MemSource;
 use http_front::{HttpResponse, read_request};
 use net_model::Event;
 use qkd_base::{KeyName, Memory, Names, NodeNo, Octets, SaeNo, Saes};

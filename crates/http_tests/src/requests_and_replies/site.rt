@@ -1,9 +1,9 @@
 // The site of all tables.
 use declared_site::Site;
-use declared_site::route_table::RouteTable;
-use declared_site::sae_entitlements::Entitlements;
 use qkd_base::{Items, Memory, NodeNo, Text};
 use qkd014_api::Api;
+use route_table::RouteTable;
+use sae_entitlements::Entitlements;
 use std::alloc::Global;
 
 // Applications and the nodes where they are at home.
@@ -17,6 +17,10 @@ const HOMES: &[(&str, u8)] = &[
     ("grace", 2),
 ];
 
+const SLAVES: &[&str] = &["bob", "carol"];
+
+const NODES: &[&str] = &["A", "B", "C"];
+
 // Alice may have keys for bob and carol.
 fn entitlements(alloc: Global) -> Result<Entitlements, Memory> {
     let mut entitlements = Entitlements::new(alloc);
@@ -27,7 +31,7 @@ fn entitlements(alloc: Global) -> Result<Entitlements, Memory> {
             Err(_) => return Err(Memory),
         }
     }
-    for slave in ["bob", "carol"] {
+    for slave in SLAVES {
         if let (Some(master), Some(slave)) = (
             entitlements.find("alice"),
             entitlements.find(slave),
@@ -45,7 +49,7 @@ pub(super) fn api(alloc: Global) -> Result<Api, Memory> {
         routes: RouteTable::new(),
         entitlements: entitlements(alloc)?,
     };
-    for name in ["A", "B", "C"] {
+    for name in NODES {
         site.nodes
             .push(Text::from_string(String::from_str(alloc, name)?))?;
     }

@@ -1,6 +1,6 @@
 use Rattle.std.proofs.Common.{◌≡◌, ◌||◌, ℕ, List, subst}
 use Rattle.std.specs.Str.{bytes_eq}
-use Rattle.ordered_entries.specs.Entries.{has_entry}
+use Rattle.ordered_set.specs.Entries.{has_entry}
 use Rattle.relay_core.proofs.Firsts.{got}
 use Rattle.end_store.proofs.Pairs.{marked_more}
 use Rattle.end_store.proofs.marks.list_pair.Goals as goal

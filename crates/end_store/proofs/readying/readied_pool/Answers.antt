@@ -8,8 +8,7 @@ use Rattle.end_store.specs.Stocked.{free_pool}
 use Rattle.end_store.specs.Readied.{readied_pool}
 use Rattle.end_store.proofs.Stocked.{and_none}
 use Rattle.end_store.proofs.readying.readied_pool.Goals as goal
-use Rattle.end_store.proofs.readying.readied_pool.Goals.{else-is_own-via-then-is_own+then-is_confirmed+else-not-has, else-is_own-via-then-is_own+else-is_confirmed, else-is_own-via-else-is_own}
-use Rattle.end_store.proofs.readying.readied_pool.Goals.{else-is_own-2-via-then-is_own-2+else-not-is_confirmed, else-is_own-2-via-else-is_own-2}
+use Rattle.end_store.proofs.readying.readied_pool.Goals.{else-is_own-via-then-is_own+then-is_confirmed+else-not-has, else-is_own-via-then-is_own+else-is_confirmed, else-is_own-via-else-is_own, else-is_own-2-via-then-is_own-2+else-not-is_confirmed, else-is_own-2-via-else-is_own-2}
 
 none_if : {A : Type 0} (b : Bool) (o : Option A) → b ≡ false → None ≡ (if b then o else None)
 none_if b o h = ap (λ (x : Bool). if x then o else None) (sym h)

@@ -1,5 +1,5 @@
 use Rattle.std.proofs.Common.{List, ℕ, subst, sym, ◌∙◌, arith}
-use Rattle.ordered_entries.specs.Entries.{IsNext, IsLast}
+use Rattle.ordered_set.specs.Entries.{IsNext, IsLast}
 use Rattle.end_store.proofs.Lines.{none_before, passed, passed_one, skipped, gone, next_behind}
 use Rattle.end_store.proofs.waiting.next_listed.Goals as goal
 

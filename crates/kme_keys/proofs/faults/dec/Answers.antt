@@ -1,6 +1,6 @@
 use Rattle.std.proofs.Common.{[], sym, ◌∙◌, ap}
 use Rattle.relay_core.specs.Knowledge.{Knowledge}
-use Rattle.kme_site.specs.Passed.{site_of}
+use Rattle.declared_site.specs.SiteOf.{site_of}
 use Rattle.kme_keys.proofs.Deciding.{dec_refuses, dec_faulty, dec_hands, fault_seen, me_seen}
 use Rattle.kme_keys.proofs.faults.dec.Goals as goal
 

@@ -1,7 +1,7 @@
 use Rattle.std.proofs.Common.{Err, refl, Some, None, sym, ◌∙◌}
 use Rattle.net_model.specs.Routes.{route}
 use Rattle.net_model.specs.declared.reply.Reply.TheVariants.{NoRoute}
-use Rattle.kme_site.specs.Passed.{site_of}
+use Rattle.declared_site.specs.SiteOf.{site_of}
 use Rattle.kme_keys.proofs.Deciding.{me_seen}
 use Rattle.kme_keys.proofs.Made.{fill_refuses, fill_decides}
 use Rattle.kme_keys.proofs.filling.fill.Goals as goal

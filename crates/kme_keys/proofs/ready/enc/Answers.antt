@@ -1,7 +1,7 @@
 use Rattle.std.proofs.Common.{List, length, take, sym, ◌∙◌, ap, arith}
 use Rattle.qkd_base.specs.Name.{Name}
 use Rattle.relay_core.specs.Knowledge.{Knowledge}
-use Rattle.kme_site.specs.Passed.{site_of}
+use Rattle.declared_site.specs.SiteOf.{site_of}
 use Rattle.kme_keys.proofs.Deciding.{enc_refuses, enc_few, enc_memory, enc_hands, pool_seen, me_seen}
 use Rattle.kme_keys.proofs.ready.enc.Goals as goal
 

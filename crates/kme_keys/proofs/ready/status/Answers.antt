@@ -1,7 +1,7 @@
 use Rattle.std.proofs.Common.{◌≡◌, ◌^◌, length, ◌∙◌, ap, arith}
 use Rattle.net_model.specs.Decision.{last_count}
 use Rattle.relay_core.specs.Knowledge.{Knowledge}
-use Rattle.kme_site.specs.Passed.{site_of}
+use Rattle.declared_site.specs.SiteOf.{site_of}
 use Rattle.end_store.specs.Pooled.{ends_view}
 use Rattle.kme_keys.proofs.Deciding.{status_refuses, status_counts, counted_whole, pool_seen, me_seen}
 use Rattle.kme_keys.proofs.ready.status.Goals as goal

@@ -1,7 +1,7 @@
 use Rattle.std.proofs.Common.{◌+◌, drop, sym, ap, ◌∙◌}
 use Rattle.net_model.specs.Window.{complete}
 use Rattle.net_model.specs.World.{Volatile}
-use Rattle.kme_groups.proofs.Behind.{at_index, past_all}
+use Rattle.kme_keys.proofs.Behind.{at_index, past_all}
 use Rattle.kme_node.proofs.Noted.{none_noted, one_noted}
 use Rattle.kme_node.proofs.applying.note_all.Goals as goal
 

@@ -2,8 +2,8 @@ use Rattle.std.proofs.Common.{List, map, sym, ap, ◌∙◌, subst}
 use Rattle.net_model.specs.declared.order.Order.{Order}
 use Rattle.net_model.specs.declared.reply.Reply.{Reply}
 use Rattle.net_model.specs.World.{Transmission}
-use Rattle.kme_step.specs.Steps.{transmission_of_order, orders_of}
-use Rattle.lane_ports.specs.Places.{AreOf, HasBytesFor}
+use Rattle.kme_base.specs.Steps.{transmission_of_order, orders_of}
+use Rattle.kme_base.specs.Places.{AreOf, HasBytesFor}
 use Rattle.kme_node.specs.Holdings.{HasOrdersWithin}
 use Rattle.kme_node.proofs.Applied.{with_orders, without_orders}
 use Rattle.kme_node.proofs.Replies.{no_orders}

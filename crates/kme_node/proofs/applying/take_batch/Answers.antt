@@ -1,6 +1,6 @@
 use Rattle.std.proofs.Common.{List, ◌+◌, drop, sym, ap, ◌∙◌, subst}
 use Rattle.net_model.specs.declared.record.Record.{Record}
-use Rattle.kme_groups.proofs.Behind.{at_index, past_all}
+use Rattle.kme_keys.proofs.Behind.{at_index, past_all}
 use Rattle.kme_node.specs.Ports.{ports_after}
 use Rattle.kme_node.specs.Holdings.{HasBatchRoom, HasBlocksAlone}
 use Rattle.kme_node.proofs.Ends.{room_first, alone_first, alone_rest}

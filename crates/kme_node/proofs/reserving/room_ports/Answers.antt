@@ -1,7 +1,7 @@
 use Rattle.std.proofs.Common.{◌∷◌, ◌+◌, drop, sym, subst}
 use Rattle.std.proofs.lemmas.Result.{on_ok_weaker}
 use Rattle.net_model.specs.declared.record.Record.{Record}
-use Rattle.kme_groups.proofs.Behind.{at_index, past_all}
+use Rattle.kme_keys.proofs.Behind.{at_index, past_all}
 use Rattle.kme_node.specs.Holdings.{HasBatchRoom}
 use Rattle.kme_node.proofs.Ends.{no_block}
 use Rattle.kme_node.proofs.reserving.room_ports.Goals as goal

@@ -1,5 +1,5 @@
 use Rattle.std.proofs.Common.{◌≡◌, drop}
-use Rattle.lane_ports.specs.Places.{LinkEnds}
+use Rattle.kme_base.specs.Places.{LinkEnds}
 use Rattle.kme_node.specs.Holdings.{HasBatchRoom}
 use Rattle.kme_node.proofs.reserving.room_ports.Given as goal
 

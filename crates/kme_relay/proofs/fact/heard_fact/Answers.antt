@@ -1,7 +1,6 @@
-use Rattle.std.proofs.Common.{sym, ap, ◌∙◌}
+use Rattle.std.proofs.Common.{sym, ap, ◌∙◌, true, false}
 use Rattle.net_model.specs.Table.{has_fact, kind_of}
 use Rattle.net_model.specs.declared.reply.Reply.TheVariants.{HeardFact}
-use Rattle.std.proofs.Common.{true, false}
 use Rattle.kme_relay.proofs.Receipts.{fact_again, fact_taken, knows_is}
 use Rattle.kme_relay.proofs.fact.heard_fact.Goals as goal
 

@@ -3,7 +3,7 @@ use Rattle.net_model.specs.declared.payload.Payload.{Payload}
 use Rattle.net_model.specs.Decision.{Does}
 use Rattle.net_model.specs.Relay.{receive}
 use Rattle.declared_site.specs.SiteOf.{site_of}
-use Rattle.kme_step.specs.Steps.{IsStep}
+use Rattle.kme_base.specs.Steps.{IsStep}
 use Rattle.kme_relay.proofs.payload.heard.Goals as goal
 
 pub returns-in-Data : goal.returns-in-Data

@@ -10,7 +10,7 @@ either_left a b c left is = is ∙ left ∙ ap (λ (x : Bool). x || b) (sym left
 either_right : (a b c : Bool) → a ≡ false → c ≡ b → c ≡ (a || b)
 either_right a b c left is = is ∙ ap (λ (x : Bool). x || b) (sym left)
 
--- no write failed in between
+-- No write failed in between.
 unpaid_since : (before after : Option (List ℕ)) (first second third : ℕ) (owed : List ℕ) → second ≡ first → IsUnpaid before after second third owed → IsUnpaid before after first third owed
 unpaid_since before after first second third owed same unpaid = subst (λ (n : ℕ). IsUnpaid before after n third owed) same unpaid
 

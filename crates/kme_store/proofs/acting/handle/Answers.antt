@@ -3,18 +3,18 @@ use Rattle.std.specs.Prelude.{Bool, Result, Ok, Err}
 use Rattle.source_devices.specs.declared.shortage.Shortage.{Shortage}
 use Rattle.source_devices.specs.declared.shortage.Shortage.TheVariants.{Failed}
 use Rattle.route_table.specs.Layer.{bit_is_set}
-use Rattle.kme_step.specs.Random.{with_random}
-use Rattle.kme_step.specs.declared.step.Step.{Step}
-use Rattle.kme_batches.specs.Passed.{view, Fits, HasRoom}
-use Rattle.kme_batches.proofs.Bodies.{body_some}
-use Rattle.kme_batches.proofs.Decided.{AreOver}
+use Rattle.kme_base.specs.Random.{with_random}
+use Rattle.kme_base.specs.declared.step.Step.{Step}
+use Rattle.kme_node.specs.Holdings.{view, Fits, HasRoom}
+use Rattle.kme_journal.proofs.Bodies.{body_some}
+use Rattle.kme_journal.proofs.Decided.{AreOver}
 use Rattle.kme_store.specs.Drawing.{Gives}
 use Rattle.kme_store.proofs.Answering.{roomier_kept, back, undrawn}
 use Rattle.kme_store.proofs.Handling.{written, made_over, is_finished, finished, told_after}
 use Rattle.kme_store.proofs.Told.{told_still}
 use Rattle.kme_store.proofs.acting.handle.Goals as goal
 
--- a draw that was refused for this cause
+-- a draw that was refused for this reason
 refused : (a b : Shortage) → a ≡ b → ◌≡◌ {A = Result (Unit {0}) Shortage} (Err a) (Err b)
 refused a b same = ap (λ (e : Shortage). Err e) same
 
@@ -84,7 +84,7 @@ returns-clause-answers g c = λ is_up up.
     (record { roomier = c.in-Ok.ensures.journal; kept = c.stands.ensures; over = c.in-Ok.ensures.zeros; step = c.in-Ok.ensures.step is_up up; spelled = c.in-Ok.ensures.ready.body; place = c.in-Ok.ensures.place })
     as_many (subst (λ (n : ℕ). Gives {T = Unit {0}} (e.left c.args.entropy.now) (e.left c.draw.new.entropy) (Ok tt) n random) (sym c.draw.auto.random) c.in-Ok-draw.ensures.given) ended
 
--- the view that is given back doesn't depend on the links that are up, so any rule that the bits say will do
+-- the view doesn't depend on which links are up, so any choice that agrees with the bits will do
 pub returns-clause-told : goal.returns-clause-told
 returns-clause-told g c = λ was.
     let is_up : ℕ → Bool = bit_is_set c.args.up in

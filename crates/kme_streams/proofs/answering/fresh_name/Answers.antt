@@ -4,7 +4,7 @@ use Rattle.qkd_base.specs.Name.{Name}
 use Rattle.net_model.specs.View.{View}
 use Rattle.net_model.specs.Decision.{fresh_name, last_count}
 use Rattle.relay_core.specs.Knowledge.{Knowledge}
-use Rattle.stream_core.specs.Passed.{Ends}
+use Rattle.end_store.specs.Waiting.{Ends}
 use Rattle.stream_core.specs.Kept.{Sees}
 use Rattle.kme_streams.proofs.Deciding.{made_name, name_seen}
 use Rattle.kme_streams.proofs.answering.fresh_name.Goals as goal

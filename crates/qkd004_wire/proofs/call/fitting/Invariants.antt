@@ -1,5 +1,5 @@
 use Rattle.std.proofs.Common.{◌≡◌, ◌+◌, drop}
-use Rattle.scenario_reader.specs.Words.{words_of}
+use Rattle.scenario_text.specs.Words.{words_of}
 use Rattle.qkd004_wire.specs.Call.{fitting}
 use Rattle.qkd004_wire.proofs.call.fitting.Given as goal
 

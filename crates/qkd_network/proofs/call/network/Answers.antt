@@ -1,15 +1,15 @@
 use Rattle.std.proofs.Common.{◌≡◌, ℕ, Ok, Err, sym, ap, subst, ◌∙◌, inl, inr}
 use Rattle.std.specs.Prelude.{◌⊎◌}
-use Rattle.scenario_lines.specs.declared.scenario.Scenario.{Scenario}
+use Rattle.run_types.specs.declared.scenario.Scenario.{Scenario}
 use Rattle.run_lines.specs.declared.stop.Stop.TheVariants as stops
 use Rattle.run_model.specs.Course.{Words, Run, Load}
 use Rattle.run_model.specs.Load.{load_scenario}
 use Rattle.run_model.specs.Headline as headline
-use Rattle.bench_veils.specs.Passed.{HasHeadlines, ended}
-use Rattle.bench_veils.specs.Veiling.{HasVeiled}
-use Rattle.word_forms.specs.Forms.{wanted_of}
-use Rattle.word_forms.specs.declared.form.Form.{Form}
-use Rattle.bench_loads.specs.Passed.{IsLoadLine}
+use Rattle.net_world.specs.Running.{HasHeadlines, ended}
+use Rattle.net_world.specs.Veiling.{HasVeiled}
+use Rattle.qkd_network.specs.Forms.{wanted_of}
+use Rattle.qkd_network.specs.declared.form.Form.{Form}
+use Rattle.run_tasks.specs.Pieces.{IsLoadLine}
 use Rattle.qkd_network.specs.Lines.{IsLineOf, WroteLines}
 use Rattle.qkd_network.specs.Outcome.{RunOutcome, outside}
 use Rattle.qkd_network.specs.declared.status.Status.{Status}

@@ -1,5 +1,5 @@
 use Rattle.std.proofs.Common.{◌≡◌, ◌∙◌, Err, sym, ap}
-use Rattle.scenario_reader.specs.Text.{meaning_of}
+use Rattle.scenario_text.specs.Text.{meaning_of}
 use Rattle.qkd_network.proofs.Outcomes.{scenario_read, line_refused}
 use Rattle.qkd_network.proofs.reading.scenario_in.Goals as goal
 

@@ -1,12 +1,12 @@
 use Rattle.std.proofs.Common.{sym, subst, arith, ◌∙◌}
 use Rattle.std.specs.Prelude.{IsSome}
-use Rattle.scenario_lines.specs.declared.scenario.Scenario.{Scenario}
+use Rattle.run_types.specs.declared.scenario.Scenario.{Scenario}
 use Rattle.run_model.specs.Course.{Serve}
 use Rattle.run_model.specs.Headline as headline
-use Rattle.port_doors.specs.Doors.{telling}
-use Rattle.port_doors.proofs.Rooms.{room_of_new}
-use Rattle.bench_serves.specs.Serving.{HasServedHeadlines}
-use Rattle.bench_serves.specs.Lines.{IsServeLine}
+use Rattle.kme_serve.specs.Doors.{telling}
+use Rattle.kme_serve.proofs.Rooms.{room_of_new}
+use Rattle.net_serve.specs.BenchServing.{HasServedHeadlines}
+use Rattle.net_serve.specs.Lines.{IsServeLine}
 use Rattle.qkd_network.specs.Lines.{WroteLines}
 use Rattle.qkd_network.specs.Outcome.{ScenarioOutcome, outside}
 use Rattle.qkd_network.specs.declared.status.Status.{Status}

@@ -1,7 +1,7 @@
 use Rattle.std.proofs.Common.{sym, subst}
-use Rattle.scenario_lines.specs.declared.scenario.Scenario.{Scenario}
+use Rattle.run_types.specs.declared.scenario.Scenario.{Scenario}
 use Rattle.run_model.specs.Headline as headline
-use Rattle.bench_veils.specs.Veiling.{HasVeiled}
+use Rattle.net_world.specs.Veiling.{HasVeiled}
 use Rattle.qkd_network.specs.Outcome.{ScenarioOutcome}
 use Rattle.qkd_network.specs.declared.status.Status.{Status}
 use Rattle.qkd_network.proofs.Outcomes.{scenario_unread, veil_ran, left_or}

@@ -1,5 +1,5 @@
 use Rattle.std.proofs.Common.{List, ℕ, subst}
-use Rattle.ordered_entries.specs.Entries.{IsNext, IsLast}
+use Rattle.ordered_set.specs.Entries.{IsNext, IsLast}
 use Rattle.relay_core.proofs.Searched.{found, past, ended, walked_some, walked_nothing}
 use Rattle.relay_core.proofs.listing.next_in.Goals as goal
 

@@ -1,5 +1,5 @@
 use Rattle.std.proofs.Common.{◌≡◌, ◌<◌, ◌^◌, List, ℕ, length, arith, subst}
-use Rattle.ordered_entries.specs.Entries.{IsNextIn, IsLastIn}
+use Rattle.ordered_set.specs.Entries.{IsNextIn, IsLastIn}
 use Rattle.resend_window.specs.Slots.{passes}
 use Rattle.resend_window.specs.Lists.{is_same}
 use Rattle.resend_window.specs.Groups.{awaited_groups, awaited_group}

@@ -1,5 +1,5 @@
 use Rattle.std.proofs.Common.{◌≡◌, ◌<◌, ◌^◌, List, ℕ, length, arith, subst}
-use Rattle.ordered_entries.specs.Entries.{IsNextIn, IsLastIn}
+use Rattle.ordered_set.specs.Entries.{IsNextIn, IsLastIn}
 use Rattle.resend_window.specs.Slots.{passes, is_asked}
 use Rattle.resend_window.specs.Groups.{held_groups, query_group}
 use Rattle.resend_window.proofs.Catalogues.{found, not_found}

@@ -2,7 +2,7 @@ use Rattle.std.proofs.Common.{List, refl, arith}
 use Rattle.std.specs.List.{flat_map}
 use Rattle.std.specs.Ordering.{nat_cmp}
 use Rattle.std.specs.BTreeMap.{get}
-use Rattle.scenario_lines.specs.declared.entry.Entry.{Entry}
+use Rattle.run_types.specs.declared.entry.Entry.{Entry}
 use Rattle.run_audit.specs.Kinds.{kinds_of}
 use Rattle.run_audit.specs.Kept.{found_or}
 use Rattle.run_audit.proofs.Lining.{one_more, all_done}

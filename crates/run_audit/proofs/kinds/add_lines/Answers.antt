@@ -1,7 +1,7 @@
 use Rattle.std.proofs.Common.{List, [], ◌∷◌, map, refl, arith}
 use Rattle.std.specs.Ordering.{nat_cmp}
 use Rattle.std.specs.BTreeMap.{get}
-use Rattle.scenario_lines.specs.declared.line.Line.{Line}
+use Rattle.run_types.specs.declared.line.Line.{Line}
 use Rattle.run_audit.specs.Kinds.{kind_of_line}
 use Rattle.run_audit.specs.Kept.{found_or}
 use Rattle.run_audit.proofs.Lining.{one_more, all_done}

@@ -2,7 +2,7 @@ use Rattle.std.proofs.Common.{◌≡◌, ℕ, ◌++◌, List, map, subst, arith}
 use Rattle.std.specs.List.{flat_map}
 use Rattle.std.specs.Ordering.{nat_cmp}
 use Rattle.std.specs.BTreeMap.{get}
-use Rattle.scenario_lines.specs.declared.entry.Entry.{Entry}
+use Rattle.run_types.specs.declared.entry.Entry.{Entry}
 use Rattle.run_audit.specs.declared.line_kind.LineKind.{LineKind}
 use Rattle.run_audit.specs.declared.line_kind.LineKind.TheVariants.{Node}
 use Rattle.run_audit.specs.Kinds.{kinds_of}

@@ -1,6 +1,6 @@
 use Rattle.std.proofs.Common.{◌≡◌, ℕ, Bool, ap, sym, ◌∙◌}
 use Rattle.std.specs.Prelude.{nat_lt}
-use Rattle.report_items.specs.declared.frame_result.FrameResult.{FrameResult}
+use Rattle.run_types.specs.declared.frame_result.FrameResult.{FrameResult}
 use Rattle.run_audit.specs.declared.sums.LaneSum.{LaneSum}
 use Rattle.run_audit.specs.Frames.{frames, sent_on}
 use Rattle.run_audit.specs.Takings.{frame_is_there}

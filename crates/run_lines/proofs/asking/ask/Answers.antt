@@ -1,6 +1,6 @@
 use Rattle.std.proofs.Common.{◌∙◌, refl, ap}
 use Rattle.declared_site.specs.declared.site.Site.{Site as SiteValue}
-use Rattle.run_turns.specs.Reported.{reported}
+use Rattle.run_ops.specs.Reported.{reported}
 use Rattle.run_lines.proofs.Going.{Ways, asked_stops, one_asked}
 use Rattle.run_lines.proofs.asking.ask.Goals as goal
 

@@ -2,7 +2,7 @@ use Rattle.std.proofs.Common.{◌∙◌, subst, ap}
 use Rattle.declared_site.specs.declared.site.Site.{Site as SiteValue}
 use Rattle.net_model.specs.Site.{Site}
 use Rattle.run_model.specs.Lines.{ticked}
-use Rattle.run_acts.specs.Acting.{Begins, Plays}
+use Rattle.run_ops.specs.Acting.{Begins, Plays}
 use Rattle.run_lines.proofs.Going.{Ways, begins_stop, plays_told}
 use Rattle.run_lines.proofs.asking.tick.Goals as goal
 

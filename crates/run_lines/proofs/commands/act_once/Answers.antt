@@ -1,5 +1,5 @@
 use Rattle.declared_site.specs.SiteOf.{site_of}
-use Rattle.run_turns.specs.Reported.{reported}
+use Rattle.run_ops.specs.Reported.{reported}
 use Rattle.run_lines.proofs.Turning.{asked_fits, asked_script}
 use Rattle.run_lines.proofs.commands.act_once.Goals as goal
 

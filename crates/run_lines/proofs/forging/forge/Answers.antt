@@ -1,9 +1,9 @@
 use Rattle.std.proofs.Common.{◌∙◌, ap, sym}
 use Rattle.declared_site.specs.declared.site.Site.{Site as SiteValue}
-use Rattle.report_items.specs.declared.item.Item.TheVariants as items
+use Rattle.run_types.specs.declared.item.Item.TheVariants as items
 use Rattle.run_model.specs.Outcomes.{frame_items}
-use Rattle.run_acts.specs.declared.tampered.Tampered.{Tampered}
-use Rattle.run_acts.specs.Acting.{tampered}
+use Rattle.run_ops.specs.declared.tampered.Tampered.{Tampered}
+use Rattle.run_ops.specs.Acting.{tampered}
 use Rattle.run_lines.proofs.Going.{Ways, begun, forged, one_asked}
 use Rattle.run_lines.proofs.Calm.{came_calm}
 use Rattle.run_lines.proofs.forging.forge.Goals as goal

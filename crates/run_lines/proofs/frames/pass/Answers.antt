@@ -1,6 +1,6 @@
 use Rattle.std.proofs.Common.{◌∙◌, ap}
 use Rattle.declared_site.specs.declared.site.Site.{Site as SiteValue}
-use Rattle.report_items.specs.declared.item.Item.TheVariants as items
+use Rattle.run_types.specs.declared.item.Item.TheVariants as items
 use Rattle.run_model.specs.Outcomes.{frame_items}
 use Rattle.run_lines.proofs.Going.{Ways, begun, one_asked}
 use Rattle.run_lines.proofs.Calm.{delivered_calm}

@@ -1,6 +1,6 @@
 use Rattle.std.proofs.Common.{◌∙◌, List, refl, sym, ap}
 use Rattle.declared_site.specs.declared.site.Site.{Site as SiteValue}
-use Rattle.report_items.specs.declared.item.Item.{Item}
+use Rattle.run_types.specs.declared.item.Item.{Item}
 use Rattle.run_model.specs.Script.{Reports, Ends}
 use Rattle.run_model.specs.Lines.{begun}
 use Rattle.run_lines.proofs.Going.{Ways, begun as begun_short, asked_ends, asked_stops, asked_told}

@@ -1,7 +1,7 @@
 use Rattle.run_lines.proofs.Writing.{one_took, one_first}
 use Rattle.std.proofs.Common.{◌∙◌, refl}
-use Rattle.report_items.specs.declared.item.NumberedItem.{NumberedItem}
-use Rattle.report_items.specs.Texts.{line_text}
+use Rattle.run_types.specs.declared.item.NumberedItem.{NumberedItem}
+use Rattle.run_types.specs.Texts.{line_text}
 use Rattle.run_lines.specs.Reporting.{IsItemLine}
 use Rattle.run_lines.proofs.Lines.{one_lined, one_stopped}
 use Rattle.run_lines.proofs.report.write_item.Goals as goal

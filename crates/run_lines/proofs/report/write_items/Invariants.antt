@@ -1,6 +1,6 @@
 use Rattle.std.proofs.Common.{◌≤◌, [], take, map}
 use Rattle.edge_io.specs.Writes.{Adds}
-use Rattle.report_items.specs.Texts.{line_text, report_text}
+use Rattle.run_types.specs.Texts.{line_text, report_text}
 use Rattle.run_model.specs.Play.{numbered}
 use Rattle.run_model.specs.Headline.{Took}
 use Rattle.run_lines.specs.Reporting.{IsItemLine, TookLines}

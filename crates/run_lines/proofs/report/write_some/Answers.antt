@@ -1,8 +1,8 @@
 use Rattle.std.proofs.Common.{sym, subst}
 use Rattle.std.specs.Prelude.{Option}
 use Rattle.std.specs.Option.{option_to_list}
-use Rattle.report_items.specs.declared.item.Item.{Item}
-use Rattle.report_items.specs.Texts.{report_text}
+use Rattle.run_types.specs.declared.item.Item.{Item}
+use Rattle.run_types.specs.Texts.{report_text}
 use Rattle.run_model.specs.Play.{numbered}
 use Rattle.run_model.specs.Headline.{Took}
 use Rattle.run_lines.proofs.Writing.{none_took}

@@ -1,6 +1,6 @@
 use Rattle.std.proofs.Common.{◌≡◌, ◌≤◌, map, []}
 use Rattle.net_model.specs.World.{Network, World}
-use Rattle.run_acts.specs.Acting.{IsReady}
+use Rattle.run_ops.specs.Acting.{IsReady}
 use Rattle.run_lines.specs.Counting.{on_wire}
 use Rattle.run_lines.proofs.Passing.{Passed}
 use Rattle.run_lines.specs.Reporting.{IsItemLine, TookLines}

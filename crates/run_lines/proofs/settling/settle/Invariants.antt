@@ -2,7 +2,7 @@ use Rattle.std.proofs.Common.{◌≡◌, ◌≤◌, ◌-◌, []}
 use Rattle.net_model.specs.World.{Network, World}
 use Rattle.declared_site.specs.SiteOf.{site_of}
 use Rattle.run_model.specs.Lines.{settle}
-use Rattle.run_acts.specs.Acting.{IsReady}
+use Rattle.run_ops.specs.Acting.{IsReady}
 use Rattle.run_lines.specs.Counting.{AreOn}
 use Rattle.run_lines.specs.Going.{Reached}
 use Rattle.run_lines.specs.Reporting.{IsItemLine, TookLines}

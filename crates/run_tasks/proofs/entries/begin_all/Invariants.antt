@@ -2,7 +2,7 @@ use Rattle.std.proofs.Common.{◌≡◌, ◌≤◌, ℕ, drop, []}
 use Rattle.net_model.specs.World.{Network, World}
 use Rattle.run_model.specs.Turn.{HttpTexts}
 use Rattle.run_model.specs.Report.{starts_from}
-use Rattle.run_acts.specs.Acting.{IsReady}
+use Rattle.run_ops.specs.Acting.{IsReady}
 use Rattle.run_tasks.proofs.Tasking.{DidSo}
 use Rattle.run_lines.specs.Reporting.{IsItemLine, TookLines}
 use Rattle.run_tasks.proofs.entries.begin_all.Given as goal

@@ -3,9 +3,9 @@ use Rattle.std.specs.Prelude.{count_by}
 use Rattle.std.specs.List.{All}
 use Rattle.std.proofs.lemmas.List.Elements.{All-tail}
 use Rattle.std.specs.Vec.Iter.{into_iter_items}
-use Rattle.scenario_lines.specs.declared.entry.Entry.{Entry}
+use Rattle.run_types.specs.declared.entry.Entry.{Entry}
 use Rattle.run_model.specs.Report.{Does}
-use Rattle.run_acts.specs.Runnable.{IsEntryFor, arms_a_disk}
+use Rattle.run_ops.specs.Runnable.{IsEntryFor, arms_a_disk}
 use Rattle.run_lines.proofs.Going.{Ways}
 use Rattle.run_tasks.proofs.Tasking.{DidSo, one_more, did_none, did_on, did_all, did_stop, ran_short, all_ran, is_none}
 use Rattle.run_lines.specs.Reporting.{IsItemLine}

@@ -2,12 +2,12 @@ use Rattle.std.proofs.Common.{◌≡◌, ◌≤◌, ◌+◌, ◌^◌, length, ma
 use Rattle.std.specs.Prelude.{count_by}
 use Rattle.net_model.specs.World.{Network, World}
 use Rattle.run_model.specs.Report.{Does}
-use Rattle.run_acts.specs.Acting.{IsReady}
+use Rattle.run_ops.specs.Acting.{IsReady}
 use Rattle.run_tasks.proofs.Tasking.{DidSo}
 use Rattle.std.specs.List.{All}
 use Rattle.std.specs.Vec.Iter.{into_iter_items, into_iter_len}
 use Rattle.run_model.specs.Turn.{HttpTexts}
-use Rattle.run_acts.specs.Runnable.{IsEntryFor, arms_a_disk}
+use Rattle.run_ops.specs.Runnable.{IsEntryFor, arms_a_disk}
 use Rattle.run_lines.specs.Running.{IsReadySomewhere}
 use Rattle.run_lines.specs.Reporting.{IsItemLine, TookLines}
 use Rattle.run_tasks.proofs.entries.do_all.Given as goal

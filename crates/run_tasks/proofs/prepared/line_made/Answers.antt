@@ -3,8 +3,8 @@ use Rattle.std.specs.Prelude.{Result, Ok, Err, IfOk}
 use Rattle.std.proofs.lemmas.Grind.{common_steps}
 use Rattle.declared_site.specs.SiteOf.{site_of}
 use Rattle.run_model.specs.Turn.{turn_of}
-use Rattle.run_turns.specs.Asking.{asks_an_event}
-use Rattle.run_turns.specs.Reported.{reported}
+use Rattle.run_ops.specs.Asking.{asks_an_event}
+use Rattle.run_ops.specs.Reported.{reported}
 use Rattle.run_lines.specs.Commands.{any_texts}
 use Rattle.run_tasks.proofs.Made.{asked_job, asked_allowed}
 use Rattle.run_tasks.proofs.prepared.line_made.Goals as goal

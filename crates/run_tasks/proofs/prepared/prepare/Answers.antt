@@ -4,11 +4,11 @@ use Rattle.std.proofs.lemmas.List.{append-nil}
 use Rattle.std.proofs.lemmas.List.Elements.{All-tail}
 use Rattle.std.specs.Vec.Iter.{into_iter_items}
 use Rattle.declared_site.specs.SiteOf.{site_of}
-use Rattle.scenario_lines.specs.declared.line.Line.{Line}
-use Rattle.run_acts.specs.Runnable.{IsBlockLineFor}
+use Rattle.run_types.specs.declared.line.Line.{Line}
+use Rattle.run_ops.specs.Runnable.{IsBlockLineFor}
 use Rattle.run_tasks.specs.Prepared.{IsPrepared}
 use Rattle.run_tasks.proofs.Tasking.{is_none}
-use Rattle.run_tasks.proofs.Lines.{made_on, allowed_on}
+use Rattle.run_tasks.proofs.BlockLines.{made_on, allowed_on}
 use Rattle.run_tasks.proofs.prepared.prepare.Goals as goal
 
 pub loop-line-preserved : goal.loop-line-preserved

@@ -4,10 +4,10 @@ use Rattle.std.specs.Vec.Iter.{into_iter_items, into_iter_len}
 use Rattle.declared_site.specs.SiteOf.{site_of}
 use Rattle.net_model.specs.World.{Network, World}
 use Rattle.run_model.specs.Turn.{HttpTexts}
-use Rattle.run_acts.specs.Acting.{IsReady}
-use Rattle.run_acts.specs.Runnable.{IsBlockLineFor}
+use Rattle.run_ops.specs.Acting.{IsReady}
+use Rattle.run_ops.specs.Runnable.{IsBlockLineFor}
 use Rattle.run_tasks.specs.Prepared.{IsAllowed}
-use Rattle.run_tasks.proofs.Lines.{IsMade}
+use Rattle.run_tasks.proofs.BlockLines.{IsMade}
 use Rattle.run_tasks.proofs.prepared.prepare.Given as goal
 
 abbrev pub invariant-loop-line : goal.invariant-loop-line

@@ -1,7 +1,7 @@
 use Rattle.std.proofs.Common.{List, [], ◌∷◌, drop, arith, ◌+◌, Err}
-use Rattle.report_items.specs.declared.item.NumberedItem.{NumberedItem}
+use Rattle.run_types.specs.declared.item.NumberedItem.{NumberedItem}
 use Rattle.run_model.specs.Play.{numbered}
-use Rattle.run_blocks.specs.declared.done_block.PutFrame.{PutFrame}
+use Rattle.run_ops.specs.declared.done_block.PutFrame.{PutFrame}
 use Rattle.run_tasks.specs.declared.prepared.Place.{Place}
 use Rattle.run_tasks.specs.Reported.{number_in, frames_told}
 use Rattle.run_tasks.proofs.Writes.{told_none, told_on, told_all, told_stop, one_left, none_left}

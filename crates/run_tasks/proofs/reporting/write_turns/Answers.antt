@@ -1,6 +1,6 @@
 use Rattle.std.proofs.Common.{◌∙◌, List, length, sym, ap, arith, rules, [], Err}
 use Rattle.std.specs.Vec.Iter.{into_iter_items}
-use Rattle.run_blocks.specs.declared.done_block.Turned.{Turned}
+use Rattle.run_ops.specs.declared.done_block.Turned.{Turned}
 use Rattle.run_tasks.specs.Reported.{turn_told, turns_told}
 use Rattle.run_tasks.proofs.Tasking.{is_none}
 use Rattle.run_tasks.proofs.Writes.{told_none, told_on, told_all, told_stop}

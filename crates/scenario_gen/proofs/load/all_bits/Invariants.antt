@@ -1,6 +1,6 @@
 use Rattle.std.proofs.Common.{◌≡◌, ◌++◌, map}
 use Rattle.net_model.specs.Site.{count_up}
-use Rattle.scenario_spelling.specs.Spelling.{lines_of}
+use Rattle.scenario_format.specs.Spelling.{lines_of}
 use Rattle.run_model.specs.Load.{load_site}
 use Rattle.scenario_gen.specs.LoadText.{bits_of}
 use Rattle.scenario_gen.proofs.load.all_bits.Given as goal

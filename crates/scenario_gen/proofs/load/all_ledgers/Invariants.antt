@@ -1,7 +1,7 @@
 use Rattle.std.proofs.Common.{◌≡◌, ◌++◌}
 use Rattle.std.specs.List.{flat_map}
 use Rattle.net_model.specs.Site.{count_up}
-use Rattle.scenario_spelling.specs.Spelling.{lines_of}
+use Rattle.scenario_format.specs.Spelling.{lines_of}
 use Rattle.run_model.specs.Load.{load_site}
 use Rattle.scenario_gen.specs.LoadText.{ledgers_of}
 use Rattle.scenario_gen.proofs.load.all_ledgers.Given as goal

@@ -1,5 +1,5 @@
 use Rattle.std.proofs.Common.{◌≡◌, ap, ◌∙◌}
-use Rattle.scenario_reader.specs.Text.{meaning_of}
+use Rattle.scenario_text.specs.Text.{meaning_of}
 use Rattle.scenario_gen.specs.LoadText.{load_text}
 use Rattle.scenario_gen.proofs.Whole.{load_is_read}
 use Rattle.scenario_gen.proofs.Growing.{whole}

@@ -1,6 +1,6 @@
 use Rattle.std.proofs.Common.{◌≡◌, ap, ◌∙◌}
 use Rattle.uuid.specs.Text.{hyphenated_text, lower}
-use Rattle.scenario_spelling.specs.Spelling.{name_word}
+use Rattle.scenario_format.specs.Spelling.{name_word}
 use Rattle.scenario_gen.proofs.words.name.Goals as goal
 
 pub returns : goal.returns

@@ -1,6 +1,6 @@
 use Rattle.std.proofs.Common.{◌≡◌, refl, ap, ◌∙◌, arith}
 use Rattle.std.specs.Prelude.{slice_set}
-use Rattle.run_turns.specs.Reported.{taken}
+use Rattle.run_ops.specs.Reported.{taken}
 use Rattle.world_state.proofs.Armed.{most_same, times_same}
 use Rattle.world_state.proofs.OneSide.{read_at}
 use Rattle.world_state.proofs.Takes.{post_below, device_below, may_take, tells, block_taken}

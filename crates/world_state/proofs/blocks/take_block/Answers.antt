@@ -1,6 +1,6 @@
 use Rattle.std.proofs.Common.{◌≡◌, ap, ◌∙◌}
 use Rattle.net_model.specs.Site.{outgoing_lane}
-use Rattle.run_turns.specs.Reported.{taken}
+use Rattle.run_ops.specs.Reported.{taken}
 use Rattle.world_state.specs.Stands.{place_of}
 use Rattle.world_state.proofs.OneSide.{read_at, with_side, one_with}
 use Rattle.world_state.proofs.Takes.{lane_is, lane_below, none_done, may_bring, brings_block, took_done, took_rests}

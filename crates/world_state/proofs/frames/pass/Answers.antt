@@ -1,5 +1,4 @@
-use Rattle.net_model.specs.Action.{Deliver}
-use Rattle.net_model.specs.Action.{Ok as Fine}
+use Rattle.net_model.specs.Action.{Deliver, Ok as Fine}
 use Rattle.world_state.proofs.Passing.{none_done}
 use Rattle.world_state.proofs.Resting.{same_parts, rests_still}
 use Rattle.world_state.proofs.frames.pass.Goals as goal

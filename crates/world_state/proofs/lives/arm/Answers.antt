@@ -1,7 +1,7 @@
 use Rattle.std.proofs.Common.{◌≡◌, refl, sym, ap, ◌∙◌, arith, Some}
 use Rattle.std.specs.Prelude.{slice_get}
 use Rattle.std.proofs.lemmas.Option.{slice_get-get_or}
-use Rattle.run_acts.specs.Acting.{fault_of}
+use Rattle.run_ops.specs.Acting.{fault_of}
 use Rattle.world_state.proofs.Changes.{with_post}
 use Rattle.world_state.proofs.OneLife.{few_before, may_arm, arm_done, most_after}
 use Rattle.world_state.proofs.lives.arm.Goals as goal

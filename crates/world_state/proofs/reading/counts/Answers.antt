@@ -4,7 +4,7 @@ use Rattle.qkd_base.specs.declared.lane.Lane.{Lane}
 use Rattle.net_model.specs.Site.{Site}
 use Rattle.net_model.specs.Events.{is_lane}
 use Rattle.net_model.specs.Ledger.{ledger}
-use Rattle.world_lanes.specs.Stands.{LaneStands}
+use Rattle.world_nodes.specs.LaneStands.{LaneStands}
 use Rattle.world_state.proofs.reading.counts.Goals as goal
 
 pub returns-in-Some : goal.returns-in-Some

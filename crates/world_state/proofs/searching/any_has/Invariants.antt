@@ -1,7 +1,7 @@
 use Rattle.std.proofs.Common.{◌≡◌, ℕ, ◌<◌, false}
 use Rattle.std.specs.Prelude.{slice_get}
 use Rattle.net_model.specs.World.{Network, World}
-use Rattle.world_lanes.specs.Stands.{IsRunning, LaneStands}
+use Rattle.world_nodes.specs.LaneStands.{IsRunning, LaneStands}
 use Rattle.world_state.specs.Frames.{frame_is}
 use Rattle.world_state.proofs.searching.any_has.Given as goal
 

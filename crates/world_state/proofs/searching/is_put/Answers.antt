@@ -1,7 +1,7 @@
 use Rattle.std.proofs.Common.{◌≡◌, ap, ◌∙◌}
 use Rattle.std.specs.Prelude.{is_some}
 use Rattle.qkd_base.specs.declared.lane.Lane.{Lane}
-use Rattle.world_posts.specs.Tampering.{put_as}
+use Rattle.world_nodes.specs.Tampering.{put_as}
 use Rattle.world_state.proofs.Passing.{side_stands, itself}
 use Rattle.world_state.proofs.searching.is_put.Goals as goal
 

@@ -2,10 +2,9 @@ use Rattle.std.proofs.Common.{◌≡◌, ℕ, List, refl, sym, ap, ◌∙◌, ar
 use Rattle.std.specs.Prelude.{slice_get, is_some}
 use Rattle.std.proofs.lemmas.Option.{slice_get-get_or}
 use Rattle.net_model.specs.Site.{receiver}
-use Rattle.net_model.specs.Action.{Flip}
-use Rattle.net_model.specs.Action.{Ok as Fine}
-use Rattle.run_acts.specs.Acting.{tampered}
-use Rattle.world_posts.specs.Tampering.{put_as}
+use Rattle.net_model.specs.Action.{Flip, Ok as Fine}
+use Rattle.run_ops.specs.Acting.{tampered}
+use Rattle.world_nodes.specs.Tampering.{put_as}
 use Rattle.world_state.proofs.Armed.{most_same, times_same}
 use Rattle.world_state.proofs.Changes.{with_post}
 use Rattle.world_state.proofs.Receivers.{same_receiver}

@@ -1,5 +1,4 @@
-use Rattle.net_model.specs.Action.{Flip}
-use Rattle.net_model.specs.Action.{Ok as Fine}
+use Rattle.net_model.specs.Action.{Flip, Ok as Fine}
 use Rattle.world_state.proofs.Resting.{same_parts, rests_still}
 use Rattle.world_state.proofs.Tampers.{no_frame_done, no_bit_done}
 use Rattle.world_state.proofs.tampering.flip.Goals as goal

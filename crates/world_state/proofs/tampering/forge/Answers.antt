@@ -1,5 +1,4 @@
-use Rattle.net_model.specs.Action.{Forge}
-use Rattle.net_model.specs.Action.{Ok as Fine}
+use Rattle.net_model.specs.Action.{Forge, Ok as Fine}
 use Rattle.world_state.proofs.Resting.{same_parts, rests_still}
 use Rattle.world_state.proofs.tampering.forge.Goals as goal
 

@@ -5,10 +5,10 @@ use Rattle.net_model.specs.declared.reply.Reply.{Reply}
 use Rattle.net_model.specs.declared.reply.Reply.TheVariants.{Planned}
 use Rattle.net_model.specs.Action.{Ask, Replies}
 use Rattle.net_model.specs.Step.{step}
-use Rattle.report_items.specs.declared.item.Item.{Item}
+use Rattle.run_types.specs.declared.item.Item.{Item}
 use Rattle.run_model.specs.Lines.{ticked}
 use Rattle.run_model.specs.Outcomes.{plan_items}
-use Rattle.run_acts.specs.Acting.{Plays}
+use Rattle.run_ops.specs.Acting.{Plays}
 use Rattle.world_state.specs.Stands.{Stands}
 use Rattle.world_state.specs.Tallied.{Tallied}
 use Rattle.world_state.specs.Ticking.{HasPlanned}

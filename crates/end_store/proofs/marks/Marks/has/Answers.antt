@@ -1,7 +1,7 @@
 use Rattle.std.proofs.Common.{ℕ, List, drop, ◌∙◌, sym, ap}
 use Rattle.qkd_base.specs.Name.{Name}
 use Rattle.net_model.specs.Table.{was_handed}
-use Rattle.ordered_entries.specs.Entries.{has_entry}
+use Rattle.ordered_set.specs.Entries.{has_entry}
 use Rattle.end_store.specs.Marked.{Marked}
 use Rattle.end_store.proofs.Pairs.{found_pair, other_pair, take_rest}
 use Rattle.end_store.proofs.marks.Marks.has.Goals as goal

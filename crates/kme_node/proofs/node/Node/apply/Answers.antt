@@ -2,13 +2,13 @@ use Rattle.std.proofs.Common.{◌≡◌, List, refl, sym, ap, ◌∙◌, subst}
 use Rattle.net_model.specs.declared.record.Record.{Record}
 use Rattle.net_model.specs.Fold.{view_after}
 use Rattle.relay_core.specs.Knowledge.{Knowledge}
-use Rattle.kme_step.specs.Steps.{IsEffect, placings_of, changed}
+use Rattle.kme_base.specs.Steps.{IsEffect, placings_of, changed}
 use Rattle.kme_node.specs.Holdings.{Holdings, Fits, view}
 use Rattle.kme_node.specs.Ports.{ports_after}
 use Rattle.kme_node.proofs.Applied.{held_still, known_is, sees_bare}
 use Rattle.kme_node.proofs.After.{HasTaken, taken_view, taken_me, taken_lanes}
 use Rattle.declared_site.specs.SiteOf.{site_of}
-use Rattle.kme_plan.specs.UnderWay.{AreFronts, AreFrontsBut}
+use Rattle.kme_relay.specs.UnderWay.{AreFronts, AreFrontsBut}
 use Rattle.kme_node.proofs.Fronted.{left_after}
 use Rattle.kme_node.proofs.Split.{bare}
 use Rattle.kme_node.proofs.node.Node.apply.Goals as goal

@@ -3,7 +3,7 @@ use Rattle.net_model.specs.declared.event.Event.TheVariants.{Fill}
 use Rattle.net_model.specs.Decide.{decide}
 use Rattle.declared_site.specs.SiteOf.{site_of}
 use Rattle.declared_site.specs.declared.site.Site.{Site as Declared}
-use Rattle.kme_step.specs.Steps.{IsStep}
+use Rattle.kme_base.specs.Steps.{IsStep}
 use Rattle.end_store.specs.Pooled.{Sees as SeesEnds}
 use Rattle.kme_node.specs.Holdings.{view}
 use Rattle.kme_node.proofs.Sights.{sees_ends}

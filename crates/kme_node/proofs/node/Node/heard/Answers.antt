@@ -4,7 +4,7 @@ use Rattle.net_model.specs.Relay.{receive}
 use Rattle.declared_site.specs.SiteOf.{site_of}
 use Rattle.declared_site.specs.declared.site.Site.{Site as Declared}
 use Rattle.kme_relay.specs.Knows.{Knows}
-use Rattle.kme_step.specs.Steps.{IsStep}
+use Rattle.kme_base.specs.Steps.{IsStep}
 use Rattle.kme_node.specs.Holdings.{view}
 use Rattle.kme_node.proofs.Sights.{knows}
 use Rattle.kme_node.proofs.Fitting.{step_fits}

@@ -3,8 +3,8 @@ use Rattle.net_model.specs.declared.event.Event.TheVariants.{Open}
 use Rattle.net_model.specs.Decide.{decide}
 use Rattle.declared_site.specs.SiteOf.{site_of}
 use Rattle.declared_site.specs.declared.site.Site.{Site as Declared}
-use Rattle.kme_step.specs.Steps.{IsStep}
-use Rattle.kept_facts.specs.Passed.{Sees}
+use Rattle.kme_base.specs.Steps.{IsStep}
+use Rattle.stream_core.specs.Kept.{Sees}
 use Rattle.kme_node.specs.Holdings.{view}
 use Rattle.kme_node.proofs.Sights.{sees}
 use Rattle.kme_node.proofs.node.Node.open.Goals as goal

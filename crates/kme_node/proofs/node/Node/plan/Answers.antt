@@ -6,13 +6,13 @@ use Rattle.net_model.specs.Plan.{plan}
 use Rattle.declared_site.specs.SiteOf.{site_of}
 use Rattle.declared_site.specs.declared.site.Site.{Site as Declared}
 use Rattle.route_table.specs.Layer.{bit_is_set}
-use Rattle.kme_step.specs.Steps.{IsStep}
-use Rattle.lane_ports.specs.Places.{LinkEnds, AreEnds}
+use Rattle.kme_base.specs.Steps.{IsStep}
+use Rattle.kme_base.specs.Places.{LinkEnds, AreEnds}
 use Rattle.kme_node.specs.Places.{AreApart}
 use Rattle.kme_node.specs.Holdings.{Holdings, view}
 use Rattle.kme_node.proofs.Sights.{keeps_of}
 use Rattle.kme_node.proofs.Apart.{ends_apart}
-use Rattle.kme_plan.specs.UnderWay.{AreFronts}
+use Rattle.kme_relay.specs.UnderWay.{AreFronts}
 use Rattle.kme_node.proofs.Fronted.{ahead_of}
 use Rattle.kme_node.proofs.Planning.{plan_fits}
 use Rattle.kme_node.proofs.node.Node.plan.Goals as goal

@@ -1,7 +1,7 @@
 use Rattle.std.proofs.Common.{List, refl, sym, ap, ◌∙◌, subst}
 use Rattle.net_model.specs.View.{View}
 use Rattle.net_model.specs.declared.order.Order.{Order}
-use Rattle.lane_ports.specs.Places.{HasBytesFor}
+use Rattle.kme_base.specs.Places.{HasBytesFor}
 use Rattle.kme_node.specs.Holdings.{Holdings, Fits, view}
 use Rattle.kme_node.proofs.Ends.{lanes_of}
 use Rattle.kme_node.proofs.Applied.{same_view, held_still, all_rooms}

@@ -2,8 +2,8 @@ use Rattle.std.proofs.Common.{List, map, refl, ap, ◌∙◌}
 use Rattle.net_model.specs.Fold.{view_restarted}
 use Rattle.net_model.specs.View.{Port}
 use Rattle.net_model.specs.World.{Volatile}
-use Rattle.kept_facts.specs.Needs.{kept_view}
-use Rattle.lane_ports.specs.Places.{restarted}
+use Rattle.kme_facts.specs.Needs.{kept_view}
+use Rattle.kme_base.specs.Places.{restarted}
 use Rattle.kme_node.specs.Holdings.{Holdings, view}
 use Rattle.kme_node.proofs.Ends.{lanes_of, same_lanes}
 use Rattle.declared_site.specs.SiteOf.{site_of}

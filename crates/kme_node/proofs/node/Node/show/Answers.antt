@@ -1,8 +1,8 @@
 use Rattle.std.proofs.Common.{◌≡◌, IfOk, refl, sym, subst, ap, ◌∙◌}
 use Rattle.net_model.specs.Decide.{decide}
 use Rattle.net_model.specs.Show.{show}
-use Rattle.kept_facts.specs.Passed.{Sees}
-use Rattle.kme_step.specs.Steps.{orders_of}
+use Rattle.stream_core.specs.Kept.{Sees}
+use Rattle.kme_base.specs.Steps.{orders_of}
 use Rattle.kme_node.specs.Holdings.{view}
 use Rattle.kme_node.proofs.Sights.{sees}
 use Rattle.kme_node.proofs.Shown.{show_orders_nothing}

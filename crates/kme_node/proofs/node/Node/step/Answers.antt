@@ -5,7 +5,7 @@ use Rattle.net_model.specs.declared.event.Event.TheVariants as events
 use Rattle.net_model.specs.Decide.{decide}
 use Rattle.net_model.specs.Events.{is_valid_event}
 use Rattle.declared_site.specs.SiteOf.{site_of}
-use Rattle.kme_step.specs.Steps.{IsStep, placings_of}
+use Rattle.kme_base.specs.Steps.{IsStep, placings_of}
 use Rattle.kme_node.specs.Holdings.{view}
 use Rattle.kme_node.proofs.Valid.{dec_few, fill_group_some, enc_group_some}
 use Rattle.kme_node.proofs.Fitting.{IsCalm, answer_fits}

@@ -2,7 +2,7 @@ use Rattle.std.proofs.Common.{ℕ, ◌+◌, ◌*◌, List, length, take, drop, a
 use Rattle.std.specs.Prelude.{◌==◌, nat_le, find}
 use Rattle.qkd_base.specs.LaneBytes.{lane_octets}
 use Rattle.net_model.specs.View.{Port, port_of, incoming_octets}
-use Rattle.kme_batches.specs.Passed.{LinkEnds}
+use Rattle.kme_base.specs.Places.{LinkEnds}
 use Rattle.kme_store.specs.Manager.{ManagerForm}
 use Rattle.kme_store.proofs.manager.Manager.lane_block.Goals as goal
 

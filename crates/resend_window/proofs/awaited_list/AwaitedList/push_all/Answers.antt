@@ -1,6 +1,6 @@
 use Rattle.std.proofs.Common.{◌≡◌, ◌+◌, ◌++◌, ◌∷◌, [], ap, sym, ◌∙◌, take, List, Option, map, arith, append_assoc}
 use Rattle.net_model.specs.World.{Transmission}
-use Rattle.kme_step.specs.Steps.{transmission_of_order}
+use Rattle.kme_base.specs.Steps.{transmission_of_order}
 use Rattle.resend_window.specs.Held.{transmission}
 use Rattle.resend_window.specs.Kept.{somes}
 use Rattle.relay_core.proofs.Firsts.{got}

@@ -1,5 +1,5 @@
 use Rattle.std.proofs.Common.{◌≡◌, ◌+◌, ◌++◌, take, map}
-use Rattle.kme_step.specs.Steps.{transmission_of_order}
+use Rattle.kme_base.specs.Steps.{transmission_of_order}
 use Rattle.resend_window.specs.Held.{transmission}
 use Rattle.resend_window.specs.Kept.{somes}
 use Rattle.resend_window.proofs.awaited_list.AwaitedList.push_all.Given as goal

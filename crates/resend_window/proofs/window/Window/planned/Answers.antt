@@ -1,6 +1,6 @@
 use Rattle.std.proofs.Common.{ap, subst, sym, ◌∙◌, ◌+◌, ◌-◌, ◌≡◌, ◌≤◌, length, arith, List, Option}
 use Rattle.std.specs.Prelude.{map}
-use Rattle.kme_step.specs.Steps.{planned}
+use Rattle.kme_base.specs.Steps.{planned}
 use Rattle.resend_window.specs.Kept.{Kept, somes}
 use Rattle.resend_window.specs.Lists.{ripened_at}
 use Rattle.resend_window.proofs.Windows.{planned_window, planned_value}

@@ -1,7 +1,7 @@
 use Rattle.std.proofs.Common.{◌≡◌, ◌||◌, ◌&&◌, ℕ, List, ◌∷◌, Bool, true, false, not, cond, Option, Some, refl, sym, ap, ◌∙◌, subst, arith}
 use Rattle.std.specs.Prelude.{is_some}
 use Rattle.std.specs.Str.{bytes_eq}
-use Rattle.ordered_entries.specs.Entries.{has_entry}
+use Rattle.ordered_set.specs.Entries.{has_entry}
 use Rattle.run_audit.specs.declared.frames.Frame.{Frame}
 use Rattle.run_audit.specs.Table.{at}
 use Rattle.run_audit.specs.Frames.{is_placed}

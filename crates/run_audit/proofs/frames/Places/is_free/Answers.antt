@@ -1,7 +1,7 @@
 use Rattle.std.proofs.Common.{◌≡◌, ℕ, ◌≤◌, ◌<◌, ◌^◌, true, false, List, [], ◌∷◌, Option, Some, None, sym, ap, ◌∙◌, arith}
 use Rattle.std.specs.Prelude.{nat_lt}
 use Rattle.qkd_base.specs.Lane.{lane_place}
-use Rattle.ordered_entries.specs.Entries.{IsNextIn}
+use Rattle.ordered_set.specs.Entries.{IsNextIn}
 use Rattle.run_audit.specs.declared.frames.Frame.{Frame}
 use Rattle.run_audit.specs.Table.{at}
 use Rattle.run_audit.specs.Kept.{place_key, offset_at, is_last, ArePlaced}

@@ -3,7 +3,7 @@ use Rattle.run_audit.specs.Tellings.{Telling, handed_key, onto, all_fit}
 use Rattle.run_audit.specs.Kept.{AreTold}
 use Rattle.run_audit.proofs.tellings.Told.take_keys.Given as goal
 
--- the keys that are left fit and are added as all of them do
+-- The record holds the tellings so far. All keys fit exactly if those that are left do, and then the same tellings are recorded.
 abbrev pub invariant-loop-name : goal.invariant-loop-name
 invariant-loop-name l = (ts : List Telling) → AreTold l.initial.self ts →
     (us : List Telling)

@@ -1,5 +1,0 @@
-use Rattle.audit_texts.proofs.Exact.{read_or_refused}
-use Rattle.audit_texts.proofs.laws.law_read_or_refused.Goals as goal
-
-pub returns : goal.returns
-returns c = read_or_refused

@@ -1,4 +1,0 @@
-pub mod Headlines
-pub mod Passed
-pub mod Rooms
-pub mod Lines

@@ -1,4 +1,0 @@
-pub mod Asking
-pub mod Emitting
-pub mod Keeping
-pub mod Doing

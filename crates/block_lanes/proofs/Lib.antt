@@ -1,4 +1,0 @@
-pub mod Standing
-pub mod Counting
-pub mod Ending
-pub mod Passed

@@ -1,5 +1,0 @@
-pub mod Frames
-pub mod Recording
-pub mod Noting
-pub mod Working
-pub mod Passed

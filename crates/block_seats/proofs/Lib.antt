@@ -1,5 +1,0 @@
-pub mod Mixing
-pub mod Leaving
-pub mod Dealt
-pub mod Sitting
-pub mod Passed

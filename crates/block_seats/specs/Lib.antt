@@ -1,4 +1,0 @@
-pub mod Rows
-pub mod Seats
-pub mod Sheets
-pub mod Passed

@@ -1,4 +1,0 @@
-pub mod Counting
-pub mod Talking
-pub mod Together
-pub mod Passed

@@ -1,4 +1,0 @@
-pub mod Doing
-pub mod Talking
-pub mod Together
-pub mod Passed

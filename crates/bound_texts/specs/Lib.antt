@@ -1,4 +1,0 @@
-pub mod Words
-pub mod Keys
-pub mod Counts
-pub mod Laws

@@ -1,5 +1,0 @@
-use Rattle.either_machines.proofs.Staying.{stays_right}
-use Rattle.either_machines.proofs.laws.law_right_stays_right.Goals as goal
-
-pub returns : goal.returns
-returns g c = stays_right g.A.Machine.charter g.B.Machine.charter g.A.Machine.takes g.B.Machine.takes g.A.Machine.turns g.B.Machine.turns

@@ -1,9 +1,0 @@
-pub mod Finding
-pub mod Masking
-pub mod Named
-pub mod Needing
-pub mod Parted
-pub mod Passed
-pub mod Seen
-pub mod Settling
-pub mod Taken

@@ -1,0 +1,4 @@
+pub mod Steps
+pub mod Random
+pub mod Up
+pub mod Places

@@ -1,6 +1,0 @@
-pub mod Bodies
-pub mod Decided
-pub mod Drawn
-pub mod Held
-pub mod Near
-pub mod Reading

@@ -1,7 +1,0 @@
-use Rattle.std.proofs.Common.{take}
-use Rattle.std.specs.List.{All}
-use Rattle.kme_batches.specs.Spelled.{IsMade}
-use Rattle.kme_batches.proofs.forms.are_made.Given as goal
-
-abbrev pub invariant-loop-change : goal.invariant-loop-change
-invariant-loop-change l = All IsMade (take l.change-index l.batch)

@@ -1,4 +1,0 @@
-pub mod Batched
-pub mod Formed
-pub mod Listed
-pub mod Whole

@@ -1,5 +1,0 @@
-use Rattle.kme_checkpoint.proofs.Formed.{recovered_formed}
-use Rattle.kme_checkpoint.proofs.laws.law_read_back_is_formed.Goals as goal
-
-pub returns : goal.returns
-returns c = recovered_formed

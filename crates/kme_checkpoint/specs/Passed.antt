@@ -1,2 +1,0 @@
--- What stands below this crate, for those above it that name it no other way.
-pub use Rattle.kme_node.specs.Holdings.{view}

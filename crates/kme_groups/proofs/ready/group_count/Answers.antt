@@ -1,7 +1,0 @@
-use Rattle.end_store.specs.Pooled.{ends_view}
-use Rattle.kme_groups.proofs.Searched.{no_candidate}
-use Rattle.std.proofs.Common.{ap, length, sym}
-use Rattle.kme_groups.proofs.ready.group_count.Goals as goal
-
-pub returns-in-None : goal.returns-in-None
-returns-in-None c = let p = c.args.pool.now in sym (ap length (no_candidate (ends_view c.args.store.now) p.master p.slaves.now p.bits c.args.ready c.args.number c.requires c.in-None.ensures))

@@ -1,0 +1,13 @@
+pub mod Bodies
+pub mod Decided
+pub mod Drawn
+pub mod Held
+pub mod Near
+pub mod ReadBack
+pub mod Batched
+pub mod Formed
+pub mod Listed
+pub mod Whole
+pub mod Gates
+pub mod Put
+pub mod Started

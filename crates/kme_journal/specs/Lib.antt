@@ -1,0 +1,9 @@
+pub mod Drafts
+pub mod Frames
+pub mod BatchRecovery
+pub mod Spelled
+pub mod Batches
+pub mod Formed
+pub mod Putting
+pub mod Recovery
+pub mod Unread

@@ -1,6 +1,0 @@
-use Rattle.qkd_base.specs.Lane.{lane_place}
-use Rattle.kme_plan.proofs.UnderWay.{nowhere}
-use Rattle.kme_plan.proofs.fronts.Fronts.new.Goals as goal
-
-pub returns : goal.returns
-returns c l = nowhere 64 (lane_place l)

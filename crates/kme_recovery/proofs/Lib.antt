@@ -1,4 +1,0 @@
-pub mod Gates
-pub mod Passed
-pub mod Put
-pub mod Started

@@ -1,4 +1,0 @@
-pub mod Passed
-pub mod Putting
-pub mod Recovery
-pub mod Unread

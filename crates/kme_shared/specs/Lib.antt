@@ -1,0 +1,13 @@
+pub mod Working
+pub mod Granting
+pub mod Laws
+pub mod Rows
+pub mod Seats
+pub mod Sheets
+pub mod Gathering
+pub mod Desks
+pub mod WorkSeats
+pub mod WorkGathering
+pub mod Going
+pub mod Keeping
+pub mod RunningLaws

@@ -1,4 +1,0 @@
-pub mod Joined
-pub mod Walks
-pub mod Outgoing
-pub mod Line

@@ -1,3 +1,0 @@
-pub mod Start
-pub mod Passed
-pub mod Refusals

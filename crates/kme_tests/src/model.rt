@@ -1,0 +1,137 @@
+use net_model::{
+    Fact, Order, Orders, Payload, Placing, Placings, Record, Records, Repeat, Repeats, ShortOf,
+    Shorts, spelled_len, well_formed,
+};
+use qkd_base::{
+    FrameOctets, Items, KeyName, Lane, LinkNo, NameKind, NodeNo, Octets, Replica, Route, SaeNo, Way,
+};
+use std::alloc::Global;
+use std::test::Fail;
+
+fn name(kind: NameKind) -> Result<KeyName, Fail> {
+    let node = NodeNo::new(0).ok_or("node")?;
+    let name = KeyName::new(node, kind, 1).ok_or("name")?;
+    Ok(name)
+}
+
+fn route() -> Result<Route, Fail> {
+    let a = NodeNo::new(0).ok_or("node")?;
+    let b = NodeNo::new(1).ok_or("node")?;
+    let route = Route::new(&[a, b]).ok_or("route")?;
+    Ok(route)
+}
+
+fn octets(alloc: Global, count: usize) -> Result<Octets, Fail> {
+    let bytes = vec![in alloc; 7u8; count]?;
+    Ok(Octets::from_vec(bytes))
+}
+
+// The lengths are those of keys, chunks, parts and notes over one link: kind, names, numbers, route and bytes.
+#[test]
+fn payloads_have_their_lengths(rt: HostRuntime) -> Result<(), Fail> {
+    let alloc = rt.alloc();
+    let (key, stream, note) = (
+        name(NameKind::Key)?,
+        name(NameKind::Stream)?,
+        name(NameKind::Note)?,
+    );
+    let sae = SaeNo::new(0).ok_or("sae")?;
+    let way = route()?;
+    let a_key = |name, bytes| {
+        Payload::Data(Fact::Key {
+            name,
+            master: sae,
+            slave: sae,
+            route: way,
+            bytes,
+        })
+    };
+    let stored = |note, about| {
+        Payload::Data(Fact::Stored {
+            note,
+            about,
+            route: way,
+        })
+    };
+    let cases = [
+        (a_key(key, octets(alloc, 32)?), Some(58)),
+        (a_key(key, octets(alloc, 8)?), Some(34)),
+        (a_key(key, octets(alloc, 512)?), Some(538)),
+        (a_key(key, octets(alloc, 7)?), None),
+        (a_key(key, octets(alloc, 513)?), None),
+        (a_key(note, octets(alloc, 32)?), None),
+        (stored(note, key), Some(36)),
+        (stored(note, stream), None),
+        (Payload::Ack(note), Some(17)),
+    ];
+    for (payload, length) in &cases {
+        let same = payload.copy()?;
+        let found = if well_formed(&same) {
+            Some(spelled_len(&same))
+        } else {
+            None
+        };
+        assert_eq!(rt; found, *length);
+    }
+    Ok(())
+}
+
+#[test]
+fn lists_are_copied(rt: HostRuntime) -> Result<(), Fail> {
+    let alloc = rt.alloc();
+    let lane = Lane {
+        link: LinkNo::new(3).ok_or("link")?,
+        way: Way::Up,
+    };
+    let key = name(NameKind::Key)?;
+    let mut orders: Orders = Items::new(alloc);
+    orders.push(Order {
+        lane,
+        offset: 8,
+        ack_of: Some(9),
+        payload: Payload::Ack(key),
+    })?;
+    let orders = orders.copy()?;
+    assert_eq!(rt; orders.get(0).map(|order| order.ack_of), Some(Some(9)));
+    let mut repeats: Repeats = Items::new(alloc);
+    repeats.push(Repeat {
+        lane,
+        offset: 8,
+        number: Some(4),
+        name: key,
+        ack_of: None,
+        length: 82,
+        frame: FrameOctets::new(),
+    })?;
+    let repeats = repeats.copy()?;
+    assert_eq!(rt; repeats.get(0).map(|repeat| repeat.number), Some(Some(4)));
+    let mut placings: Placings = Items::new(alloc);
+    placings.push(Placing {
+        lane,
+        offset: 8,
+        name: key,
+        ack_of: None,
+        fresh: false,
+        number: None,
+        length: 82,
+        frame: FrameOctets::new(),
+    })?;
+    let placings = placings.copy()?;
+    assert_eq!(rt; placings.get(0).map(|placing| placing.fresh), Some(false));
+    let mut shorts: Shorts = Items::new(alloc);
+    let short = ShortOf {
+        lane,
+        used: 554,
+        need: 471,
+        received: 1024,
+    };
+    shorts.push(short)?;
+    let shorts = shorts.copy()?;
+    assert_eq!(rt; shorts.get(0).copied(), Some(short));
+    let mut records: Records = Items::new(alloc);
+    records.push(Record::Lease { lane, end: 4096 })?;
+    records.push(Record::Acked { name: key })?;
+    let records = records.copy()?;
+    assert_eq!(rt; records.len(), 2);
+    Ok(())
+}

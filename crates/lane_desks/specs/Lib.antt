@@ -1,4 +1,0 @@
-pub mod Asking
-pub mod Following
-pub mod Grants
-pub mod Turns

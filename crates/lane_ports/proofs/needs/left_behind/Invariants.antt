@@ -1,6 +1,0 @@
-use Rattle.std.proofs.Common.{◌≡◌, ◌+◌, drop}
-use Rattle.lane_ports.specs.Places.{lane_need}
-use Rattle.lane_ports.proofs.needs.left_behind.Given as goal
-
-abbrev pub invariant-loop-order : goal.invariant-loop-order
-invariant-loop-order l = l.left + lane_need l.lane l.orders ≡ l.bytes + lane_need l.lane (drop l.order-index l.orders)

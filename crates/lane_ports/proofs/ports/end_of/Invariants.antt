@@ -1,7 +1,0 @@
-use Rattle.std.proofs.Common.{◌≡◌, ◌==◌, drop}
-use Rattle.std.specs.Prelude.{find}
-use Rattle.lane_ports.specs.Places.{ports_in}
-use Rattle.lane_ports.proofs.ports.end_of.Given as goal
-
-abbrev pub invariant-loop-end : goal.invariant-loop-end
-invariant-loop-end l = find (λ p. p.lane.link == l.link) (ports_in l.ends) ≡ find (λ p. p.lane.link == l.link) (ports_in (drop l.end-index l.ends))

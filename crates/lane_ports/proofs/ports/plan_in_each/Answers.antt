@@ -1,7 +1,0 @@
-use Rattle.lane_ports.specs.Places.{need_within}
-use Rattle.lane_ports.proofs.Ends.{each_step}
-use Rattle.lane_ports.proofs.ports.plan_in_each.Goals as goal
-
-pub loop-end-preserved : goal.loop-end-preserved
-loop-end-preserved c =
-    each_step (need_within c.args.orders.now) c.args.ends.now c.loop-end.ends c.loop-end.end-index c.end-item.result c.plan_orders.new.self c.loop-end-test.true c.loop-end.auto.ends c.loop-end.invariant c.plan_orders.ensures.port c.plan_orders.ensures.spare

@@ -1,5 +1,0 @@
-use Rattle.lane_ports.proofs.Ends.{IsRoomed}
-use Rattle.lane_ports.proofs.ports.room_in.Given as goal
-
-abbrev pub invariant-loop-end : goal.invariant-loop-end
-invariant-loop-end l = IsRoomed l.link l.end-index l.initial.ends l.ends

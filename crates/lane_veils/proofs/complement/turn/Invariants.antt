@@ -1,6 +1,0 @@
-use Rattle.std.proofs.Common.{◌≡◌, ◌++◌, take, drop}
-use Rattle.law_veils.specs.Veiled.{complement}
-use Rattle.lane_veils.proofs.complement.turn.Given as goal
-
-abbrev pub invariant-loop-octet : goal.invariant-loop-octet
-invariant-loop-octet l = l.octets ≡ complement (take l.octet-index l.initial.octets) ++ drop l.octet-index l.initial.octets

@@ -1,5 +1,0 @@
-use Rattle.law_blocks.proofs.Chains.{block_is_run}
-use Rattle.law_blocks.proofs.law_block_is_run.Goals as goal
-
-pub returns : goal.returns
-returns c = block_is_run

@@ -1,9 +1,0 @@
-pub mod Again
-pub mod Answered
-pub mod Counting
-pub mod Lives
-pub mod Notes
-pub mod Plans
-pub mod Quiet
-pub mod Steps
-pub mod Turns

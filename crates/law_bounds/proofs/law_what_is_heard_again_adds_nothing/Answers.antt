@@ -1,5 +1,0 @@
-use Rattle.law_bounds.proofs.Again.{adds_nothing}
-use Rattle.law_bounds.proofs.law_what_is_heard_again_adds_nothing.Goals as goal
-
-pub returns : goal.returns
-returns c = adds_nothing

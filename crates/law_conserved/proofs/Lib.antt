@@ -1,9 +1,0 @@
-pub mod Before
-pub mod Counted
-pub mod Covers
-pub mod Entitled
-pub mod Fresh
-pub mod Names
-pub mod Opening
-pub mod Starting
-pub mod Sums

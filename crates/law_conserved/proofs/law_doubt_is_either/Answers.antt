@@ -1,5 +1,0 @@
-use Rattle.law_conserved.proofs.Starting.{doubt_is_either}
-use Rattle.law_conserved.proofs.law_doubt_is_either.Goals as goal
-
-pub returns : goal.returns
-returns c = doubt_is_either

@@ -1,5 +1,0 @@
-use Rattle.law_conserved.proofs.Starting.{start_gives_up}
-use Rattle.law_conserved.proofs.law_start_gives_up.Goals as goal
-
-pub returns : goal.returns
-returns c = start_gives_up

@@ -1,4 +1,0 @@
-use Rattle.law_conserved.proofs.law_wires_hold_frames.Goals as goal
-
-pub returns : goal.returns
-returns c = λ net w k l. (k.wired l).wired

@@ -1,8 +1,0 @@
-pub mod Telling
-pub mod Counts
-pub mod Made
-pub mod Walking
-pub mod Given
-pub mod Folds
-pub mod Together
-pub mod Rests

@@ -1,5 +1,0 @@
-use Rattle.law_courses.proofs.Rests.{rest_is}
-use Rattle.law_courses.proofs.law_octets_left.Goals as goal
-
-pub returns : goal.returns
-returns c = λ told rest n octets end. rest_is told rest n octets end

@@ -1,3 +1,0 @@
-pub mod Benched
-pub mod Headlines
-pub mod Seen

@@ -1,5 +1,0 @@
-use Rattle.law_fits.proofs.Whole.{read_is_runnable}
-use Rattle.law_fits.proofs.law_read_commands_fit.Goals as goal
-
-pub returns : goal.returns
-returns c = read_is_runnable

@@ -1,5 +1,0 @@
-use Rattle.law_folds.proofs.Doubtful.{doubt_fits}
-use Rattle.law_folds.proofs.law_doubt_fits_where_it_stops.Goals as goal
-
-pub returns : goal.returns
-returns c = doubt_fits

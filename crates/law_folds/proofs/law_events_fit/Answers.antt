@@ -1,5 +1,0 @@
-use Rattle.law_folds.proofs.Asked.{event_fits}
-use Rattle.law_folds.proofs.law_events_fit.Goals as goal
-
-pub returns : goal.returns
-returns c = λ net w v event e good conserved asked is. event_fits net w v good conserved event e asked is

@@ -1,5 +1,0 @@
-use Rattle.law_folds.proofs.Starting.{start_goes}
-use Rattle.law_folds.proofs.law_start_goes_on.Goals as goal
-
-pub returns : goal.returns
-returns c = λ net w v committed conserved down enabled fits. start_goes net w v committed down enabled conserved fits

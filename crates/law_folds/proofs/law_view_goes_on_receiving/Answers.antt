@@ -1,5 +1,0 @@
-use Rattle.law_folds.proofs.Arriving.{receive_goes}
-use Rattle.law_folds.proofs.law_view_goes_on_receiving.Goals as goal
-
-pub returns : goal.returns
-returns c = receive_goes

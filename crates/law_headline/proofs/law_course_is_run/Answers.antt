@@ -1,5 +1,0 @@
-use Rattle.law_headline.proofs.Served.{course_is_run}
-use Rattle.law_headline.proofs.law_course_is_run.Goals as goal
-
-pub returns : goal.returns
-returns c = course_is_run

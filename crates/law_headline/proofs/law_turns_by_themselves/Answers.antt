@@ -1,5 +1,0 @@
-use Rattle.law_headline.proofs.Outcomes.{turns_by_themselves}
-use Rattle.law_headline.proofs.law_turns_by_themselves.Goals as goal
-
-pub returns : goal.returns
-returns c = turns_by_themselves

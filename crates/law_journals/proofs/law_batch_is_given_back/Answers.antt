@@ -1,5 +1,0 @@
-use Rattle.law_journals.proofs.Restarting.{batch_given}
-use Rattle.law_journals.proofs.law_batch_is_given_back.Goals as goal
-
-pub returns : goal.returns
-returns c = λ site me batches v batch h. batch_given site me batches v batch h

@@ -1,5 +1,0 @@
-use Rattle.law_lane_works.proofs.ByWorker.{each_its_own}
-use Rattle.law_lane_works.proofs.law_each_worker_does_its_own.Goals as goal
-
-pub returns : goal.returns
-returns c = each_its_own

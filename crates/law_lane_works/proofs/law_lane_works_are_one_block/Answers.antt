@@ -1,5 +1,0 @@
-use Rattle.law_lane_works.proofs.OneBlock.{one_block}
-use Rattle.law_lane_works.proofs.law_lane_works_are_one_block.Goals as goal
-
-pub returns : goal.returns
-returns c = λ net workers w jobs histories logs some network conserved quiet h. one_block net network workers some w conserved quiet jobs histories logs h

@@ -1,5 +1,0 @@
-use Rattle.law_lane_works.proofs.WorkersCalls.{are_lane_works}
-use Rattle.law_lane_works.proofs.law_workers_works_are_lane_works.Goals as goal
-
-pub returns : goal.returns
-returns c = are_lane_works

@@ -1,9 +1,0 @@
--- Where a lane's bytes stand among the octets of its link's device.
-use Rattle.std.specs.Prelude.{ℕ, ◌+◌, ◌*◌, ◌/◌, ◌%◌}
-use Rattle.qkd_base.specs.declared.lane.Way.{Way}
-use Rattle.qkd_base.specs.declared.lane.Way.TheVariants.{Up, Down}
-
--- blocks of 1,024 octets: those with an even number for the lane up, the others for the lane down
-abbrev pub device_place : Way → ℕ → ℕ
-device_place Up offset = 1024 * (2 * (offset / 1024)) + offset % 1024
-device_place Down offset = 1024 * (2 * (offset / 1024) + 1) + offset % 1024

@@ -1,5 +1,0 @@
-use Rattle.law_merges.proofs.Holding.{merge_test}
-use Rattle.law_merges.proofs.law_merge_passes_as_its_parts.Goals as goal
-
-pub returns : goal.returns
-returns g c p parts out h = merge_test p h

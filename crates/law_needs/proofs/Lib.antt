@@ -1,3 +1,0 @@
-pub mod Blind
-pub mod Staying
-pub mod Adding

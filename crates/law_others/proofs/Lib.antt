@@ -1,9 +1,0 @@
-pub mod Managers
-pub mod ManagerSteps
-pub mod Spared
-pub mod Repeats
-pub mod Lanes
-pub mod LaneSteps
-pub mod LaneParts
-pub mod Links
-pub mod Frames

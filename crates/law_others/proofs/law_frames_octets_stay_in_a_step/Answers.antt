@@ -1,5 +1,0 @@
-use Rattle.law_others.proofs.Frames.{frame_stays}
-use Rattle.law_others.proofs.law_frames_octets_stay_in_a_step.Goals as goal
-
-pub returns : goal.returns
-returns c = frame_stays

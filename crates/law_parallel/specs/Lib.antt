@@ -1,0 +1,10 @@
+pub mod Putting
+pub mod Remaining
+pub mod InOrder
+pub mod Logs
+pub mod Puts
+pub mod LaneWorks
+pub mod Places
+pub mod Workers
+pub mod Calls
+pub mod Beside

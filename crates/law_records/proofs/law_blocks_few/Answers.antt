@@ -1,5 +1,0 @@
-use Rattle.law_records.proofs.Growing.{replay_few}
-use Rattle.law_records.proofs.law_blocks_few.Goals as goal
-
-pub returns : goal.returns
-returns c s d v batch may few = replay_few s v batch d may few

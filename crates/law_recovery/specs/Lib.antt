@@ -1,0 +1,5 @@
+pub mod Fitting
+pub mod Turns
+pub mod GivesBack
+pub mod Saved
+pub mod Starting

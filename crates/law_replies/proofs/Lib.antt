@@ -1,8 +1,0 @@
-pub mod Bytes
-pub mod Chunks
-pub mod Success
-pub mod Marks
-pub mod TrueDecisions
-pub mod Silent
-pub mod Replies
-pub mod Rooms

@@ -1,0 +1,33 @@
+-- What follows when a chain of options, or a choice between two, yields a value.
+use Rattle.std.proofs.Common.{◌≡◌, Bool, true, false, ◌&&◌, Option, Some, None, refl, ap}
+use Rattle.std.specs.Prelude.{if◌then◌else◌, unwrap_or}
+use Rattle.std.proofs.lemmas.Bool.{and_parts}
+use Rattle.scenario_text.specs.Words.{◌>>=◌}
+
+pub same_some : {A : Type 0} (x y : A) → Some x ≡ Some y → x ≡ y
+same_some {A = A} x y e = ap (λ (o : Option A). unwrap_or o x) e
+
+-- A chain of options yields a value only if each part does.
+pub bound : {A B : Type 0} (o : Option A) (f : A → Option B) (y : B) → (o >>= f) ≡ Some y → (x : A) × (o ≡ Some x) × (f x ≡ Some y)
+bound None f y e = absurd cc
+bound (Some x) f y e = (x, refl, e)
+
+pub asserted : {A : Type 0} (b : Bool) (o : Option A) (y : A) → (if b then o else None) ≡ Some y → (b ≡ true) × (o ≡ Some y)
+asserted true o y e = (refl, e)
+asserted false o y e = absurd cc
+
+pub guarded : {A : Type 0} (b : Bool) (x y : A) → (if b then Some x else None) ≡ Some y → (b ≡ true) × (x ≡ y)
+guarded true x y e = (refl, same_some x y e)
+guarded false x y e = absurd cc
+
+pub excluded : {A : Type 0} (b : Bool) (o : Option A) (y : A) → (if b then None else o) ≡ Some y → (b ≡ false) × (o ≡ Some y)
+excluded true o y e = absurd cc
+excluded false o y e = (refl, e)
+
+-- A choice between two options yields the value of the one that its test chooses.
+pub either : {A : Type 0} (P : Type 0) (b : Bool) (o p : Option A) (y : A) → (o ≡ Some y → P) → (p ≡ Some y → P) → (if b then o else p) ≡ Some y → P
+either P true o p y first other e = first e
+either P false o p y first other e = other e
+
+pub three_parts : (a b c : Bool) → (a && b && c) ≡ true → (a ≡ true) × (b ≡ true) × (c ≡ true)
+three_parts a b c h = let parts = and_parts (a && b) c h in let front = and_parts a b parts.0 in (front.0, front.1, parts.1)

@@ -1,0 +1,98 @@
+-- In every run, all clauses of the headline on keys and lane bytes hold.
+use Rattle.std.proofs.Common.{◌≡◌, ℕ, zero, suc, ◌<◌, true, ◌&&◌, List, [], ◌∷◌, length, subst, Some, arith}
+use Rattle.std.specs.Prelude.{nat_le, slice_get, take}
+use Rattle.std.proofs.lemmas.Bool.Decides.{nat_tests}
+use Rattle.qkd_base.specs.Name.{Name}
+use Rattle.net_model.specs.declared.event.Event.TheVariants.{EncGroup}
+use Rattle.net_model.specs.World.{Network, World, first}
+use Rattle.net_model.specs.Premises.{IsNetwork}
+use Rattle.net_model.specs.Invariant.{Conserved}
+use Rattle.net_model.specs.Events.{are_slaves, is_count, is_rising, is_valid_event}
+use Rattle.net_model.specs.Streams.{is_size}
+use Rattle.net_model.specs.Action.{Action, Ask, Environment, is_shown, environment_of}
+use Rattle.net_model.specs.Step.{step, run, is_enabled, is_node, IsStep, IsRun}
+use Rattle.law_safety.specs.Ends.{IsEntitledEnd}
+use Rattle.law_base.proofs.Base.{and_left, and_right}
+use Rattle.law_base.proofs.Grow.{Grows}
+use Rattle.law_invariant.proofs.Steps.{run_keeps}
+use Rattle.law_safety.proofs.Worlds.{grows_step}
+use Rattle.law_locality.proofs.Runs.{first_step, later_steps}
+use Rattle.run_model.specs.Course.{Course, whole_run, world_after, last_world}
+use Rattle.run_model.specs.Keys.{IsEntitled, AreBytesOf}
+use Rattle.law_run.proofs.Fronts.{front_is_run}
+
+-- An entitled end in the sense of the conserved properties is one in the sense of the headline.
+pub entitled : (c : Course) (n : Name) (sae : ℕ) → IsEntitledEnd c.net.site (last_world c).durable.facts (last_world c).durable.known n sae → IsEntitled c.net.site (last_world c) n sae
+entitled c n sae e =
+    record {
+      first = e.first;
+      last = e.last;
+      allowed = e.allowed;
+      one = e.is_end;
+      name = e.name;
+      fact = e.fact;
+      there = e.there;
+      is = e.is;
+      from = e.from;
+      to = e.to;
+      knows = e.knows;
+    }
+
+pub got_within : {A : Type 0} (xs : List A) (i : ℕ) (x : A) → slice_get xs i ≡ Some x → i < length xs
+got_within [] i x h = cc
+got_within (y ∷ xs) zero x h = omega arith
+got_within (y ∷ xs) (suc i) x h = let more = got_within xs i x h in omega arith
+
+-- Each action of a run may happen in the world before it.
+step_at : (net : Network) (k : ℕ) (w : World) (xs : List Action) (a : Action) → IsRun net w xs → slice_get xs k ≡ Some a → IsStep net (run net w (take k xs)) a
+unfolding run
+step_at net k w [] a h at = cc
+step_at net zero w (x ∷ xs) a h at = let is : x ≡ a = cc in subst (λ (y : Action). IsStep net w y) is (first_step net w x xs h)
+step_at net (suc k) w (x ∷ xs) a h at = step_at net k (step net w x).0 xs a (later_steps net w x xs h) at
+
+-- Facts stay in the table during a run.
+grows_run : (net : Network) (w : World) (xs : List Action) → Grows w.durable.facts (run net w xs).durable.facts
+unfolding run
+grows_run net w [] n f h = h
+grows_run net w (x ∷ xs) n f h = grows_run net (step net w x).0 xs n f (grows_step net w x n f h)
+
+facts_stay : (net : Network) (k : ℕ) (w : World) (xs : List Action) → Grows (run net w (take k xs)).durable.facts (run net w xs).durable.facts
+unfolding run
+facts_stay net zero w [] n f h = h
+facts_stay net zero w (x ∷ xs) n f h = grows_run net (step net w x).0 xs n f (grows_step net w x n f h)
+facts_stay net (suc k) w [] n f h = h
+facts_stay net (suc k) w (x ∷ xs) n f h = facts_stay net k (step net w x).0 xs n f h
+
+pub bytes_stay : (c : Course) (k : ℕ) (n : Name) (bytes : List ℕ) → AreBytesOf (world_after c k).durable.facts n bytes → AreBytesOf (last_world c).durable.facts n bytes
+bytes_stay c k n bytes h =
+    record {
+      name = h.name;
+      fact = h.fact;
+      there = facts_stay c.net k first (whole_run c) h.name h.fact h.there;
+      is_secret = h.is_secret;
+      is = h.is;
+      bytes_are = h.bytes_are;
+    }
+
+-- A group of at least two slaves isn't empty.
+two_or_more : (n : ℕ) → nat_le 2 n ≡ true → 0 < n
+two_or_more n h = grind (arith, nat_tests)
+
+enabled_group : (net : Network) (w : World) (v m n bits : ℕ) (slaves : List ℕ) (environment : Environment) → is_enabled net w (Ask v (EncGroup m slaves n bits) environment) ≡ true → 0 < length slaves
+unfolding is_enabled is_valid_event
+enabled_group net w v m n bits slaves environment h =
+    let valid = and_right (is_node net v && true) (are_slaves slaves && is_count n && is_size bits) h in
+    let prefix = and_left (are_slaves slaves && is_count n) (is_size bits) valid in
+    let slaved = and_left (are_slaves slaves) (is_count n) prefix in
+    let sizes = and_left (nat_le 2 (length slaves) && nat_le (length slaves) 5) (is_rising slaves) slaved in
+    two_or_more (length slaves) (and_left (nat_le 2 (length slaves)) (nat_le (length slaves) 5) sizes)
+
+pub group_has_slaves : (c : Course) → IsRun c.net first (whole_run c) → (k v m n bits : ℕ) (slaves : List ℕ) (environment : Environment) →
+    slice_get (whole_run c) k ≡ Some (Ask v (EncGroup m slaves n bits) environment) → 0 < length slaves
+group_has_slaves c r k v m n bits slaves environment at =
+    let a : Action = Ask v (EncGroup m slaves n bits) environment in
+    let now : IsStep c.net (world_after c k) a = step_at c.net k first (whole_run c) a r at in
+    enabled_group c.net (world_after c k) v m n bits slaves environment (and_left (is_enabled c.net (world_after c k) a) (is_shown (environment_of a) (step c.net (world_after c k) a).1) now)
+
+pub conserved_after : (c : Course) → IsNetwork c.net → IsRun c.net first (whole_run c) → (k : ℕ) → Conserved c.net (world_after c k)
+conserved_after c network r k = run_keeps c.net (take k (whole_run c)) network (front_is_run c.net first (whole_run c) k r)

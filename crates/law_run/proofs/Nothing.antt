@@ -1,0 +1,99 @@
+-- The empty declaration is a site, and doing nothing is a run with a headline.
+use Rattle.std.proofs.Common.{◌≡◌, inl, ℕ, ◌+◌, ◌<◌, ◌≤◌, true, List, [], ◌++◌, length, refl, sym, subst, Some, None, arith}
+use Rattle.std.specs.Prelude.{is_some}
+use Rattle.std.specs.FinSet.{contains-empty}
+use Rattle.std.proofs.lemmas.List.Sums.{count_by-le-length}
+use Rattle.net_model.specs.OctetSequence.{OctetSequence}
+use Rattle.net_model.specs.Sealing.{IsSealing}
+use Rattle.net_model.specs.Premises.{IsSite, IsNetwork}
+use Rattle.net_model.specs.World.{first}
+use Rattle.net_model.specs.Faults.{disk_faults, entropy_faults, device_faults, wire_faults, armings}
+use Rattle.net_model.specs.Step.{run, is_run, IsRun}
+use Rattle.route_table.specs.Table.{no_links}
+use Rattle.sae_entitlements.specs.Pair.{pair_cmp}
+use Rattle.declared_site.specs.SiteOf.{site_of, links_in}
+use Rattle.run_types.specs.Texts.{report_text}
+use Rattle.run_model.specs.Report.{report, actions_of}
+use Rattle.run_model.specs.Left.{wire_octets}
+use Rattle.run_model.specs.Bench.{Layers}
+use Rattle.run_model.specs.Course.{Course, Run, whole_run, IsCourseOf}
+use Rattle.run_model.specs.Keys.{KeysAndBytes}
+use Rattle.run_model.specs.Headline.{Headline, Done}
+use Rattle.law_base.proofs.Base.{not_both}
+use Rattle.law_run.specs.Nothing.{nothing_declared, nothing_asked, nothing_told, untouched}
+
+none_linked : (l : ℕ) → l < links_in no_links → ⊥
+none_linked l h = let none : links_in no_links ≡ 0 = refl in omega (arith, h, none)
+
+none_allowed : (a b : ℕ) → (site_of nothing_declared).allowed a b ≡ true → ⊥
+none_allowed a b h = not_both ((site_of nothing_declared).allowed a b) h (contains-empty pair_cmp (a, b))
+
+is_site : IsSite (site_of nothing_declared)
+is_site =
+    let counted = count_by-le-length is_some no_links in
+    let size : length no_links ≡ 32 = refl in
+    record {
+      nodes = omega arith;
+      links = omega (arith, counted, size);
+      ends = λ l h. absurd (none_linked l h);
+      single = λ l k h g x y. absurd (none_linked l h);
+      pairs = λ a b h. absurd (none_allowed a b h);
+    }
+
+abbrev zeros : OctetSequence
+zeros = record { octet = λ i. 0; end = None }
+
+abbrev pub course : Layers → Course
+course layers = record { net = record { site = site_of nothing_declared; sealing = layers.sealing; device = λ link. zeros; entropy = λ v. zeros }; done = []; served = [] }
+
+pub is_network : (layers : Layers) → IsSealing layers.sealing → IsNetwork (course layers).net
+is_network layers f = record { site = is_site; sealing = f; devices = λ l i. omega arith; entropies = λ v i. omega arith }
+
+pub runs : (layers : Layers) → IsRun (course layers).net first (whole_run (course layers))
+unfolding actions_of is_run
+runs layers = refl
+
+some_same : {A : Type 0} (x y : A) → Some x ≡ Some y → x ≡ y
+some_same x y h = cc
+
+nothing_more : (before : List ℕ) → Some [] ≡ Some before → Some [] ≡ Some (before ++ [])
+nothing_more before e = subst (λ (xs : List ℕ). Some [] ≡ Some (xs ++ [])) (some_same [] before e) refl
+
+no_more : (n : ℕ) → n ≡ 0 → 0 + n ≤ 0
+no_more n e = omega (arith, e)
+
+none_below : (v : ℕ) → v < 0 → ⊥
+none_below v h = omega (arith, h)
+
+is_course : (layers : Layers) → IsSealing layers.sealing → IsCourseOf (Run 1) layers nothing_told nothing_asked (course layers)
+is_course layers f =
+    record {
+      network = is_network layers f;
+      scenario_is = tt;
+      site = refl;
+      sealing = refl;
+      devices = λ link. tt;
+      entropies = λ v. tt;
+      lines = tt;
+      served = refl;
+      steps = runs layers;
+    }
+
+pub headline : (layers : Layers) → IsSealing layers.sealing → KeysAndBytes (course layers) → Headline (Run 1) Done layers nothing_told nothing_asked untouched (Some []) (Some [])
+unfolding report report_text actions_of run first wire_octets disk_faults entropy_faults device_faults wire_faults armings
+headline layers f keys =
+    record {
+      course = course layers;
+      run = is_course layers f;
+      reported = (refl, nothing_more);
+      wires = λ l frames e. sym (some_same [] frames e);
+      disks = λ v h blank. absurd (none_below v h);
+      other_disks = λ v h. refl;
+      left = λ v octets rest e k. cc;
+      keys = keys;
+      disk_faults = λ v. inl (no_more _ refl);
+      entropy_faults = λ v. inl (no_more _ refl);
+      device_faults = λ link. inl (no_more _ refl);
+      wire_faults = λ l. inl (no_more _ refl);
+      armed = λ v. (refl, refl);
+    }

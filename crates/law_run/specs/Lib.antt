@@ -1,0 +1,7 @@
+pub mod Nothing
+pub mod Benched
+pub mod Headlines
+pub mod Seen
+pub mod Handed
+pub mod Kinds
+pub mod Ledgers

@@ -1,0 +1,39 @@
+-- A scenario that declares nothing and asks for nothing, and a bench that stays unchanged.
+use Rattle.std.specs.Prelude.{[], Some, None}
+use Rattle.route_table.specs.Table.{no_links}
+use Rattle.sae_entitlements.specs.Grants.{none}
+use Rattle.declared_site.specs.declared.site.Site.{Site}
+use Rattle.run_types.specs.declared.scenario.Scenario.{Scenario}
+use Rattle.net_model.specs.Sealing.{IsSealing}
+use Rattle.run_model.specs.Bench.{Layers, Sources, Count, Seen}
+use Rattle.run_model.specs.Course.{Run}
+use Rattle.run_model.specs.Headline.{Headline, Done}
+
+abbrev pub nothing_declared : Site
+nothing_declared = record { nodes = []; routes = no_links; entitlements = none }
+
+abbrev pub nothing_asked : Scenario
+nothing_asked = record { site = nothing_declared; node_lines = []; entries = [] }
+
+abbrev pub nothing_told : Sources
+nothing_told = record { devices = λ link. None; entropies = λ v. None }
+
+abbrev pub no_fault : Count
+no_fault = record { old = 0; new = 0; greatest = 1 }
+
+abbrev pub untouched : Seen
+untouched =
+    record {
+      disk_count = λ v. no_fault;
+      entropy_count = λ v. no_fault;
+      device_count = λ link. no_fault;
+      wire_count = λ l. no_fault;
+      arming = λ v. record { times = 0; old = None; new = None };
+      wire = λ l. Some [];
+      disk = λ v. [];
+      entropy = λ v. None;
+    }
+
+-- The headline of this scenario holds, with an empty report.
+abbrev pub NothingIsDone : Type 0
+NothingIsDone = (layers : Layers) → IsSealing layers.sealing → Headline (Run 1) Done layers nothing_told nothing_asked untouched (Some []) (Some [])

@@ -1,0 +1,5 @@
+use Rattle.law_safety.proofs.Success.{enc_group_succeeds}
+use Rattle.law_safety.proofs.reply_laws.law_enc_group_succeeds.Goals as goal
+
+pub returns : goal.returns
+returns c = enc_group_succeeds

@@ -1,6 +1,0 @@
-use Rattle.law_courses.proofs.Together.{headline}
-use Rattle.law_serves.proofs.courses.law_headline_of_a_course.Goals as goal
-
-pub returns : goal.returns
-returns c = λ words stop layers sources scenario course seen old new is reported sees.
-    headline words layers sources scenario course is seen sees stop old new reported (c.law_keys_of_a_course.ensures words layers sources scenario course is)

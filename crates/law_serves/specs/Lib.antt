@@ -1,4 +1,0 @@
-pub mod Over
-pub mod Passed
-pub mod Served
-pub mod Told

@@ -1,3 +1,0 @@
-pub mod Journals
-pub mod Passed
-pub mod Starts

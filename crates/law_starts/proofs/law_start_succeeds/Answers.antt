@@ -1,8 +1,0 @@
-use Rattle.law_starts.proofs.Starts.{reads_back, finds}
-use Rattle.law_starts.proofs.law_start_succeeds.Goals as goal
-
-pub returns-clause-recovers : goal.returns-clause-recovers
-returns-clause-recovers c = λ net w v committed m may. reads_back net w v m committed may
-
-pub returns-clause-resumes : goal.returns-clause-resumes
-returns-clause-resumes c = λ net w v committed m stopped k. finds net w v m committed stopped k

@@ -1,2 +1,0 @@
-pub mod HandedName
-pub mod Passed

@@ -1,9 +1,0 @@
-pub mod Again
-pub mod Completing
-pub mod Lists
-pub mod Orders
-pub mod Planning
-pub mod Plans
-pub mod Puts
-pub mod Repeats
-pub mod Spelling

@@ -1,4 +1,0 @@
-pub mod Apart
-pub mod Numbers
-pub mod Tables
-pub mod Wires

@@ -1,4 +1,0 @@
-pub mod Shortest
-pub mod Masked
-pub mod Seen
-pub mod Views

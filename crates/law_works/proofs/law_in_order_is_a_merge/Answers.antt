@@ -1,5 +1,0 @@
-use Rattle.law_works.proofs.Merging.{in_order_is_a_merge}
-use Rattle.law_works.proofs.law_in_order_is_a_merge.Goals as goal
-
-pub returns : goal.returns
-returns c = in_order_is_a_merge

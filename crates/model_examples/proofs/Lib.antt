@@ -1,0 +1,17 @@
+pub mod Opened
+pub mod TickRowsProofs
+pub mod RelayRowsProofs
+pub mod KeyRowsProofs
+pub mod StreamRowsProofs
+pub mod StartRowsProofs
+pub mod GroupRowsProofs
+pub mod FrameRowsProofs
+pub mod JournalRowsProofs
+pub mod WorldRowsProofs
+pub mod ManagerRowsProofs
+pub mod PartRowsProofs
+pub mod RunRowsProofs
+pub mod BlockRowsProofs
+pub mod LoadRowsProofs
+pub mod Networks
+pub mod Running

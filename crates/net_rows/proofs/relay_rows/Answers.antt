@@ -1,8 +1,0 @@
-use Rattle.net_rows.proofs.RelayRowsProofs.{relay, relay_crash}
-use Rattle.net_rows.proofs.relay_rows.Goals as goal
-
-pub returns-clause-relay : goal.returns-clause-relay
-returns-clause-relay c = relay
-
-pub returns-clause-relay_crash : goal.returns-clause-relay_crash
-returns-clause-relay_crash c = relay_crash

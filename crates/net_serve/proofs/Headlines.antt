@@ -1,0 +1,137 @@
+-- The lines of a scenario, and what was done after them, give the headline of the whole.
+use Rattle.std.proofs.Common.{◌≡◌, ◌∙◌, ◌⊎◌, inl, inr, ℕ, Bool, true, List, [], length, Option, Result, Ok, Err, sym, ap, subst}
+use Rattle.std.specs.Prelude.{MatchResult, is_ok}
+use Rattle.std.specs.List.{flat_map}
+use Rattle.disk_model.specs.declared.arm.Armings.{Armings}
+use Rattle.net_model.specs.OctetSequence.{OctetSequence}
+use Rattle.net_model.specs.Premises.{IsNetwork}
+use Rattle.net_model.specs.World.{Network, World, first}
+use Rattle.net_model.specs.Action.{Action}
+use Rattle.net_model.specs.Step.{run}
+use Rattle.net_model.specs.BlockOrder.{AreChains}
+use Rattle.declared_site.specs.SiteOf.{IsDeclared}
+use Rattle.declared_site.specs.declared.site.Site.{Site as Declared}
+use Rattle.hop_frames.specs.Sealing.{hop_sealing}
+use Rattle.run_types.specs.declared.scenario.Scenario.{Scenario}
+use Rattle.run_types.specs.Texts.{report_text, served_text}
+use Rattle.run_model.specs.Turn.{HttpTexts}
+use Rattle.run_model.specs.Play.{Whole}
+use Rattle.run_model.specs.Report.{Task, Performed, IsRunOf, report, actions_of}
+use Rattle.run_model.specs.Bench.{Layers, Sources, Seen}
+use Rattle.run_model.specs.Course.{Serve, Course, tasks_of, served_by, last_world}
+use Rattle.run_model.specs.Headline as headline
+use Rattle.run_model.specs.Headline.{Took}
+use Rattle.run_ops.specs.Acting.{IsReady}
+use Rattle.run_lines.specs.Running.{StopsAs}
+use Rattle.run_lines.specs.declared.stop.Stop.{Stop}
+use Rattle.law_locality.proofs.Runs.{run-append}
+use Rattle.law_run.specs.Benched.{IsBenched}
+use Rattle.law_run.specs.Headlines.{HeadlineOf}
+use Rattle.net_serve.specs.Over.{course_on, IsServedOver}
+use Rattle.net_serve.specs.ServedRun.{MayFollow}
+use Rattle.net_serve.specs.Told.{IsServeTold}
+use Rattle.kme_serve.specs.Door.{Door}
+use Rattle.kme_serve.specs.Doors.{PortsTold}
+use Rattle.world_state.specs.Rests.{Rests}
+use Rattle.world_state.specs.Stands.{Stands}
+use Rattle.world_state.specs.declared.state.State.{State}
+use Rattle.world_state.proofs.Tallies.{tallied_more}
+use Rattle.net_world.specs.Laid.{IsPutBack}
+use Rattle.net_world.specs.New.{IsNew, AreKnown, network_on}
+use Rattle.net_world.specs.declared.bench.Bench.{Bench}
+use Rattle.net_world.specs.Running.{RanOut}
+use Rattle.net_serve.specs.BenchServing.{ended, ServedBehind, ServedBy, HasServedHeadlines}
+use Rattle.net_serve.specs.Behind.{AreRequests, IsLineTold, Ends}
+use Rattle.net_serve.specs.declared.stop.ServeStop.{ServeStop}
+use Rattle.net_serve.specs.declared.stop.ServeStop.TheVariants.{Stopped}
+use Rattle.net_serve.proofs.Told.{all_told}
+
+-- if the lines came to their end, requests may follow them
+follows : {T : Type 0} (lines : Result T Stop) (layers : Layers) (scenario : Scenario) (net : Network) (done : List Performed) (served : List (List Action)) (before after : Option (List ℕ)) →
+    (report layers.http net first (tasks_of scenario) done).world ≡ run net first (actions_of net done) →
+    MatchResult lines (λ answer. ((report layers.http net first (tasks_of scenario) done).ending ≡ Whole) × Took before after (report_text scenario.site.nodes (report layers.http net first (tasks_of scenario) done).items))
+    (λ stop. StopsAs stop scenario.site.nodes (report layers.http net first (tasks_of scenario) done) before after) →
+    (served ≡ []) ⊎ ((is_ok lines ≡ true) × AreRequests net (report layers.http net first (tasks_of scenario) done).world served) → MayFollow layers scenario net done served
+follows lines layers scenario net done served before after leads told (inl none) = inl none
+follows (Ok answer) layers scenario net done served before after leads told (inr asked) = inr (record {
+  whole = told.0;
+  nodes = asked.1.nodes;
+  chains = subst (λ (w : World). AreChains net w 0 served) leads asked.1.chains;
+  requests = asked.1.requests;
+})
+follows (Err stop) layers scenario net done served before after leads told (inr asked) = absurd (let wrong = asked.0 in cc)
+
+module _ {K Q E X D : Type 0} (is_honest : K → Bool) (content : K → List ℕ) (moment : K → ℕ) (image : K → ℕ → List ℕ → Type 0) (left : E → Option OctetSequence)
+    (told : Q → Option OctetSequence) (frames : X → Option (List (List ℕ))) (counted : X → ℕ)
+    (disk_count : K → ℕ) (armed : K → Armings) (entropy_count : E → ℕ) (device_count : Q → ℕ) (wire_count : X → ℕ) (tell : D → Door) (failed : D → ℕ) (told_ports : Type 0) where
+  left_of : {T : Type 0} (s : State K Q E X) (net : Network) (w : World) (result : Result T Stop) →
+      MatchResult result (λ answer. IsReady (Stands is_honest moment image left told frames counted) s net w) (λ stop. Rests is_honest moment image left told frames counted s net w) →
+      MatchResult result (λ answer. Stands is_honest moment image left told frames counted s net w) (λ stop. Rests is_honest moment image left told frames counted s net w)
+  left_of s net w (Ok done) h = h.stands
+  left_of s net w (Err stop) h = h
+
+  module _ {T U : Type 0} (old stayed new : Bench K Q E X) (state final : State K Q E X) (scenario : Scenario) (workers connections port : ℕ) (before between after : Option (List ℕ))
+      (ports_before ports_after : PortsTold D) (lines : Result T Stop) (result : Result U ServeStop)
+      (tasks_lead : (http : HttpTexts) (net : Network) (workers : ℕ) (tasks : List Task) (done : List Performed) → IsNetwork net → IsRunOf http net workers first tasks done →
+      (report http net first tasks done).world ≡ run net first (actions_of net done))
+      (bench_begins : (b : Bench K Q E X) (scenario : Scenario) (layers : Layers) (sources : Sources) → IsNew is_honest moment image left told frames b → IsDeclared scenario.site →
+      layers.sealing ≡ hop_sealing → AreKnown told b.devices.items sources.devices → AreKnown left b.entropies.items sources.entropies →
+      IsBenched layers sources scenario (network_on told left b scenario.site))
+      (bench_serves : (layers : Layers) (sources : Sources) (scenario : Scenario) (workers connections port : ℕ) (stop : headline.Stop) (seen : Seen) (old new : Bench K Q E X) (before after : Option (List ℕ))
+      (done : List Performed) (served : List (List Action)) →
+      IsServedOver is_honest content moment image left told frames counted disk_count armed entropy_count device_count wire_count old new layers sources scenario (course_on told left old scenario done served) seen →
+      IsRunOf layers.http (network_on told left old scenario.site) workers first (tasks_of scenario) done → MayFollow layers scenario (network_on told left old scenario.site) done served →
+      IsServeTold stop scenario.site.nodes (report layers.http (network_on told left old scenario.site) first (tasks_of scenario) done)
+      (served_by (Serve workers connections port) (length scenario.site.nodes)) before after →
+      HeadlineOf (Serve workers connections port) stop layers sources scenario seen before after (course_on told left old scenario done served))
+      (fresh : IsNew is_honest moment image left told frames old) (declared : IsDeclared scenario.site)
+      (ran : RanOut is_honest moment image left told frames counted disk_count armed entropy_count device_count wire_count old stayed workers scenario before between state lines)
+      (ends : (net : Network) (w : World) →
+      MatchResult lines (λ done. Stands is_honest moment image left told frames counted state net w) (λ stop. Rests is_honest moment image left told frames counted state net w) →
+      Ends is_honest moment image left told frames counted disk_count armed entropy_count device_count wire_count tell failed told_ports workers connections port state final net w ports_before ports_after
+      between after (served_text (served_by (Serve workers connections port) (length state.site.nodes))) lines result)
+      (back : IsPutBack is_honest content moment image final stayed new) where
+    pub headlines : HasServedHeadlines moment image left told frames disk_count armed entropy_count device_count wire_count tell failed told_ports old new ports_before ports_after workers connections port
+        scenario before after (ended result)
+    headlines = λ layers sources seen sealing speaks reads devices entropies shows.
+        let net = network_on told left old scenario.site in
+        let r = ran.ran layers.http speaks in
+        let p = report layers.http net first (tasks_of scenario) r.done in
+        let actions = actions_of net r.done in
+        let benched = bench_begins old scenario layers sources fresh declared sealing devices entropies in
+        let leads : p.world ≡ run net first actions = tasks_lead layers.http net workers (tasks_of scenario) r.done benched.network r.is in
+        let e = ends net p.world (left_of state net p.world lines r.left) in
+        let course : Course = course_on told left old scenario r.done e.served in
+        let behind : List Action = flat_map (λ h. h) e.served in
+        let last : run net p.world behind ≡ last_world course = ap (λ (w : World). run net w behind) {x = p.world} {y = run net first actions} leads ∙ sym (run-append net actions behind first) in
+        let over : IsServedOver is_honest content moment image left told frames counted disk_count armed entropy_count device_count wire_count old new layers sources scenario course seen = record {
+          fresh = fresh;
+          declared = declared;
+          sealing = sealing;
+          reads = reads;
+          devices = devices;
+          entropies = entropies;
+          ran = record {
+            begin = ran.begin;
+            end = final;
+            stayed = stayed;
+            laid = ran.laid;
+            rests = subst (λ (w : World). Rests is_honest moment image left told frames counted final net w) last e.rests;
+            tallied = tallied_more disk_count armed entropy_count device_count wire_count net.site ran.begin state final actions behind r.tallied e.tallied;
+            back = back;
+          };
+          shows = shows;
+        } in
+        let count = served_by (Serve workers connections port) (length scenario.site.nodes) in
+        let line = subst (λ (s : Declared). MatchResult lines (λ done. IsLineTold (ended result) between after (served_text (served_by (Serve workers connections port) (length s.nodes))))
+        (λ stop. (result ≡ Err (Stopped stop)) × (after ≡ between))) ran.sited e.line in
+        let says = all_told scenario.site.nodes p count before between after lines result r.told line in
+        let all = bench_serves layers sources scenario workers connections port (ended result) seen old new before after r.done e.served over r.is
+        (follows lines layers scenario net r.done e.served before between leads r.told e.asked) says in
+        let ports : ServedBehind tell failed told_ports workers connections port scenario.site ports_before ports_after (ended result) net (run net first actions) e.served =
+        subst (λ (w : World). ServedBehind tell failed told_ports workers connections port scenario.site ports_before ports_after (ended result) net w e.served) leads
+        (subst (λ (s : Declared). ServedBehind tell failed told_ports workers connections port s ports_before ports_after (ended result) net p.world e.served) ran.sited e.ports) in (
+          all.0,
+          ap (λ (c : Course). c.net) {x = all.0.course} {y = course} all.1,
+          subst (λ (c : Course). ServedBy tell failed told_ports workers connections port scenario.site ports_before ports_after (ended result) c) (sym all.1) ports,
+        )

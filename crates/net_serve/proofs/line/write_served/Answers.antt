@@ -1,0 +1,24 @@
+use Rattle.std.proofs.Common.{◌∙◌, subst, refl}
+use Rattle.run_model.specs.Headline.{TookFirst}
+use Rattle.run_types.specs.Texts.{served_text}
+use Rattle.run_lines.proofs.Lines.{one_lined, one_stopped}
+use Rattle.run_lines.proofs.Taking.{first_of}
+use Rattle.net_serve.specs.Lines.{IsServedLine}
+use Rattle.net_serve.proofs.Lined.{unserved}
+use Rattle.net_serve.proofs.line.write_served.Goals as goal
+
+pub returns-clause-line : goal.returns-clause-line
+returns-clause-line g c =
+    subst (TookFirst (g.W.Sink.taken c.args.sink.now) (g.W.Sink.taken c.write_all.new.self)) (c.as_slice.ensures ∙ c.in-Ok.ensures)
+    (first_of (g.W.Sink.taken c.args.sink.now) (g.W.Sink.taken c.write_all.new.self) c.as_slice.result.now c.in-Err.ensures.bytes)
+
+pub returns-in-Ok-write_all-clause-lined : goal.returns-in-Ok-write_all-clause-lined
+returns-in-Ok-write_all-clause-lined g c =
+    one_lined g.W.Sink.taken g.W.Sink.pieces IsServedLine _ _ c.as_slice.result.now (served_text c.args.count) (c.as_slice.ensures ∙ c.in-Ok.ensures) (c.args.count, refl) c.in-Ok-write_all.ensures.bytes c.in-Ok-write_all.ensures.piece
+
+pub returns-clause-lined : goal.returns-clause-lined
+returns-clause-lined g c =
+    one_stopped g.W.Sink.taken g.W.Sink.pieces IsServedLine _ _ c.as_slice.result.now (served_text c.args.count) (c.as_slice.ensures ∙ c.in-Ok.ensures) (c.args.count, refl) c.in-Err.ensures.bytes c.in-Err.ensures.piece
+
+pub returns-in_default-clause-lined : goal.returns-in_default-clause-lined
+returns-in_default-clause-lined g c = unserved g.W.Sink.taken g.W.Sink.pieces c.args.sink.now

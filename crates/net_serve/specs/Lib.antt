@@ -1,0 +1,11 @@
+pub mod Serving
+pub mod Passes
+pub mod Asked
+pub mod Seats
+pub mod Served
+pub mod Over
+pub mod ServedRun
+pub mod Told
+pub mod BenchServing
+pub mod Behind
+pub mod Lines

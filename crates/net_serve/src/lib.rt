@@ -1,0 +1,37 @@
+//! Connections that ask the managers of a run, and what `serve` does over a bench.
+#![tactic(auto)]
+
+mod answered;
+mod behind;
+mod bench;
+mod courses;
+mod laws;
+mod line;
+mod machine;
+mod managers;
+mod managing;
+mod over;
+mod pass;
+mod putting;
+mod room;
+mod running;
+mod seating;
+mod served_post;
+mod serving;
+mod stop;
+mod visiting;
+
+pub use answered::Answered;
+pub use bench::law_bench_serves;
+pub use courses::{
+    law_headline_of_a_course, law_reported_of_serve, law_served_lines_make_a_course,
+};
+pub use kme_serve::ServeRefusal;
+pub use laws::law_requests_are_taken;
+pub use managers::ServedManagers;
+pub use net_world::{Bench, Stop};
+pub use pass::Pass;
+pub use running::run_serve;
+pub use served_post::ServedPost;
+pub use serving::serve;
+pub use stop::ServeStop;

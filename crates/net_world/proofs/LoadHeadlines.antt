@@ -1,0 +1,105 @@
+-- The contracts of the calls of a load give its headline.
+use Rattle.std.proofs.Common.{◌≡◌, ℕ, Bool, List, Option, Result, Ok, Err, refl, subst}
+use Rattle.std.specs.Prelude.{MatchResult}
+use Rattle.net_model.specs.OctetSequence.{OctetSequence}
+use Rattle.net_model.specs.World.{Network, World, first}
+use Rattle.net_model.specs.Sealing.{IsSealing}
+use Rattle.net_model.specs.Site.{Site}
+use Rattle.net_model.specs.Action.{Action}
+use Rattle.declared_site.specs.SiteOf.{IsDeclared}
+use Rattle.disk_model.specs.declared.arm.Armings.{Armings}
+use Rattle.hop_frames.specs.Sealing.{hop_sealing}
+use Rattle.run_types.specs.declared.scenario.Scenario.{Scenario}
+use Rattle.run_model.specs.Turn.{HttpTexts}
+use Rattle.run_model.specs.Report.{Performed, IsRunOf, report, actions_of}
+use Rattle.run_model.specs.Load.{load_scenario}
+use Rattle.run_model.specs.Bench.{Layers, Sources, Seen}
+use Rattle.run_model.specs.Course.{Load, Course, tasks_of, lines_run, lines_played}
+use Rattle.run_model.specs.Headline as headline
+use Rattle.run_ops.specs.Acting.{IsReady}
+use Rattle.run_lines.specs.declared.stop.Stop.{Stop}
+use Rattle.run_lines.specs.declared.stop.Stop.TheVariants as stops
+use Rattle.law_run.specs.Benched.{lines_alone}
+use Rattle.law_run.specs.Handed.{enc_keys, dec_keys}
+use Rattle.run_tasks.specs.Loaded.{RanLoad}
+use Rattle.run_tasks.specs.Told as loads
+use Rattle.run_tasks.specs.Told.{IsLoadTold, IsLoadOver}
+use Rattle.world_state.specs.Rests.{Rests}
+use Rattle.world_state.specs.Stands.{Stands}
+use Rattle.world_state.specs.Tallied.{Tallied}
+use Rattle.world_state.specs.declared.state.State.{State}
+use Rattle.world_state.proofs.Resting.{comes_to_rest}
+use Rattle.net_world.specs.Laid.{IsLaidOut, IsPutBack}
+use Rattle.net_world.specs.New.{IsNew, network_on}
+use Rattle.net_world.specs.Over.{IsOver, HeadlineOver}
+use Rattle.net_world.specs.declared.bench.Bench.{Bench}
+use Rattle.net_world.proofs.Headlines.{over_network}
+use Rattle.net_world.specs.Running.{ended, HasHeadlines}
+
+ends_alike : {T : Type 0} (result : Result T Stop) → loads.ended result ≡ ended result
+ends_alike (Ok done) = refl
+ends_alike (Err stops.WriteFault) = refl
+ends_alike (Err stops.Memory) = refl
+ends_alike (Err (stops.Forged line)) = refl
+
+module _ {K Q E X S : Type 0} (is_honest : K → Bool) (content : K → List ℕ) (moment : K → ℕ) (image : K → ℕ → List ℕ → Type 0) (left : E → Option OctetSequence)
+    (told : Q → Option OctetSequence) (frames : X → Option (List (List ℕ))) (counted : X → ℕ)
+    (disk_count : K → ℕ) (armed : K → Armings) (entropy_count : E → ℕ) (device_count : Q → ℕ) (wire_count : X → ℕ) (part : S → State K Q E X) where
+  abbrev Standing : S → Network → World → Type 0
+  Standing s = Stands is_honest moment image left told frames counted (part s)
+
+  abbrev Resting : S → Network → World → Type 0
+  Resting s = Rests is_honest moment image left told frames counted (part s)
+
+  abbrev Counting : S → S → Site → List Action → Type 0
+  Counting a b = Tallied disk_count armed entropy_count device_count wire_count (part a) (part b)
+
+  rests_in : {T : Type 0} (s : S) (net : Network) (w : World) (result : Result T Stop) → MatchResult result (λ answer. IsReady Standing s net w) (λ stop. Resting s net w) → Resting s net w
+  rests_in s net w (Ok done) h = comes_to_rest is_honest moment image left told frames counted net w (part s) h.stands
+  rests_in s net w (Err stop) h = h
+
+  pub headlines : {T : Type 0} (old stayed new : Bench K Q E X) (begin end : S) (scenario : Scenario) (rounds : ℕ) (before after : Option (List ℕ)) (result : Result T Stop) →
+      ((layers : Layers) (sources : Sources) (scenario : Scenario) (rounds : ℕ) (stop : headline.Stop) (seen : Seen) (old new : Bench K Q E X) (before after : Option (List ℕ)) (done : List Performed) →
+      scenario ≡ load_scenario rounds →
+      IsOver is_honest content moment image left told frames counted disk_count armed entropy_count device_count wire_count old new layers sources scenario done seen →
+      IsRunOf layers.http (network_on told left old scenario.site) 1 first (tasks_of scenario) done →
+      headline.IsReported (Load rounds) stop layers scenario (lines_alone (network_on told left old scenario.site) done) before after →
+      HeadlineOver told left old (Load rounds) stop layers sources scenario seen before after) →
+      ((layers : Layers) (scenario : Scenario) (rounds : ℕ) (c : Course) (stop : headline.Stop) (old new : Option (List ℕ)) → IsLoadOver layers scenario rounds c →
+      IsLoadTold stop scenario.site.nodes (lines_played layers scenario c) (enc_keys c.net first (lines_run c)) (dec_keys c.net first (lines_run c)) old new →
+      headline.IsReported (Load rounds) stop layers scenario c old new) →
+      IsSealing hop_sealing → scenario ≡ load_scenario rounds →
+      IsNew is_honest moment image left told frames old → IsDeclared scenario.site → IsLaidOut old stayed scenario.site (part begin) →
+      ((http : HttpTexts) →
+      RanLoad Standing Resting Counting scenario.site.nodes begin end before after http (network_on told left old scenario.site) first (tasks_of scenario) result) →
+      IsPutBack is_honest content moment image (part end) stayed new →
+      HasHeadlines is_honest content moment image left told frames counted disk_count armed entropy_count device_count wire_count old new (Load rounds) scenario before after (ended result)
+  headlines old stayed new begin end scenario rounds before after result law reported frame_law is fresh declared laid ran back =
+      λ layers sources seen sealing speaks reads devices entropies shows.
+      let net = network_on told left old scenario.site in
+      let r = ran layers.http in
+      let over : IsOver is_honest content moment image left told frames counted disk_count armed entropy_count device_count wire_count old new layers sources scenario r.done seen = record {
+        fresh = fresh;
+        declared = declared;
+        sealing = sealing;
+        reads = reads;
+        devices = devices;
+        entropies = entropies;
+        ran = record {
+          begin = part begin;
+          end = part end;
+          stayed = stayed;
+          laid = laid;
+          rests = rests_in end net (report layers.http net first (tasks_of scenario) r.done).world result r.left;
+          tallied = r.tallied;
+          back = back;
+        };
+        shows = shows;
+      } in
+      let network = over_network is_honest content moment image left told frames counted disk_count armed entropy_count device_count wire_count old new layers sources scenario r.done seen
+      frame_law over in
+      let told_so = subst (λ (stop : headline.Stop). IsLoadTold stop scenario.site.nodes (report layers.http net first (tasks_of scenario) r.done)
+      (enc_keys net first (actions_of net r.done)) (dec_keys net first (actions_of net r.done)) before after) (ends_alike result) r.told in
+      law layers sources scenario rounds (ended result) seen old new before after r.done is over r.is
+      (reported layers scenario rounds (lines_alone net r.done) (ended result) before after
+      (record { scenario_is = is; network = network; lines = r.is; alone = refl }) told_so)

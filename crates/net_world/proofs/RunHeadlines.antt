@@ -1,0 +1,119 @@
+-- The contracts of the calls of a run give its headline.
+use Rattle.std.proofs.Common.{◌≡◌, ℕ, Bool, List, Option, Result, Ok, Err, subst}
+use Rattle.std.specs.Prelude.{MatchResult, OnOk}
+use Rattle.net_model.specs.OctetSequence.{OctetSequence}
+use Rattle.net_model.specs.World.{Network, World, first}
+use Rattle.net_model.specs.Site.{Site}
+use Rattle.net_model.specs.Action.{Action}
+use Rattle.declared_site.specs.SiteOf.{IsDeclared}
+use Rattle.disk_model.specs.declared.arm.Armings.{Armings}
+use Rattle.run_types.specs.declared.scenario.Scenario.{Scenario}
+use Rattle.run_types.specs.Texts.{report_text}
+use Rattle.run_model.specs.Turn.{HttpTexts}
+use Rattle.run_model.specs.Play.{Played, Whole}
+use Rattle.run_model.specs.Report.{Task, Performed, IsRunOf, report, actions_of}
+use Rattle.run_model.specs.Bench.{Layers, Sources, Seen}
+use Rattle.run_model.specs.Course.{Run, tasks_of}
+use Rattle.run_model.specs.Headline as headline
+use Rattle.run_ops.specs.Acting.{IsReady}
+use Rattle.run_lines.specs.Running.{StopsAs, IsReadySomewhere}
+use Rattle.run_tasks.specs.Tasks.{RanTasks}
+use Rattle.run_lines.specs.declared.stop.Stop.{Stop}
+use Rattle.run_lines.specs.declared.stop.Stop.TheVariants as stops
+use Rattle.law_run.specs.Seen.{IsTold}
+use Rattle.run_http.specs.Speaking.{IsTextsOf}
+use Rattle.world_state.specs.Rests.{Rests}
+use Rattle.world_state.specs.Stands.{Stands}
+use Rattle.world_state.specs.Tallied.{Tallied}
+use Rattle.world_state.specs.declared.state.State.{State}
+use Rattle.world_state.proofs.Resting.{comes_to_rest}
+use Rattle.net_world.specs.Laid.{IsLaidOut, IsPutBack}
+use Rattle.net_world.specs.New.{IsNew, network_on}
+use Rattle.net_world.specs.Over.{IsOver, HeadlineOver}
+use Rattle.net_world.specs.declared.bench.Bench.{Bench}
+use Rattle.net_world.specs.Running.{ended, HasHeadlines}
+
+told_of : {T : Type 0} (result : Result T Stop) (nodes : List (List ℕ)) (p : Played) (before after : Option (List ℕ)) →
+    MatchResult result (λ answer. (p.ending ≡ Whole) × headline.Took before after (report_text nodes p.items)) (λ stop. StopsAs stop nodes p before after) →
+    IsTold (ended result) nodes p before after
+told_of (Ok done) nodes p before after h = h
+told_of (Err stops.WriteFault) nodes p before after h = h
+told_of (Err stops.Memory) nodes p before after h = h
+told_of (Err (stops.Forged line)) nodes p before after h = h
+
+module _ {K Q E X S : Type 0} (is_honest : K → Bool) (content : K → List ℕ) (moment : K → ℕ) (image : K → ℕ → List ℕ → Type 0) (left : E → Option OctetSequence)
+    (told : Q → Option OctetSequence) (frames : X → Option (List (List ℕ))) (counted : X → ℕ)
+    (disk_count : K → ℕ) (armed : K → Armings) (entropy_count : E → ℕ) (device_count : Q → ℕ) (wire_count : X → ℕ) (part : S → State K Q E X) where
+  abbrev Standing : S → Network → World → Type 0
+  Standing s = Stands is_honest moment image left told frames counted (part s)
+
+  abbrev Resting : S → Network → World → Type 0
+  Resting s = Rests is_honest moment image left told frames counted (part s)
+
+  abbrev Told : S → S → Site → List Action → Type 0
+  Told a b = Tallied disk_count armed entropy_count device_count wire_count (part a) (part b)
+
+  left_of : {T : Type 0} (s : S) (net : Network) (w : World) (result : Result T Stop) → MatchResult result (λ answer. IsReady Standing s net w) (λ stop. Resting s net w) →
+      MatchResult result (λ answer. IsReady (Stands is_honest moment image left told frames counted) (part s) net w) (λ stop. Rests is_honest moment image left told frames counted (part s) net w)
+  left_of s net w (Ok done) h = record { stands = h.stands; quiet = h.quiet }
+  left_of s net w (Err stop) h = h
+
+  -- a run over a whole, told of its state alone
+  pub of_states : {T : Type 0} (begin end : S) (b e : State K Q E X) → part begin ≡ b → part end ≡ e → (nodes : List (List ℕ)) (before after : Option (List ℕ)) (http : HttpTexts) (net : Network) (workers : ℕ) (w : World)
+      (tasks : List Task) (result : Result T Stop) → RanTasks Standing Resting Told nodes begin end before after http net workers w tasks result →
+      RanTasks (Stands is_honest moment image left told frames counted) (Rests is_honest moment image left told frames counted) (Tallied disk_count armed entropy_count device_count wire_count) nodes b e before after
+      http net workers w tasks result
+  of_states begin end b e begins ends nodes before after http net workers w tasks result r = record {
+    done = r.done;
+    is = r.is;
+    left = subst (λ (s : State K Q E X). MatchResult result (λ answer. IsReady (Stands is_honest moment image left told frames counted) s net (report http net w tasks r.done).world)
+        (λ stop. Rests is_honest moment image left told frames counted s net (report http net w tasks r.done).world)) ends (left_of end net (report http net w tasks r.done).world result r.left);
+    tallied = subst (λ (s : State K Q E X). Tallied disk_count armed entropy_count device_count wire_count b s net.site (actions_of net r.done)) ends
+        (subst (λ (s : State K Q E X). Tallied disk_count armed entropy_count device_count wire_count s (part end) net.site (actions_of net r.done)) begins r.tallied);
+    told = r.told;
+  }
+
+  -- if the run came to its end, the state stands for some network and world
+  pub ready_after : {T : Type 0} (end : S) (e : State K Q E X) → part end ≡ e → (result : Result T Stop) → OnOk result (IsReadySomewhere Standing end) →
+      OnOk result ((net : Network) × (w : World) × Stands is_honest moment image left told frames counted e net w)
+  ready_after end e ends (Ok done) h = (h.0, h.1, subst (λ (s : State K Q E X). Stands is_honest moment image left told frames counted s h.0 h.1) ends h.2.stands)
+  ready_after end e ends (Err stop) h = h
+
+  rests_in : {T : Type 0} (s : S) (net : Network) (w : World) (result : Result T Stop) → MatchResult result (λ answer. IsReady Standing s net w) (λ stop. Resting s net w) → Resting s net w
+  rests_in s net w (Ok done) h = comes_to_rest is_honest moment image left told frames counted net w (part s) h.stands
+  rests_in s net w (Err stop) h = h
+
+  pub headlines : {T : Type 0} (old stayed new : Bench K Q E X) (begin end : S) (scenario : Scenario) (workers : ℕ) (before after : Option (List ℕ)) (result : Result T Stop) →
+      ((layers : Layers) (sources : Sources) (scenario : Scenario) (workers : ℕ) (stop : headline.Stop) (seen : Seen) (old new : Bench K Q E X) (before after : Option (List ℕ)) (done : List Performed) →
+      IsOver is_honest content moment image left told frames counted disk_count armed entropy_count device_count wire_count old new layers sources scenario done seen →
+      IsRunOf layers.http (network_on told left old scenario.site) workers first (tasks_of scenario) done →
+      IsTold stop scenario.site.nodes (report layers.http (network_on told left old scenario.site) first (tasks_of scenario) done) before after →
+      HeadlineOver told left old (Run workers) stop layers sources scenario seen before after) →
+      IsNew is_honest moment image left told frames old → IsDeclared scenario.site → IsLaidOut old stayed scenario.site (part begin) →
+      ((http : HttpTexts) → IsTextsOf scenario.site.nodes scenario.site.entitlements http →
+      RanTasks Standing Resting Told scenario.site.nodes begin end before after http (network_on told left old scenario.site) workers first (tasks_of scenario) result) →
+      IsPutBack is_honest content moment image (part end) stayed new →
+      HasHeadlines is_honest content moment image left told frames counted disk_count armed entropy_count device_count wire_count old new (Run workers) scenario before after (ended result)
+  headlines old stayed new begin end scenario workers before after result law fresh declared laid ran back = λ layers sources seen sealing speaks reads devices entropies shows.
+      let net = network_on told left old scenario.site in
+      let r = ran layers.http speaks in
+      law layers sources scenario workers (ended result) seen old new before after r.done
+      record {
+        fresh = fresh;
+        declared = declared;
+        sealing = sealing;
+        reads = reads;
+        devices = devices;
+        entropies = entropies;
+        ran = record {
+          begin = part begin;
+          end = part end;
+          stayed = stayed;
+          laid = laid;
+          rests = rests_in end net (report layers.http net first (tasks_of scenario) r.done).world result r.left;
+          tallied = r.tallied;
+          back = back;
+        };
+        shows = shows;
+      }
+      r.is (told_of result scenario.site.nodes (report layers.http net first (tasks_of scenario) r.done) before after r.told)

@@ -1,0 +1,158 @@
+-- A run out of a bench and what the sink took of it give the headline of the veil.
+use Rattle.std.proofs.Common.{◌≡◌, ℕ, Bool, List, [], Option, Result, None, Ok, Err, refl, sym, ap, subst, arith}
+use Rattle.std.specs.Prelude.{MatchResult, OnOk}
+use Rattle.net_model.specs.OctetSequence.{OctetSequence}
+use Rattle.net_model.specs.Premises.{IsNetwork}
+use Rattle.net_model.specs.Sealing.{IsSealing}
+use Rattle.net_model.specs.Invariant.{Conserved}
+use Rattle.net_model.specs.World.{Network, World, first}
+use Rattle.net_model.specs.Step.{run, IsRun}
+use Rattle.declared_site.specs.SiteOf.{IsDeclared}
+use Rattle.disk_model.specs.declared.arm.Armings.{Armings}
+use Rattle.hop_frames.specs.Sealing.{hop_sealing}
+use Rattle.run_types.specs.declared.scenario.Scenario.{Scenario}
+use Rattle.run_types.specs.Texts.{report_text}
+use Rattle.run_model.specs.Turn.{HttpTexts}
+use Rattle.run_model.specs.Play.{Played, Whole}
+use Rattle.run_model.specs.Report.{Task, Performed, IsRunOf, report, actions_of}
+use Rattle.run_model.specs.Bench.{Layers, Sources, Seen}
+use Rattle.run_model.specs.Course.{Run, Course, tasks_of, last_world, lines_played}
+use Rattle.run_model.specs.Headline as headline
+use Rattle.run_model.specs.Headline.{Took, TookFirst}
+use Rattle.run_ops.specs.Acting.{IsReady}
+use Rattle.run_lines.specs.Reporting.{IsBlamed}
+use Rattle.run_lines.specs.Running.{StopsAs}
+use Rattle.run_lines.specs.declared.stop.Stop.{Stop}
+use Rattle.run_lines.specs.declared.stop.Stop.TheVariants as stops
+use Rattle.law_run.specs.Benched.{IsBenched, lines_alone}
+use Rattle.law_run.specs.Headlines.{HeadlineOf}
+use Rattle.law_run.specs.Seen.{IsTold, IsSeen}
+use Rattle.net_world.specs.Other.{EveryKeyFits}
+use Rattle.world_state.specs.Rests.{Rests}
+use Rattle.world_state.specs.Stands.{Stands}
+use Rattle.world_state.specs.declared.state.State.{State}
+use Rattle.world_state.proofs.Resting.{comes_to_rest}
+use Rattle.net_world.specs.Laid.{IsPutBack}
+use Rattle.net_world.specs.New.{IsNew, network_on}
+use Rattle.net_world.specs.Over.{IsOver}
+use Rattle.net_world.specs.declared.bench.Bench.{Bench}
+use Rattle.net_world.proofs.Headlines.{over_network, over_benched, over_seen}
+use Rattle.net_world.specs.Running.{RanOut, ended}
+use Rattle.net_world.specs.Lanes.{AreLanes, veil_line, Tells}
+use Rattle.net_world.specs.Veiling.{Ends, IsVeilTold, HasVeiled}
+
+-- if a sink doesn't tell what it took, every text counts as taken in part
+none_taken : (text : List ℕ) → TookFirst None None text
+none_taken text = ([], text, refl, λ before e. cc)
+
+told_none : {T U W : Type 0} (taken : W → Option (List ℕ)) (result : Result T Stop) (nodes : List (List ℕ)) (p : Played) (line : List ℕ) (before after : W) (final : Result U Stop) →
+    MatchResult result (λ answer. (p.ending ≡ Whole) × Took None None (report_text nodes p.items)) (λ stop. StopsAs stop nodes p None None) →
+    Ends taken result line before after final → IsTold (ended final) nodes p None None
+told_none taken (Ok done) nodes p line before after (Ok u) h e = (h.0, λ b x. cc)
+told_none taken (Ok done) nodes p line before after (Err stops.WriteFault) h e = none_taken (report_text nodes p.items)
+told_none taken (Ok done) nodes p line before after (Err stops.Memory) h e = none_taken (report_text nodes p.items)
+told_none taken (Ok done) nodes p line before after (Err (stops.Forged number)) h e = absurd e
+told_none taken (Err stops.WriteFault) nodes p line before after final h e = subst (λ s. IsTold s nodes p None None) (sym e.0) h
+told_none taken (Err stops.Memory) nodes p line before after final h e = subst (λ s. IsTold s nodes p None None) (sym e.0) h
+told_none taken (Err (stops.Forged number)) nodes p line before after final h e = subst (λ s. IsTold s nodes p None None) (sym e.0) h
+
+line_told : {T U W : Type 0} (taken : W → Option (List ℕ)) (result : Result T Stop) (nodes : List (List ℕ)) (p : Played) (net : Network) (w : World) (c : Course) (before after : W) (final : Result U Stop) →
+    c.net ≡ net → last_world c ≡ w → (result ≡ Err stops.WriteFault → ⊥) →
+    MatchResult result (λ answer. (p.ending ≡ Whole) × Took None None (report_text nodes p.items)) (λ stop. StopsAs stop nodes p None None) →
+    Ends taken result (veil_line net w) before after final → IsVeilTold taken (ended final) p.ending c before after
+line_told taken (Ok done) nodes p net w c before after (Ok u) same leads calm h e =
+    subst (λ (v : World). Took (taken before) (taken after) (veil_line c.net v)) (sym leads) (subst (λ (n : Network). Took (taken before) (taken after) (veil_line n w)) (sym same) e)
+line_told taken (Ok done) nodes p net w c before after (Err stops.WriteFault) same leads calm h e = (
+  h.0,
+  subst (λ (v : World). TookFirst (taken before) (taken after) (veil_line c.net v)) (sym leads) (subst (λ (n : Network). TookFirst (taken before) (taken after) (veil_line n w)) (sym same) e),
+)
+line_told taken (Ok done) nodes p net w c before after (Err stops.Memory) same leads calm h e = e
+line_told taken (Ok done) nodes p net w c before after (Err (stops.Forged number)) same leads calm h e = absurd e
+line_told taken (Err stops.WriteFault) nodes p net w c before after final same leads calm h e = absurd (calm refl)
+line_told taken (Err stops.Memory) nodes p net w c before after final same leads calm h e = subst (λ s. IsVeilTold taken s p.ending c before after) (sym e.0) e.1
+line_told taken (Err (stops.Forged number)) nodes p net w c before after final same leads calm h e = subst (λ s. IsVeilTold taken s p.ending c before after) (sym e.0) e.1
+
+-- if all lines were done
+pub at_ok : {T E : Type 0} (P : Type 0) (r : Result T E) (x : T) → r ≡ Ok x → OnOk r P → P
+at_ok P (Ok x) y is h = h
+at_ok P (Err e) y is h = cc
+
+pub ends_told : {T U W : Type 0} (taken : W → Option (List ℕ)) (ran : Result T Stop) (x : T) (line : List ℕ) (before after : W) (final : Result U Stop) → ran ≡ Ok x → Tells taken final before after line →
+    Ends taken ran line before after final
+ends_told taken (Ok x) y line before after final is h = h
+ends_told taken (Err e) y line before after final is h = cc
+
+-- a sink that never fails causes no write fault
+pub never_blamed : {T : Type 0} (result : Result T Stop) → IsBlamed 0 0 result → result ≡ Err stops.WriteFault → ⊥
+never_blamed (Ok done) h e = cc
+never_blamed (Err stops.WriteFault) h e = omega (arith, h.rose refl)
+never_blamed (Err stops.Memory) h e = cc
+never_blamed (Err (stops.Forged line)) h e = cc
+
+module _ {K Q E X : Type 0} (is_honest : K → Bool) (content : K → List ℕ) (moment : K → ℕ) (image : K → ℕ → List ℕ → Type 0) (left : E → Option OctetSequence)
+    (told : Q → Option OctetSequence) (frames : X → Option (List (List ℕ))) (counted : X → ℕ)
+    (disk_count : K → ℕ) (armed : K → Armings) (entropy_count : E → ℕ) (device_count : Q → ℕ) (wire_count : X → ℕ) where
+  rests_in : {T : Type 0} (s : State K Q E X) (net : Network) (w : World) (result : Result T Stop) →
+      MatchResult result (λ answer. IsReady (Stands is_honest moment image left told frames counted) s net w) (λ stop. Rests is_honest moment image left told frames counted s net w) →
+      Rests is_honest moment image left told frames counted s net w
+  rests_in s net w (Ok done) h = comes_to_rest is_honest moment image left told frames counted net w s h.stands
+  rests_in s net w (Err stop) h = h
+
+  -- the lanes of a state
+  pub are_lanes : (s : State K Q E X) (net : Network) (w : World) → Stands is_honest moment image left told frames counted s net w → AreLanes frames counted net w s.lanes.items
+  are_lanes s net w h = record { running = h.running; count = h.sides; lanes = h.lanes }
+
+  module _ {T U W : Type 0} (taken : W → Option (List ℕ)) (old stayed new : Bench K Q E X) (state : State K Q E X) (scenario : Scenario) (result : Result T Stop) (before after : W) (final : Result U Stop)
+      (frame_law : IsSealing hop_sealing)
+      (tasks_run : (http : HttpTexts) (net : Network) (workers : ℕ) (tasks : List Task) (done : List Performed) → IsNetwork net → IsRunOf http net workers first tasks done → IsRun net first (actions_of net done))
+      (tasks_lead : (http : HttpTexts) (net : Network) (workers : ℕ) (tasks : List Task) (done : List Performed) → IsNetwork net → IsRunOf http net workers first tasks done →
+      (report http net first tasks done).world ≡ run net first (actions_of net done))
+      (headline_law : (layers : Layers) (sources : Sources) (scenario : Scenario) (workers : ℕ) (stop : headline.Stop) (seen : Seen) (old new : Option (List ℕ)) (net : Network) (done : List Performed) →
+      IsBenched layers sources scenario net → IsRunOf layers.http net workers first (tasks_of scenario) done →
+      IsTold stop scenario.site.nodes (report layers.http net first (tasks_of scenario) done) old new →
+      IsSeen layers sources net (report layers.http net first (tasks_of scenario) done).world (actions_of net done) seen →
+      HeadlineOf (Run workers) stop layers sources scenario seen old new (lines_alone net done))
+      (whole_law : (layers : Layers) (sources : Sources) (scenario : Scenario) (workers : ℕ) (net : Network) (done : List Performed) → IsBenched layers sources scenario net →
+      IsRunOf layers.http net workers first (tasks_of scenario) done →
+      (report layers.http net first (tasks_of scenario) done).world ≡ last_world (lines_alone net done))
+      (fit_law : (net : Network) (w : World) → IsNetwork net → Conserved net w → net.sealing ≡ hop_sealing → EveryKeyFits net w)
+      (fresh : IsNew is_honest moment image left told frames old) (declared : IsDeclared scenario.site)
+      (ran : RanOut is_honest moment image left told frames counted disk_count armed entropy_count device_count wire_count old stayed 1 scenario None None state result)
+      (back : IsPutBack is_honest content moment image state stayed new) (calm : result ≡ Err stops.WriteFault → ⊥)
+      (ends : (net : Network) (w : World) → OnOk result (Stands is_honest moment image left told frames counted state net w) → Ends taken result (veil_line net w) before after final) where
+    pub veiled : HasVeiled moment image left told frames disk_count armed entropy_count device_count wire_count taken old new scenario before after (ended final)
+    veiled layers sources seen sealing speaks reads devices entropies shows =
+        let net = network_on told left old scenario.site in
+        let r = ran.ran layers.http speaks in
+        let p = report layers.http net first (tasks_of scenario) r.done in
+        let rests = rests_in state net p.world result r.left in
+        let over : IsOver is_honest content moment image left told frames counted disk_count armed entropy_count device_count wire_count old new layers sources scenario r.done seen = record {
+          fresh = fresh;
+          declared = declared;
+          sealing = sealing;
+          reads = reads;
+          devices = devices;
+          entropies = entropies;
+          ran = record { begin = ran.begin; end = state; stayed = stayed; laid = ran.laid; rests = rests; tallied = r.tallied; back = back };
+          shows = shows;
+        } in
+        let network = over_network is_honest content moment image left told frames counted disk_count armed entropy_count device_count wire_count old new layers sources scenario r.done seen frame_law over in
+        let benched = over_benched is_honest content moment image left told frames counted disk_count armed entropy_count device_count wire_count old new layers sources scenario r.done seen frame_law over in
+        let sees = over_seen is_honest content moment image left told frames counted disk_count armed entropy_count device_count wire_count old new layers sources scenario r.done seen frame_law over
+        (tasks_run layers.http net 1 (tasks_of scenario) r.done network r.is) (tasks_lead layers.http net 1 (tasks_of scenario) r.done network r.is) in
+        let end : Ends taken result (veil_line net p.world) before after final = ends net p.world (stands_of net p.world result r.left) in
+        let all = headline_law layers sources scenario 1 (ended final) seen None None net r.done benched r.is (told_none taken result scenario.site.nodes p (veil_line net p.world) before after final r.told end) sees in
+        let leads : last_world (lines_alone net r.done) ≡ p.world = sym (whole_law layers sources scenario 1 net r.done benched r.is) in
+        let fits : EveryKeyFits net p.world = fit_law net p.world network rests.running.conserved rests.running.sealing in
+        record {
+          run = (all.0, ap (λ (c : Course). c.net) all.1);
+          fits = subst (λ (c : Course). EveryKeyFits c.net (last_world c)) (sym all.1) (subst (λ (w : World). EveryKeyFits net w) (sym leads) fits);
+          line = subst (λ (c : Course). IsVeilTold taken (ended final) (lines_played layers scenario c).ending c before after) (sym all.1)
+              (line_told taken result scenario.site.nodes p net p.world (lines_alone net r.done) before after final refl leads calm r.told end);
+        }
+      where
+        stands_of : {T : Type 0} (net : Network) (w : World) (result : Result T Stop) →
+            MatchResult result (λ answer. IsReady (Stands is_honest moment image left told frames counted) state net w) (λ stop. Rests is_honest moment image left told frames counted state net w) →
+            OnOk result (Stands is_honest moment image left told frames counted state net w)
+        stands_of net w (Ok done) h = h.stands
+        stands_of net w (Err stop) h = tt

@@ -1,0 +1,34 @@
+-- The lanes of a network, and the line of their veils.
+use Rattle.std.specs.Prelude.{◌≡◌, ℕ, ◌*◌, true, List, [], ◌∷◌, ◌++◌, length, slice_get, Option, Some, Result, Ok, Err}
+use Rattle.std.specs.Fmt.{decimal}
+use lib.Chars.{codes}
+use Rattle.qkd_base.specs.declared.lane.Lane.{Lane}
+use Rattle.net_model.specs.World.{Network, World}
+use Rattle.net_model.specs.Events.{is_lane}
+use Rattle.lane_sender.specs.Lane.{LaneForm}
+use Rattle.run_model.specs.Headline.{Took, TookFirst}
+use Rattle.run_lines.specs.declared.stop.Stop.{Stop}
+use Rattle.run_lines.specs.declared.stop.Stop.TheVariants as stops
+use Rattle.net_world.specs.Veiled.{all_frames, all_changed}
+use Rattle.world_state.specs.Passed.{IsRunning, LaneStands}
+use Rattle.world_state.specs.Stands.{place_of}
+
+-- the lanes of a network, link by link, the lane up before the lane down
+pub record AreLanes {X : Type 0} (frames : X → Option (List (List ℕ))) (counted : X → ℕ) (net : Network) (w : World) (sides : List (LaneForm X)) : Type 0 where
+  pub running : IsRunning net w
+  pub count : length sides ≡ 2 * net.site.links
+  pub lanes : (l : Lane) (side : LaneForm X) → is_lane net.site l ≡ true → slice_get sides (place_of l) ≡ Some side → LaneStands frames counted net w l side
+
+-- the number of different frames on all wires, and the number of bytes of all lanes that the veils change
+unfoldable pub veil_text : (frames bytes : ℕ) → List ℕ
+veil_text frames bytes = codes "veil " ++ (decimal frames ++ (codes " " ++ (decimal bytes ++ 10 ∷ [])))
+
+abbrev pub veil_line : Network → World → List ℕ
+veil_line net w = veil_text (all_frames net w) (all_changed net w)
+
+-- The sink took exactly this text. On a write fault it took a prefix of the text; if memory ran out, it is as it was.
+abbrev pub Tells : {T W : Type 0} → (W → Option (List ℕ)) → Result T Stop → (before after : W) → List ℕ → Type 0
+Tells taken (Ok done) before after text = Took (taken before) (taken after) text
+Tells taken (Err stops.WriteFault) before after text = TookFirst (taken before) (taken after) text
+Tells taken (Err stops.Memory) before after text = after ≡ before
+Tells taken (Err (stops.Forged line)) before after text = ⊥

@@ -1,0 +1,12 @@
+pub mod Laid
+pub mod New
+pub mod Over
+pub mod Ran
+pub mod Reading
+pub mod Seen
+pub mod Running
+pub mod Other
+pub mod Veiled
+pub mod Frame
+pub mod Lanes
+pub mod Veiling

@@ -1,0 +1,10 @@
+pub mod Following
+pub mod DeskLanes
+pub mod Wanting
+pub mod Turning
+pub mod Saying
+pub mod Onward
+pub mod Steps
+pub mod Ready
+pub mod Issuing
+pub mod Leasing

@@ -1,0 +1,10 @@
+pub mod Asking
+pub mod Following
+pub mod Grants
+pub mod Turns
+pub mod Wants
+pub mod Calls
+pub mod Saying
+pub mod Emitting
+pub mod Granting
+pub mod Leases

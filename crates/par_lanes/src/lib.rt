@@ -1,0 +1,34 @@
+//! A lane that workers share, and the frames of a plan that a worker sends through shared lanes.
+#![tactic(auto)]
+
+mod any_desk;
+mod ask;
+mod called;
+mod charter;
+mod desk;
+mod emitted;
+mod emitting;
+mod frame_log;
+mod granting;
+mod laws;
+mod leases;
+mod machine;
+mod place;
+mod plan;
+mod seals;
+mod sending;
+mod turns;
+
+pub use any_desk::Desk;
+pub use ask::{LaneAnswer, LaneAsk};
+pub use called::law_desks_are_called_for_their_frames;
+pub use charter::LaneCharter;
+pub use desk::LaneDesk;
+pub use emitted::Emitted;
+pub use emitting::emit_plan;
+pub use frame_log::FrameLog;
+pub use granting::grant_plan;
+pub use laws::law_desks_lead_their_lanes;
+pub use leases::law_plans_are_leased;
+pub use plan::{Lanes, Plan};
+pub use seals::{AtGate, Seals};

@@ -1,0 +1,91 @@
+-- A manager's turn is an action of the network.
+use Rattle.std.proofs.Common.{◌≡◌, ℕ, Bool, true, ◌&&◌, List, refl, ap, Option, Some, None}
+use Rattle.std.specs.Prelude.{◌==◌, nat_lt, slice_get}
+use Rattle.qkd_base.specs.declared.lane.Lane.{Lane}
+use Rattle.disk_model.specs.declared.arm.Armings.{Armings}
+use Rattle.net_model.specs.declared.event.Event.{Event}
+use Rattle.net_model.specs.declared.reply.Reply.{Reply}
+use Rattle.net_model.specs.OctetSequence.{OctetSequence}
+use Rattle.net_model.specs.Site.{Site, receiver}
+use Rattle.net_model.specs.World.{Network, World}
+use Rattle.net_model.specs.Events.{is_valid_event}
+use Rattle.net_model.specs.Action.{Environment, Ask, Deliver, Ok, is_io_fault, is_entropy_fault}
+use Rattle.net_model.specs.BlockOrder.{is_block_event}
+use Rattle.net_model.specs.Step.{is_asked, is_enabled}
+use Rattle.world_state.specs.Passed.{Post, MayAsk, Asked, MayHear, HasHeard}
+use Rattle.run_ops.specs.Jobs.{is_job}
+use Rattle.law_base.proofs.Base.{and_left, and_right, and_both}
+use Rattle.world_state.specs.declared.state.State.{State}
+use Rattle.world_state.proofs.AsksOne.{asks_post}
+use Rattle.world_state.proofs.Changes.{OnePost}
+use Rattle.world_state.proofs.Disks.{has_disks}
+use Rattle.world_state.proofs.OnePost.{ChangesPost, stands_after}
+use Rattle.world_state.proofs.OneTallied.{CountsOne, one_post_tallied}
+use Rattle.world_state.proofs.PostTallies.{asked_tallied}
+use Rattle.world_state.proofs.Receivers.{elsewhere}
+use Rattle.par_managers.specs.TurnTaking.{MayTurn, TookTurn}
+use Rattle.par_managers.specs.Turning.{asks, passes}
+
+job_enabled : (net : Network) (w : World) (v : ℕ) (event : Event) → is_job net.site (asks v event) ≡ true → is_enabled net w (Ask v event Ok) ≡ true
+unfolding is_enabled
+job_enabled net w v event fit =
+    let three = and_left (nat_lt v net.site.nodes && is_asked event && is_block_event event) (is_valid_event net.site v event) fit in
+    and_both (nat_lt v net.site.nodes && is_asked event) (is_valid_event net.site v event) (and_left (nat_lt v net.site.nodes && is_asked event) (is_block_event event) three)
+    (and_right (nat_lt v net.site.nodes && is_asked event && is_block_event event) (is_valid_event net.site v event) fit)
+
+delivers_post : (s : Site) (l : Lane) (number : ℕ) (environment : Environment) → ChangesPost s (Deliver l number environment) (receiver s l)
+delivers_post s l number environment = record { nodes = λ u other. elsewhere (receiver s l) u other; lanes = λ k. refl; links = λ link. refl }
+
+delivers_counted : (s : Site) (l : Lane) (number : ℕ) (environment : Environment) → CountsOne s (Deliver l number environment) (receiver s l) (is_io_fault environment) (is_entropy_fault environment)
+delivers_counted s l number environment = record {
+  disk = and_right (receiver s l == receiver s l) (is_io_fault environment);
+  entropy = λ none. absurd (cc none);
+  armed = λ u. refl;
+  disks = λ u other. ap (λ (b : Bool). b && is_io_fault environment) (elsewhere (receiver s l) u other);
+  entropies = λ u other. refl;
+}
+
+module _ {K Q E X : Type 0} (is_honest : K → Bool) (moment : K → ℕ) (image : K → ℕ → List ℕ → Type 0) (left : E → Option OctetSequence) (told : Q → Option OctetSequence)
+    (frames : X → Option (List (List ℕ))) (counted : X → ℕ) (old : State K Q E X) (net : Network) (w : World) where
+  module _ (v : ℕ) (event : Event) (may : MayTurn is_honest moment image left told frames counted old net w (asks v event) None) (p : Post K E) (there : slice_get old.posts.items v ≡ Some p) where
+    pub may_ask : MayAsk is_honest moment image left net w v p event old.up
+    may_ask = record { running = may.stands.running; stands = may.stands.posts v p there; enabled = job_enabled net w v event may.fit; links = may.stands.up }
+
+    pub asked_took : (disk_count : K → ℕ) (armed : K → Armings) (entropy_count : E → ℕ) (device_count : Q → ℕ) (wire_count : X → ℕ) (new : State K Q E X) (q : Post K E) (reply : Reply) → OnePost old new v p q →
+        Asked is_honest moment image disk_count armed left entropy_count net w v event p q reply →
+        TookTurn is_honest moment image left told frames counted disk_count armed entropy_count device_count wire_count old new net w (asks v event) reply
+    asked_took disk_count armed entropy_count device_count wire_count new q reply change h = record {
+      environment = h.environment;
+      may = h.may;
+      said = h.said;
+      stands = stands_after is_honest moment image left told frames counted old new net w v p q change may.stands (Ask v event h.environment) h.may (asks_post net.site v event h.environment) h.stands;
+      tallied = asked_tallied disk_count armed entropy_count device_count wire_count net.site old new v p q change
+          (has_disks is_honest moment image left told frames counted old net w may.stands) event h.environment h.counts;
+    }
+
+  module _ (l : Lane) (number : ℕ) (octets : List ℕ) (may : MayTurn is_honest moment image left told frames counted old net w (passes l number) (Some octets)) (p : Post K E)
+      (there : slice_get old.posts.items (receiver net.site l) ≡ Some p) where
+    pub may_hear : MayHear is_honest moment image left net w l number p octets old.up
+    may_hear = record {
+      running = may.stands.running;
+      stands = may.stands.posts (receiver net.site l) p there;
+      at = may.fit;
+      frame = may.has.frame;
+      there = may.has.there;
+      are = may.has.are;
+      links = may.stands.up;
+    }
+
+    pub heard_took : (disk_count : K → ℕ) (armed : K → Armings) (entropy_count : E → ℕ) (device_count : Q → ℕ) (wire_count : X → ℕ) (new : State K Q E X) (q : Post K E) (reply : Reply) →
+        OnePost old new (receiver net.site l) p q → HasHeard is_honest moment image disk_count armed left entropy_count net w l number p q reply →
+        TookTurn is_honest moment image left told frames counted disk_count armed entropy_count device_count wire_count old new net w (passes l number) reply
+    heard_took disk_count armed entropy_count device_count wire_count new q reply change h = record {
+      environment = h.environment;
+      may = h.may;
+      said = h.said;
+      stands = stands_after is_honest moment image left told frames counted old new net w (receiver net.site l) p q change may.stands (Deliver l number h.environment) h.may
+          (delivers_post net.site l number h.environment) h.stands;
+      tallied = one_post_tallied disk_count armed entropy_count device_count wire_count net.site (Deliver l number h.environment) old new
+          (has_disks is_honest moment image left told frames counted old net w may.stands) (receiver net.site l) p q (is_io_fault h.environment) (is_entropy_fault h.environment) change
+          (delivers_counted net.site l number h.environment) (record { devices = λ link. refl; wires = λ k. refl }) h.counts;
+    }

@@ -1,0 +1,16 @@
+pub mod Order
+pub mod TurnTaking
+pub mod Turning
+pub mod Going
+pub mod Leases
+pub mod Taking
+pub mod Issuing
+pub mod Opening
+pub mod Posts
+pub mod PlanTaking
+pub mod Turns
+pub mod Wanted
+pub mod Calls
+pub mod Doing
+pub mod Talking
+pub mod Together

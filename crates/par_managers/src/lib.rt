@@ -1,0 +1,28 @@
+//! A manager that workers share: each worker's calls, and that all calls merge into one history.
+#![tactic(auto)]
+
+mod ask;
+mod calls;
+mod desk;
+mod ends;
+mod keep;
+mod leases;
+mod machine;
+mod next;
+mod opening;
+mod putting;
+mod replied;
+mod taking;
+mod talk_laws;
+mod turn;
+
+pub use ask::{PlanAnswer, PlanAsk};
+pub use calls::shifts;
+pub use desk::PlanDesk;
+pub use keep::{Keep, Replied};
+pub use leases::write_leases;
+pub use next::Next;
+pub use opening::{Opened, open_lanes};
+pub use taking::take_turn;
+pub use talk_laws::{law_a_worker_talks, law_workers_talk};
+pub use turn::Turn;

@@ -1,6 +1,0 @@
-pub mod Wants
-pub mod Calls
-pub mod Saying
-pub mod Emitting
-pub mod Granting
-pub mod Leases

@@ -1,0 +1,189 @@
+// The forms of the program's words.
+ghost use Rattle.std.specs.Prelude.{◌≡◌, ◌≤◌, Ok, Err, MatchResult, IfOk, IfSome, drop, take, length, slice_get};
+ghost use Rattle.std.specs.Option.{option_map, option_and_then};
+ghost use Rattle.tag_bound.specs.Words.{number_of, text_of};
+ghost use Rattle.scenario_text.specs.Words.{number_in};
+ghost use Rattle.qkd_network.specs.Forms.{asked_by, question_form, alone, run_form, load_form, serve_form, connections_form, port_form, bound_form, second_form, third_form, wanted_of, IsInRange};
+
+use qkd_base::Texts;
+use scenario_text::words::number_in;
+use tag_bound::{ShortText, number};
+
+/// What the words ask for.
+#[derive(Clone, Copy)]
+pub enum Form {
+    /// Runs a scenario. `workers` workers do its blocks.
+    Run {
+        workers: u32,
+    },
+    /// Runs the generated load of `rounds` rounds.
+    Load {
+        rounds: u32,
+    },
+    /// Runs a scenario, whose blocks `workers` workers do. Then each worker serves `connections` connections at the port of its node, which
+    /// is `port` plus the node's number.
+    Serve {
+        workers: u32,
+        connections: u32,
+        port: u16,
+    },
+    /// Runs a scenario, and counts the frames on its wires and the lane bytes that differ under other keys.
+    Veil,
+    /// Counts the keys, given line by line, that give two different texts a difference of hashes.
+    Bound {
+        a: ShortText,
+        b: ShortText,
+        difference: u64,
+    },
+    /// Audits the report of a scenario.
+    Audit,
+}
+
+/// Reads the words as a form. `Err` has the index of the first word that fits no form, or the number of words if one is missing.
+#[tactic(auto, unfolding(crate::specs::Forms::asked_by))]
+pub fn read_form(words: &Texts) -> Result<Form, usize>
+    ensures form { MatchResult result (λ form. asked_by words.now ≡ Ok (wanted_of form)) (λ place. asked_by words.now ≡ Err place) }
+    ensures range { IfOk result IsInRange }
+{
+    let first = words.get(0).ok_or(0usize)?;
+    if first.as_str() == "run" {
+        return run_form(words);
+    }
+    if first.as_str() == "load" {
+        return load_form(words);
+    }
+    if first.as_str() == "serve" {
+        return serve_form(words);
+    }
+    question_form(words, first.as_str())
+}
+
+// Reads the form of a question, whose first word is `word`.
+#[tactic(auto, unfolding(crate::specs::Forms::question_form))]
+fn question_form(words: &Texts, word: &str) -> Result<Form, usize>
+    requires { 1 ≤ length words.now }
+    ensures form { MatchResult result (λ form. question_form word.now (drop 1 words.now) ≡ Ok (wanted_of form)) (λ place. question_form word.now (drop 1 words.now) ≡ Err place) }
+    ensures range { IfOk result IsInRange }
+{
+    if word == "veil" {
+        return alone(words, Form::Veil);
+    }
+    if word == "bound" {
+        return bound_form(words);
+    }
+    if word == "audit" {
+        return alone(words, Form::Audit);
+    }
+    Err(0)
+}
+
+// Reads a form that has no further word.
+fn alone(words: &Texts, form: Form) -> Result<Form, usize>
+    requires word { 1 ≤ length words.now }
+    requires range { IsInRange form }
+    ensures form { MatchResult result (λ read. alone 1 (wanted_of form) (drop 1 words.now) ≡ Ok (wanted_of read)) (λ place. alone 1 (wanted_of form) (drop 1 words.now) ≡ Err place) }
+    ensures range { IfOk result IsInRange }
+{
+    if words.len() > 1 {
+        return Err(1);
+    }
+    Ok(form)
+}
+
+// Reads the form of `run`, which is the first word.
+#[tactic(auto, unfolding(crate::specs::Forms::run_form))]
+fn run_form(words: &Texts) -> Result<Form, usize>
+    requires { 1 ≤ length words.now }
+    ensures form { MatchResult result (λ form. run_form (drop 1 words.now) ≡ Ok (wanted_of form)) (λ place. run_form (drop 1 words.now) ≡ Err place) }
+    ensures range { IfOk result IsInRange }
+{
+    let workers = count_at(words, 1, 1, 32).ok_or(1usize)?;
+    if words.len() > 2 {
+        return Err(2);
+    }
+    Ok(Form::Run { workers })
+}
+
+// Reads the form of `load`, which is the first word.
+#[tactic(auto, unfolding(crate::specs::Forms::load_form))]
+fn load_form(words: &Texts) -> Result<Form, usize>
+    requires { 1 ≤ length words.now }
+    ensures form { MatchResult result (λ form. load_form (drop 1 words.now) ≡ Ok (wanted_of form)) (λ place. load_form (drop 1 words.now) ≡ Err place) }
+    ensures range { IfOk result IsInRange }
+{
+    let rounds = count_at(words, 1, 1, 500).ok_or(1usize)?;
+    if words.len() > 2 {
+        return Err(2);
+    }
+    Ok(Form::Load { rounds })
+}
+
+// The number that a word spells, if it is in the range from `least` to `most`.
+fn count_at(words: &Texts, place: usize, least: u32, most: u32) -> Option<u32>
+    ensures number { result ≡ option_and_then (number_in least most) (slice_get words.now place) }
+    ensures bounds { IfSome result (λ n. (least ≤ n) × (n ≤ most)) }
+{
+    match words.get(place) {
+        None => None,
+        Some(word) => number_in(least, most, word.as_str().as_bytes()),
+    }
+}
+
+// Reads the form of `serve`, which is the first word.
+#[tactic(auto, unfolding(crate::specs::Forms::serve_form, crate::specs::Forms::connections_form, crate::specs::Forms::port_form))]
+fn serve_form(words: &Texts) -> Result<Form, usize>
+    requires { 1 ≤ length words.now }
+    ensures form { MatchResult result (λ form. serve_form (drop 1 words.now) ≡ Ok (wanted_of form)) (λ place. serve_form (drop 1 words.now) ≡ Err place) }
+    ensures range { IfOk result IsInRange }
+{
+    let workers = count_at(words, 1, 1, 32).ok_or(1usize)?;
+    let connections = count_at(words, 2, 1, 10_000).ok_or(2usize)?;
+    let port = count_at(words, 3, 1, 65_520).ok_or(3usize)?;
+    if words.len() > 4 {
+        return Err(4);
+    }
+    Ok(Form::Serve {
+        workers,
+        connections,
+        port: port as u16,
+    })
+}
+
+// The text of a word in hexadecimal digits.
+fn text_at(words: &Texts, place: usize) -> Option<ShortText>
+    ensures { option_map (λ t. take t.size t.octets) result ≡ option_and_then text_of (slice_get words.now place) }
+{
+    match words.get(place) {
+        None => None,
+        Some(word) => ShortText::read(word.as_str().as_bytes()),
+    }
+}
+
+// The number of a word of 16 hexadecimal digits.
+fn number_at(words: &Texts, place: usize) -> Option<u64>
+    ensures { result ≡ option_and_then number_of (slice_get words.now place) }
+{
+    match words.get(place) {
+        None => None,
+        Some(word) => number(word.as_str().as_bytes()),
+    }
+}
+
+// Reads the form of `bound`, which is the first word.
+#[tactic(auto, unfolding(crate::specs::Forms::bound_form, crate::specs::Forms::second_form, crate::specs::Forms::third_form))]
+fn bound_form(words: &Texts) -> Result<Form, usize>
+    requires { 1 ≤ length words.now }
+    ensures form { MatchResult result (λ form. bound_form (drop 1 words.now) ≡ Ok (wanted_of form)) (λ place. bound_form (drop 1 words.now) ≡ Err place) }
+    ensures range { IfOk result IsInRange }
+{
+    let a = text_at(words, 1).ok_or(1usize)?;
+    let b = text_at(words, 2).ok_or(2usize)?;
+    if a.as_slice() == b.as_slice() {
+        return Err(2);
+    }
+    let difference = number_at(words, 3).ok_or(3usize)?;
+    if words.len() > 4 {
+        return Err(4);
+    }
+    Ok(Form::Bound { a, b, difference })
+}

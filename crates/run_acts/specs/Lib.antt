@@ -1,4 +1,0 @@
-pub mod Fitting
-pub mod Quiet
-pub mod Acting
-pub mod Runnable

@@ -1,0 +1,9 @@
+pub mod Asking
+pub mod Reported
+pub mod Fitting
+pub mod Quiet
+pub mod Acting
+pub mod Runnable
+pub mod Jobs
+pub mod Together
+pub mod Doing

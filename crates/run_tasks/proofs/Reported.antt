@@ -1,0 +1,56 @@
+-- The headline of a load and what its sink took.
+use Rattle.std.proofs.Common.{◌≡◌, ◌∙◌, ℕ, List, ◌++◌, Option, sym, ap, subst, append-nil}
+use Rattle.std.specs.List.{flat_map}
+use Rattle.net_model.specs.World.{first}
+use Rattle.net_model.specs.Action.{Action}
+use Rattle.net_model.specs.Step.{run}
+use Rattle.net_model.specs.Deliveries.{deliveries}
+use Rattle.run_types.specs.Texts.{handed_text}
+use Rattle.run_types.specs.declared.scenario.Scenario.{Scenario}
+use Rattle.run_model.specs.Play.{Ending, Whole}
+use Rattle.run_model.specs.Bench.{Layers}
+use Rattle.run_model.specs.Left.{to_masters, to_slaves}
+use Rattle.run_model.specs.Course.{Load, Course, lines_run, whole_run, last_world, handed_out, lines_played}
+use Rattle.run_model.specs.Headline.{Done, ForgedMatch, ListenFault, WriteFault, Memory, TookFirst, Took, after_all, last_text, text_so_far, IsReported}
+use Rattle.run_model.specs.Headline as headline
+use Rattle.law_run.specs.Handed.{enc_keys, dec_keys}
+use Rattle.run_tasks.specs.Told.{ledger_text, load_text, IsLoadTold, IsLoadOver}
+
+module _ (layers : Layers) (scenario : Scenario) (rounds : ℕ) (c : Course) (over : IsLoadOver layers scenario rounds c)
+    (masters : to_masters (run c.net first (lines_run c)) (deliveries c.net first (lines_run c)) ≡ enc_keys c.net first (lines_run c))
+    (slaves : to_slaves (run c.net first (lines_run c)) (deliveries c.net first (lines_run c)) ≡ dec_keys c.net first (lines_run c)) where
+  abbrev encs : ℕ
+  encs = enc_keys c.net first (lines_run c)
+
+  abbrev decs : ℕ
+  decs = dec_keys c.net first (lines_run c)
+
+  abbrev ledgers : List ℕ
+  ledgers = ledger_text scenario.site.nodes (lines_played layers scenario c)
+
+  -- The whole run is the run of the lines.
+  whole_is : whole_run c ≡ lines_run c
+  whole_is = ap (λ (hs : List (List Action)). lines_run c ++ flat_map (λ h. h) hs) over.alone ∙ append-nil (lines_run c)
+
+  to_masters_are : to_masters (last_world c) (handed_out c) ≡ encs
+  to_masters_are = ap (λ (xs : List Action). to_masters (run c.net first xs) (deliveries c.net first xs)) whole_is ∙ masters
+
+  to_slaves_are : to_slaves (last_world c) (handed_out c) ≡ decs
+  to_slaves_are = ap (λ (xs : List Action). to_slaves (run c.net first xs) (deliveries c.net first xs)) whole_is ∙ slaves
+
+  last_is : last_text (Load rounds) scenario c ≡ handed_text encs decs
+  last_is = ap (λ (n : ℕ). handed_text n (to_slaves (last_world c) (handed_out c))) to_masters_are ∙ ap (handed_text encs) to_slaves_are
+
+  text_is : text_so_far (Load rounds) layers scenario c ≡ load_text scenario.site.nodes (lines_played layers scenario c) encs decs
+  text_is = ap (λ (text : List ℕ). ledgers ++ after_all (lines_played layers scenario c).ending text) last_is
+
+  whole_text : (lines_played layers scenario c).ending ≡ Whole → ledgers ++ handed_text encs decs ≡ text_so_far (Load rounds) layers scenario c
+  whole_text whole = ap (λ (e : Ending). ledgers ++ after_all e (handed_text encs decs)) (sym whole) ∙ sym text_is
+
+  pub is_reported : (stop : headline.Stop) (old new : Option (List ℕ)) → IsLoadTold stop scenario.site.nodes (lines_played layers scenario c) encs decs old new →
+      IsReported (Load rounds) stop layers scenario c old new
+  is_reported Done old new told = (told.0, subst (Took old new) (whole_text told.0) told.1)
+  is_reported (ForgedMatch line) old new told = told
+  is_reported ListenFault old new told = absurd told
+  is_reported WriteFault old new told = subst (TookFirst old new) (sym text_is) told
+  is_reported Memory old new told = subst (TookFirst old new) (sym text_is) told

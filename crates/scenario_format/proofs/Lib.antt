@@ -1,0 +1,16 @@
+pub mod Clean
+pub mod Numerals
+pub mod Names
+pub mod Lines
+pub mod Texts
+pub mod Commands
+pub mod Given
+pub mod Values
+pub mod Digits
+pub mod CommandForms
+pub mod Places
+pub mod FirstWords
+pub mod Declarations
+pub mod LineForms
+pub mod Whole
+pub mod TextForms

@@ -1,0 +1,4 @@
+pub mod Spelling
+pub mod Readable
+pub mod Form
+pub mod Spelled

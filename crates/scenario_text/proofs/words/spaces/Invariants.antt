@@ -1,0 +1,6 @@
+use Rattle.std.proofs.Common.{◌≡◌, ℕ, ◌<◌, get_or, true}
+use Rattle.scenario_text.specs.Words.{is_space}
+use Rattle.scenario_text.proofs.words.spaces.Given as goal
+
+abbrev pub invariant-loop-i : goal.invariant-loop-i
+invariant-loop-i l = (k : ℕ) → k < l.i → is_space (get_or l.line k 0) ≡ true

@@ -1,0 +1,19 @@
+//! The reader of scenarios: a text becomes a scenario, or its first line that is refused is named.
+#![tactic(auto)]
+
+mod declaration_lines;
+mod fields;
+mod group_lines;
+mod key_lines;
+mod link_lines;
+mod node_lines;
+mod reading;
+mod refusal;
+mod scenario;
+mod stream_lines;
+pub mod words;
+
+pub use fields::{sae, stream};
+pub use refusal::ScenarioRefusal;
+pub use scenario::{LINE_LIMIT, TEXT_LIMIT, read_scenario};
+pub use stream_lines::call;

@@ -1,4 +1,0 @@
-pub mod Requests
-pub mod Turns
-pub mod Calls
-pub mod Sent

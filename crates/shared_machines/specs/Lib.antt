@@ -1,4 +1,0 @@
-pub mod Asked
-pub mod Served
-pub mod Seats
-pub mod Shares

@@ -1,8 +1,0 @@
-// What a worker asks of a machine.
-
-/// A call of one of several machines.
-#[derive(Drop)]
-pub struct Call<Q> {
-    pub machine: usize,
-    pub request: Q,
-}

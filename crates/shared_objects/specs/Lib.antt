@@ -1,0 +1,14 @@
+pub mod Rising
+pub mod Making
+pub mod Asked
+pub mod Served
+pub mod Seats
+pub mod Shares
+pub mod Said
+pub mod ScriptCalling
+pub mod Working
+pub mod Done
+pub mod Laws
+pub mod Sides
+pub mod Histories
+pub mod Calling

@@ -1,3 +1,0 @@
-pub mod Audited
-pub mod Counted
-pub mod Inputs

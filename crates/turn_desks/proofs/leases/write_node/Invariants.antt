@@ -1,7 +1,0 @@
-use Rattle.declared_site.specs.SiteOf.{site_of}
-use Rattle.turn_desks.specs.Leases.{lease_at}
-use Rattle.turn_desks.proofs.Writing.{WroteTo}
-use Rattle.turn_desks.proofs.leases.write_node.Given as goal
-
-abbrev pub invariant-loop-place : goal.invariant-loop-place
-invariant-loop-place g l = WroteTo (site_of l.fn.site) l.fn.node (lease_at l.fn.post) l.place l.fn.leases l.leases

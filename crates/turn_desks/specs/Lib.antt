@@ -1,4 +1,0 @@
-pub mod Going
-pub mod Leases
-pub mod Taking
-pub mod Passed

@@ -1,8 +1,0 @@
--- What stands below this crate, for those above it that name it no other way.
-pub use Rattle.law_courses.specs.Seen.{IsTold}
-pub use Rattle.world_state.specs.Armed.{most_armed}
-pub use Rattle.world_state.specs.Passed.{disk_of, entropy_of}
-pub use Rattle.world_state.specs.Rests.{Rests}
-pub use Rattle.world_state.specs.Stands.{Stands}
-pub use Rattle.world_state.specs.Tallied.{Tallied}
-pub use Rattle.world_state.specs.declared.state.State.{State}

@@ -1,2 +1,0 @@
-pub mod Nobody
-pub mod Passed

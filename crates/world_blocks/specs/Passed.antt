@@ -1,2 +1,0 @@
--- What stands below this crate, for those above it that name it no other way.
-pub use Rattle.shared_blocks.specs.Passed.{Rests, Stands, State, Tallied, most_armed}

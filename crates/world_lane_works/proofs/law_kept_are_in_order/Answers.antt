@@ -1,5 +1,0 @@
-use Rattle.world_lane_works.proofs.InOrder.{in_order}
-use Rattle.world_lane_works.proofs.law_kept_are_in_order.Goals as goal
-
-pub returns : goal.returns
-returns g c = λ side outs history d sorted h up. in_order side outs history d sorted h up

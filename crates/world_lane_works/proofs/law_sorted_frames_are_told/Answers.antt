@@ -1,7 +1,0 @@
-use Rattle.world_lane_works.proofs.SortedFrames.{are_told}
-use Rattle.world_lane_works.proofs.law_sorted_frames_are_told.Goals as goal
-
-pub returns : goal.returns
-returns g c =
-    λ net workers w jobs histories lanes left outs sorted h.
-    are_told g.X.Wire.frames g.X.Wire.counted g.X.Wire.faults net workers w jobs histories lanes left outs sorted h

@@ -1,5 +1,0 @@
-use Rattle.world_lane_works.proofs.Runs.{lane_by_lane}
-use Rattle.world_lane_works.proofs.law_sorted_frames_stand_lane_by_lane.Goals as goal
-
-pub returns : goal.returns
-returns c = λ s sorted h order. lane_by_lane s sorted h order

@@ -1,5 +1,0 @@
-use Rattle.world_lane_works.proofs.Sorted.{in_part}
-use Rattle.world_lane_works.proofs.law_sorted_is_in_order.Goals as goal
-
-pub returns : goal.returns
-returns g c = λ place key xs sorted n. in_part place key xs sorted n

@@ -1,9 +1,0 @@
-pub mod Emissions
-pub mod Going
-pub mod Puts
-pub mod Repeats
-pub mod Seen
-pub mod Starts
-pub mod TakeBlocks
-pub mod Taking
-pub mod Wires

@@ -1,5 +1,0 @@
-use Rattle.world_lanes.proofs.TakeBlocks.{take_makes}
-use Rattle.world_lanes.proofs.laws.law_block_is_made.Goals as goal
-
-pub returns : goal.returns
-returns c net w v link environment r incident = take_makes net w r v link incident environment

@@ -1,7 +1,0 @@
-use Rattle.law_lanes.proofs.Growth.{entry_stays}
-use Rattle.law_lanes.proofs.Lasting.{step_more}
-use Rattle.net_model.specs.Step.{step}
-use Rattle.world_lanes.proofs.laws.law_entry_stays.Goals as goal
-
-pub returns : goal.returns
-returns c net w a v e r h = entry_stays net w r.network r.conserved (step net w a).0 (step_more net w a) v e h

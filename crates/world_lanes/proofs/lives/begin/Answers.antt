@@ -1,5 +1,0 @@
-use Rattle.world_lanes.proofs.Starts.{begins}
-use Rattle.world_lanes.proofs.lives.begin.Goals as goal
-
-pub returns : goal.returns
-returns g c net = begins g.X.Wire.frames g.X.Wire.counted net c.args.lane c.args.wire (g.met.X.Wire.all_counted c.args.wire) c.requires.empty c.requires.tells c.new.result c.new.ensures

@@ -1,0 +1,65 @@
+-- Asking a node's manager to handle an event.
+use Rattle.std.proofs.Common.{◌≡◌, ℕ, ◌<◌, Bool, true, ◌&&◌, List, refl, sym, ap, subst, ◌∙◌, arith}
+use Rattle.std.specs.Prelude.{nat_lt, Option}
+use Rattle.std.proofs.lemmas.Bool.Decides.{nat_tests}
+use Rattle.net_model.specs.declared.event.Event.{Event}
+use Rattle.net_model.specs.declared.reply.Reply.{Reply}
+use Rattle.net_model.specs.OctetSequence.{OctetSequence}
+use Rattle.net_model.specs.World.{Network, World}
+use Rattle.net_model.specs.Events.{is_valid_event}
+use Rattle.net_model.specs.Handle.{handle}
+use Rattle.net_model.specs.Action.{Environment, Ask, Outcome, is_shown, Ok as Fine}
+use Rattle.net_model.specs.Step.{step, is_enabled, is_node, is_asked}
+use Rattle.disk_model.specs.declared.arm.Armings.{Armings}
+use Rattle.law_base.proofs.Base.{and_left, and_right, and_both}
+use Rattle.law_recovery.proofs.Asked.{event_goes, event_fits}
+use Rattle.kme_store.specs.declared.post.Post.{Post}
+use Rattle.world_nodes.specs.Stands.{PostStands}
+use Rattle.world_nodes.specs.Handled.{MayHandle, Handled}
+use Rattle.world_nodes.specs.Asking.{MayAsk, Asked}
+
+module _ (net : Network) (w : World) (v : ℕ) (event : Event) where
+  parts : is_enabled net w (Ask v event Fine) ≡ true → ((is_node net v && is_asked event) && is_valid_event net.site v event) ≡ true
+  unfolding is_enabled
+  parts h = h
+
+  may_ask : is_enabled net w (Ask v event Fine) ≡ true → (environment : Environment) → is_enabled net w (Ask v event environment) ≡ true
+  unfolding is_enabled
+  may_ask h environment = h
+
+  asks_as : (environment : Environment) → step net w (Ask v event environment) ≡ handle net w v event environment
+  unfolding step
+  asks_as environment = refl
+
+module _ {K E : Type 0} (is_honest : K → Bool) (moment : K → ℕ) (image : K → ℕ → List ℕ → Type 0) (told : E → Option OctetSequence) (net : Network) (w : World) (v : ℕ) (event : Event) (up : ℕ) where
+  -- The event may be given to the manager.
+  pub may_handle : (post : Post K E) → MayAsk is_honest moment image told net w v post event up → MayHandle is_honest moment image told net w v post event up
+  may_handle post m =
+      let all = parts net w v event m.enabled in
+      let both = and_left (is_node net v && is_asked event) (is_valid_event net.site v event) all in
+      let valid = and_right (is_node net v && is_asked event) (is_valid_event net.site v event) all in
+      let here : nat_lt v net.site.nodes ≡ true = and_left (is_node net v) (is_asked event) both in
+      let below : v < net.site.nodes = grind (arith, nat_tests) in
+      record {
+        running = m.running;
+        stands = m.stands;
+        valid = valid;
+        goes = λ octets e is numbered. event_goes net w v m.running.network m.running.conserved below event e octets (and_right (is_node net v) (is_asked event) both) valid is numbered;
+        fits = λ e is. event_fits net w v m.running.network m.running.conserved event e (and_right (is_node net v) (is_asked event) both) is;
+        links = m.links;
+      }
+
+  -- Handling the event is an action of the network.
+  pub asked : (disk_faults : K → ℕ) (armings : K → Armings) (entropy_faults : E → ℕ) (old new : Post K E) (reply : Reply) → MayAsk is_honest moment image told net w v old event up →
+      Handled is_honest moment image disk_faults armings told entropy_faults net w v event old new reply → Asked is_honest moment image disk_faults armings told entropy_faults net w v event old new reply
+  asked disk_faults armings entropy_faults old new reply m h =
+      let same = asks_as net w v event h.environment in
+      record {
+        environment = h.environment;
+        may = and_both (is_enabled net w (Ask v event h.environment)) (is_shown h.environment (step net w (Ask v event h.environment)).1)
+            (may_ask net w v event m.enabled h.environment)
+            (ap (λ (x : World × Outcome). is_shown h.environment x.1) same ∙ ap (is_shown h.environment) h.said ∙ h.shown);
+        said = ap (λ (x : World × Outcome). x.1) same ∙ h.said;
+        stands = subst (λ (x : World × Outcome). PostStands is_honest moment image told net x.0 v new) (sym same) h.stands;
+        counts = h.counts;
+      }

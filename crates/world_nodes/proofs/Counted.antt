@@ -1,0 +1,110 @@
+-- The counts of a post.
+use Rattle.std.proofs.Common.{◌≡◌, ℕ, ◌≤◌, Bool, true, false, List, refl, subst, arith}
+use Rattle.std.specs.Prelude.{Option, Some}
+use Rattle.qkd_base.specs.Faults.{Rose}
+use Rattle.net_model.specs.OctetSequence.{OctetSequence}
+use Rattle.net_model.specs.World.{Network, World}
+use Rattle.net_model.specs.View.{View}
+use Rattle.net_model.specs.Action.{Environment, OutOfMemory, EntropyFault, IoFault, DeviceFault, is_entropy_fault, is_io_fault, Ok as Fine}
+use Rattle.declared_site.specs.declared.site.Site.{Site as Declared}
+use Rattle.disk_model.specs.declared.arm.Armings.{Armings}
+use Rattle.kme_store.specs.Manager.{ManagerForm, HasDisk}
+use Rattle.kme_store.specs.declared.standing.Standing.{Standing}
+use Rattle.kme_store.specs.declared.standing.Standing.TheVariants.{Up, Down, Between}
+use Rattle.kme_store.specs.declared.post.Post.{Post}
+use Rattle.kme_store.specs.declared.post.Post.TheVariants.{On, Off}
+use Rattle.world_nodes.specs.Stands.{StandingStands, PostStands}
+use Rattle.world_nodes.specs.Counts.{disk_in, disk_of, entropy_of, IsCounted, Counts}
+
+some_same : {A : Type 0} {a b : A} → ◌≡◌ {A = Option A} (Some a) (Some b) → a ≡ b
+some_same h = cc
+
+-- the disk of a manager
+
+pub disk_there : {K : Type 0} (P : K → Type 0) (s : Standing K) → HasDisk P s → (disk : K) × (disk_in s ≡ Some disk) × P disk
+disk_there P (Up journal) h = (journal.disk, refl, h)
+disk_there P (Down disk) h = (disk, refl, h)
+disk_there P Between h = absurd h
+
+at_disk : {K : Type 0} (P : K → Type 0) (s : Standing K) (disk : K) → disk_in s ≡ Some disk → HasDisk P s → P disk
+at_disk P (Up journal) disk is h = subst P (some_same is) h
+at_disk P (Down left) disk is h = subst P (some_same is) h
+at_disk P Between disk is h = absurd h
+
+pub disk_weaker : {K : Type 0} (P Q : K → Type 0) → ((disk : K) → P disk → Q disk) → (s : Standing K) → HasDisk P s → HasDisk Q s
+disk_weaker P Q f (Up journal) h = f journal.disk h
+disk_weaker P Q f (Down disk) h = f disk h
+disk_weaker P Q f Between h = absurd h
+
+module _ {K : Type 0} (is_honest : K → Bool) (moment : K → ℕ) (image : K → ℕ → List ℕ → Type 0) (net : Network) (w : World) (v : ℕ) where
+  standing_disk : (site : Declared) (view : View) (s : Standing K) → StandingStands is_honest moment image net w v site view s → (disk : K) × (disk_in s ≡ Some disk)
+  standing_disk site view (Up journal) h = (journal.disk, refl)
+  standing_disk site view (Down disk) h = (disk, refl)
+  standing_disk site view Between h = absurd h
+
+  pub post_disk : {E : Type 0} (told : E → Option OctetSequence) (post : Post K E) → PostStands is_honest moment image told net w v post → (disk : K) × (disk_of post ≡ Some disk)
+  post_disk told (On m) h = standing_disk m.site m.view m.standing h.standing
+  post_disk told (Off disk entropy) h = (disk, refl)
+
+-- the kinds of answers of the environment
+
+pub fails_disk : (environment : Environment) → is_io_fault environment ≡ true → environment ≡ IoFault
+fails_disk Fine h = absurd (cc h)
+fails_disk OutOfMemory h = absurd (cc h)
+fails_disk EntropyFault h = absurd (cc h)
+fails_disk IoFault h = refl
+fails_disk DeviceFault h = absurd (cc h)
+
+pub fails_entropy : (environment : Environment) → is_entropy_fault environment ≡ true → environment ≡ EntropyFault
+fails_entropy Fine h = absurd (cc h)
+fails_entropy OutOfMemory h = absurd (cc h)
+fails_entropy EntropyFault h = refl
+fails_entropy IoFault h = absurd (cc h)
+fails_entropy DeviceFault h = absurd (cc h)
+
+pub still : (n : ℕ) → IsCounted false n n
+still n = record { later = omega arith; rose = λ other. absurd (cc other) }
+
+calm : (fault : Bool) (before now : ℕ) → IsCounted fault before now → IsCounted false before now
+calm fault before now h = record { later = h.later; rose = λ other. absurd (cc other) }
+
+module _ {K E : Type 0} (disk_count : K → ℕ) (armed : K → Armings) (entropy_count : E → ℕ) where
+  -- Nothing changed.
+  pub unchanged : (post : Post K E) (disk : K) → disk_of post ≡ Some disk → Counts disk_count armed entropy_count false false post post
+  unchanged post disk is = record { before = disk; now = disk; was = is; is = is; disk = still (disk_count disk); arms = refl; entropy = still (entropy_count (entropy_of post)) }
+
+  -- The counts also hold if it isn't said which parts failed.
+  pub calmed : (disk_fault entropy_fault : Bool) (old new : Post K E) → Counts disk_count armed entropy_count disk_fault entropy_fault old new → Counts disk_count armed entropy_count false false old new
+  calmed disk_fault entropy_fault old new h = record {
+    before = h.before;
+    now = h.now;
+    was = h.was;
+    is = h.is;
+    disk = calm disk_fault (disk_count h.before) (disk_count h.now) h.disk;
+    arms = h.arms;
+    entropy = calm entropy_fault (entropy_count (entropy_of old)) (entropy_count (entropy_of new)) h.entropy;
+  }
+
+  -- a manager that handles an event
+  pub counted : (is_honest : K → Bool) (disk_fault entropy_fault : Bool) (old new : ManagerForm K E) →
+      HasDisk (λ before. HasDisk (λ disk. (is_honest disk ≡ is_honest before) × (armed disk ≡ armed before)) new.standing) old.standing →
+      HasDisk (λ before. HasDisk (λ disk. disk_count before ≤ disk_count disk) new.standing) old.standing → entropy_count old.entropy ≤ entropy_count new.entropy →
+      (disk_fault ≡ true → HasDisk (λ before. HasDisk (λ disk. Rose (disk_count before) (disk_count disk)) new.standing) old.standing) →
+      (entropy_fault ≡ true → Rose (entropy_count old.entropy) (entropy_count new.entropy)) → Counts disk_count armed entropy_count disk_fault entropy_fault (On old) (On new)
+  counted is_honest disk_fault entropy_fault old new same later drawn fails refused =
+      let p = disk_there (λ before. HasDisk (λ disk. (is_honest disk ≡ is_honest before) × (armed disk ≡ armed before)) new.standing) old.standing same in
+      let q = disk_there (λ disk. (is_honest disk ≡ is_honest p.0) × (armed disk ≡ armed p.0)) new.standing p.2 in
+      let at : (R : K → K → Type 0) → HasDisk (λ before. HasDisk (λ disk. R before disk) new.standing) old.standing → R p.0 q.0 =
+      λ R h. at_disk (λ disk. R p.0 disk) new.standing q.0 q.1 (at_disk (λ before. HasDisk (λ disk. R before disk) new.standing) old.standing p.0 p.1 h) in
+      record {
+        before = p.0;
+        now = q.0;
+        was = p.1;
+        is = q.1;
+        disk = record {
+          later = at (λ before disk. disk_count before ≤ disk_count disk) later;
+          rose = λ fault. at (λ before disk. Rose (disk_count before) (disk_count disk)) (fails fault);
+        };
+        arms = q.2.1;
+        entropy = record { later = drawn; rose = refused };
+      }

@@ -1,0 +1,64 @@
+-- How the network handles an event at a post.
+use Rattle.std.specs.Prelude.{◌≡◌, ℕ, Bool, true, List, Option}
+use Rattle.std.specs.List.{list_all}
+use Rattle.net_model.specs.declared.event.Event.{Event}
+use Rattle.net_model.specs.declared.reply.Reply.{Reply}
+use Rattle.net_model.specs.OctetSequence.{OctetSequence}
+use Rattle.net_model.specs.World.{Network, World}
+use Rattle.net_model.specs.Needed.{view_of}
+use Rattle.net_model.specs.Decision.{Does, Effect}
+use Rattle.net_model.specs.Events.{is_valid_event}
+use Rattle.net_model.specs.Handle.{is_numbered, commit, handle}
+use Rattle.net_model.specs.Fold.{view_after}
+use Rattle.net_model.specs.Action.{Action, Environment, Outcome, Replies, is_shown, is_entropy_fault, is_io_fault}
+use Rattle.net_model.specs.Step.{step, IsStep}
+use Rattle.law_invariant.specs.May.{decided}
+use Rattle.law_recovery.specs.Fitting.{AllFit}
+use Rattle.disk_model.specs.declared.arm.Armings.{Armings}
+use Rattle.kme_base.specs.Up.{AreUp}
+use Rattle.kme_store.specs.Manager.{HasDisk}
+use Rattle.kme_store.specs.declared.post.Post.{Post}
+use Rattle.kme_store.specs.declared.post.Post.TheVariants.{On, Off}
+use Rattle.world_nodes.specs.LaneStands.{IsRunning}
+use Rattle.world_nodes.specs.Stands.{PostStands}
+use Rattle.world_nodes.specs.Counts.{Counts}
+
+-- The post's disk has this property.
+abbrev pub OnDisk : {K E : Type 0} → (K → Type 0) → Post K E → Type 0
+OnDisk P (On m) = HasDisk P m.standing
+OnDisk P (Off disk entropy) = P disk
+
+-- If the node commits the effect that it decides on an event, its view changes by just that effect.
+abbrev pub ViewGoesOn : Network → World → ℕ → Event → Type 0
+ViewGoesOn net w v event =
+    (octets : ℕ) (e : Effect) → decided net w v event ≡ Does e → list_all is_numbered e.batch ≡ true → view_of net (commit net.site w v octets e) v ≡ view_after (view_of net w v) e
+
+-- The batch of the effect that the node decides fits the node's view.
+abbrev pub BatchFits : Network → World → ℕ → Event → Type 0
+BatchFits net w v event = (e : Effect) → decided net w v event ≡ Does e → AllFit net (view_of net w v) e.batch
+
+-- The event may be given to the node's manager, and these links are up.
+pub record MayHandle {K E : Type 0} (is_honest : K → Bool) (moment : K → ℕ) (image : K → ℕ → List ℕ → Type 0) (told : E → Option OctetSequence) (net : Network) (w : World) (v : ℕ) (post : Post K E) (event : Event) (up : ℕ) : Type 0 where
+  pub running : IsRunning net w
+  pub stands : PostStands is_honest moment image told net w v post
+  pub valid : is_valid_event net.site v event ≡ true
+  pub goes : ViewGoesOn net w v event
+  pub fits : BatchFits net w v event
+  pub links : AreUp up w.link_up
+
+-- The action happens with an answer of the environment that agrees with the outcome. The post stands for the node afterwards. The counts show each
+-- fault of its disk and its entropy.
+pub record Happens {K E : Type 0} (is_honest : K → Bool) (moment : K → ℕ) (image : K → ℕ → List ℕ → Type 0) (disk_faults : K → ℕ) (armings : K → Armings) (told : E → Option OctetSequence) (entropy_faults : E → ℕ) (action : Environment → Action) (net : Network) (w : World) (v : ℕ) (old new : Post K E) (outcome : Outcome) : Type 0 where
+  pub environment : Environment
+  pub may : IsStep net w (action environment)
+  pub said : (step net w (action environment)).1 ≡ outcome
+  pub stands : PostStands is_honest moment image told net (step net w (action environment)).0 v new
+  pub counts : Counts disk_faults armings entropy_faults (is_io_fault environment) (is_entropy_fault environment) old new
+
+-- The network handles the event with an answer of the environment that agrees with the reply. The post stands for the node afterwards.
+pub record Handled {K E : Type 0} (is_honest : K → Bool) (moment : K → ℕ) (image : K → ℕ → List ℕ → Type 0) (disk_faults : K → ℕ) (armings : K → Armings) (told : E → Option OctetSequence) (entropy_faults : E → ℕ) (net : Network) (w : World) (v : ℕ) (event : Event) (old new : Post K E) (reply : Reply) : Type 0 where
+  pub environment : Environment
+  pub shown : is_shown environment (Replies reply) ≡ true
+  pub said : (handle net w v event environment).1 ≡ Replies reply
+  pub stands : PostStands is_honest moment image told net (handle net w v event environment).0 v new
+  pub counts : Counts disk_faults armings entropy_faults (is_io_fault environment) (is_entropy_fault environment) old new

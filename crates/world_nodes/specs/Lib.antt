@@ -1,0 +1,17 @@
+pub mod LaneStands
+pub mod Emitting
+pub mod Going
+pub mod Taking
+pub mod Seeing
+pub mod Asking
+pub mod Blocks
+pub mod Counts
+pub mod Handled
+pub mod Hearing
+pub mod Lives
+pub mod Noting
+pub mod Stands
+pub mod Starting
+pub mod Tampering
+pub mod Standings
+pub mod Passed

@@ -1,4 +1,0 @@
--- What stands below this crate, for those above it that name it no other way.
-pub use Rattle.world_state.proofs.Disks.{has_disks}
-pub use Rattle.world_state.proofs.Resting.{comes_to_rest}
-pub use Rattle.world_state.proofs.Tallies.{none_tallied, tallied_more}

@@ -1,4 +1,0 @@
-pub mod Asked
-pub mod Passed
-pub mod Seats
-pub mod Served

@@ -1,4 +1,0 @@
-pub mod Order
-pub mod Passed
-pub mod Taking
-pub mod Turning
