@@ -1,8 +1,6 @@
-mod examples;
 mod rows;
 
 use audit_text::{AuditRefusal, audit_text, verdict_text};
-use examples::{CRASH, FORGED, GROUP, HTTP, LOSSES, ONE_LINK, RELAY, SIDE_BY_SIDE, STREAM};
 use qkd_base::Octets;
 use rows::{HANDED, KEY};
 use run_audit::Verdict;
@@ -118,61 +116,4 @@ fn ends_of_texts(rt: HostRuntime) -> Result<(), Fail> {
         );
     }
     Ok(())
-}
-
-// Each example as it is, and most with a line that is another one.
-const EXAMPLES: &[Case] = &[
-    (CRASH, 0, "", "audit yes 8 2 2\n"),
-    (
-        CRASH,
-        66,
-        "19 keys 00000000-0000-8000-8000-000000000002 96fc26fc1207ce770c010d91829be608f93d205bef76be94b25ce4b99960b7a7",
-        "audit no 66 4\n",
-    ),
-    (FORGED, 0, "", "audit yes 1 0 1\n"),
-    (
-        FORGED,
-        35,
-        "19 pass 0 up 1 taken key 00000000-0000-8000-8000-000000000001",
-        "audit no 35 5\n",
-    ),
-    (GROUP, 0, "", "audit yes 8 3 2\n"),
-    (
-        GROUP,
-        61,
-        "23 keys 00000000-0000-8000-8000-000000000001 c0145aef38c0071b02f48ee6072b15f88c9d9f81ea6414a97023e5e65f663e4c",
-        "audit no 61 4\n",
-    ),
-    (HTTP, 0, "", "audit yes 4 0 0\n"),
-    (HTTP, 32, "10 sent 0 down 2 33 36", "audit no 32 2\n"),
-    (LOSSES, 0, "", "audit yes 6 2 1\n"),
-    (
-        LOSSES,
-        71,
-        "35 ledger 0 up received 1024 unused 884 spent 139 burnt 1",
-        "audit no 71 6\n",
-    ),
-    (ONE_LINK, 0, "", "audit yes 1 0 2\n"),
-    (ONE_LINK, 19, "8 bits 0 high 1", "audit no 19 1\n"),
-    (RELAY, 0, "", "audit yes 8 2 2\n"),
-    (RELAY, 52, "13 sent 0 up 1 74 17", "audit no 52 3\n"),
-    (SIDE_BY_SIDE, 0, "", "audit yes 12 2 1\n"),
-    (
-        SIDE_BY_SIDE,
-        42,
-        "20 pass 0 up 1 taken key 00000000-0000-8000-8000-000000000001",
-        "audit no 42 5\n",
-    ),
-    (STREAM, 0, "", "audit yes 12 3 0\n"),
-    (
-        STREAM,
-        68,
-        "20 GET_KEY 0 0 c0145aef38c0071b02f48ee6072b15f88c9d9f81ea6414a97023e5e65f663e4c",
-        "audit no 68 4\n",
-    ),
-];
-
-#[test]
-fn examples_are_sound(rt: HostRuntime) -> Result<(), Fail> {
-    are_said(&rt, rt.alloc(), EXAMPLES)
 }
