@@ -2,5 +2,4 @@ pub mod Writes
 pub mod Forms
 pub mod Connections
 pub mod Doors
-pub mod Tcp
 pub mod Done

@@ -18,8 +18,6 @@ mod ports;
 mod read_source;
 mod sink;
 mod source;
-mod tcp_door;
-mod tcp_ports;
 mod write_sink;
 
 pub use ended::Ended;
@@ -37,6 +35,4 @@ pub use ports::Ports;
 pub use read_source::ReadSource;
 pub use sink::Sink;
 pub use source::Source;
-pub use tcp_door::TcpDoor;
-pub use tcp_ports::TcpPorts;
 pub use write_sink::WriteSink;

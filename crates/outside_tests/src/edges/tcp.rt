@@ -1,12 +1,13 @@
 // The adapters over TCP, with a client in a thread of its own.
 ghost use Rattle.std.specs.Prelude.{◌≡◌, ◌<◌, ◌+◌, ◌^◌};
 
-use edge_io::{Ended, Listener, Ports, Sink, Source, TcpDoor, TcpPorts};
+use edge_io::{Ended, Listener, Ports, Sink, Source};
 use std::io;
 use std::io::{Read, Write};
 use std::net::{Net, SocketAddr, TcpStream};
 use std::thread::join;
 use std::time::Duration;
+use tcp_ports::{TcpDoor, TcpPorts};
 
 // Sends an octet on a new connection, and gives the octet that comes back.
 fn ask<R: Net<Stream = TcpStream>>(net: &R, address: SocketAddr, octet: u8) -> io::Result<u8> {

@@ -1,9 +1,9 @@
 // A listener over TCP.
 ghost use Rattle.std.specs.Prelude.{◌≡◌, ◌+◌, ◌<◌, ◌^◌, OnOk, OnErr, IfOk, None};
 ghost use Rattle.qkd_base.specs.Faults.{HasCause, one_more};
-ghost use Rattle.edge_io.specs.Tcp.{TcpForm};
+ghost use Rattle.tcp_ports.specs.Tcp.{TcpForm};
 
-use crate::{Ended, Failed, Listener, ReadSource, WriteSink};
+use edge_io::{Ended, Failed, Listener, ReadSource, WriteSink};
 use std::io;
 use std::marker::Model;
 use std::net::{SocketAddr, TcpListener, TcpStream};
@@ -24,7 +24,7 @@ pub struct TcpDoor {
 
 impl Model for TcpDoor {
     ghost use Rattle.std.specs.Prelude.{◌≤◌, ◌^◌};
-    ghost use Rattle.edge_io.specs.Tcp.{TcpForm};
+    ghost use Rattle.tcp_ports.specs.Tcp.{TcpForm};
 
     ghost Value = { TcpForm };
 

@@ -3,10 +3,10 @@ ghost use Rattle.std.specs.Prelude.{◌≡◌, ◌∷◌, [], IfOk, OnOk, OnErr,
 ghost use Rattle.qkd_base.specs.Faults.{HasCause, one_more};
 ghost use Rattle.edge_io.specs.Writes.{Adds};
 ghost use Rattle.edge_io.specs.Connections.{IsNewDoor};
-ghost use Rattle.edge_io.specs.Tcp.{untold_asked};
+ghost use Rattle.tcp_ports.specs.Tcp.{untold_asked};
 
-use crate::tcp_door::TcpDoor;
-use crate::{Failed, Ports};
+use crate::TcpDoor;
+use edge_io::{Failed, Ports};
 use std::marker::Model;
 use std::net::{Ipv4Addr, Net, TcpListener, TcpStream};
 use std::time::Duration;
