@@ -4,7 +4,7 @@ use Rattle.std.specs.Prelude.{◌⊎◌, Option, None, Some}
 use Rattle.std.proofs.lemmas.List.{take-append-le, append-nil}
 use Rattle.scenario_text.specs.Line.{nothing_read}
 use Rattle.scenario_text.specs.Text.{meaning_of, text_limit, parts_from, parts_of}
-use Rattle.qkd_network.specs.Inputs.{ReadsWhole, IsInput}
+use Rattle.cli_answers.specs.Inputs.{ReadsWhole, IsInput}
 
 -- the meaning depends on no more than one octet past the limit
 same_front : (bytes rest : List ℕ) → (rest ≡ []) ⊎ (text_limit < length bytes) → take (text_limit + 1) (bytes ++ rest) ≡ take (text_limit + 1) bytes

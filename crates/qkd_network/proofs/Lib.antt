@@ -1,6 +1,3 @@
-pub mod Audited
-pub mod Counted
-pub mod AnswerInputs
 pub mod Inputs
 pub mod Outcomes
 pub mod Lined

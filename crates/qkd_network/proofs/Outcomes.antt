@@ -15,9 +15,9 @@ use Rattle.net_serve.specs.declared.stop.ServeStop.TheVariants as serves
 use Rattle.net_world.specs.declared.bench.Bench.{Bench}
 use Rattle.qkd_network.specs.Codes.{status_of, served_as, answered_as}
 use Rattle.qkd_network.specs.Forms.{Runs, asked_by}
-use Rattle.qkd_network.specs.Inputs.{ReadsWhole}
-use Rattle.qkd_network.specs.declared.ended.Ended.{Ended}
-use Rattle.qkd_network.specs.declared.ended.Ended.TheVariants as ends
+use Rattle.cli_answers.specs.Inputs.{ReadsWhole}
+use Rattle.cli_answers.specs.declared.exchange.Ended.{Ended}
+use Rattle.cli_answers.specs.declared.exchange.Ended.TheVariants as ends
 use Rattle.qkd_network.specs.Outcome.{HasScenario, HasRun, HasLoaded, HasCome, IsUnread, RunOutcome, ScenarioOutcome, outside}
 use Rattle.qkd_network.specs.declared.status.Status.{Status}
 use Rattle.qkd_network.specs.declared.status.Status.TheVariants.{Done, Usage, BadLine, ReadFault, WriteFault, ForgedMatch, Memory, ListenFault}

@@ -5,10 +5,11 @@ use Rattle.scenario_text.specs.Text.{meaning_of}
 use Rattle.run_model.specs.Course.{Words, Run, Load}
 use Rattle.run_model.specs.Load.{load_scenario}
 use Rattle.run_model.specs.Headline as headline
-use Rattle.qkd_network.specs.Forms.{Runs, Serves, Veils, Bounds, Audits, asked_by}
-use Rattle.qkd_network.specs.Inputs.{WasRead, IsInput}
-use Rattle.qkd_network.specs.Answers.{Bounded, Audited}
-use Rattle.qkd_network.specs.declared.ended.Ended.{Ended}
+use Rattle.cli_answers.specs.Answers.{Asked}
+use Rattle.cli_answers.specs.Exchange.{WasAnswered}
+use Rattle.cli_answers.specs.Inputs.{WasRead, IsInput}
+use Rattle.cli_answers.specs.declared.exchange.Ended.{Ended}
+use Rattle.qkd_network.specs.Forms.{Runs, Serves, Veils, Asks, asked_by}
 use Rattle.qkd_network.specs.Codes.{answered_as}
 use Rattle.qkd_network.specs.declared.status.Status.{Status}
 use Rattle.qkd_network.specs.declared.status.Status.TheVariants.{Done, Usage, BadLine, ReadFault, WriteFault, ForgedMatch, Memory, ListenFault}
@@ -87,23 +88,13 @@ RunOutcome left Ran Memory words old new before after given back =
     (IsForm words × (after ≡ before) × (back ≡ given)) ⊎ HasDone left Ran words old new headline.Memory
 RunOutcome left Ran ListenFault words old new before after given back = ⊥
 
--- The words ask how many keys give two texts a difference. The answer depends on the source alone. The bench is as it was, and the sink took only the answer.
+-- The words ask a question about the source's text. The answer depends on that text alone. The bench is as it was, and the sink took only the answer.
 pub record HasAnswered {S W B : Type 0} (left : S → Option (List ℕ)) (taken : W → Option (List ℕ)) (status : Status) (words : List (List ℕ)) (old new : S) (before after : W) (given back : B) : Type 0 where
-  pub a : List ℕ
-  pub b : List ℕ
-  pub difference : ℕ
-  pub form : asked_by words ≡ Ok (Bounds a b difference)
+  pub asked : Asked
+  pub form : asked_by words ≡ Ok (Asks asked)
   pub ended : Ended
   pub is : status ≡ answered_as ended
-  pub bounded : Bounded a b difference (left old) (left new) (taken before) (taken after) before after ended
-  pub bench : back ≡ given
-
--- The words ask for an audit. The verdict depends on the source alone. The bench is as it was, and the sink took only the verdict.
-pub record HasAudited {S W B : Type 0} (left : S → Option (List ℕ)) (taken : W → Option (List ℕ)) (status : Status) (words : List (List ℕ)) (old new : S) (before after : W) (given back : B) : Type 0 where
-  pub form : asked_by words ≡ Ok Audits
-  pub ended : Ended
-  pub is : status ≡ answered_as ended
-  pub audited : Audited (left old) (left new) (taken before) (taken after) before after ended
+  pub answered : WasAnswered asked (left old) (left new) (taken before) (taken after) before after ended
   pub bench : back ≡ given
 
 -- The source's scenario is run, and something more is done with it, by the status. If nothing was run, sink and bench are as they were.
@@ -132,12 +123,11 @@ pub record HasServed {S W B : Type 0} (left : S → Option (List ℕ)) (Served :
   pub form : asked_by words ≡ Ok (Serves workers connections port)
   pub outcome : ScenarioOutcome left (Served workers connections port) status old new before after given back
 
--- one of these five results
+-- one of these four results
 abbrev pub Outcome : {S W B : Type 0} → (S → Option (List ℕ)) → (W → Option (List ℕ)) → (Words → Scenario → headline.Stop → Type 0) → (Scenario → headline.Stop → Type 0) →
     ((workers connections port : ℕ) → Scenario → headline.Stop → Type 0) → Status → List (List ℕ) → (old new : S) → (before after : W) → (given back : B) → Type 0
 Outcome left taken Ran Veiled Served status words old new before after given back =
     RunOutcome left Ran status words old new before after given back ⊎
     (HasAnswered left taken status words old new before after given back ⊎
-    (HasAudited left taken status words old new before after given back ⊎
     (HasVeiled left Veiled status words old new before after given back ⊎
-    HasServed left Served status words old new before after given back)))
+    HasServed left Served status words old new before after given back))

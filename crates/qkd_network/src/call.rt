@@ -16,7 +16,8 @@ ghost use Rattle.qkd_network.specs.declared.status.Status.TheVariants.{ReadFault
 use crate::reading::scenario_in;
 use crate::serve::serve;
 use crate::veil::veil;
-use crate::{Form, Status, answer_audit, answer_bound, read_form};
+use crate::{Form, Status, read_form};
+use cli_answers::answer;
 use disk_model::Disk;
 use edge_io::{Gate, Listener, Ports, Sink, Source};
 use net_world::{Bench, run_load, run_scenario};
@@ -109,10 +110,9 @@ where
         Ok(Form::Load { rounds }) => {
             return Status::of_run(run_load(alloc, rounds, sink, bench));
         }
-        Ok(Form::Bound { a, b, difference }) => {
-            return Status::of_answer(answer_bound(alloc, &a, &b, difference, source, sink));
+        Ok(Form::Ask(question)) => {
+            return Status::of_answer(answer(alloc, &question, source, sink));
         }
-        Ok(Form::Audit) => return Status::of_answer(answer_audit(alloc, source, sink)),
         Ok(Form::Veil) => return veil(rt, alloc, source, sink, bench, gate),
         Ok(
             Form::Serve {

@@ -5,7 +5,8 @@ ghost use Rattle.run_ops.specs.Runnable.{IsRunnable};
 ghost use Rattle.qkd_network.specs.Outcome.{HasScenario, IsUnread};
 ghost use Rattle.qkd_network.specs.declared.status.Status.TheVariants.{ReadFault};
 
-use crate::{ReadRefusal, Status, read_all};
+use crate::Status;
+use cli_answers::{ReadRefusal, read_all};
 use edge_io::Source;
 use law_run::law_read_commands_fit;
 use run_types::Scenario;

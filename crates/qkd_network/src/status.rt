@@ -1,5 +1,5 @@
 // How the program ended.
-use crate::Ended;
+use cli_answers::{Ended, Verdict};
 use net_serve::ServeStop;
 use run_lines::Stop;
 use std::fmt;
@@ -73,7 +73,7 @@ impl Status {
         ensures { result ≡ answered_as ended }
     {
         match ended {
-            Ended::Done => Status::Done,
+            Ended::Answered(Verdict::Yes) => Status::Done,
             Ended::BadLine(line) => Status::BadLine(line),
             Ended::ReadFault => Status::ReadFault,
             Ended::WriteFault => Status::WriteFault,

@@ -28,24 +28,24 @@ returns-in-Err-scenario_in-clause-outcome g c =
 
 pub returns-in-Ok-Veil-clause-outcome : goal.returns-in-Ok-Veil-clause-outcome
 returns-in-Ok-Veil-clause-outcome g c =
-    inr (inr (inr (inl (record {
+    inr (inr (inl (record {
       form = c.in-Ok-Veil.ensures.form ∙ ap (λ (f : Form). Ok (wanted_of f)) c.in-Ok-Veil.field-0-is;
       calm = c.veil.ensures.calm;
       outcome = beside_ports g.S.Source.left
           (λ (scenario : Scenario) (stop : headline.Stop). HasVeiled g.K.Disk.moment g.K.Disk.image g.E.Entropy.left g.Q.Device.told g.X.Wire.frames
           g.K.Disk.faults g.K.Disk.armings g.E.Entropy.faults g.Q.Device.faults g.X.Wire.faults g.W.Sink.taken c.args.bench.now c.veil.new.bench scenario c.args.sink.now c.veil.new.sink stop)
           c.args.source.now c.veil.new.source c.veil.result c.args.sink.now c.veil.new.sink c.args.bench.now c.veil.new.bench c.args.ports.now c.veil.ensures.outcome;
-    }))))
+    })))
 
 pub returns-in-Ok-Serve-clause-outcome : goal.returns-in-Ok-Serve-clause-outcome
 returns-in-Ok-Serve-clause-outcome g c =
-    inr (inr (inr (inr (record {
+    inr (inr (inr (record {
       workers = c.in-Ok-Serve.workers;
       connections = c.in-Ok-Serve.connections;
       port = c.in-Ok-Serve.port;
       form = c.in-Ok-Serve.ensures.form ∙ ap (λ (f : Form). Ok (wanted_of f)) c.in-Ok-Serve.field-0-is;
       outcome = c.serve.ensures.outcome;
-    }))))
+    })))
 
 pub returns-in-Ok-Serve-clause-ports : goal.returns-in-Ok-Serve-clause-ports
 returns-in-Ok-Serve-clause-ports g c =
@@ -91,8 +91,5 @@ returns-in-Ok-Load-clause-outcome g c =
     (with_lines _ _ _ (left_beside c.args.bench.now c.run_load.new.bench c.args.ports.now c.args.sink.now c.run_load.new.sink c.run_load.result _ c.run_load.ensures.headline)
     (run_lined g.W.Sink.taken g.W.Sink.pieces (IsLoadLine (load_scenario c.in-Ok-Load.rounds).site.nodes) c.args.sink.now c.run_load.new.sink c.run_load.result c.run_load.ensures.lined)))))
 
-pub returns-in-Ok-Bound-clause-source_calm : goal.returns-in-Ok-Bound-clause-source_calm
-returns-in-Ok-Bound-clause-source_calm g c = answered_calm _ c.answer_bound.result _ c.of_answer.ensures c.answer_bound.ensures.calm
-
-pub returns-in-Ok-Audit-clause-source_calm : goal.returns-in-Ok-Audit-clause-source_calm
-returns-in-Ok-Audit-clause-source_calm g c = answered_calm _ c.answer_audit.result _ c.of_answer-in-Ok-Audit.ensures c.answer_audit.ensures.calm
+pub returns-in-Ok-Ask-clause-source_calm : goal.returns-in-Ok-Ask-clause-source_calm
+returns-in-Ok-Ask-clause-source_calm g c = answered_calm _ c.answer.result _ c.of_answer.ensures c.answer.ensures.calm

@@ -1,8 +1,8 @@
 // Reading a source to its end.
 ghost use Rattle.std.specs.Prelude.{◌≡◌, ◌⊎◌, ◌≤◌, IfOk, IsErrOf};
 ghost use Rattle.qkd_base.specs.Faults.{Rose};
-ghost use Rattle.qkd_network.specs.declared.whole_source.ReadRefusal.TheVariants.{Fault};
-ghost use Rattle.qkd_network.specs.Inputs.{ReadsWhole};
+ghost use Rattle.cli_answers.specs.declared.whole_source.ReadRefusal.TheVariants.{Fault};
+ghost use Rattle.cli_answers.specs.Inputs.{ReadsWhole};
 
 use edge_io::{Failed, Source};
 use qkd_base::Octets;

@@ -1,0 +1,66 @@
+// The questions about a text.
+ghost use Rattle.std.specs.Prelude.{◌≡◌, MatchResult, take};
+ghost use Rattle.cli_answers.specs.Answers.{Asked, IsAnswer, IsRefused, IsUnanswered, Bounds, Audits, asked_of, CanBeAsked};
+
+use crate::answer::{Answer, AnswerRefusal, Verdict};
+use audit_text::{audit_text, verdict_text};
+use std::alloc::Global;
+use tag_bound::{ShortText, bound_of, bound_text};
+
+/// A question about a text.
+#[derive(Clone, Copy)]
+pub enum Question {
+    /// How many of the text's keys, one on each line, give two different texts a difference of hashes?
+    Bound {
+        a: ShortText,
+        b: ShortText,
+        difference: u64,
+    },
+    /// Does the report behind a scenario break a rule of the audit?
+    Audit,
+}
+
+// The count of the keys that give the difference, with its bound.
+fn count_of_keys(
+    alloc: Global,
+    a: &ShortText,
+    b: &ShortText,
+    difference: u64,
+    text: &[u8],
+) -> Result<Answer, AnswerRefusal>
+    requires differ { ¬ (take a.now.size a.now.octets ≡ take b.now.size b.now.octets) }
+    ensures { MatchResult result (λ answer. IsAnswer (Bounds (take a.now.size a.now.octets) (take b.now.size b.now.octets) difference) text.now answer)
+        (λ e. IsUnanswered (IsRefused (Bounds (take a.now.size a.now.octets) (take b.now.size b.now.octets) difference) text.now) e) }
+{
+    let count = bound_of(alloc, a.as_slice(), b.as_slice(), difference, text)?;
+    let text = bound_text(alloc, count)?;
+    Ok(Answer {
+        text,
+        verdict: Verdict::Yes,
+    })
+}
+
+// The verdict of the audit.
+fn verdict_on(alloc: Global, text: &[u8]) -> Result<Answer, AnswerRefusal>
+    ensures { MatchResult result (λ answer. IsAnswer Audits text.now answer) (λ e. IsUnanswered (IsRefused Audits text.now) e) }
+{
+    let verdict = audit_text(alloc, text)?;
+    let text = verdict_text(alloc, verdict)?;
+    Ok(Answer {
+        text,
+        verdict: Verdict::Yes,
+    })
+}
+
+impl Question {
+    /// Answers the question about this text. Errors: a line that the question has no place for, or memory runs out.
+    pub fn answer(&self, alloc: Global, text: &[u8]) -> Result<Answer, AnswerRefusal>
+        requires fit { CanBeAsked self.now }
+        ensures { MatchResult result (λ answer. IsAnswer (asked_of self.now) text.now answer) (λ e. IsUnanswered (IsRefused (asked_of self.now) text.now) e) }
+    {
+        match self {
+            Question::Bound { a, b, difference } => count_of_keys(alloc, a, b, *difference, text),
+            Question::Audit => verdict_on(alloc, text),
+        }
+    }
+}
