@@ -28,7 +28,7 @@ pub enum Ended {
 }
 
 /// Reads a source to its end, or past the limit of a scenario. Then writes the answer to the question about its text.
-pub fn answer<S: Source, W: Sink>(
+pub fn answer_to<S: Source, W: Sink>(
     alloc: Global,
     question: &Question,
     source: &mut S,

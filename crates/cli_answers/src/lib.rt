@@ -7,6 +7,6 @@ mod question;
 mod whole_source;
 
 pub use answer::{Answer, AnswerRefusal, Verdict};
-pub use exchange::{Ended, answer};
+pub use exchange::{Ended, answer_to};
 pub use question::Question;
 pub use whole_source::{ReadRefusal, read_all};

@@ -92,4 +92,4 @@ returns-in-Ok-Load-clause-outcome g c =
     (run_lined g.W.Sink.taken g.W.Sink.pieces (IsLoadLine (load_scenario c.in-Ok-Load.rounds).site.nodes) c.args.sink.now c.run_load.new.sink c.run_load.result c.run_load.ensures.lined)))))
 
 pub returns-in-Ok-Ask-clause-source_calm : goal.returns-in-Ok-Ask-clause-source_calm
-returns-in-Ok-Ask-clause-source_calm g c = answered_calm _ c.answer.result _ c.of_answer.ensures c.answer.ensures.calm
+returns-in-Ok-Ask-clause-source_calm g c = answered_calm _ c.answer_to.result _ c.of_answer.ensures c.answer_to.ensures.calm
