@@ -15,11 +15,11 @@ use Rattle.scenario_text.specs.Text.{Meaning, within, last_at, then_lines, parts
 -- ---- the parts of a text between its line ends
 
 -- a text has a first part; if the text is empty, this part is empty and the only one
-record Cut (bytes : List ℕ) : Type 0 where
-  first : List ℕ
-  others : List (List ℕ)
-  is : parts_of bytes ≡ first ∷ others
-  empty : (eqb (length first) 0 && eqb (length others) 0) ≡ eqb (length bytes) 0
+pub record Cut (bytes : List ℕ) : Type 0 where
+  pub first : List ℕ
+  pub others : List (List ℕ)
+  pub is : parts_of bytes ≡ first ∷ others
+  pub empty : (eqb (length first) 0 && eqb (length others) 0) ≡ eqb (length bytes) 0
 
 suc_no : (k : ℕ) → eqb (suc k) 0 ≡ false
 suc_no k = search rules
@@ -31,7 +31,7 @@ cut_onto : (x : ℕ) (b : Bool) (xs : List ℕ) (rest : Cut xs) → (first : Lis
 cut_onto x true xs rest = ([], parts_of xs, refl, ap (λ (p : List (List ℕ)). eqb (length p) 0) rest.is ∙ suc_no (length rest.others))
 cut_onto x false xs rest = (x ∷ rest.first, rest.others, ap (onto_first x) rest.is, not_nil (length rest.first) (eqb (length rest.others) 0))
 
-cut_of : (bytes : List ℕ) → Cut bytes
+pub cut_of : (bytes : List ℕ) → Cut bytes
 cut_of [] = record { first = []; others = []; is = refl; empty = refl }
 cut_of (x ∷ xs) = let c = cut_onto x (eqb x 10) xs (cut_of xs) in record { first = c.0; others = c.1; is = c.2; empty = c.3 ∙ sym (suc_no (length xs)) }
 
@@ -73,12 +73,12 @@ ended_early n m old new e F total is more so_far = sym (rw (is.0, more) at so_fa
 
 pub refused_at : (n : ℕ) (refusal : LineRefusal) (m : Option Step) (old new : Reading) (e : Bool) (F : Reading → Meaning) (total : Meaning) → Takes m old new (Err refusal) → then_lines n old m e F ≡ total → Refuses (refusal_of n refusal) total
 unfolding then_lines
-refused_at n line_refusals.Refused m old new e F total none so_far = sym (rw none at so_far)
+refused_at n line_refusals.Refused m old new e F total none so_far = sym (rw (none.0) at so_far)
 refused_at n line_refusals.Memory m old new e F total h so_far = tt
 
 pub last_refused : (n : ℕ) (refusal : LineRefusal) (m : Option Step) (old new : Reading) (total : Meaning) → Takes m old new (Err refusal) → last_at n old m ≡ total → Refuses (refusal_of n refusal) total
 unfolding last_at
-last_refused n line_refusals.Refused m old new total none so_far = sym (rw none at so_far)
+last_refused n line_refusals.Refused m old new total none so_far = sym (rw (none.0) at so_far)
 last_refused n line_refusals.Memory m old new total h so_far = tt
 
 pub last_ended : (n : ℕ) (m : Option Step) (old new : Reading) (total : Meaning) → (m ≡ Some Ends) × (new ≡ old) → last_at n old m ≡ total → total ≡ Ok (scenario_in new)

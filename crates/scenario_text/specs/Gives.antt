@@ -16,8 +16,8 @@ Declares means old new (Ok done) = means ≡ Some new
 Declares means old new (Err Refused) = (means ≡ None) × (new ≡ old)
 Declares means old new (Err Memory) = new ≡ old
 
--- what was read after a line, unless memory ran out
-abbrev pub Reads : {X : Type 0} → Option X → X → Result Unit LineRefusal → Type 0
-Reads means new (Ok done) = means ≡ Some new
-Reads means new (Err Refused) = means ≡ None
-Reads means new (Err Memory) = Unit {0}
+-- what was read after a line, unless memory ran out; a line that is refused leaves it unchanged
+abbrev pub Reads : {X : Type 0} → Option X → X → X → Result Unit LineRefusal → Type 0
+Reads means old new (Ok done) = means ≡ Some new
+Reads means old new (Err Refused) = (means ≡ None) × (new ≡ old)
+Reads means old new (Err Memory) = Unit {0}

@@ -58,11 +58,12 @@ abbrev pub Refuses : ScenarioRefusal → Meaning → Type 0
 Refuses (BadLine n) meaning = meaning ≡ Err n
 Refuses Memory meaning = Unit {0}
 
--- The result of a line agrees with its meaning: it was the last line, or it was not, or it is refused.
+-- The result of a line agrees with its meaning: it was the last line, or it was not, or it is refused. What was read before
+-- a last line or a refused one stays.
 abbrev pub Takes : Option Step → Reading → Reading → Result Bool LineRefusal → Type 0
 Takes means old new (Ok true) = (means ≡ Some Ends) × (new ≡ old)
 Takes means old new (Ok false) = means ≡ Some (Goes new)
-Takes means old new (Err line.Refused) = means ≡ None
+Takes means old new (Err line.Refused) = (means ≡ None) × (new ≡ old)
 Takes means old new (Err line.Memory) = Unit {0}
 
 -- the refusal of a scenario, from that of its line n

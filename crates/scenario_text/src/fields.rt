@@ -84,7 +84,8 @@ pub fn link(site: &Site, word: &[u8]) -> Option<LinkNo>
     }
 }
 
-fn way(word: &[u8]) -> Option<Way>
+/// The way of a lane that the word `up` or `down` means.
+pub fn way(word: &[u8]) -> Option<Way>
     ensures { result ≡ way_of word.now }
 {
     if word == b"up".as_slice() {

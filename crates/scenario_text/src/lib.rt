@@ -13,7 +13,8 @@ mod scenario;
 mod stream_lines;
 pub mod words;
 
-pub use fields::{sae, stream};
-pub use refusal::ScenarioRefusal;
-pub use scenario::{LINE_LIMIT, TEXT_LIMIT, read_scenario};
+pub use fields::{ends, image, link, name, node, octets, sae, size, stream, way};
+pub use reading::Reading;
+pub use refusal::{LineRefusal, ScenarioRefusal};
+pub use scenario::{LINE_LIMIT, TEXT_LIMIT, read_scenario, split_line, without_return};
 pub use stream_lines::call;

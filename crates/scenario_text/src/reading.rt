@@ -32,12 +32,12 @@ pub const ROUND_LIMIT: u32 = 100000;
 /// of all settles, the entries, and the lines of the block that is open.
 #[derive(Drop)]
 pub struct Reading {
-    pub(crate) site: Site,
-    pub(crate) node_lines: Items<u32>,
-    pub(crate) began: bool,
-    pub(crate) rounds: u32,
-    pub(crate) entries: Entries,
-    pub(crate) block: Option<Lines>,
+    pub site: Site,
+    pub node_lines: Items<u32>,
+    pub began: bool,
+    pub rounds: u32,
+    pub entries: Entries,
+    pub block: Option<Lines>,
 }
 
 // Whether each octet is from 20 to 7E, in hexadecimal.
@@ -227,7 +227,7 @@ impl Reading {
         word: &[u8],
         rest: &[u8],
     ) -> Result<(), LineRefusal>
-        ensures { Reads (declaration_at self.old number word.now (words_of rest.now)) self.new result }
+        ensures { Reads (declaration_at self.old number word.now (words_of rest.now)) self.old self.new result }
     {
         if self.began {
             return Err(LineRefusal::Refused);
@@ -348,7 +348,8 @@ impl Reading {
         }
     }
 
-    /// Reads a line without its end. The answer is whether it was the last line.
+    /// Reads a line without its end. The answer is whether it was the last line. A refused line leaves what was read as it
+    /// was.
     #[tactic(auto, unfolding(crate::specs::Line::line_at))]
     pub fn take(&mut self, alloc: Global, number: u32, line: &[u8]) -> Result<bool, LineRefusal>
         ensures { Takes (line_at self.old number line.now) self.old self.new result }

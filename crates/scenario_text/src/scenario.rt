@@ -16,8 +16,8 @@ pub const TEXT_LIMIT: usize = 4194304;
 /// The greatest number of octets of a line, its end not counted.
 pub const LINE_LIMIT: usize = 150000;
 
-// The first line without its line feed, and the text after it. `None` if the text has no line feed.
-fn split_line(rest: &[u8]) -> Option<(&[u8], &[u8])>
+/// The first line without its line feed, and the text after it. `None` if the text has no line feed.
+pub fn split_line(rest: &[u8]) -> Option<(&[u8], &[u8])>
     ensures { MatchOption result (parts_of rest.now ≡ rest.now ∷ []) (λ x. (parts_of rest.now ≡ x.0.now ∷ parts_of x.1.now) × (length x.0.now + length x.1.now + 1 ≡ length rest.now)) }
 {
     let len = len_to(b'\n', rest);
@@ -28,8 +28,8 @@ fn split_line(rest: &[u8]) -> Option<(&[u8], &[u8])>
     }
 }
 
-// The line without one carriage return at its end, if it has one.
-fn without_return(line: &[u8]) -> &[u8]
+/// The line without one carriage return at its end, if it has one.
+pub fn without_return(line: &[u8]) -> &[u8]
     ensures { result.now ≡ strip_carriage_return line.now }
 {
     match line {
