@@ -3,26 +3,36 @@ ghost use Rattle.std.specs.Prelude.{◌≡◌, ◌+◌, ◌<◌, ◌^◌, OnOk, 
 ghost use Rattle.qkd_base.specs.Faults.{HasCause, one_more};
 ghost use Rattle.tcp_ports.specs.Tcp.{TcpForm};
 
+use crate::hall::Hall;
+use crate::{Crew, Patience, PeerReader, PeerWriter};
 use edge_io::{Ended, Failed, Listener, ReadSource, WriteSink};
+use std::alloc::Global;
 use std::io;
 use std::marker::Model;
-use std::net::{SocketAddr, TcpListener, TcpStream};
-use std::time::Duration;
+use std::net::SocketAddr;
+use std::sync::{Arc, Wait};
+use std::time::Clock;
 
-/// A listener over the system's TCP. Contracts know nothing of its connections. Each error is counted. A read or a
-/// write at a connection fails if it waits longer than `patience`, so a peer that does nothing ends only its own
-/// connection.
+/// A listener over the system's TCP. Contracts know nothing of its connections. Each error is counted, and makes all listeners of
+/// the crew fail. A connection is accepted once its peer has sent an octet, has ended it, or was silent for too long. So a peer
+/// that does nothing costs no worker's time.
 #[derive(Drop)]
-pub struct TcpDoor {
-    listener: TcpListener,
-    patience: Duration,
+pub struct TcpDoor<'a, R> {
+    rt: &'a R,
+    hall: Arc<Hall, Global>,
+    crew: &'a Crew,
+    patience: Patience,
+    address: SocketAddr,
     port: u16,
+    connections: u64,
+    // Whether a thread serves the listener.
+    ready: bool,
     accepted: u64,
     finished: u64,
     faults: u64,
 }
 
-impl Model for TcpDoor {
+impl<'a, R> Model for TcpDoor<'a, R> {
     ghost use Rattle.std.specs.Prelude.{◌≤◌, ◌^◌};
     ghost use Rattle.tcp_ports.specs.Tcp.{TcpForm};
 
@@ -33,15 +43,30 @@ impl Model for TcpDoor {
     ghost invariant = { λ s. s.accepted ≤ 2 ^ 32 };
 }
 
-impl TcpDoor {
-    /// A listener of this port before its first call.
-    pub fn new(listener: TcpListener, port: u16, patience: Duration) -> Self
+impl<'a, R> TcpDoor<'a, R> {
+    /// A listener of this port, bound to this address, before its first call. Behind so many connections it has served all.
+    pub(crate) fn new(
+        rt: &'a R,
+        hall: Arc<Hall, Global>,
+        crew: &'a Crew,
+        patience: Patience,
+        address: SocketAddr,
+        port: u16,
+        connections: u64,
+    ) -> Self
         ensures { result ≡ record { port = port; accepted = 0; finished = 0; faults = 0 } }
     {
+        crew.add();
+        hall.add();
         TcpDoor {
-            listener,
+            rt,
+            hall,
+            crew,
             patience,
+            address,
             port,
+            connections,
+            ready: false,
             accepted: 0,
             finished: 0,
             faults: 0,
@@ -49,26 +74,39 @@ impl TcpDoor {
     }
 
     /// The address that the listener is bound to.
-    pub fn address(&self) -> io::Result<SocketAddr> {
-        self.listener.local_addr()
+    pub fn address(&self) -> SocketAddr {
+        self.address
+    }
+
+    // Counts an error, and tells all other listeners.
+    fn fail(&mut self) -> Failed
+        ensures { self.new ≡ record self.old { faults = one_more self.old.faults } }
+    {
+        self.crew.fail();
+        self.faults = self.faults.saturating_add(1);
+        Failed
     }
 }
 
-// The next connection as two streams: one to read from and one to write to. Each write is sent at once, since a peer
-// that sent several requests may wait for all responses before it sends more.
-fn next_stream(listener: &TcpListener, patience: Duration) -> io::Result<(TcpStream, TcpStream)> {
-    let (stream, _) = listener.accept()?;
-    stream.set_read_timeout(Some(patience))?;
-    stream.set_write_timeout(Some(patience))?;
-    stream.set_nodelay(true)?;
-    let other = stream.try_clone()?;
-    Ok((stream, other))
+impl<'a, R: Clock + Wait> TcpDoor<'a, R> {
+    // The next connection, as what reads from it and what writes to it. The first one comes once each listener has a thread.
+    fn next_peer(&self) -> io::Result<(PeerReader<'a, R>, PeerWriter<'a, R>)> {
+        if !self.ready {
+            self.crew.muster(self.rt)?;
+        }
+        let peer = self.hall.next(self.rt, self.crew)?;
+        let other = Arc::try_clone(&peer)?;
+        Ok((
+            PeerReader::new(self.rt, peer, self.patience),
+            PeerWriter::new(self.rt, other, self.patience),
+        ))
+    }
 }
 
-impl Listener for TcpDoor {
-    type In = ReadSource<TcpStream>;
+impl<'a, R: Clock + Wait> Listener for TcpDoor<'a, R> {
+    type In = ReadSource<PeerReader<'a, R>>;
 
-    type Out = WriteSink<TcpStream>;
+    type Out = WriteSink<PeerWriter<'a, R>>;
 
     ghost port = { λ s. s.port };
 
@@ -82,43 +120,56 @@ impl Listener for TcpDoor {
 
     ghost faults = { λ s. s.faults };
 
-    fn accept(&mut self) -> Result<(ReadSource<TcpStream>, WriteSink<TcpStream>), Failed>
+    fn accept(
+        &mut self,
+    ) -> Result<(ReadSource<PeerReader<'a, R>>, WriteSink<PeerWriter<'a, R>>), Failed>
         requires few { self.old.accepted < 2 ^ 32 }
         ensures ok { IfOk result (λ ends. (self.new ≡ record self.old { accepted = self.old.accepted + 1 }) × (ends.0.1 ≡ 0) × (ends.1.1 ≡ 0)) }
         ensures err { OnErr result (self.new ≡ record self.old { faults = one_more self.old.faults }) }
         ensures cause { HasCause self.old.faults self.new.faults result }
     {
-        match next_stream(&self.listener, self.patience) {
+        match self.next_peer() {
             Ok((input, output)) => {
+                self.ready = true;
                 self.accepted += 1;
                 Ok((ReadSource::new(input), WriteSink::new(output)))
             }
-            Err(_) => {
-                self.faults = self.faults.saturating_add(1);
-                Err(Failed)
-            }
+            Err(_) => Err(self.fail()),
         }
     }
 
-    fn finish(&mut self, source: ReadSource<TcpStream>, sink: WriteSink<TcpStream>, ended: Ended)
+    fn finish(
+        &mut self,
+        source: ReadSource<PeerReader<'a, R>>,
+        sink: WriteSink<PeerWriter<'a, R>>,
+        ended: Ended,
+    )
         requires open { self.old.finished < self.old.accepted }
         ensures { self.new ≡ record self.old { finished = self.old.finished + 1 } }
     {
         let _ = (source, sink, ended);
         self.finished += 1;
+        if self.finished == self.connections {
+            self.hall.leave(self.rt);
+        }
     }
 
-    fn twin(&mut self) -> Result<TcpDoor, Failed>
+    fn twin(&mut self) -> Result<TcpDoor<'a, R>, Failed>
         ensures ok { IfOk result (λ d. (d ≡ record { port = self.old.port; accepted = 0; finished = 0; faults = 0 }) × (self.new ≡ self.old)) }
         ensures err { OnErr result (self.new ≡ record self.old { faults = one_more self.old.faults }) }
         ensures cause { HasCause self.old.faults self.new.faults result }
     {
-        match self.listener.try_clone() {
-            Ok(listener) => Ok(TcpDoor::new(listener, self.port, self.patience)),
-            Err(_) => {
-                self.faults = self.faults.saturating_add(1);
-                Err(Failed)
-            }
+        match Arc::try_clone(&self.hall) {
+            Ok(hall) => Ok(TcpDoor::new(
+                self.rt,
+                hall,
+                self.crew,
+                self.patience,
+                self.address,
+                self.port,
+                self.connections,
+            )),
+            Err(_) => Err(self.fail()),
         }
     }
 }

@@ -1,13 +1,23 @@
 // The adapters over TCP, with a client in a thread of its own.
-ghost use Rattle.std.specs.Prelude.{◌≡◌, ◌<◌, ◌+◌, ◌^◌};
+ghost use Rattle.std.specs.Prelude.{◌≡◌, ◌<◌, ◌≤◌, ◌+◌, ◌^◌};
 
 use edge_io::{Ended, Listener, Ports, Sink, Source};
 use std::io;
 use std::io::{Read, Write};
 use std::net::{Net, SocketAddr, TcpStream};
+use std::sync::Wait;
 use std::thread::join;
-use std::time::Duration;
-use tcp_ports::{TcpDoor, TcpPorts};
+use std::time::{Clock, Duration};
+use tcp_ports::{Crew, Patience, TcpDoor, TcpPorts};
+
+// Waits that a test can wait for, and others that none comes to the end of.
+fn patience(silence: u64, request: u64) -> Patience {
+    Patience {
+        silence: Duration::from_millis(silence),
+        request: Duration::from_millis(request),
+        crowd: Duration::from_millis(silence),
+    }
+}
 
 // Sends an octet on a new connection, and gives the octet that comes back.
 fn ask<R: Net<Stream = TcpStream>>(net: &R, address: SocketAddr, octet: u8) -> io::Result<u8> {
@@ -18,10 +28,12 @@ fn ask<R: Net<Stream = TcpStream>>(net: &R, address: SocketAddr, octet: u8) -> i
     Ok(buffer[0])
 }
 
-// Sends what the first connection sends back to it, one more each octet, and finishes the connection.
-fn serve(door: &mut TcpDoor) -> bool
-    requires none_accepted { door.old.accepted ≡ 0 }
-    requires none_finished { door.old.finished ≡ 0 }
+// Sends what the next connection sends back to it, one more each octet, and finishes the connection.
+fn serve<R: Clock + Wait>(door: &mut TcpDoor<'_, R>) -> bool
+    requires few { door.old.accepted < 8 }
+    requires finished { door.old.finished ≤ door.old.accepted }
+    ensures few { door.new.accepted ≤ door.old.accepted + 1 }
+    ensures finished { door.new.finished ≤ door.new.accepted }
 {
     let mut buffer = [0u8; 1];
     let Ok((mut source, mut sink)) = door.accept() else {
@@ -33,69 +45,110 @@ fn serve(door: &mut TcpDoor) -> bool
     read == Ok(1) && written == Ok(())
 }
 
-// Accepts a connection whose peer sends nothing, and finishes it. Whether its read failed.
-fn await_silent(door: &mut TcpDoor) -> bool
-    requires none_accepted { door.old.accepted ≡ 0 }
-    requires none_finished { door.old.finished ≡ 0 }
+// Accepts a connection whose peer sends nothing, and finishes it. Whether it has ended for its reader.
+fn await_silent<R: Clock + Wait>(door: &mut TcpDoor<'_, R>) -> bool
+    requires few { door.old.accepted < 8 }
+    requires finished { door.old.finished ≤ door.old.accepted }
 {
     let mut buffer = [0u8; 1];
     let Ok((mut source, sink)) = door.accept() else {
         return false;
     };
     let read = source.read(&mut buffer);
-    door.finish(source, sink, Ended::ReadFault);
-    read.is_err()
+    door.finish(source, sink, Ended::Closed);
+    read == Ok(0)
 }
 
-// Connects, sends nothing and stays, while another connection asks.
-fn ask_beside_silence<R: Net<Stream = TcpStream>>(net: &R, address: SocketAddr) -> io::Result<u8> {
-    let silent = TcpStream::connect(net, address)?;
-    let answer = ask(net, address, b'a');
-    let _ = silent;
-    answer
+// Reads an octet of a connection, answers it, reads another one, and waits for a third. Whether the input ended before that one.
+fn await_slow<R: Clock + Wait>(door: &mut TcpDoor<'_, R>) -> bool
+    requires few { door.old.accepted < 8 }
+    requires finished { door.old.finished ≤ door.old.accepted }
+{
+    let mut buffer = [0u8; 1];
+    let Ok((mut source, mut sink)) = door.accept() else {
+        return false;
+    };
+    let first = source.read(&mut buffer);
+    let answered = sink.write_all(&buffer);
+    let second = source.read(&mut buffer);
+    let third = source.read(&mut buffer);
+    door.finish(source, sink, Ended::Closed);
+    first == Ok(1) && answered == Ok(()) && second == Ok(1) && third == Ok(0)
+}
+
+// Connects and sends nothing, while another connection asks. The answer is that of the other one, and what came at the silent one.
+fn ask_beside_silence<R: Net<Stream = TcpStream>>(
+    net: &R,
+    address: SocketAddr,
+) -> io::Result<(u8, usize)> {
+    let mut silent = TcpStream::connect(net, address)?;
+    let answer = ask(net, address, b'a')?;
+    let mut buffer = [0u8; 1];
+    Ok((answer, silent.read(&mut buffer)?))
+}
+
+// Sends an octet, waits for its answer, sends a second one, and no third. The answer is what comes behind that.
+fn ask_slowly<R: Net<Stream = TcpStream>>(net: &R, address: SocketAddr) -> io::Result<usize> {
+    let mut stream = TcpStream::connect(net, address)?;
+    let mut buffer = [0u8; 1];
+    stream.write_all(b"a")?;
+    stream.read_exact(&mut buffer)?;
+    stream.write_all(b"b")?;
+    stream.read(&mut buffer)
 }
 
 #[test]
-fn a_peer_that_sends_nothing_ends_its_own_connection_alone(rt: HostRuntime) {
-    let mut ports = TcpPorts::new(&rt, Duration::from_millis(50));
+fn a_silent_peer_delays_nobody_and_the_port_closes_behind_the_last_one(rt: HostRuntime) {
+    let crew = Crew::new();
+    let mut ports = TcpPorts::new(&rt, rt.alloc(), &crew, patience(1_000, 60_000), 2);
     let Ok(mut door) = ports.open(0) else {
         panic!(rt; "not opened");
     };
-    let Ok(address) = door.address() else {
-        panic!(rt; "no address");
-    };
-    let Ok(mut twin) = door.twin() else {
-        panic!(rt; "no twin");
-    };
-    let client = &rt;
+    let (client, address) = (&rt, door.address());
     let (served, answer) = join(
         &rt,
-        || (await_silent(&mut door), serve(&mut twin)),
+        || (serve(&mut door), await_silent(&mut door)),
         || ask_beside_silence(client, address),
     );
     assert!(rt; served == (true, true));
-    assert!(rt; answer.ok() == Some(b'b'));
-    ports.shut(twin);
+    assert!(rt; answer.ok() == Some((b'b', 0)));
+    assert!(rt; ask(client, address, b'a').is_err());
+    ports.shut(door);
+}
+
+#[test]
+fn a_request_has_to_be_whole_in_time(rt: HostRuntime) {
+    let crew = Crew::new();
+    let mut ports = TcpPorts::new(&rt, rt.alloc(), &crew, patience(60_000, 500), 9);
+    let Ok(mut door) = ports.open(0) else {
+        panic!(rt; "not opened");
+    };
+    let (client, address) = (&rt, door.address());
+    let (served, rest) = join(
+        &rt,
+        || await_slow(&mut door),
+        || ask_slowly(client, address),
+    );
+    assert!(rt; served);
+    assert!(rt; rest.ok() == Some(0));
     ports.shut(door);
 }
 
 #[test]
 fn a_port_and_its_twin_serve_a_client(rt: HostRuntime) {
-    let mut ports = TcpPorts::new(&rt, Duration::from_secs(30));
+    let crew = Crew::new();
+    let mut ports = TcpPorts::new(&rt, rt.alloc(), &crew, patience(60_000, 60_000), 1);
     let Ok(mut door) = ports.open(0) else {
         panic!(rt; "not opened");
-    };
-    let Ok(address) = door.address() else {
-        panic!(rt; "no address");
     };
     let Ok(mut twin) = door.twin() else {
         panic!(rt; "no twin");
     };
+    let (client, address) = (&rt, door.address());
     assert!(rt; ports.open(address.port()).is_err());
-    let client = &rt;
     let (served, answers) = join(
         &rt,
-        || (serve(&mut door), serve(&mut twin)),
+        || join(&rt, || serve(&mut door), || serve(&mut twin)),
         || (ask(client, address, b'a'), ask(client, address, b'c')),
     );
     assert!(rt; served == (true, true));

@@ -1,0 +1,63 @@
+use crate::Patience;
+use crate::deadline::Deadline;
+use crate::peer::Peer;
+use std::alloc::Global;
+use std::io;
+use std::io::{ErrorKind, Write};
+use std::sync::Arc;
+use std::time::{Clock, Duration};
+
+/// Writes to a peer. A write fails where the peer doesn't take all up to the next flush in time.
+#[derive(Drop)]
+pub struct PeerWriter<'a, R> {
+    rt: &'a R,
+    peer: Arc<Peer, Global>,
+    patience: Patience,
+    // By when what is written must be taken. After a flush there is none.
+    deadline: Option<Deadline>,
+}
+
+impl<'a, R: Clock> PeerWriter<'a, R> {
+    pub(crate) fn new(rt: &'a R, peer: Arc<Peer, Global>, patience: Patience) -> Self {
+        PeerWriter {
+            rt,
+            peer,
+            patience,
+            deadline: None,
+        }
+    }
+
+    // How long the next write may wait. The first one begins the time.
+    fn left(&mut self) -> io::Result<Duration> {
+        match self.deadline {
+            Some(deadline) => deadline.left(self.rt),
+            None => {
+                self.deadline = Some(Deadline::new(self.rt, self.patience.request)?);
+                Ok(self.patience.request)
+            }
+        }
+    }
+}
+
+impl<R: Clock> Write for PeerWriter<'_, R> {
+    fn write(&mut self, bytes: &[u8]) -> io::Result<usize> {
+        for _ in 0..u64::MAX {
+            let wait = self.left()?;
+            if wait.is_zero() {
+                return Err(io::Error::from(ErrorKind::TimedOut));
+            }
+            self.peer.stream.set_write_timeout(Some(wait))?;
+            match (&self.peer.stream).write(bytes) {
+                Err(error) if error.kind() == ErrorKind::Interrupted => self.deadline = None,
+                ended => return ended,
+            }
+        }
+        Err(io::Error::from(ErrorKind::Interrupted))
+    }
+
+    fn flush(&mut self) -> io::Result<()> {
+        self.deadline = None;
+        self.peer.count_piece();
+        Ok(())
+    }
+}
