@@ -1,0 +1,9 @@
+pub mod Routes
+pub mod Owing
+pub mod Delivering
+pub mod Windows
+pub mod Standing
+pub mod Noting
+pub mod NotedEffects
+pub mod NotedSteps
+pub mod Returning
