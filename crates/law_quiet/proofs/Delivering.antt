@@ -1,5 +1,5 @@
 -- A fact is delivered along its route exactly where nobody on the route owes it.
-use Rattle.std.proofs.Common.{◌≡◌, ℕ, Bool, true, false, refl, sym, ◌∙◌, ap, subst, List, Some, Option}
+use Rattle.std.proofs.Common.{◌≡◌, ℕ, true, false, refl, sym, ◌∙◌, ap, subst, Some}
 use Rattle.qkd_base.specs.Name.{Name, has}
 use Rattle.qkd_base.specs.Route.{next_after}
 use Rattle.net_model.specs.declared.fact.Fact.{Fact}

@@ -1,9 +1,8 @@
 -- Each decision of a manager notes what it teaches a target: only a received fact teaches one.
-use Rattle.std.proofs.Common.{◌≡◌, ℕ, zero, suc, ◌+◌, ◌<◌, ◌≤◌, Bool, true, false, not, ◌&&◌, List, [], ◌∷◌, refl, sym, ◌∙◌, ap, subst, arith, Option, Some, None, inl, inr}
+use Rattle.std.proofs.Common.{◌≡◌, ℕ, zero, suc, ◌+◌, ◌<◌, ◌≤◌, Bool, true, false, not, List, [], ◌∷◌, refl, sym, ◌∙◌, ap, subst, arith, Some, None, inl, inr}
 use Rattle.std.specs.Prelude.{◌==◌, slice_get, reverse, length, if◌then◌else◌}
 use Rattle.std.specs.List.{list_all}
 use Rattle.qkd_base.specs.Name.{Name, has}
-use Rattle.qkd_base.specs.Family.{number_set}
 use Rattle.qkd_base.specs.declared.lane.Lane.{Lane}
 use Rattle.qkd_base.specs.declared.key_name.NameKind.TheVariants.{Note as NoteKind}
 use Rattle.net_model.specs.declared.event.Event.{Event}
@@ -14,10 +13,10 @@ use Rattle.net_model.specs.declared.payload.Payload.{Payload}
 use Rattle.net_model.specs.declared.payload.Payload.TheVariants.{Data, Ack}
 use Rattle.net_model.specs.declared.record.Record.{Record}
 use Rattle.net_model.specs.declared.record.Record.TheVariants.{Learned, Acked}
-use Rattle.net_model.specs.Table.{name_of, route_of, bytes_of, origin, target, fact_at, is_secret}
+use Rattle.net_model.specs.Table.{name_of, route_of, bytes_of, origin, target, is_secret}
 use Rattle.net_model.specs.Premises.{IsNetwork}
 use Rattle.net_model.specs.OctetSequence.{octets_from}
-use Rattle.net_model.specs.World.{Network, World, InDoubt}
+use Rattle.net_model.specs.World.{Network, World}
 use Rattle.net_model.specs.View.{View}
 use Rattle.net_model.specs.Needed.{view_of}
 use Rattle.net_model.specs.Doubt.{MayReplay}

@@ -1,22 +1,18 @@
 -- Every action keeps the facts of targets noted, so every run does.
-use Rattle.std.proofs.Common.{◌≡◌, ℕ, zero, suc, ◌<◌, Bool, true, false, ◌&&◌, ◌||◌, List, [], ◌∷◌, refl, sym, ◌∙◌, ap, subst, Option, Some, None}
+use Rattle.std.proofs.Common.{◌≡◌, ℕ, zero, suc, Bool, true, false, ◌&&◌, ◌||◌, List, [], ◌∷◌, refl, sym, subst, Option, Some, None}
 use Rattle.std.specs.Prelude.{◌==◌, slice_get, if◌then◌else◌}
 use Rattle.std.proofs.lemmas.Bool.{ltb-true}
-use Rattle.qkd_base.specs.Name.{Name}
-use Rattle.qkd_base.specs.Family.{number_set}
 use Rattle.qkd_base.specs.declared.lane.Lane.{Lane}
 use Rattle.net_model.specs.declared.event.Event.{Event}
 use Rattle.net_model.specs.declared.event.Event.TheVariants.{Block, Note}
-use Rattle.net_model.specs.declared.fact.Fact.{Fact}
 use Rattle.net_model.specs.declared.payload.Payload.{Payload}
-use Rattle.net_model.specs.declared.record.Record.{Record}
-use Rattle.net_model.specs.declared.record.Record.TheVariants.{Block as Block', Learned}
+use Rattle.net_model.specs.declared.record.Record.TheVariants.{Block as Block'}
 use Rattle.net_model.specs.declared.reply.Reply.TheVariants.{LinkFull, Took}
 use Rattle.net_model.specs.Premises.{IsNetwork}
 use Rattle.net_model.specs.Item.{payload}
 use Rattle.net_model.specs.Site.{receiver, outgoing_lane, is_incident}
 use Rattle.net_model.specs.OctetSequence.{block_at}
-use Rattle.net_model.specs.World.{Network, World, Durable, InDoubt, Allocation, Transmission, Outgoing, no_doubt, first}
+use Rattle.net_model.specs.World.{Network, World, Durable, Allocation, Transmission, Outgoing, no_doubt, first}
 use Rattle.net_model.specs.View.{port_of, blocks_of}
 use Rattle.net_model.specs.Needed.{masked, view_of}
 use Rattle.net_model.specs.Relay.{receive}

@@ -1,5 +1,5 @@
 -- A permitted batch that notes what it teaches targets keeps every such fact noted.
-use Rattle.std.proofs.Common.{◌≡◌, ℕ, zero, suc, true, List, [], ◌∷◌, ◌++◌, refl, sym, ◌∙◌, ap, subst, Some, ◌⊎◌, inl, inr}
+use Rattle.std.proofs.Common.{◌≡◌, ℕ, zero, suc, true, List, [], ◌∷◌, refl, sym, ◌∙◌, ap, subst, Some, ◌⊎◌, inl, inr}
 use Rattle.std.specs.Prelude.{reverse, slice_get}
 use Rattle.qkd_base.specs.Name.{Name, has}
 use Rattle.qkd_base.specs.declared.lane.Lane.{Lane}

@@ -1,15 +1,14 @@
 -- A node owes a fact of the table to the next node exactly while it knows the fact and has no acknowledgement of it.
-use Rattle.std.proofs.Common.{◌≡◌, ℕ, Bool, true, false, not, ◌&&◌, ◌||◌, List, [], ◌∷◌, refl, sym, ◌∙◌, ap, Some}
+use Rattle.std.proofs.Common.{◌≡◌, ℕ, Bool, true, false, not, ◌&&◌, List, [], ◌∷◌, refl, sym, ◌∙◌, ap, Some}
 use Rattle.std.specs.Prelude.{map, filter, if◌then◌else◌}
 use Rattle.qkd_base.specs.Name.{Name, name_eq, has}
 use Rattle.qkd_base.specs.Route.{next_after}
 use Rattle.net_model.specs.declared.fact.Fact.{Fact}
 use Rattle.net_model.specs.Table.{name_of, route_of, fact_at}
 use Rattle.net_model.specs.World.{Network, World}
-use Rattle.net_model.specs.View.{View}
 use Rattle.net_model.specs.Needed.{masked_fact, masked, view_of}
 use Rattle.net_model.specs.Relay.{is_some_of, owed}
-use Rattle.law_base.proofs.Base.{eq_same, name_eq_from, and_left, and_right, and_both, or_left, or_right, was_not, not_both}
+use Rattle.law_base.proofs.Base.{eq_same, name_eq_from, and_right, and_both, or_left, or_right, was_not}
 use Rattle.law_base.proofs.Lists.{any_at, kept_at, mapped_at}
 use Rattle.law_base.proofs.Tables.{found_name}
 use Rattle.law_base.proofs.Masked.{masked_same, name_blind, route_blind}

@@ -8,7 +8,7 @@ use Rattle.qkd_base.specs.Name.{Name, has}
 use Rattle.qkd_base.specs.Route.{is_route}
 use Rattle.net_model.specs.declared.fact.Fact.{Fact}
 use Rattle.net_model.specs.declared.fact.Fact.TheVariants.{Stored}
-use Rattle.net_model.specs.Table.{name_of, route_of, origin, target, fact_at, is_secret, is_stored_about}
+use Rattle.net_model.specs.Table.{route_of, origin, target, fact_at, is_secret, is_stored_about}
 use Rattle.net_model.specs.World.{Network, World}
 use Rattle.net_model.specs.Knowledge.{IsOn}
 use Rattle.net_model.specs.Needed.{view_of}

@@ -1,5 +1,5 @@
 -- A lane is still if its sender's plan puts nothing there and what is in flight there would be due.
-use Rattle.std.proofs.Common.{◌≡◌, ℕ, ◌+◌, Bool, true, false, not, ◌&&◌, ◌||◌, List, [], ◌∷◌, ◌++◌, refl, sym, ◌∙◌, ap, subst, Option, Some, None}
+use Rattle.std.proofs.Common.{◌≡◌, ℕ, ◌+◌, Bool, true, false, not, ◌&&◌, List, [], ◌∷◌, ◌++◌, refl, sym, ◌∙◌, ap, Option, Some, None}
 use Rattle.std.specs.Prelude.{map, filter, is_none, if◌then◌else◌}
 use Rattle.std.specs.List.{list_any, AllByRecursion}
 use Rattle.qkd_base.specs.Name.{Name}
@@ -8,12 +8,11 @@ use Rattle.qkd_base.specs.declared.lane.Lane.{Lane}
 use Rattle.net_model.specs.Item.{Item, DataItem, AckItem, item_of, item_eq, item_name, is_data_of}
 use Rattle.net_model.specs.Site.{sender, receiver}
 use Rattle.net_model.specs.World.{Network, World, Transmission, Entry, PendingAck, Volatile}
-use Rattle.net_model.specs.View.{Port}
 use Rattle.net_model.specs.Needed.{masked, view_of}
-use Rattle.net_model.specs.Window.{offset_eq, transmission_eq, is_data_entry, age, repeats_on, sent_again}
+use Rattle.net_model.specs.Window.{offset_eq, transmission_eq, is_data_entry, age}
 use Rattle.net_model.specs.Windows.{IsShaped}
 use Rattle.net_model.specs.Relay.{owed}
-use Rattle.net_model.specs.Plan.{acks_on, facts_on, wanted_on, plan}
+use Rattle.net_model.specs.Plan.{wanted_on, plan}
 use Rattle.net_model.specs.Invariant.{Conserved}
 use Rattle.law_base.proofs.Base.{and_left, and_right, and_both, or_first, or_second, or_both, not_false, not_both, was_not, lane_eq_from, lane_same}
 use Rattle.law_base.proofs.Lists.{all_both, all_from}
