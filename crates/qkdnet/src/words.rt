@@ -54,9 +54,9 @@ pub fn read_request(rt: &HostRuntime) -> Result<Request, Memory> {
             None => break,
         }
     }
-    if is_sole(&words, "--help") {
+    if is_sole(&words, "--help") || is_sole(&words, "help") || is_sole(&words, "-h") {
         Ok(Request::Help)
-    } else if is_sole(&words, "--version") {
+    } else if is_sole(&words, "--version") || is_sole(&words, "-V") {
         Ok(Request::Version)
     } else {
         Ok(Request::Words(words))
