@@ -15,17 +15,11 @@ use Rattle.law_quiet.specs.Delivered.{OwedByNobody, IsDelivered}
 use Rattle.law_quiet.proofs.Routes.{reaches_all, has_next}
 use Rattle.law_quiet.proofs.Owing.{knower_owes, owed_is_open}
 
-module _ (net : Network) (w : World) (c : Conserved net w) (n : Name) (f : Fact) (there : fact_at w.durable.facts n ≡ Some f) (paid : OwedByNobody net w n f) where
-  -- Who knows the fact has the acknowledgement of the node after.
-  has_answer : (u v : ℕ) → next_after (route_of f) u ≡ Some v → has (w.durable.known u) n ≡ true → has (w.durable.acked u) n ≡ true
-  has_answer u v next knows = elim (has (w.durable.acked u) n) as (λ t. has (w.durable.acked u) n ≡ t → t ≡ true) [
-    | true ↦ λ e. refl
-    | false ↦ λ e. absurd (not_both (has (owed (view_of net w u) v) n) (knower_owes net w u v n f there knows next e) (paid u v next))
-  ] refl
-
+module _ (net : Network) (w : World) (c : Conserved net w) (n : Name) (f : Fact) (there : fact_at w.durable.facts n ≡ Some f)
+    (answered : (u v : ℕ) → next_after (route_of f) u ≡ Some v → has (w.durable.known u) n ≡ true → has (w.durable.acked u) n ≡ true) where
   next_knows : (u v : ℕ) → next_after (route_of f) u ≡ Some v → has (w.durable.known u) n ≡ true → has (w.durable.known v) n ≡ true
   next_knows u v next knows =
-      let x = c.now.marked u n (has_answer u v next knows) in
+      let x = c.now.marked u n (answered u v next knows) in
       let same : x.1.fact ≡ f = let a = x.1.there in cc in
       let here : next_after (route_of f) u ≡ Some x.0 = ap (λ (g : Fact). next_after (route_of g) u) (sym same) ∙ x.1.next in
       let is : x.0 ≡ v = cc in
@@ -37,8 +31,20 @@ module _ (net : Network) (w : World) (c : Conserved net w) (n : Name) (f : Fact)
       reaches_all (λ (v : ℕ). has (w.durable.known v) n) (route_of f) (route_differs f made.ranged) next_knows
       (subst (λ (v : ℕ). has (w.durable.known v) n ≡ true) made.maker made.made)
 
-  pub delivered : IsDelivered w n f
-  delivered = record { known = all_know; acked = λ u v next. has_answer u v next (all_know u (has_next (route_of f) u v next)) }
+  -- A fact is delivered if whoever knows it has the acknowledgement of the node after.
+  pub arrived : IsDelivered w n f
+  arrived = record { known = all_know; acked = λ u v next. answered u v next (all_know u (has_next (route_of f) u v next)) }
+
+-- Who knows a fact and doesn't owe it has that acknowledgement.
+pub has_answer : (net : Network) (w : World) (n : Name) (f : Fact) → fact_at w.durable.facts n ≡ Some f → (u v : ℕ) → next_after (route_of f) u ≡ Some v →
+    has (owed (view_of net w u) v) n ≡ false → has (w.durable.known u) n ≡ true → has (w.durable.acked u) n ≡ true
+has_answer net w n f there u v next paid knows = elim (has (w.durable.acked u) n) as (λ t. has (w.durable.acked u) n ≡ t → t ≡ true) [
+  | true ↦ λ e. refl
+  | false ↦ λ e. absurd (not_both (has (owed (view_of net w u) v) n) (knower_owes net w u v n f there knows next e) paid)
+] refl
+
+pub delivered : (net : Network) (w : World) → Conserved net w → (n : Name) (f : Fact) → fact_at w.durable.facts n ≡ Some f → OwedByNobody net w n f → IsDelivered w n f
+delivered net w c n f there paid = arrived net w c n f there (λ u v next. has_answer net w n f there u v next (paid u v next))
 
 pub paid_for : (net : Network) (w : World) (n : Name) (f : Fact) → IsDelivered w n f → OwedByNobody net w n f
 paid_for net w n f d u v next =

@@ -7,3 +7,8 @@ pub mod Noting
 pub mod NotedEffects
 pub mod NotedSteps
 pub mod Returning
+pub mod LeavingLanes
+pub mod IdlePlans
+pub mod IdleTicks
+pub mod Rounds
+pub mod Quieting

@@ -18,10 +18,9 @@ use Rattle.law_base.proofs.Base.{name_eq_same, or_left, or_right, or_cases}
 use Rattle.law_base.proofs.Masked.{stored_blind}
 use Rattle.law_base.proofs.Seen.{bare_view, view_sees, view_me, seen_some}
 use Rattle.law_invariant.proofs.Made.{ranged_route, on_first}
-use Rattle.law_quiet.specs.Delivered.{OwedByNobody, IsDelivered, IsBack}
-use Rattle.law_quiet.specs.Noted.{IsNoted}
+use Rattle.law_quiet.specs.Delivered.{IsDelivered, IsBack}
+use Rattle.law_quiet.specs.Noted.{AreNoted}
 use Rattle.law_quiet.proofs.Routes.{last_on}
-use Rattle.law_quiet.proofs.Delivering.{delivered}
 
 some_any : (p : Fact → Bool) (xs : List Fact) → is_some (find p xs) ≡ true → list_any p xs ≡ true
 some_any p [] h = cc
@@ -43,7 +42,7 @@ on_reverse (a ∷ rest) v h =
     ] in
     both ∙ some
 
-module _ (net : Network) (w : World) (c : Conserved net w) (noted : IsNoted w) (n : Name) (f : Fact) (there : fact_at w.durable.facts n ≡ Some f) (secret : is_secret f ≡ true) where
+module _ (net : Network) (w : World) (c : Conserved net w) (noted : AreNoted w.durable.facts w.durable.known) (n : Name) (f : Fact) (there : fact_at w.durable.facts n ≡ Some f) (secret : is_secret f ≡ true) where
   route : is_route (route_of f) ≡ true
   route = (ranged_route f (c.now.table n f there).ranged).0
 
@@ -55,11 +54,14 @@ module _ (net : Network) (w : World) (c : Conserved net w) (noted : IsNoted w) (
       (seen_some net.site w.durable (view_of net w (origin f)) (bare_view net w (origin f)) (view_sees net w (origin f)) (is_stored_about n) (stored_blind n)
       (Stored note n (reverse (route_of f))) at (subst (λ (u : ℕ). has (w.durable.known u) note ≡ true) (sym (view_me net w (origin f))) knows) (name_eq_same n))
 
-  pub back : IsDelivered w n f → ((m : Name) (g : Fact) → fact_at w.durable.facts m ≡ Some g → is_stored_about n g ≡ true → OwedByNobody net w m g) → IsBack net w n f
-  back came paid =
-      let x = noted.table n f there secret (came.known (target f) (last_on (route_of f) route)) in
-      let note : Fact = Stored x.note n (reverse (route_of f)) in
-      let returned = delivered net w c x.note note x.there (paid x.note note x.there (name_eq_same n)) in
+  -- The note of the target.
+  abbrev pub word : Name → Fact
+  word note = Stored note n (reverse (route_of f))
+
+  pub back : IsDelivered w n f → ((m : Name) → fact_at w.durable.facts m ≡ Some (word m) → IsDelivered w m (word m)) → IsBack net w n f
+  back came returns =
+      let x = noted n f there secret (came.known (target f) (last_on (route_of f) route)) in
+      let returned = returns x.note x.there in
       record {
         note = x.note;
         there = x.there;

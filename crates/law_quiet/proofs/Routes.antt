@@ -1,7 +1,8 @@
 -- What goes from each node of a route to the node after it reaches all nodes of the route.
-use Rattle.std.proofs.Common.{◌≡◌, ℕ, Bool, true, false, not, ◌&&◌, List, [], ◌∷◌, refl, sym, ◌∙◌, ap, subst, arith, Some, inl, inr}
-use Rattle.std.specs.Prelude.{◌==◌, nat_le, length, if◌then◌else◌}
+use Rattle.std.proofs.Common.{◌≡◌, ℕ, Bool, true, false, not, ◌&&◌, List, [], ◌∷◌, ◌++◌, refl, sym, ◌∙◌, ap, subst, arith, Some, None, ◌⊎◌, inl, inr}
+use Rattle.std.specs.Prelude.{◌==◌, nat_le, length, reverse, if◌then◌else◌}
 use Rattle.std.specs.List.{list_any}
+use Rattle.std.proofs.lemmas.List.{reverse-append}
 use Rattle.qkd_base.specs.Route.{is_distinct, is_route, first_of, last_of, next_after}
 use Rattle.qkd_base.proofs.Routes.{two_of}
 use Rattle.net_model.specs.Knowledge.{IsOn}
@@ -16,20 +17,22 @@ has_next (a ∷ b ∷ rest) u v h = elim (a == u) as (λ t. (if t then Some b el
   | false ↦ λ x e. or_right (a == u) _ (has_next (b ∷ rest) u v x)
 ] h refl
 
+-- A step among the later nodes is a step of the route.
+steps_later : (a b : ℕ) (rest : List ℕ) (u v : ℕ) → is_distinct (a ∷ b ∷ rest) ≡ true → next_after (b ∷ rest) u ≡ Some v → next_after (a ∷ b ∷ rest) u ≡ Some v
+steps_later a b rest u v d h =
+    elim (a == u) as (λ t. (a == u) ≡ t → (if t then Some b else next_after (b ∷ rest) u) ≡ Some v) [
+      | true ↦ λ e. absurd (not_both (list_any (λ x. x == a) (b ∷ rest)) (subst (λ (x : ℕ). IsOn (b ∷ rest) x) (sym (eq_from a u e)) (has_next (b ∷ rest) u v h))
+          (was_not _ (and_left (not (list_any (λ x. x == a) (b ∷ rest))) (is_distinct (b ∷ rest)) d)))
+      | false ↦ λ e. h
+    ] refl
+
+others_differ : (a b : ℕ) (rest : List ℕ) → is_distinct (a ∷ b ∷ rest) ≡ true → is_distinct (b ∷ rest) ≡ true
+others_differ a b rest d = and_right (not (list_any (λ x. x == a) (b ∷ rest))) (is_distinct (b ∷ rest)) d
+
 module _ (K : ℕ → Bool) where
   -- If a node of the route has it, so does the node after.
   abbrev GoesOn : List ℕ → Type 0
   GoesOn route = (u v : ℕ) → next_after route u ≡ Some v → K u ≡ true → K v ≡ true
-
-  goes_on_later : (a b : ℕ) (rest : List ℕ) → is_distinct (a ∷ b ∷ rest) ≡ true → GoesOn (a ∷ b ∷ rest) → GoesOn (b ∷ rest)
-  goes_on_later a b rest d g u v h k =
-      let other : (a == u) ≡ true → ⊥ = λ e.
-      not_both (list_any (λ x. x == a) (b ∷ rest)) (subst (λ (x : ℕ). IsOn (b ∷ rest) x) (sym (eq_from a u e)) (has_next (b ∷ rest) u v h))
-      (was_not _ (and_left (not (list_any (λ x. x == a) (b ∷ rest))) (is_distinct (b ∷ rest)) d)) in
-      elim (a == u) as (λ t. ((a == u) ≡ t) → K v ≡ true) [
-        | true ↦ λ e. absurd (other e)
-        | false ↦ λ e. g u v (ap (λ (t : Bool). if t then Some b else next_after (b ∷ rest) u) e ∙ h) k
-      ] refl
 
   pub reaches_all : (route : List ℕ) → is_distinct route ≡ true → GoesOn route → K (first_of route) ≡ true → (v : ℕ) → IsOn route v → K v ≡ true
   reaches_all [] d g first v on = cc
@@ -40,7 +43,7 @@ module _ (K : ℕ → Bool) where
   reaches_all (a ∷ b ∷ rest) d g first v on = elim (or_cases (a == v) (list_any (λ x. x == v) (b ∷ rest)) on) [
     | inl is ↦ subst (λ (x : ℕ). K x ≡ true) (eq_from a v is) first
     | inr later ↦
-        reaches_all (b ∷ rest) (and_right (not (list_any (λ x. x == a) (b ∷ rest))) (is_distinct (b ∷ rest)) d) (goes_on_later a b rest d g)
+        reaches_all (b ∷ rest) (others_differ a b rest d) (λ x y h. g x y (steps_later a b rest x y d h))
         (g a b (ap (λ (t : Bool). if t then Some b else next_after (b ∷ rest) a) (eq_same a)) first) v later
   ]
 
@@ -61,3 +64,39 @@ ends_differ (a ∷ b ∷ rest) h e =
     let differ = and_right (nat_le 2 (length (a ∷ b ∷ rest)) && nat_le (length (a ∷ b ∷ rest)) 9) (is_distinct (a ∷ b ∷ rest)) h in
     let last : IsOn (b ∷ rest) (last_of (b ∷ rest)) = last_in b rest in
     not_both (list_any (λ x. x == a) (b ∷ rest)) (subst (λ (x : ℕ). IsOn (b ∷ rest) x) (sym e) last) (was_not _ (and_left (not (list_any (λ x. x == a) (b ∷ rest))) (is_distinct (b ∷ rest)) differ))
+
+-- A step of the reversed route is a step of the route the other way.
+
+last_push : (xs : List ℕ) (a : ℕ) → last_of (xs ++ a ∷ []) ≡ a
+last_push [] a = refl
+last_push (x ∷ []) a = refl
+last_push (x ∷ y ∷ xs) a = last_push (y ∷ xs) a
+
+next_push : (xs : List ℕ) (a u v : ℕ) → next_after (xs ++ a ∷ []) u ≡ Some v → (next_after xs u ≡ Some v) ⊎ ((last_of xs ≡ u) × (a ≡ v))
+next_push [] a u v h = cc
+next_push (x ∷ []) a u v h = elim (x == u) as (λ t. (x == u) ≡ t → (if t then Some a else None) ≡ Some v → (None ≡ Some v) ⊎ ((x ≡ u) × (a ≡ v))) [
+  | true ↦ λ e k. inr (eq_from x u e, cc)
+  | false ↦ λ e k. inl k
+] refl h
+next_push (x ∷ y ∷ xs) a u v h =
+    elim (x == u) as (λ t. (if t then Some y else next_after (y ∷ (xs ++ a ∷ [])) u) ≡ Some v →
+    ((if t then Some y else next_after (y ∷ xs) u) ≡ Some v) ⊎ ((last_of (y ∷ xs) ≡ u) × (a ≡ v))) [
+      | true ↦ λ k. inl k
+      | false ↦ λ k. next_push (y ∷ xs) a u v k
+    ] h
+
+pub next_reverse : (route : List ℕ) → is_distinct route ≡ true → (u v : ℕ) → next_after (reverse route) u ≡ Some v → next_after route v ≡ Some u
+next_reverse [] d u v h = cc
+next_reverse (a ∷ []) d u v h =
+    let turned : reverse (a ∷ []) ≡ reverse [] ++ a ∷ [] = reverse-append (a ∷ []) [] in
+    let none : next_after (a ∷ []) u ≡ Some v = ap (λ (r : List ℕ). next_after r u) (sym turned) ∙ h in
+    cc
+next_reverse (a ∷ b ∷ rest) d u v h =
+    let turned : reverse (a ∷ b ∷ rest) ≡ reverse (b ∷ rest) ++ a ∷ [] = reverse-append (a ∷ []) (b ∷ rest) in
+    let first : reverse (b ∷ rest) ≡ reverse rest ++ b ∷ [] = reverse-append (b ∷ []) rest in
+    elim (next_push (reverse (b ∷ rest)) a u v (ap (λ (r : List ℕ). next_after r u) (sym turned) ∙ h)) [
+      | inl early ↦ steps_later a b rest v u d (next_reverse (b ∷ rest) (others_differ a b rest d) u v early)
+      | inr (last, is) ↦
+          let here : b ≡ u = sym (last_push (reverse rest) b) ∙ ap last_of (sym first) ∙ last in
+          ap (λ (t : Bool). if t then Some b else next_after (b ∷ rest) v) (ap (λ (x : ℕ). x == v) is ∙ eq_same v) ∙ ap Some here
+    ]

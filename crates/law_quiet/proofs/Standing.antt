@@ -19,11 +19,11 @@ use Rattle.law_base.proofs.Lists.{all_both, all_from}
 use Rattle.law_quiet.specs.Still.{PutsNothing, none_awaits, flies_on, in_flight_for, IsStill}
 use Rattle.law_quiet.proofs.Windows.{filter_none, none_due, none_flies, all_older, none_again}
 
-none_joined : {A : Type 0} (xs ys : List A) → xs ++ ys ≡ [] → (xs ≡ []) × (ys ≡ [])
+pub none_joined : {A : Type 0} (xs ys : List A) → xs ++ ys ≡ [] → (xs ≡ []) × (ys ≡ [])
 none_joined [] ys h = (refl, h)
 none_joined (x ∷ xs) ys h = cc
 
-none_mapped : {A B : Type 0} (f : A → B) (xs : List A) → map f xs ≡ [] → xs ≡ []
+pub none_mapped : {A B : Type 0} (f : A → B) (xs : List A) → map f xs ≡ [] → xs ≡ []
 none_mapped f [] h = refl
 none_mapped f (x ∷ xs) h = cc
 

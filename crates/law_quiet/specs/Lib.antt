@@ -1,3 +1,4 @@
 pub mod Delivered
 pub mod Still
 pub mod Noted
+pub mod Silent
