@@ -1,8 +1,7 @@
 -- A manager that is idle puts nothing on any lane whose link is up, and its plan changes the ages of its window alone.
-use Rattle.std.proofs.Common.{◌≡◌, ℕ, ◌+◌, Bool, true, false, not, ◌&&◌, ◌||◌, List, [], ◌∷◌, ◌++◌, map, refl, sym, ◌∙◌, ap, subst, append-nil, inl, inr}
+use Rattle.std.proofs.Common.{◌≡◌, ℕ, ◌+◌, true, false, not, ◌&&◌, ◌||◌, List, [], ◌∷◌, ◌++◌, map, refl, sym, ◌∙◌, ap, subst, append-nil, inl, inr}
 use Rattle.std.specs.Prelude.{nat_lt, filter, if◌then◌else◌}
 use Rattle.std.specs.List.{list_any, list_all, flat_map, AllByRecursion}
-use Rattle.qkd_base.specs.Name.{Name}
 use Rattle.qkd_base.specs.Family.{number_set}
 use Rattle.qkd_base.specs.Lane.{lane_eq}
 use Rattle.qkd_base.specs.declared.lane.Lane.{Lane}
@@ -21,7 +20,7 @@ use Rattle.net_model.specs.OctetSequence.{has_octets}
 use Rattle.net_model.specs.Premises.{IsNetwork}
 use Rattle.net_model.specs.Events.{is_lane}
 use Rattle.net_model.specs.Site.{Site, sender, outgoing_lanes}
-use Rattle.net_model.specs.World.{Network, World, Durable, Transmission, Entry, Volatile, planned}
+use Rattle.net_model.specs.World.{Network, World, Durable, Transmission, planned}
 use Rattle.net_model.specs.View.{View, Port, received_of}
 use Rattle.net_model.specs.Needed.{masked, view_of, port_at}
 use Rattle.net_model.specs.Records.{apply_record, replay}
@@ -38,7 +37,6 @@ use Rattle.law_base.proofs.Lists.{all_both}
 use Rattle.law_invariant.proofs.Outgoing.{of_ports}
 use Rattle.law_invariant.proofs.Seen.{seen}
 use Rattle.law_locality.proofs.Spelling.{orders_at, replied_at, lane_replied}
-use Rattle.law_quiet.specs.Silent.{IsIdle}
 use Rattle.law_quiet.specs.Still.{PutsNothing}
 use Rattle.law_quiet.proofs.LeavingLanes.{is_listed_up}
 use Rattle.law_quiet.proofs.Standing.{none_joined, none_mapped}

@@ -12,3 +12,4 @@ pub mod IdlePlans
 pub mod IdleTicks
 pub mod Rounds
 pub mod Quieting
+pub mod Readiness

@@ -1,5 +1,5 @@
 -- After four silent rounds all facts whose routes are open are delivered, and their notes too.
-use Rattle.std.proofs.Common.{◌≡◌, ℕ, zero, suc, ◌+◌, ◌<◌, ◌≤◌, Bool, true, List, [], ◌∷◌, ◌++◌, refl, sym, ◌∙◌, ap, subst, arith, Some}
+use Rattle.std.proofs.Common.{◌≡◌, ℕ, zero, suc, ◌<◌, ◌≤◌, true, List, [], ◌∷◌, refl, sym, ◌∙◌, ap, subst, arith, Some}
 use Rattle.std.specs.Prelude.{◌==◌, nat_lt, reverse}
 use Rattle.std.specs.List.{list_any, AllByRecursion}
 use Rattle.std.proofs.lemmas.Bool.{lt-ltb, ltb-true}
@@ -13,21 +13,19 @@ use Rattle.net_model.specs.declared.fact.Fact.{Fact}
 use Rattle.net_model.specs.declared.fact.Fact.TheVariants.{Stored}
 use Rattle.net_model.specs.Table.{route_of, fact_at, is_secret}
 use Rattle.net_model.specs.Premises.{IsNetwork}
-use Rattle.net_model.specs.Events.{is_lane}
 use Rattle.net_model.specs.Site.{of_way, sender, receiver, count_up}
 use Rattle.net_model.specs.World.{Network, World}
 use Rattle.net_model.specs.Invariant.{Conserved}
-use Rattle.net_model.specs.Step.{is_node}
 use Rattle.law_base.proofs.Lists.{all_both, reverse_twice}
 use Rattle.law_invariant.proofs.Outgoing.{sender_back}
 use Rattle.law_locality.specs.Quiet.{IsQuiet}
 use Rattle.law_safety.proofs.Before.{route_differs}
 use Rattle.law_quiet.specs.Delivered.{IsDelivered, IsBack}
 use Rattle.law_quiet.specs.Noted.{AreNoted}
-use Rattle.law_quiet.specs.Silent.{after_ticks, AreIdle, AreSilent, NoneAwaits, IsJoined, IsOpen}
+use Rattle.law_quiet.specs.Silent.{after_ticks, AreSilent, NoneAwaits, IsJoined, IsOpen}
 use Rattle.law_quiet.proofs.Routes.{next_reverse}
 use Rattle.law_quiet.proofs.Delivering.{arrived}
-use Rattle.law_quiet.proofs.Returning.{word, back}
+use Rattle.law_quiet.proofs.Returning.{back}
 use Rattle.law_quiet.proofs.LeavingLanes.{counted}
 use Rattle.law_quiet.proofs.Rounds.{IsCalm, at_first, AreNodes, calm_round, ages, pays}
 
@@ -83,7 +81,7 @@ module _ (net : Network) (network : IsNetwork net) (w after : World) (c : Conser
   calm3 : IsCalm net w three
   calm3 = calm_round net network w all nodes two calm2 silent.1.1.0
 
-  calm4 : IsCalm net w after
+  pub calm4 : IsCalm net w after
   calm4 = subst (IsCalm net w) silent.1.1.1.1 (calm_round net network w all nodes three calm3 silent.1.1.1.0)
 
   -- Who knows a fact has the acknowledgement of the next node, if a link to it is up.
@@ -101,7 +99,7 @@ module _ (net : Network) (network : IsNetwork net) (w after : World) (c : Conser
       let here : next_after (route_of f) (sender net.site l) ≡ Some (receiver net.site l) = ap (next_after (route_of f)) j.from ∙ next ∙ ap Some (sym j.to) in
       subst (λ (x : ℕ). has (w.durable.acked x) n ≡ true) j.from (paid n f there here (subst (λ (x : ℕ). has (w.durable.known x) n ≡ true) (sym j.from) knows))
 
-  there_after : (n : Name) (f : Fact) → fact_at w.durable.facts n ≡ Some f → fact_at after.durable.facts n ≡ Some f
+  pub there_after : (n : Name) (f : Fact) → fact_at w.durable.facts n ≡ Some f → fact_at after.durable.facts n ≡ Some f
   there_after n f there = ap (λ (facts : List Fact). fact_at facts n) calm4.table.facts ∙ there
 
   pub arrives : (n : Name) (f : Fact) → fact_at w.durable.facts n ≡ Some f → IsOpen net w f → IsDelivered after n f
