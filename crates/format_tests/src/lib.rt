@@ -1,9 +1,6 @@
-//! Tests of formats: the field, tags and pads, a link's bytes and their ledger, frames and their payloads, journals and
-//! checkpoints.
+//! Tests of formats: the field, tags and pads, a link's bytes, frames and their payloads, journals and checkpoints.
 #![tactic(auto)]
 
-#[cfg(test)]
-mod bound_lines;
 #[cfg(test)]
 mod cases;
 #[cfg(test)]
@@ -12,10 +9,6 @@ mod crashes;
 mod field;
 #[cfg(test)]
 mod frames;
-#[cfg(test)]
-mod lanes;
-#[cfg(test)]
-mod ledgers;
 #[cfg(test)]
 mod payloads;
 #[cfg(test)]
@@ -26,8 +19,6 @@ mod records;
 mod segments;
 #[cfg(test)]
 mod snapshots;
-#[cfg(test)]
-mod tag_bounds;
 #[cfg(test)]
 mod tags;
 #[cfg(test)]

@@ -2,6 +2,7 @@ use pad_veil::{Sealed, SealedFrame, VeilRefusal, veiled};
 use qkd_base::{Memory, Octets};
 use std::alloc::Global;
 use std::test::Fail;
+use tag_bound::RootRefusal;
 
 // Frames by their offsets and the lengths of their two payloads.
 fn frames(alloc: Global, rows: &[(u64, usize, usize)]) -> Result<Sealed, Memory> {
@@ -74,6 +75,12 @@ fn the_first_fault_is_refused(rt: HostRuntime) -> Result<(), Fail> {
     Ok(())
 }
 
+const ROOTS: &[(RootRefusal, &str)] = &[
+    (RootRefusal::TooLong, "a text has more than 600 octets"),
+    (RootRefusal::Equal, "the texts are equal"),
+    (RootRefusal::Repeated(3), "the key at place 3 is repeated"),
+];
+
 const WRITTEN: &[(VeilRefusal, &str)] = &[
     (
         VeilRefusal::Unequal(1),
@@ -88,6 +95,10 @@ const WRITTEN: &[(VeilRefusal, &str)] = &[
 fn refusals_are_written(rt: HostRuntime) -> Result<(), Fail> {
     let alloc = rt.alloc();
     for (refusal, wanted) in WRITTEN {
+        let text = format!(in alloc; "{refusal}")?;
+        assert_eq!(rt; text.as_str(), *wanted);
+    }
+    for (refusal, wanted) in ROOTS {
         let text = format!(in alloc; "{refusal}")?;
         assert_eq!(rt; text.as_str(), *wanted);
     }

@@ -1,5 +1,5 @@
-//! Tests of HTTP: what a connection's octets mean, which event a request asks for and what answers it, what is written to each
-//! connection that is served, how it ends, and the listeners of the workers that serve.
+//! Tests of HTTP: what a connection's octets mean, what refusals and rare replies are answered, what is written to each connection
+//! that is served, how it ends, and the listeners of the workers that serve.
 #![tactic(auto)]
 
 #[cfg(test)]
@@ -8,8 +8,6 @@ mod doors;
 mod front;
 #[cfg(test)]
 mod giving;
-#[cfg(test)]
-mod http_lines;
 #[cfg(test)]
 mod listeners;
 #[cfg(test)]

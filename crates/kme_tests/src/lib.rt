@@ -1,11 +1,8 @@
-//! Tests of managers: of what they exchange and decide, of what one asks of its site and keeps, and of one alone on a disk whose
-//! octets are given.
+//! Tests of managers: of what they take, keep and copy, and of one alone on a disk whose octets are given.
 #![tactic(auto)]
 
 #[cfg(test)]
 mod entries;
-#[cfg(test)]
-mod facts;
 #[cfg(test)]
 mod migrations;
 #[cfg(test)]
@@ -24,10 +21,6 @@ mod ports;
 mod receipts;
 #[cfg(test)]
 mod refusals;
-#[cfg(test)]
-mod repeats;
-#[cfg(test)]
-mod sites;
 #[cfg(test)]
 mod starts;
 #[cfg(test)]

@@ -1,79 +1,13 @@
 use net_model::{
-    Fact, Order, Orders, Payload, Placing, Placings, Record, Records, Repeat, Repeats, ShortOf,
-    Shorts, spelled_len, well_formed,
+    Order, Orders, Payload, Placing, Placings, Record, Records, Repeat, Repeats, ShortOf, Shorts,
 };
-use qkd_base::{
-    FrameOctets, Items, KeyName, Lane, LinkNo, NameKind, NodeNo, Octets, Replica, Route, SaeNo, Way,
-};
-use std::alloc::Global;
+use qkd_base::{FrameOctets, Items, KeyName, Lane, LinkNo, NameKind, NodeNo, Replica, Way};
 use std::test::Fail;
 
 fn name(kind: NameKind) -> Result<KeyName, Fail> {
     let node = NodeNo::new(0).ok_or("node")?;
     let name = KeyName::new(node, kind, 1).ok_or("name")?;
     Ok(name)
-}
-
-fn route() -> Result<Route, Fail> {
-    let a = NodeNo::new(0).ok_or("node")?;
-    let b = NodeNo::new(1).ok_or("node")?;
-    let route = Route::new(&[a, b]).ok_or("route")?;
-    Ok(route)
-}
-
-fn octets(alloc: Global, count: usize) -> Result<Octets, Fail> {
-    let bytes = vec![in alloc; 7u8; count]?;
-    Ok(Octets::from_vec(bytes))
-}
-
-// The lengths are those of keys, chunks, parts and notes over one link: kind, names, numbers, route and bytes.
-#[test]
-fn payloads_have_their_lengths(rt: HostRuntime) -> Result<(), Fail> {
-    let alloc = rt.alloc();
-    let (key, stream, note) = (
-        name(NameKind::Key)?,
-        name(NameKind::Stream)?,
-        name(NameKind::Note)?,
-    );
-    let sae = SaeNo::new(0).ok_or("sae")?;
-    let way = route()?;
-    let a_key = |name, bytes| {
-        Payload::Data(Fact::Key {
-            name,
-            master: sae,
-            slave: sae,
-            route: way,
-            bytes,
-        })
-    };
-    let stored = |note, about| {
-        Payload::Data(Fact::Stored {
-            note,
-            about,
-            route: way,
-        })
-    };
-    let cases = [
-        (a_key(key, octets(alloc, 32)?), Some(58)),
-        (a_key(key, octets(alloc, 8)?), Some(34)),
-        (a_key(key, octets(alloc, 512)?), Some(538)),
-        (a_key(key, octets(alloc, 7)?), None),
-        (a_key(key, octets(alloc, 513)?), None),
-        (a_key(note, octets(alloc, 32)?), None),
-        (stored(note, key), Some(36)),
-        (stored(note, stream), None),
-        (Payload::Ack(note), Some(17)),
-    ];
-    for (payload, length) in &cases {
-        let same = payload.copy()?;
-        let found = if well_formed(&same) {
-            Some(spelled_len(&same))
-        } else {
-            None
-        };
-        assert_eq!(rt; found, *length);
-    }
-    Ok(())
 }
 
 #[test]

@@ -97,26 +97,6 @@ fn counts(store: &EndStore, bits: u16) -> (usize, usize) {
     (store.ready_count(&pool, 5), store.unhanded_count(&pool, 5))
 }
 
-// The first ready key.
-fn first_ready(alloc: Global, store: &EndStore) -> Option<KeyName> {
-    let names = store.ready_keys(alloc, &of_bits(64), 5).ok()?;
-    names.first().copied()
-}
-
-#[test]
-fn keys_wait_until_they_are_handed(rt: HostRuntime) {
-    let Ok(mut store) = filled(rt.alloc()) else {
-        panic!(rt; "no memory");
-    };
-    assert!(rt; first_key(&store, 1) == Some(3));
-    assert!(rt; counts(&store, 64) == (1, 2));
-    assert!(rt; counts(&store, 65) == (0, 0));
-    assert!(rt; first_ready(rt.alloc(), &store) == Some(third()));
-    assert!(rt; hand(&mut store, third()));
-    assert!(rt; first_key(&store, 1).is_none());
-    assert!(rt; counts(&store, 64) == (0, 1));
-}
-
 #[test]
 fn a_key_is_ready_once_it_is_known_and_confirmed(rt: HostRuntime) {
     let Ok(mut store) = filled(rt.alloc()) else {

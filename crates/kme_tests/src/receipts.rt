@@ -1,10 +1,10 @@
 ghost use Rattle.std.specs.Prelude.{◌<◌, ◌^◌};
 
-use crate::parts::{holds, lane, link, name, node, sae};
+use crate::parts::{lane, name, node, sae};
 use declared_site::Site;
-use kme_base::{Change, Ports, Step};
-use kme_relay::{block, heard, ledger};
-use net_model::{Counts4, Fact, Payload, Reply};
+use kme_base::{Change, Step};
+use kme_relay::heard;
+use net_model::{Fact, Payload, Reply};
 use qkd_base::{Lane, LinkNo, NameKind, NodeNo, Octets, Route, Texts, Way};
 use relay_core::Known;
 use route_table::RouteTable;
@@ -33,11 +33,7 @@ fn line(alloc: Global) -> Option<Site> {
     })
 }
 
-// Along the line from node 0 to node 1, and to node 2.
-fn short_way() -> Option<Route> {
-    Route::new(&[node(0), node(1)])
-}
-
+// Along the line from node 0 to node 2.
 fn long_way() -> Option<Route> {
     Route::new(&[node(0), node(1), node(2)])
 }
@@ -96,19 +92,6 @@ fn hear_key(alloc: Global, site: &Site, known: &Known, key: Option<Fact>) -> Opt
     hear(alloc, site, known, lane(0, Way::Up), &payload)
 }
 
-// The target takes a key once, whatever came before, and notes that it came.
-#[test]
-fn a_target_takes_a_key_once(rt: HostRuntime) {
-    let alloc = rt.alloc();
-    let (Some(site), Some(known)) = (line(alloc), knowing(alloc, key(alloc, 2, short_way()))) else {
-        panic!(rt; "no line");
-    };
-    let answer = hear_key(alloc, &site, &known, key(alloc, 1, short_way()));
-    assert!(rt; answer == Some((true, 1, 2, false)));
-    let answer = hear_key(alloc, &site, &known, key(alloc, 2, short_way()));
-    assert!(rt; answer == Some((false, 1, 0, false)));
-}
-
 // What is answered to the acknowledgement of key 1.
 fn hear_ack(alloc: Global, site: &Site, known: &Known, lane: Lane) -> Option<Answer> {
     let payload = Payload::Ack(name(0, NameKind::Key, 1));
@@ -131,62 +114,4 @@ fn the_next_node_acknowledges(rt: HostRuntime) {
     assert!(rt; answer == Some((false, 3, 0, true)));
     let answer = hear_ack(alloc, &site, &known, lane(1, Way::Down));
     assert!(rt; answer == Some((true, 3, 1, false)));
-}
-
-// The number of the block that is taken next, if one is.
-fn next_block(alloc: Global, ports: &Ports, link: LinkNo, number: u32) -> Option<u32> {
-    match block(alloc, ports, link, number, &[3; 1024]) {
-        Ok(
-            Step {
-                reply: Reply::Took { number },
-                ..
-            },
-        ) => Some(number),
-        _ => None,
-    }
-}
-
-fn counted(alloc: Global, ports: &Ports, lane: Lane) -> Option<Counts4> {
-    match ledger(alloc, ports, lane) {
-        Step {
-            reply: Reply::Counted { counts },
-            ..
-        } => Some(counts),
-        _ => None,
-    }
-}
-
-// Whether a block of link 0 is the next one, and is taken.
-fn take_next(alloc: Global, ports: &mut Ports, number: u32) -> bool {
-    let link = link(0);
-    if next_block(alloc, ports, link, number) != Some(number) {
-        return false;
-    }
-    let Ok(()) = ports.room_block(link) else {
-        return false;
-    };
-    ports.take_block(link, number, &[3; 1024]);
-    true
-}
-
-// A lane is counted, and blocks are taken up to the 1,024th.
-#[test]
-fn blocks_and_counts(rt: HostRuntime) {
-    let alloc = rt.alloc();
-    let Ok(mut ports) = Ports::of_lanes(alloc, &[lane(0, Way::Up)]) else {
-        panic!(rt; "no memory");
-    };
-    assert!(rt; take_next(alloc, &mut ports, 0));
-    ports.plan(lane(0, Way::Up), 91);
-    let wanted = Counts4 {
-        received: 1024,
-        unused: 925,
-        spent: 99,
-        burnt: 0,
-    };
-    assert!(rt; counted(alloc, &ports, lane(0, Way::Up)) == Some(wanted));
-    for number in 1..1024 {
-        holds(&rt, u64::from(number), take_next(alloc, &mut ports, number));
-    }
-    assert!(rt; next_block(alloc, &ports, link(0), 1024).is_none());
 }

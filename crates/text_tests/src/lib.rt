@@ -1,11 +1,7 @@
-//! Tests of texts: scenarios as they are read, what their lines ask and report, the generated load, reports as they are read back
-//! and audited, calls of streams, and the tables of links and of applications that a scenario declares.
+//! Tests of texts: the generated load, what report lines say of rare ends, the place at which a line fits no report, and calls of
+//! streams.
 #![tactic(auto)]
 
-#[cfg(test)]
-mod audits;
-#[cfg(test)]
-mod entitlements;
 #[cfg(test)]
 mod frame_lines;
 #[cfg(test)]
@@ -17,10 +13,4 @@ mod report_lines;
 #[cfg(test)]
 mod reports;
 #[cfg(test)]
-mod routes;
-#[cfg(test)]
-mod scenarios;
-#[cfg(test)]
 mod stream_calls;
-#[cfg(test)]
-mod turns;

@@ -2,7 +2,7 @@
 ghost use Rattle.std.specs.Prelude.{◌<◌, ◌^◌, ◌≡◌};
 
 use declared_site::Site;
-use qkd_base::{Items, KeyName, Lane, LinkNo, Memory, NameKind, NodeNo, Octets, Text, Way};
+use qkd_base::{Items, KeyName, Lane, LinkNo, Memory, NameKind, NodeNo, Text, Way};
 use report_text::line_text;
 use route_table::RouteTable;
 use run_types::Item;
@@ -53,14 +53,6 @@ pub fn name(count: u64) -> KeyName
     requires last { count < 2 ^ 48 }
 {
     KeyName::new(node(1), NameKind::Key, count).unwrap()
-}
-
-/// These octets. It ends the test where there is no memory.
-pub fn octets(rt: &impl Abort, alloc: Global, bytes: &[u8]) -> Octets {
-    let Ok(octets) = Octets::from_slice(alloc, bytes) else {
-        panic!(rt; "no memory");
-    };
-    octets
 }
 
 fn is_said(alloc: Global, site: &Site, item: &Item, text: &str) -> Result<bool, Memory> {
