@@ -1,5 +1,6 @@
 -- A listener over TCP as a value. Contracts know its port and its counts, nothing else.
 use Rattle.std.specs.Prelude.{ℕ, List, Option, None}
+use Rattle.edge_io.specs.Connections.{Finished}
 
 pub record TcpForm : Type 0 where
   pub port : ℕ
@@ -10,3 +11,10 @@ pub record TcpForm : Type 0 where
 -- contracts don't know which ports were asked for
 abbrev pub untold_asked : Option (List ℕ)
 untold_asked = None
+
+-- nor which connections wait, and which were finished
+abbrev pub untold_waiting : Option (List (List ℕ))
+untold_waiting = None
+
+abbrev pub untold_done : Option (List Finished)
+untold_done = None

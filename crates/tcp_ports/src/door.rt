@@ -1,7 +1,8 @@
 // A listener over TCP.
-ghost use Rattle.std.specs.Prelude.{◌≡◌, ◌+◌, ◌<◌, ◌^◌, OnOk, OnErr, IfOk, None};
+ghost use Rattle.std.specs.Prelude.{◌≡◌, ◌+◌, ◌<◌, ◌^◌, OnOk, OnErr, IfOk, IsSome, MatchResult, None};
 ghost use Rattle.qkd_base.specs.Faults.{HasCause, one_more};
-ghost use Rattle.tcp_ports.specs.Tcp.{TcpForm};
+ghost use Rattle.edge_io.specs.Connections.{IsNext, IsNewDoor};
+ghost use Rattle.tcp_ports.specs.Tcp.{TcpForm, untold_waiting, untold_done};
 
 use crate::hall::Hall;
 use crate::{Crew, Patience, PeerReader, PeerWriter};
@@ -114,9 +115,9 @@ impl<'a, R: Clock + Wait> Listener for TcpDoor<'a, R> {
 
     ghost finished = { λ s. s.finished };
 
-    ghost waiting = { λ _. None };
+    ghost waiting = { λ _. untold_waiting };
 
-    ghost done = { λ _. None };
+    ghost done = { λ _. untold_done };
 
     ghost faults = { λ s. s.faults };
 
@@ -124,6 +125,12 @@ impl<'a, R: Clock + Wait> Listener for TcpDoor<'a, R> {
         &mut self,
     ) -> Result<(ReadSource<PeerReader<'a, R>>, WriteSink<PeerWriter<'a, R>>), Failed>
         requires few { self.old.accepted < 2 ^ 32 }
+        ensures next { MatchResult result
+            (λ ends. (self.new.accepted ≡ self.old.accepted + 1) × IsNext untold_waiting untold_waiting None None)
+            (λ _. (self.new.accepted ≡ self.old.accepted) × (untold_waiting ≡ untold_waiting)) }
+        ensures fresh { IfOk result (λ ends. (ends.0.1 ≡ 0) × (ends.1.1 ≡ 0)) }
+        ensures calm { OnOk result (self.new.faults ≡ self.old.faults) }
+        ensures same { (self.new.port ≡ self.old.port) × (self.new.finished ≡ self.old.finished) × (untold_done ≡ untold_done) }
         ensures ok { IfOk result (λ ends. (self.new ≡ record self.old { accepted = self.old.accepted + 1 }) × (ends.0.1 ≡ 0) × (ends.1.1 ≡ 0)) }
         ensures err { OnErr result (self.new ≡ record self.old { faults = one_more self.old.faults }) }
         ensures cause { HasCause self.old.faults self.new.faults result }
@@ -145,7 +152,9 @@ impl<'a, R: Clock + Wait> Listener for TcpDoor<'a, R> {
         ended: Ended,
     )
         requires open { self.old.finished < self.old.accepted }
-        ensures { self.new ≡ record self.old { finished = self.old.finished + 1 } }
+        ensures finished { self.new.finished ≡ self.old.finished + 1 }
+        ensures same { (self.new.port ≡ self.old.port) × (self.new.accepted ≡ self.old.accepted) × (untold_waiting ≡ untold_waiting) × (self.new.faults ≡ self.old.faults) }
+        ensures whole { self.new ≡ record self.old { finished = self.old.finished + 1 } }
     {
         let _ = (source, sink, ended);
         self.finished += 1;
@@ -155,6 +164,9 @@ impl<'a, R: Clock + Wait> Listener for TcpDoor<'a, R> {
     }
 
     fn twin(&mut self) -> Result<TcpDoor<'a, R>, Failed>
+        ensures twin { IfOk result (λ d. IsNewDoor (IsSome untold_waiting × IsSome untold_done) self.old.port d.port d.accepted d.finished d.faults untold_waiting untold_done) }
+        ensures calm { OnOk result (self.new.faults ≡ self.old.faults) }
+        ensures same { (self.new.port ≡ self.old.port) × (self.new.accepted ≡ self.old.accepted) × (self.new.finished ≡ self.old.finished) × (untold_waiting ≡ untold_waiting) × (untold_done ≡ untold_done) }
         ensures ok { IfOk result (λ d. (d ≡ record { port = self.old.port; accepted = 0; finished = 0; faults = 0 }) × (self.new ≡ self.old)) }
         ensures err { OnErr result (self.new ≡ record self.old { faults = one_more self.old.faults }) }
         ensures cause { HasCause self.old.faults self.new.faults result }
