@@ -1,11 +1,11 @@
 -- The forms of the program's words, and the index of the first word that fits none.
-use Rattle.std.specs.Prelude.{ℕ, ◌≡◌, ◌≤◌, ◌==◌, if◌then◌else◌, List, [], ◌∷◌, length, Option, Some, None, Result, Ok, Err}
+use Rattle.std.specs.Prelude.{ℕ, ◌≡◌, ◌≤◌, ◌==◌, if◌then◌else◌, List, [], ◌∷◌, length, take, Option, Some, None, Result, Ok, Err}
 use Rattle.std.specs.Str.{bytes_eq}
 use lib.Chars.{codes}
 use Rattle.run_model.specs.Course.{Words, Run, Load}
 use Rattle.scenario_text.specs.Words.{number_in}
 use Rattle.tag_bound.specs.Words.{number_of, text_of}
-use Rattle.cli_answers.specs.Answers.{Asked, Bounds, Audits, asked_of, CanBeAsked}
+use Rattle.cli_answers.specs.Answers.{Asked, Bounds, Audits}
 use Rattle.qkd_network.specs.declared.form.Form.{Form}
 use Rattle.qkd_network.specs.declared.form.Form.TheVariants as forms
 
@@ -110,11 +110,13 @@ wanted_of (forms.Run workers) = Runs (Run workers)
 wanted_of (forms.Load rounds) = Runs (Load rounds)
 wanted_of (forms.Serve workers connections port) = Serves workers connections port
 wanted_of forms.Veil = Veils
-wanted_of (forms.Ask question) = Asks (asked_of question)
+wanted_of (forms.Bound a b difference) = Asks (Bounds (take a.size a.octets) (take b.size b.octets) difference)
+wanted_of forms.Audit = Asks Audits
 
 abbrev pub IsInRange : Form → Type 0
 IsInRange (forms.Run workers) = (1 ≤ workers) × (workers ≤ 32)
 IsInRange (forms.Load rounds) = (1 ≤ rounds) × (rounds ≤ 500)
 IsInRange (forms.Serve workers connections port) = (1 ≤ workers) × (workers ≤ 32) × (1 ≤ connections) × (connections ≤ 10000) × (1 ≤ port) × (port ≤ 65520)
 IsInRange forms.Veil = Unit {0}
-IsInRange (forms.Ask question) = CanBeAsked question
+IsInRange forms.Audit = Unit {0}
+IsInRange (forms.Bound a b difference) = ¬ (take a.size a.octets ≡ take b.size b.octets)

@@ -17,7 +17,7 @@ use crate::reading::scenario_in;
 use crate::serve::serve;
 use crate::veil::veil;
 use crate::{Form, Status, read_form};
-use cli_answers::answer_to;
+use cli_answers::{Question, answer_to};
 use disk_model::Disk;
 use edge_io::{Gate, Listener, Ports, Sink, Source};
 use net_world::{Bench, run_load, run_scenario};
@@ -110,8 +110,12 @@ where
         Ok(Form::Load { rounds }) => {
             return Status::of_run(run_load(alloc, rounds, sink, bench));
         }
-        Ok(Form::Ask(question)) => {
+        Ok(Form::Bound { a, b, difference }) => {
+            let question = Question::Bound { a, b, difference };
             return Status::of_answer(answer_to(alloc, &question, source, sink));
+        }
+        Ok(Form::Audit) => {
+            return Status::of_answer(answer_to(alloc, &Question::Audit, source, sink));
         }
         Ok(Form::Veil) => return veil(rt, alloc, source, sink, bench, gate),
         Ok(

@@ -5,7 +5,6 @@ ghost use Rattle.tag_bound.specs.Words.{number_of, text_of};
 ghost use Rattle.scenario_text.specs.Words.{number_in};
 ghost use Rattle.qkd_network.specs.Forms.{asked_by, question_form, alone, run_form, load_form, serve_form, connections_form, port_form, bound_form, second_form, third_form, wanted_of, IsInRange};
 
-use cli_answers::Question;
 use qkd_base::Texts;
 use scenario_text::words::number_in;
 use tag_bound::{ShortText, number};
@@ -30,8 +29,14 @@ pub enum Form {
     },
     /// Runs a scenario, and counts the frames on its wires and the lane bytes that differ under other keys.
     Veil,
-    /// Answers a question about the source's text.
-    Ask(Question),
+    /// Counts the keys, given line by line, that give two different texts a difference of hashes.
+    Bound {
+        a: ShortText,
+        b: ShortText,
+        difference: u64,
+    },
+    /// Audits the report of a scenario.
+    Audit,
 }
 
 /// Reads the words as a form. `Err` has the index of the first word that fits no form, or the number of words if one is missing.
@@ -67,7 +72,7 @@ fn question_form(words: &Texts, word: &str) -> Result<Form, usize>
         return bound_form(words);
     }
     if word == "audit" {
-        return alone(words, Form::Ask(Question::Audit));
+        return alone(words, Form::Audit);
     }
     Err(0)
 }
@@ -180,5 +185,5 @@ fn bound_form(words: &Texts) -> Result<Form, usize>
     if words.len() > 4 {
         return Err(4);
     }
-    Ok(Form::Ask(Question::Bound { a, b, difference }))
+    Ok(Form::Bound { a, b, difference })
 }

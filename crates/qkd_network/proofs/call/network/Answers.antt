@@ -91,5 +91,8 @@ returns-in-Ok-Load-clause-outcome g c =
     (with_lines _ _ _ (left_beside c.args.bench.now c.run_load.new.bench c.args.ports.now c.args.sink.now c.run_load.new.sink c.run_load.result _ c.run_load.ensures.headline)
     (run_lined g.W.Sink.taken g.W.Sink.pieces (IsLoadLine (load_scenario c.in-Ok-Load.rounds).site.nodes) c.args.sink.now c.run_load.new.sink c.run_load.result c.run_load.ensures.lined)))))
 
-pub returns-in-Ok-Ask-clause-source_calm : goal.returns-in-Ok-Ask-clause-source_calm
-returns-in-Ok-Ask-clause-source_calm g c = answered_calm _ c.answer_to.result _ c.of_answer.ensures c.answer_to.ensures.calm
+pub returns-in-Ok-Bound-clause-source_calm : goal.returns-in-Ok-Bound-clause-source_calm
+returns-in-Ok-Bound-clause-source_calm g c = answered_calm _ c.answer_to.result _ c.of_answer.ensures c.answer_to.ensures.calm
+
+pub returns-in-Ok-Audit-clause-source_calm : goal.returns-in-Ok-Audit-clause-source_calm
+returns-in-Ok-Audit-clause-source_calm g c = answered_calm _ c.answer_to-in-Ok-Audit.result _ c.of_answer-in-Ok-Audit.ensures c.answer_to-in-Ok-Audit.ensures.calm
