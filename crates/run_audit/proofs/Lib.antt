@@ -3,7 +3,9 @@ pub mod Apart
 pub mod Placing
 pub mod Summing
 pub mod Telling
+pub mod Matching
 pub mod Lining
 pub mod Recording
 pub mod Judging
 pub mod Sound
+pub mod OneContent

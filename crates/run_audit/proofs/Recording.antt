@@ -1,18 +1,16 @@
 -- Which rule an item breaks, computed from the record of the items before it.
-use Rattle.std.proofs.Common.{◌≡◌, ℕ, suc, ◌+◌, ◌-◌, ◌^◌, ◌<◌, ◌≤◌, min, Bool, true, false, not, ◌&&◌, cond, eqb, List, [], ◌∷◌, length, Option, Some, None, refl, sym, ap, ◌∙◌, subst, arith}
+use Rattle.std.proofs.Common.{◌≡◌, ℕ, suc, ◌+◌, ◌-◌, ◌^◌, min, Bool, true, false, not, ◌&&◌, cond, eqb, List, ◌∷◌, Option, Some, None, refl, ap, arith}
 use Rattle.std.specs.Prelude.{IfOk, OnOk, Result, Ok, Err}
 use Rattle.std.proofs.lemmas.Bool.{eqb-true}
 use Rattle.std.specs.List.{cons_option}
 use Rattle.run_types.specs.declared.scenario.Scenario.{Scenario}
-use Rattle.run_types.specs.declared.item.Item.{Item}
 use Rattle.run_types.specs.declared.item.NumberedItem.{NumberedItem}
 use Rattle.run_audit.specs.declared.line_kind.LineKind.{LineKind}
-use Rattle.run_audit.specs.declared.record.Record.{Record}
 use Rattle.run_audit.specs.declared.frames.Frame.{Frame}
 use Rattle.run_audit.specs.Kinds.{kind_at}
 use Rattle.run_audit.specs.Rows.{gives_at, is_on_link}
 use Rattle.run_audit.specs.Frames.{frame_of, frames}
-use Rattle.run_audit.specs.Rules.{is_of_line, is_next, keeps_apart, hands_out, takes_new, balances, is_counted, ledgers, broken}
+use Rattle.run_audit.specs.Rules.{is_of_line, is_next, masks_once, hands_out, takes_new, balances, is_counted, ledgers, broken}
 use Rattle.run_audit.specs.Kept.{AreNumbered}
 
 -- the least of six rules that doesn't hold
@@ -72,28 +70,28 @@ on_ok_map (Err e) f h = tt
 
 module _ (s : Scenario) (before : List NumberedItem) (told : NumberedItem) where
   pub breaks_1 : is_of_line s told ≡ false → Some 1 ≡ broken s before told
-  breaks_1 = first_one (is_of_line s told) (is_next (frame_of told.item) (frames before)) (keeps_apart (frame_of told.item) (frames before)) (hands_out s before told) (takes_new s before told) (balances before told.item)
+  breaks_1 = first_one (is_of_line s told) (is_next (frame_of told.item) (frames before)) (masks_once before told.item) (hands_out s before told) (takes_new s before told) (balances before told.item)
 
   pub breaks_2 : is_of_line s told ≡ true → is_next (frame_of told.item) (frames before) ≡ false → Some 2 ≡ broken s before told
-  breaks_2 = second_one (is_of_line s told) (is_next (frame_of told.item) (frames before)) (keeps_apart (frame_of told.item) (frames before)) (hands_out s before told) (takes_new s before told) (balances before told.item)
+  breaks_2 = second_one (is_of_line s told) (is_next (frame_of told.item) (frames before)) (masks_once before told.item) (hands_out s before told) (takes_new s before told) (balances before told.item)
 
-  pub breaks_3 : is_of_line s told ≡ true → is_next (frame_of told.item) (frames before) ≡ true → keeps_apart (frame_of told.item) (frames before) ≡ false → Some 3 ≡ broken s before told
-  breaks_3 = third_one (is_of_line s told) (is_next (frame_of told.item) (frames before)) (keeps_apart (frame_of told.item) (frames before)) (hands_out s before told) (takes_new s before told) (balances before told.item)
+  pub breaks_3 : is_of_line s told ≡ true → is_next (frame_of told.item) (frames before) ≡ true → masks_once before told.item ≡ false → Some 3 ≡ broken s before told
+  breaks_3 = third_one (is_of_line s told) (is_next (frame_of told.item) (frames before)) (masks_once before told.item) (hands_out s before told) (takes_new s before told) (balances before told.item)
 
   -- Rules 1 to 3 hold for the item.
   pub record IsPlacedWell : Type 0 where
     pub line : is_of_line s told ≡ true
     pub next : is_next (frame_of told.item) (frames before) ≡ true
-    pub apart : keeps_apart (frame_of told.item) (frames before) ≡ true
+    pub apart : masks_once before told.item ≡ true
 
   pub breaks_4 : IsPlacedWell → hands_out s before told ≡ false → Some 4 ≡ broken s before told
-  breaks_4 w = fourth_one (is_of_line s told) (is_next (frame_of told.item) (frames before)) (keeps_apart (frame_of told.item) (frames before)) (hands_out s before told) (takes_new s before told) (balances before told.item) w.line w.next w.apart
+  breaks_4 w = fourth_one (is_of_line s told) (is_next (frame_of told.item) (frames before)) (masks_once before told.item) (hands_out s before told) (takes_new s before told) (balances before told.item) w.line w.next w.apart
 
   pub breaks_5 : IsPlacedWell → hands_out s before told ≡ true → takes_new s before told ≡ false → Some 5 ≡ broken s before told
-  breaks_5 w = fifth_one (is_of_line s told) (is_next (frame_of told.item) (frames before)) (keeps_apart (frame_of told.item) (frames before)) (hands_out s before told) (takes_new s before told) (balances before told.item) w.line w.next w.apart
+  breaks_5 w = fifth_one (is_of_line s told) (is_next (frame_of told.item) (frames before)) (masks_once before told.item) (hands_out s before told) (takes_new s before told) (balances before told.item) w.line w.next w.apart
 
   pub breaks_6 : IsPlacedWell → hands_out s before told ≡ true → takes_new s before told ≡ true → balances before told.item ≡ false → Some 6 ≡ broken s before told
-  breaks_6 w = sixth_one (is_of_line s told) (is_next (frame_of told.item) (frames before)) (keeps_apart (frame_of told.item) (frames before)) (hands_out s before told) (takes_new s before told) (balances before told.item) w.line w.next w.apart
+  breaks_6 w = sixth_one (is_of_line s told) (is_next (frame_of told.item) (frames before)) (masks_once before told.item) (hands_out s before told) (takes_new s before told) (balances before told.item) w.line w.next w.apart
 
   pub breaks_none : IsPlacedWell → hands_out s before told ≡ true → takes_new s before told ≡ true → balances before told.item ≡ true → None ≡ broken s before told
-  breaks_none w = no_one (is_of_line s told) (is_next (frame_of told.item) (frames before)) (keeps_apart (frame_of told.item) (frames before)) (hands_out s before told) (takes_new s before told) (balances before told.item) w.line w.next w.apart
+  breaks_none w = no_one (is_of_line s told) (is_next (frame_of told.item) (frames before)) (masks_once before told.item) (hands_out s before told) (takes_new s before told) (balances before told.item) w.line w.next w.apart

@@ -1,16 +1,14 @@
 -- What is true of a report that the audit finds sound.
-use Rattle.std.proofs.Common.{◌≡◌, ℕ, zero, suc, ◌+◌, ◌<◌, ◌≤◌, Bool, true, false, not, ◌&&◌, ◌||◌, cond, eqb, List, [], ◌∷◌, take, Option, Some, None, refl, sym, ap, ◌∙◌, subst, arith, ◌⊎◌, inl, inr}
+use Rattle.std.proofs.Common.{◌≡◌, ℕ, zero, suc, ◌+◌, ◌<◌, ◌≤◌, Bool, true, false, not, ◌&&◌, cond, eqb, List, [], ◌∷◌, take, Option, Some, None, refl, sym, ap, ◌∙◌, subst, arith, ◌⊎◌, inl, inr}
 use Rattle.std.specs.Prelude.{slice_get}
 use Rattle.std.specs.List.{list_any, list_all, filter_map, cons_option}
 use Rattle.std.specs.Str.{bytes_eq}
-use Rattle.std.proofs.lemmas.Bool.{cases_Bool, and_parts, and_from, or_parts, not-true, eq-eqb, eqb-true}
+use Rattle.std.proofs.lemmas.Bool.{and_parts, or_parts, not-true, eq-eqb, eqb-true}
 use Rattle.std.proofs.lemmas.Slice.Eq.{bytes_eq-Decides}
 use Rattle.qkd_base.specs.declared.key_name.NameKind.{NameKind}
 use Rattle.qkd_base.specs.declared.key_name.NameKind.TheVariants.{Key, Stream, Note}
 use Rattle.qkd_base.specs.Name.{Name, name_eq, kind_eq}
-use Rattle.qkd_base.specs.declared.lane.Lane.{Lane}
 use Rattle.sae_entitlements.specs.Grants.{Grants}
-use Rattle.net_model.specs.declared.counts.Counts4.{Counts4}
 use Rattle.run_types.specs.declared.scenario.Scenario.{Scenario}
 use Rattle.run_types.specs.declared.item.Item.{Item}
 use Rattle.run_types.specs.declared.item.Item.TheVariants as items
@@ -27,39 +25,40 @@ use Rattle.run_audit.specs.Frames.{frame_of, frames, agrees}
 use Rattle.run_audit.specs.Tellings.{Telling, subject_eq, is_same, may_be_same, fits_with, may_have, fits, all_fit, onto, tellings_of, tellings}
 use Rattle.run_audit.specs.Takings.{taking_of, takings, taking_eq, is_first, was_there}
 use Rattle.run_audit.specs.Ledgers.{is_true_ledger}
-use Rattle.run_audit.specs.Rules.{is_of_line, is_next, keeps_apart, hands_out, takes_new, balances, broken, judged, verdict_from, verdict_of}
+use Rattle.run_audit.specs.Rules.{is_of_line, is_next, keeps_apart, masks_once, hands_out, takes_new, balances, broken, judged, verdict_from, verdict_of}
 use Rattle.run_audit.specs.Kept.{AreFitting}
-use Rattle.run_audit.specs.Laws.{IsSound, IsAt, FramesAreDisjoint, NamesAreTakenOnce, all_told, AreHandedOnce, KeysAreHandedOnce, LedgersAreTrue}
+use Rattle.run_audit.specs.Laws.{IsSound, FramesAreDisjoint, NamesAreTakenOnce, all_told, KeysAreHandedOnce, LedgersAreTrue}
 use Rattle.run_audit.proofs.Apart.{Clear, same_place, before as ends_first, behind as begins_last, clear_from, lane_self}
 
-no : {A : Type 0} (b : Bool) → b ≡ true → b ≡ false → A
+pub no : {A : Type 0} (b : Bool) → b ≡ true → b ≡ false → A
 no b h k = absurd (let e : true ≡ false = sym h ∙ k in let u : ⊥ = cc in u)
 
 -- ---- each rule holds at each item
 
 pub record AllHold (s : Scenario) (before : List NumberedItem) (n : NumberedItem) : Type 0 where
-  pub apart : keeps_apart (frame_of n.item) (frames before) ≡ true
+  pub next : is_next (frame_of n.item) (frames before) ≡ true
+  pub apart : masks_once before n.item ≡ true
   pub hands : hands_out s before n ≡ true
   pub takes : takes_new s before n ≡ true
   pub counts : balances before n.item ≡ true
 
 none_broken : (a b c d e f : Bool) → ◌≡◌ {A = Option ℕ} (cond (not a) (Some 1) (cond (not b) (Some 2) (cond (not c) (Some 3) (cond (not d) (Some 4) (cond (not e) (Some 5) (cond (not f) (Some 6) None)))))) None
-    → (c ≡ true) × (d ≡ true) × (e ≡ true) × (f ≡ true)
+    → (b ≡ true) × (c ≡ true) × (d ≡ true) × (e ≡ true) × (f ≡ true)
 none_broken false b c d e f h = absurd (let u : ⊥ = cc in u)
 none_broken true false c d e f h = absurd (let u : ⊥ = cc in u)
 none_broken true true false d e f h = absurd (let u : ⊥ = cc in u)
 none_broken true true true false e f h = absurd (let u : ⊥ = cc in u)
 none_broken true true true true false f h = absurd (let u : ⊥ = cc in u)
 none_broken true true true true true false h = absurd (let u : ⊥ = cc in u)
-none_broken true true true true true true h = (refl, refl, refl, refl)
+none_broken true true true true true true h = (refl, refl, refl, refl, refl)
 
-rules_hold : (s : Scenario) (before : List NumberedItem) (n : NumberedItem) → broken s before n ≡ None → AllHold s before n
+pub rules_hold : (s : Scenario) (before : List NumberedItem) (n : NumberedItem) → broken s before n ≡ None → AllHold s before n
 rules_hold s before n h =
-    let parts = none_broken (is_of_line s n) (is_next (frame_of n.item) (frames before)) (keeps_apart (frame_of n.item) (frames before)) (hands_out s before n) (takes_new s before n) (balances before n.item) h in
-    record { apart = parts.0; hands = parts.1; takes = parts.2; counts = parts.3 }
+    let parts = none_broken (is_of_line s n) (is_next (frame_of n.item) (frames before)) (masks_once before n.item) (hands_out s before n) (takes_new s before n) (balances before n.item) h in
+    record { next = parts.0; apart = parts.1; hands = parts.2; takes = parts.3; counts = parts.4 }
 
 module _ (s : Scenario) (f d l : ℕ) where
-  sound_step : (before : List NumberedItem) (line : ℕ) (t : NumberedItem) (told : List NumberedItem) → verdict_from s before line (t ∷ told) ≡ verdicts.Yes f d l → (broken s before t ≡ None) × (verdict_from s (t ∷ before) (line + 1) told ≡ verdicts.Yes f d l)
+  pub sound_step : (before : List NumberedItem) (line : ℕ) (t : NumberedItem) (told : List NumberedItem) → verdict_from s before line (t ∷ told) ≡ verdicts.Yes f d l → (broken s before t ≡ None) × (verdict_from s (t ∷ before) (line + 1) told ≡ verdicts.Yes f d l)
   sound_step before line t told h = by_rule (broken s before t) (verdict_from s (t ∷ before) (line + 1) told) h
     where
       by_rule : (o : Option ℕ) (v : Verdict) → judged line o v ≡ verdicts.Yes f d l → (o ≡ None) × (v ≡ verdicts.Yes f d l)
@@ -73,13 +72,13 @@ module _ (s : Scenario) (f d l : ℕ) where
       subst (λ (m : NumberedItem). AllHold s before m) e (rules_hold s before t (sound_step before line t told h).0)
   sound_at before line (t ∷ told) (suc i) n h at = sound_at (t ∷ before) (line + 1) told i n (sound_step before line t told h).1 at
 
-holds_at : (s : Scenario) (told : List NumberedItem) → IsSound s told → (i : ℕ) (n : NumberedItem) → slice_get told i ≡ Some n → AllHold s (onto [] (take i told)) n
+pub holds_at : (s : Scenario) (told : List NumberedItem) → IsSound s told → (i : ℕ) (n : NumberedItem) → slice_get told i ≡ Some n → AllHold s (onto [] (take i told)) n
 unfolding verdict_of
 holds_at s told sound i n at = sound_at s sound.frames sound.deliveries sound.ledgers [] sound.first told i n sound.verdict at
 
 -- ---- earlier items
 
-data In {X : Type 0} (x : X) : List X → Type 0 where
+pub data In {X : Type 0} (x : X) : List X → Type 0 where
   first : {xs : List X} → In x (x ∷ xs)
   later : {y : X} {xs : List X} → In x xs → In x (y ∷ xs)
 
@@ -87,7 +86,7 @@ in_onto : {X : Type 0} {x : X} (xs before : List X) → In x before → In x (on
 in_onto [] before m = m
 in_onto (y ∷ ys) before m = in_onto ys (y ∷ before) (later m)
 
-in_taken : {X : Type 0} (xs before : List X) (i j : ℕ) (x : X) → i < j → slice_get xs i ≡ Some x → In x (onto before (take j xs))
+pub in_taken : {X : Type 0} (xs before : List X) (i j : ℕ) (x : X) → i < j → slice_get xs i ≡ Some x → In x (onto before (take j xs))
 in_taken [] before i j x lt at = absurd (let u : ⊥ = cc in u)
 in_taken (y ∷ ys) before i zero x lt at = absurd (omega arith)
 in_taken (y ∷ ys) before zero (suc j) x lt at = let e : y ≡ x = cc in in_onto (take j ys) (y ∷ before) (subst (λ z. In z (y ∷ before)) e first)
@@ -116,7 +115,8 @@ frames_are_disjoint s told sound i j l m n o p x y lt one two =
     let f : Frame = record { lane = l; number = m; offset = o; length = x } in
     let g : Frame = record { lane = l; number = n; offset = p; length = y } in
     let held = holds_at s told sound j two.0 two.1 in
-    let apart : keeps_apart (Some g) (frames (onto [] (take j told))) ≡ true = subst (λ (it : Item). keeps_apart (frame_of it) (frames (onto [] (take j told))) ≡ true) two.2 held.apart in
+    let own : keeps_apart (frame_of two.0.item) (frames (onto [] (take j told))) ≡ true = (and_parts (keeps_apart (frame_of two.0.item) (frames (onto [] (take j told)))) _ held.apart).0 in
+    let apart : keeps_apart (Some g) (frames (onto [] (take j told))) ≡ true = subst (λ (it : Item). keeps_apart (frame_of it) (frames (onto [] (take j told))) ≡ true) two.2 own in
     let all : list_all (agrees g) (frames (onto [] (take j told))) ≡ true = (and_parts _ (list_all (agrees g) (frames (onto [] (take j told)))) apart).1 in
     let agreed : agrees g f ≡ true = all_mapped (λ (t : NumberedItem). frame_of t.item) (agrees g) one.0 f (in_taken told [] i j one.0 lt one.1) (ap frame_of one.2) all in
     said (clear_from g f agreed (lane_self l))

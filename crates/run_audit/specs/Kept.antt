@@ -8,9 +8,7 @@ use Rattle.std.specs.Str.{bytes_eq}
 use Rattle.qkd_base.specs.declared.lane.Lane.{Lane}
 use Rattle.qkd_base.specs.Lane.{lane_eq, lane_place}
 use Rattle.qkd_base.specs.Name.{Name, kind_number}
-use Rattle.sae_entitlements.specs.Grants.{Grants}
 use Rattle.ordered_set.specs.Entries.{has_entry}
-use Rattle.run_types.specs.declared.refusal.Refusal.{Refusal}
 use Rattle.run_types.specs.declared.item.Item.{Item}
 use Rattle.run_types.specs.declared.item.Item.TheVariants as items
 use Rattle.run_types.specs.declared.item.NumberedItem.{NumberedItem}
@@ -20,6 +18,8 @@ use Rattle.run_audit.specs.declared.subject.Subject.{Subject}
 use Rattle.run_audit.specs.declared.subject.Subject.TheVariants as subjects
 use Rattle.run_audit.specs.declared.frames.Frame.{Frame}
 use Rattle.run_audit.specs.declared.frames.Places.{Places}
+use Rattle.run_audit.specs.declared.contents.Content.{Content}
+use Rattle.run_audit.specs.declared.contents.Contents.{Contents}
 use Rattle.run_audit.specs.declared.sums.LaneSum.{LaneSum}
 use Rattle.run_audit.specs.declared.sums.Sums.{Sums}
 use Rattle.run_audit.specs.declared.tellings.Told.{Told}
@@ -27,8 +27,8 @@ use Rattle.run_audit.specs.declared.takings.Taking.{Taking}
 use Rattle.run_audit.specs.declared.takings.Takings.{Takings}
 use Rattle.run_audit.specs.declared.record.Record.{Record}
 use Rattle.run_audit.specs.Table.{at}
-use Rattle.run_audit.specs.Kinds.{kind_at}
-use Rattle.run_audit.specs.Frames.{how_many, frames, sent_on, agrees, is_placed, places, used_on}
+use Rattle.run_audit.specs.Frames.{how_many, frames, sent_on, agrees, is_placed, places}
+use Rattle.run_audit.specs.Contents.{offset_of, contents, matches}
 use Rattle.run_audit.specs.Tellings.{Telling, tellings, subject_eq, is_same, fits_with}
 use Rattle.run_audit.specs.Takings.{takings, taking_eq}
 use Rattle.run_audit.specs.Ledgers.{lane_from, is_stop, sum_of}
@@ -89,6 +89,22 @@ AreNumbered (f ∷ fs) = (f.number ≡ sent_on f.lane fs) × AreNumbered fs
 abbrev pub IsNew : (is_new : Bool) → Option Frame → List Frame → Type 0
 IsNew is_new None fs = Unit {0}
 IsNew is_new (Some f) fs = is_new ≡ not (is_placed f.lane f.offset fs)
+
+-- ---- what frames carry
+
+abbrev pub known_at : Lane → (offset : ℕ) → List Content → Option Content
+known_at l offset [] = None
+known_at l offset (c ∷ cs) = if lane_eq c.lane l && (c.offset == offset) then Some c else known_at l offset cs
+
+-- Each content matches those before it.
+abbrev pub AreMatching : List Content → Type 0
+AreMatching [] = Unit {0}
+AreMatching (c ∷ cs) = (list_all (matches c) cs ≡ true) × AreMatching cs
+
+pub record AreCarried (k : Contents) (fs : List Frame) (cs : List Content) : Type 0 where
+  pub offsets : (l : Lane) (number : ℕ) → at k.offsets (place_key l number) ≡ offset_of l number fs
+  pub known : (l : Lane) (offset : ℕ) → at k.known (place_key l offset) ≡ known_at l offset cs
+  pub matching : AreMatching cs
 
 -- ---- sums of lanes
 
@@ -190,6 +206,7 @@ AreTaken k ts = (t : Taking) → has_entry k.entries (taking_entry t) ≡ list_a
 pub record IsRecordOf (s : Scenario) (r : Record) (before : List NumberedItem) : Type 0 where
   pub placed : ArePlaced r.places (frames before)
   pub numbered : AreNumbered (frames before)
+  pub carried : AreCarried r.contents (frames before) (contents before)
   pub summed : AreSummed r.sums before
   pub told : AreTold r.told (tellings s before)
   pub taken : AreTaken r.takings (takings s.site.routes before)

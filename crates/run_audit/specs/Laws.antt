@@ -1,13 +1,17 @@
 -- What is true of a report that the audit finds sound.
-use Rattle.std.specs.Prelude.{◌≡◌, ◌≢◌, ℕ, ◌+◌, ◌<◌, ◌≤◌, ◌⊎◌, Bool, true, List, [], take, slice_get, Option, Some}
+use Rattle.std.specs.Prelude.{◌≡◌, ℕ, ◌+◌, ◌<◌, ◌≤◌, ◌⊎◌, true, List, [], take, slice_get, Some}
 use Rattle.qkd_base.specs.declared.lane.Lane.{Lane}
 use Rattle.net_model.specs.declared.counts.Counts4.{Counts4}
+use Rattle.qkd_base.specs.Name.{Name}
+use Rattle.run_types.specs.declared.payload_kind.PayloadKind.{PayloadKind}
+use Rattle.run_types.specs.declared.frame_result.FrameResult.{FrameResult}
 use Rattle.run_types.specs.declared.scenario.Scenario.{Scenario}
 use Rattle.run_types.specs.declared.item.Item.{Item}
 use Rattle.run_types.specs.declared.item.Item.TheVariants as items
 use Rattle.run_types.specs.declared.item.NumberedItem.{NumberedItem}
 use Rattle.run_audit.specs.declared.verdict.Verdict.TheVariants as verdicts
 use Rattle.run_audit.specs.declared.takings.Taking.{Taking}
+use Rattle.run_audit.specs.Contents.{told_by}
 use Rattle.run_audit.specs.Tellings.{Telling, tellings, onto, may_have}
 use Rattle.run_audit.specs.Takings.{taking_of}
 use Rattle.run_audit.specs.Ledgers.{is_true_ledger}
@@ -29,6 +33,11 @@ IsAt told place item = (n : NumberedItem) × (slice_get told place ≡ Some n) �
 abbrev pub FramesAreDisjoint : Type 0
 FramesAreDisjoint = (s : Scenario) (told : List NumberedItem) → IsSound s told → (i j : ℕ) (l : Lane) (m n o p x y : ℕ) → i < j → IsAt told i (items.Sent l m o x) → IsAt told j (items.Sent l n p y) →
     ((p ≡ o) × (y ≡ x)) ⊎ ((o + x + 8 ≤ p) ⊎ (p + y + 8 ≤ o))
+
+-- Two passes tell one kind and one name of two frames of a lane that have one offset and were sent before.
+abbrev pub FramesCarryOne : Type 0
+FramesCarryOne = (s : Scenario) (told : List NumberedItem) → IsSound s told → (a i b j : ℕ) (l : Lane) (m n o x y : ℕ) (r q : FrameResult) (kind : PayloadKind) (name : Name) (kind2 : PayloadKind) (name2 : Name) → a < i → b < j → i < j →
+    IsAt told a (items.Sent l m o x) → IsAt told i (items.Passed l m r) → IsAt told b (items.Sent l n o y) → IsAt told j (items.Passed l n q) → told_by r ≡ Some (kind, name) → told_by q ≡ Some (kind2, name2) → (kind ≡ kind2) × (name ≡ name2)
 
 -- A node takes a name at most once as a fact, and at most once as an acknowledgement.
 abbrev pub NamesAreTakenOnce : Type 0

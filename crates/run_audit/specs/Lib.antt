@@ -2,6 +2,7 @@ pub mod Table
 pub mod Kinds
 pub mod Rows
 pub mod Frames
+pub mod Contents
 pub mod Tellings
 pub mod Takings
 pub mod Ledgers

@@ -11,6 +11,8 @@ use Rattle.run_audit.specs.Kinds.{kind_at}
 use Rattle.run_audit.specs.Rows.{gives_at, is_on_link}
 use Rattle.run_audit.specs.declared.frames.Frame.{Frame}
 use Rattle.run_audit.specs.Frames.{frame_of, frames, sent_on, agrees, places, how_many}
+use Rattle.run_audit.specs.declared.contents.Content.{Content}
+use Rattle.run_audit.specs.Contents.{content_of, contents, matches}
 use Rattle.run_audit.specs.Tellings.{Telling, tellings_of, tellings, all_fit, onto}
 use Rattle.run_audit.specs.Takings.{taking_of, takings, is_first, was_there}
 use Rattle.run_audit.specs.Ledgers.{is_true_ledger}
@@ -24,10 +26,19 @@ abbrev pub is_next : Option Frame → List Frame → Bool
 is_next None fs = true
 is_next (Some f) fs = f.number == sent_on f.lane fs
 
--- Rule 3: no frame uses the hash key. Two frames of a lane have the same place, or no byte in common.
+-- No frame uses the hash key. Two frames of a lane have the same place, or no byte in common.
 abbrev pub keeps_apart : Option Frame → List Frame → Bool
 keeps_apart None fs = true
 keeps_apart (Some f) fs = nat_le 8 f.offset && list_all (agrees f) fs
+
+-- Of the frames at one offset of a lane, no two kinds and no two names are told.
+abbrev pub carries_one : Option Content → List Content → Bool
+carries_one None cs = true
+carries_one (Some c) cs = list_all (matches c) cs
+
+-- Rule 3: no byte of a lane masks two different things.
+abbrev pub masks_once : List NumberedItem → Item → Bool
+masks_once before item = keeps_apart (frame_of item) (frames before) && carries_one (content_of item (frames before)) (contents before)
 
 -- Rule 4: each key and chunk has one value, and goes at most once to each application, and only to those that may have it.
 abbrev pub hands_out : Scenario → List NumberedItem → NumberedItem → Bool
@@ -47,7 +58,7 @@ abbrev pub broken : Scenario → List NumberedItem → NumberedItem → Option �
 broken s before told =
     if not (is_of_line s told) then Some 1
     else if not (is_next (frame_of told.item) (frames before)) then Some 2
-    else if not (keeps_apart (frame_of told.item) (frames before)) then Some 3
+    else if not (masks_once before told.item) then Some 3
     else if not (hands_out s before told) then Some 4
     else if not (takes_new s before told) then Some 5
     else if not (balances before told.item) then Some 6

@@ -8,7 +8,8 @@
 //! 1. The line under whose number an item stands gives such items, and each link that the item names is declared.
 //! 2. The frames of a lane's wire are numbered from 0, in order.
 //! 3. A frame covers the bytes of its payload and 8 for its tag, from its offset on, and its offset is at least 8. Two frames
-//!    of a lane with the same offset have the same length. Two with different offsets have no byte in common.
+//!    of a lane with the same offset have the same length, and no two kinds and no two names are told of them. Two with
+//!    different offsets have no byte in common.
 //! 4. All bytes told of a key are equal, also those that a node shows. All bytes told of a chunk of a stream are equal. No
 //!    application gets a key or a chunk twice. A key has one master, and goes only to that master and to applications for
 //!    which the master may have keys.
@@ -19,6 +20,7 @@
 //!    each frame's place. If the lane's wire refused a frame, more bytes may be spent.
 #![tactic(auto)]
 
+mod contents;
 mod frames;
 mod judgement;
 mod kinds;
@@ -35,7 +37,7 @@ mod verdict;
 
 pub use judgement::audit;
 pub use laws::{
-    law_frames_are_disjoint, law_keys_are_handed_once, law_ledgers_are_true,
+    law_frames_are_disjoint, law_frames_carry_one, law_keys_are_handed_once, law_ledgers_are_true,
     law_names_are_taken_once,
 };
 pub use rows::is_on_link;

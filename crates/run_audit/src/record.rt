@@ -13,6 +13,7 @@ ghost use Rattle.run_audit.specs.Takings.{frame_is_there, was_there};
 ghost use Rattle.run_audit.specs.Rules.{is_next, keeps_apart, balances, is_counted, broken};
 ghost use Rattle.run_audit.specs.Kept.{ArePlaced, AreNumbered, AreSummed, IsNew, IsRecordOf};
 
+use crate::contents::Contents;
 use crate::frames::{Frame, Places};
 use crate::kinds::{Kinds, kind_at};
 use crate::line_kind::LineKind;
@@ -30,6 +31,7 @@ use std::alloc::Global;
 #[derive(Drop)]
 pub struct Record {
     places: Places,
+    contents: Contents,
     sums: Sums,
     told: Tellings,
     takings: Takings,
@@ -147,6 +149,7 @@ impl Record {
     {
         Record {
             places: Places::new(alloc),
+            contents: Contents::new(alloc),
             sums: Sums::new(alloc),
             told: Tellings::new(alloc),
             takings: Takings::new(alloc),
@@ -177,6 +180,10 @@ impl Record {
         if !keeps_apart(&self.places, &frame) {
             return Ok(Some(3));
         }
+        let is_like = self.contents.learn(item)?;
+        if !is_like {
+            return Ok(Some(3));
+        }
         if !self
             .told
             .take_item(alloc, &scenario.site.entitlements, &kind, item)?
@@ -193,6 +200,7 @@ impl Record {
             return Ok(Some(6));
         }
         let is_new = place(&mut self.places, &frame)?;
+        self.contents.number(&frame)?;
         self.sums.add(item, is_new)?;
         self.ledgers = counted(self.ledgers, is_counted(item));
         Ok(None)
