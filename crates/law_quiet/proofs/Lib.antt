@@ -13,3 +13,4 @@ pub mod IdleTicks
 pub mod Rounds
 pub mod Quieting
 pub mod Readiness
+pub mod Flights
