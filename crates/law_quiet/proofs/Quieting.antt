@@ -14,7 +14,7 @@ use Rattle.net_model.specs.declared.fact.Fact.TheVariants.{Stored}
 use Rattle.net_model.specs.Table.{route_of, fact_at, is_secret}
 use Rattle.net_model.specs.Premises.{IsNetwork}
 use Rattle.net_model.specs.Site.{of_way, sender, receiver, count_up}
-use Rattle.net_model.specs.World.{Network, World}
+use Rattle.net_model.specs.World.{Network, World, first}
 use Rattle.net_model.specs.Invariant.{Conserved}
 use Rattle.law_base.proofs.Lists.{all_both, reverse_twice}
 use Rattle.law_invariant.proofs.Outgoing.{sender_back}
@@ -28,6 +28,11 @@ use Rattle.law_quiet.proofs.Delivering.{arrived}
 use Rattle.law_quiet.proofs.Returning.{back}
 use Rattle.law_quiet.proofs.LeavingLanes.{counted}
 use Rattle.law_quiet.proofs.Rounds.{IsCalm, at_first, AreNodes, calm_round, ages, pays}
+
+-- In the first world nothing waits.
+pub first_quiet : IsQuiet first × NoneAwaits first
+unfolding first
+first_quiet = (record { claimed = λ l. refl; put = λ l. refl; noted = λ v. refl }, λ v. refl)
 
 -- Lemmas on nodes and routes.
 

@@ -17,11 +17,12 @@ ghost use Rattle.law_quiet.specs.Noted.{IsNoted};
 ghost use Rattle.law_quiet.specs.Silent.{AreSilent, NoneAwaits, IsOpen};
 
 /// After four silent rounds each fact whose route is open is delivered, and each such key, chunk or part is confirmed at
-/// its origin. What is conserved holds then too, and the table has the same facts. Premises: no frame waits for its wire,
-/// and no manager awaits what became of one. The clauses `run_arrives` and `run_returns` say it of every run.
+/// its origin. Premises: no frame waits for its wire, and no manager awaits what became of one. It is so in the first world,
+/// and again after the rounds (`keeps`). The clauses `run_arrives` and `run_returns` say it of every run.
 pub fn law_quiet_is_delivered()
     ensures keeps { (net : Network) (w after : World) (n : Name) (f : FactValue) → IsNetwork net → Conserved net w → IsQuiet w → NoneAwaits w → AreSilent 4 net w after →
-        fact_at w.durable.facts n ≡ Some f → Conserved net after × (fact_at after.durable.facts n ≡ Some f) }
+        fact_at w.durable.facts n ≡ Some f → Conserved net after × IsQuiet after × NoneAwaits after × (fact_at after.durable.facts n ≡ Some f) }
+    ensures first { IsQuiet first × NoneAwaits first }
     ensures arrives { (net : Network) (w after : World) (n : Name) (f : FactValue) → IsNetwork net → Conserved net w → IsQuiet w → NoneAwaits w → AreSilent 4 net w after →
         fact_at w.durable.facts n ≡ Some f → IsOpen net w f → IsDelivered after n f }
     ensures returns { (net : Network) (w after : World) (n : Name) (f : FactValue) → IsNetwork net → Conserved net w → IsQuiet w → NoneAwaits w → AreSilent 4 net w after →

@@ -2,12 +2,16 @@ use Rattle.net_model.specs.World.{World, first}
 use Rattle.net_model.specs.Step.{run}
 use Rattle.law_invariant.proofs.Steps.{run_keeps}
 use Rattle.law_quiet.proofs.NotedSteps.{run_noted}
-use Rattle.law_quiet.proofs.Quieting.{calm4, there_after, arrives, returns}
+use Rattle.law_quiet.proofs.Quieting.{first_quiet, calm4, there_after, arrives, returns}
 use Rattle.law_quiet.proofs.quiet_laws.law_quiet_is_delivered.Goals as goal
 
 pub returns-clause-keeps : goal.returns-clause-keeps
 returns-clause-keeps c = λ net w after n f network conserved quiet awaits silent there.
-    ((calm4 net network w after conserved quiet awaits silent).conserved, there_after net network w after conserved quiet awaits silent n f there)
+    let calm = calm4 net network w after conserved quiet awaits silent in
+    (calm.conserved, calm.quiet, calm.awaits, there_after net network w after conserved quiet awaits silent n f there)
+
+pub returns-clause-first : goal.returns-clause-first
+returns-clause-first c = first_quiet
 
 pub returns-clause-arrives : goal.returns-clause-arrives
 returns-clause-arrives c = λ net w after n f network conserved quiet awaits silent there way. arrives net network w after conserved quiet awaits silent n f there way
