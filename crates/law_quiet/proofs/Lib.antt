@@ -14,3 +14,4 @@ pub mod Rounds
 pub mod Quieting
 pub mod Readiness
 pub mod Flights
+pub mod GroupReadiness

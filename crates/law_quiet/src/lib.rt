@@ -8,5 +8,5 @@ mod still_laws;
 
 pub use delivery_laws::{law_delivered, law_delivered_is_paid};
 pub use noted_laws::{law_back, law_targets_note};
-pub use quiet_laws::{law_keys_are_ready, law_quiet_is_delivered};
+pub use quiet_laws::{law_group_keys_are_ready, law_keys_are_ready, law_quiet_is_delivered};
 pub use still_laws::{law_flight_stays, law_older, law_still};

@@ -2,10 +2,11 @@
 ghost use Rattle.std.specs.Prelude.{◌≡◌, ℕ, List, true, false, Some};
 ghost use Rattle.qkd_base.specs.Name.{Name, has};
 ghost use Rattle.net_model.specs.declared.fact.Fact.{Fact as FactValue};
-ghost use Rattle.net_model.specs.Table.{fact_at, is_secret, origin, target, was_handed};
+ghost use Rattle.net_model.specs.Table.{fact_at, is_part_of, is_secret, origin, target, was_handed};
 ghost use Rattle.net_model.specs.World.{Network, World, first};
 ghost use Rattle.net_model.specs.Needed.{view_of};
-ghost use Rattle.net_model.specs.Pools.{is_key_of, pool};
+ghost use Rattle.net_model.specs.Pools.{is_key_of, own_names, pool};
+ghost use Rattle.net_model.specs.Groups.{group, is_unhanded_group};
 ghost use Rattle.net_model.specs.Premises.{IsNetwork};
 ghost use Rattle.net_model.specs.Action.{Action};
 ghost use Rattle.net_model.specs.Step.{run, IsRun};
@@ -42,4 +43,13 @@ pub fn law_keys_are_ready()
         is_key_of m t bits (Some f) ≡ true → IsBack net w n f → was_handed w.durable.handed n m ≡ false → has (pool (view_of net w (origin f)) m t bits) n ≡ true }
     ensures known { (net : Network) (w : World) (n : Name) (f : FactValue) (m t bits : ℕ) → Conserved net w → fact_at w.durable.facts n ≡ Some f →
         is_key_of m t bits (Some f) ≡ true → IsDelivered w n f → KnowsFor w.durable.facts (w.durable.known (target f)) m t n }
+{}
+
+/// A group key of which all parts were confirmed, and that its master hasn't got, is in its pool at the node that named it,
+/// so that its master gets it (`law_enc_group_succeeds`).
+pub fn law_group_keys_are_ready()
+    ensures { (net : Network) (w : World) (n : Name) (m : ℕ) (slaves : List ℕ) (bits : ℕ) → Conserved net w →
+        ((k : Name) (f : FactValue) → fact_at w.durable.facts k ≡ Some f → is_part_of n f ≡ true → IsBack net w k f) →
+        has (own_names (view_of net w n.node)) n ≡ true → is_unhanded_group (view_of net w n.node) m slaves bits n ≡ true →
+        has (group (view_of net w n.node) m slaves bits) n ≡ true }
 {}
