@@ -188,17 +188,17 @@ keys_plain (k ∷ keys) = both_plain (key_object k) (items_of (map key_object ke
 item_plain : (nodes : List (List ℕ)) (round : ℕ) (i : Item) (ms : Members) → IsPlain ms → IsPlain (put_all ms (item_fields nodes round i))
 unfolding item_fields
 item_plain nodes round (items.Refused refusal) ms p = all_put ms _ p (refusal_flat refusal)
-item_plain nodes round (items.Took link end number) ms p = all_put ms _ p refl
+item_plain nodes round (items.Took link end place) ms p = all_put ms _ p refl
 item_plain nodes round (items.TookNone link end refusal) ms p = all_put ms _ p (refusal_flat refusal)
 item_plain nodes round (items.Made count first) ms p = all_put ms _ p refl
 item_plain nodes round (items.Ticked v fresh again) ms p = all_put ms _ p refl
 item_plain nodes round (items.Idle v) ms p = all_put ms _ p refl
 item_plain nodes round (items.NotTicked v refusal) ms p = all_put ms _ p (refusal_flat refusal)
 item_plain nodes round (items.Short l used need received) ms p = all_put ms _ p refl
-item_plain nodes round (items.Sent l number offset length) ms p = all_put ms _ p refl
+item_plain nodes round (items.Sent l place offset length) ms p = all_put ms _ p refl
 item_plain nodes round (items.Unsent l offset cause) ms p = all_put ms _ p refl
-item_plain nodes round (items.Passed l number result) ms p = all_put ms _ p (result_flat result)
-item_plain nodes round (items.Flipped l number bit result) ms p = all_put ms _ p (result_flat result)
+item_plain nodes round (items.Passed l place result) ms p = all_put ms _ p (result_flat result)
+item_plain nodes round (items.Flipped l place bit result) ms p = all_put ms _ p (result_flat result)
 item_plain nodes round (items.Forged l result) ms p = all_put ms _ p (result_flat result)
 item_plain nodes round items.Crashed ms p = all_put ms _ p refl
 item_plain nodes round (items.Start result) ms p = all_put ms _ p (start_flat result)
