@@ -187,36 +187,36 @@ keys_plain (k ∷ keys) = both_plain (key_object k) (items_of (map key_object ke
 
 item_plain : (nodes : List (List ℕ)) (round : ℕ) (i : Item) (ms : Members) → IsPlain ms → IsPlain (put_all ms (item_fields nodes round i))
 unfolding item_fields
-item_plain nodes round (items.Refused refusal) ms p = all_put ms _ p (refusal_flat refusal)
-item_plain nodes round (items.Took link end place) ms p = all_put ms _ p refl
-item_plain nodes round (items.TookNone link end refusal) ms p = all_put ms _ p (refusal_flat refusal)
-item_plain nodes round (items.Made count first) ms p = all_put ms _ p refl
-item_plain nodes round (items.Ticked v fresh again) ms p = all_put ms _ p refl
-item_plain nodes round (items.Idle v) ms p = all_put ms _ p refl
-item_plain nodes round (items.NotTicked v refusal) ms p = all_put ms _ p (refusal_flat refusal)
-item_plain nodes round (items.Short l used need received) ms p = all_put ms _ p refl
-item_plain nodes round (items.Sent l place offset length) ms p = all_put ms _ p refl
-item_plain nodes round (items.Unsent l offset cause) ms p = all_put ms _ p refl
-item_plain nodes round (items.Passed l place result) ms p = all_put ms _ p (result_flat result)
-item_plain nodes round (items.Flipped l place bit result) ms p = all_put ms _ p (result_flat result)
-item_plain nodes round (items.Forged l result) ms p = all_put ms _ p (result_flat result)
-item_plain nodes round items.Crashed ms p = all_put ms _ p refl
-item_plain nodes round (items.Start result) ms p = all_put ms _ p (start_flat result)
-item_plain nodes round items.Armed ms p = all_put ms _ p refl
-item_plain nodes round (items.LinkSet link up) ms p = all_put ms _ p refl
+item_plain nodes round (items.Refused refusal) ms p = all_put ms (item_fields nodes round (items.Refused refusal)) p (refusal_flat refusal)
+item_plain nodes round (items.Took link end place) ms p = all_put ms (item_fields nodes round (items.Took link end place)) p refl
+item_plain nodes round (items.TookNone link end refusal) ms p = all_put ms (item_fields nodes round (items.TookNone link end refusal)) p (refusal_flat refusal)
+item_plain nodes round (items.Made count first) ms p = all_put ms (item_fields nodes round (items.Made count first)) p refl
+item_plain nodes round (items.Ticked v fresh again) ms p = all_put ms (item_fields nodes round (items.Ticked v fresh again)) p refl
+item_plain nodes round (items.Idle v) ms p = all_put ms (item_fields nodes round (items.Idle v)) p refl
+item_plain nodes round (items.NotTicked v refusal) ms p = all_put ms (item_fields nodes round (items.NotTicked v refusal)) p (refusal_flat refusal)
+item_plain nodes round (items.Short l used need received) ms p = all_put ms (item_fields nodes round (items.Short l used need received)) p refl
+item_plain nodes round (items.Sent l place offset length) ms p = all_put ms (item_fields nodes round (items.Sent l place offset length)) p refl
+item_plain nodes round (items.Unsent l offset cause) ms p = all_put ms (item_fields nodes round (items.Unsent l offset cause)) p refl
+item_plain nodes round (items.Passed l place result) ms p = all_put ms (item_fields nodes round (items.Passed l place result)) p (result_flat result)
+item_plain nodes round (items.Flipped l place bit result) ms p = all_put ms (item_fields nodes round (items.Flipped l place bit result)) p (result_flat result)
+item_plain nodes round (items.Forged l result) ms p = all_put ms (item_fields nodes round (items.Forged l result)) p (result_flat result)
+item_plain nodes round items.Crashed ms p = all_put ms (item_fields nodes round items.Crashed) p refl
+item_plain nodes round (items.Start result) ms p = all_put ms (item_fields nodes round (items.Start result)) p (start_flat result)
+item_plain nodes round items.Armed ms p = all_put ms (item_fields nodes round items.Armed) p refl
+item_plain nodes round (items.LinkSet link up) ms p = all_put ms (item_fields nodes round (items.LinkSet link up)) p refl
 item_plain nodes round (items.Keys keys) ms p =
     let all = keys_plain keys in
-    put_plain (codes "keys") (array (items_of (map key_object keys))) _ all.0 (omega (arith, all.1)) (put_plain (codes "kind") (string (codes "keys")) ms refl (omega arith) p)
-item_plain nodes round (items.Ready count) ms p = all_put ms _ p refl
-item_plain nodes round (items.Http v status body) ms p = all_put ms _ p (body_flat body)
-item_plain nodes round (items.Stream answer) ms p = all_put ms _ p (answer_flat answer)
-item_plain nodes round (items.Shown v name held bytes) ms p = all_put ms _ p (shown_flat held bytes)
-item_plain nodes round (items.NotShown v name refusal) ms p = all_put ms _ p (refusal_flat refusal)
-item_plain nodes round (items.Counted l c) ms p = all_put ms _ p refl
-item_plain nodes round (items.NotCounted l refusal) ms p = all_put ms _ p (refusal_flat refusal)
+    put_plain (codes "keys") (array (items_of (map key_object keys))) (put (codes "kind") (string (codes "keys")) ms) all.0 (omega (arith, all.1)) (put_plain (codes "kind") (string (codes "keys")) ms refl (omega arith) p)
+item_plain nodes round (items.Ready count) ms p = all_put ms (item_fields nodes round (items.Ready count)) p refl
+item_plain nodes round (items.Http v status body) ms p = all_put ms (item_fields nodes round (items.Http v status body)) p (body_flat body)
+item_plain nodes round (items.Stream answer) ms p = all_put ms (item_fields nodes round (items.Stream answer)) p (answer_flat answer)
+item_plain nodes round (items.Shown v name held bytes) ms p = all_put ms (item_fields nodes round (items.Shown v name held bytes)) p (shown_flat held bytes)
+item_plain nodes round (items.NotShown v name refusal) ms p = all_put ms (item_fields nodes round (items.NotShown v name refusal)) p (refusal_flat refusal)
+item_plain nodes round (items.Counted l c) ms p = all_put ms (item_fields nodes round (items.Counted l c)) p refl
+item_plain nodes round (items.NotCounted l refusal) ms p = all_put ms (item_fields nodes round (items.NotCounted l refusal)) p (refusal_flat refusal)
 
 object_plain : (nodes : List (List ℕ)) (round : ℕ) (told : NumberedItem) → IsPlain (put_all no_members (counts (codes "line") told.number ∷ item_fields nodes round told.item))
-object_plain nodes round told = item_plain nodes round told.item _ (put_plain (codes "line") (number (unsigned told.number)) no_members refl (omega arith) (refl, omega arith))
+object_plain nodes round told = item_plain nodes round told.item (put (codes "line") (number (unsigned told.number)) no_members) (put_plain (codes "line") (number (unsigned told.number)) no_members refl (omega arith) (refl, omega arith))
 
 pub no_float : (nodes : List (List ℕ)) (round : ℕ) (told : NumberedItem) → has_float (object_of nodes round told) ≡ false
 no_float nodes round told = (object_plain nodes round told).0

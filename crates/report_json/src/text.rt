@@ -12,7 +12,6 @@ use run_types::NumberedItem;
 use std::alloc::Global;
 
 // The object of an item as a text.
-#[tactic(auto, using(crate::proofs::Plain::no_float, crate::proofs::Plain::not_deep))]
 fn object_text(
     alloc: Global,
     nodes: &Texts,
