@@ -1,0 +1,4 @@
+pub mod Agreement
+pub mod Parts
+pub mod Written
+pub mod Misfits

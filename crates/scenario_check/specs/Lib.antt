@@ -1,0 +1,5 @@
+pub mod Forms
+pub mod Reasons
+pub mod Check
+pub mod Texts
+pub mod Laws
