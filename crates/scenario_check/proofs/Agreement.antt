@@ -9,7 +9,7 @@ use Rattle.scenario_check.specs.declared.refusal.Refusal.{Refusal}
 use Rattle.scenario_check.specs.declared.refusal.Checked.{Checked}
 use Rattle.scenario_check.specs.declared.refusal.Checked.TheVariants.{Refused}
 use Rattle.scenario_check.specs.Reasons.{reason_for}
-use Rattle.scenario_check.specs.Check.{refusal, go_on, last_checked, then_checked, checked_from, first_number}
+use Rattle.scenario_check.specs.Check.{refusal, last_checked, then_checked, checked_from, first_number}
 use Rattle.scenario_check.specs.Laws.{Agrees}
 
 -- ---- the first refused line stays the first

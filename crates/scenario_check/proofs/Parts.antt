@@ -8,14 +8,14 @@ use Rattle.std.proofs.lemmas.List.{take-take}
 use Rattle.std.proofs.lemmas.Bool.Decides.{nat_tests}
 use Rattle.scenario_text.specs.Line.{Step, Goes, Ends, nothing_read, line_at}
 use Rattle.scenario_text.specs.Text.{text_limit, within, parts_of}
-use Rattle.scenario_text.proofs.Lines.{Cut, cut_of}
+use Rattle.scenario_text.proofs.Lines.{cut_of}
 use Rattle.scenario_check.specs.declared.reason.Reason.{Reason}
 use Rattle.scenario_check.specs.declared.reason.Reason.TheVariants.{NoEnd, BehindEnd}
 use Rattle.scenario_check.specs.declared.refusal.Refusal.{Refusal}
 use Rattle.scenario_check.specs.declared.refusal.Checked.{Checked}
 use Rattle.scenario_check.specs.declared.refusal.Checked.TheVariants.{Refused}
 use Rattle.scenario_check.specs.Reasons.{reason_for}
-use Rattle.scenario_check.specs.Check.{refusal, at_end, go_on, last_checked, then_checked, checked_from, checked_of}
+use Rattle.scenario_check.specs.Check.{refusal, at_end, last_checked, then_checked, checked_from, checked_of}
 
 -- ---- a line of the text
 

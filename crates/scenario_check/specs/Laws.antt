@@ -1,8 +1,6 @@
 -- What is said of a text agrees with the reader.
-use Rattle.std.specs.Prelude.{◌≡◌, ℕ, List, length, Some, Result, Ok, Err}
-use Rattle.run_types.specs.declared.scenario.Scenario.{Scenario}
+use Rattle.std.specs.Prelude.{◌≡◌, ℕ, List, Some, Ok, Err}
 use Rattle.scenario_text.specs.Text.{Meaning, meaning_of}
-use Rattle.scenario_check.specs.declared.refusal.Counts.{Counts}
 use Rattle.scenario_check.specs.declared.refusal.Checked.{Checked}
 use Rattle.scenario_check.specs.declared.refusal.Checked.TheVariants.{Fine}
 use Rattle.scenario_check.specs.Check.{counts_of, first_number, checked_of}
