@@ -8,6 +8,8 @@ use tag_bound::KeysRefusal;
 pub enum Verdict {
     /// The question is answered, or answered with yes.
     Yes,
+    /// Lines of a scenario are refused, of which this one is the first, counted from 1.
+    BadLine(u32),
 }
 
 /// An answer: what is written, and what it comes to.

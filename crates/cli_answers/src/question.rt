@@ -1,9 +1,11 @@
 // The questions about a text.
 ghost use Rattle.std.specs.Prelude.{◌≡◌, MatchResult, take};
-ghost use Rattle.cli_answers.specs.Answers.{Asked, IsAnswer, IsRefused, IsUnanswered, Bounds, Audits, asked_of, CanBeAsked};
+ghost use Rattle.cli_answers.specs.Answers.{Asked, IsAnswer, IsRefused, IsUnanswered, Bounds, Audits, Checks, Objects, asked_of, CanBeAsked};
 
 use crate::answer::{Answer, AnswerRefusal, Verdict};
 use audit_text::{audit_text, verdict_text};
+use report_json::json_text;
+use scenario_check::{check_text, checked_text};
 use std::alloc::Global;
 use tag_bound::{ShortText, bound_of, bound_text};
 
@@ -18,6 +20,10 @@ pub enum Question {
     },
     /// Does the report behind a scenario break a rule of the audit?
     Audit,
+    /// Which lines of a scenario are refused, and why?
+    Check,
+    /// What are the items of the report behind a scenario, as JSON objects?
+    Objects,
 }
 
 // The count of the keys that give the difference, with its bound.
@@ -52,6 +58,30 @@ fn verdict_on(alloc: Global, text: &[u8]) -> Result<Answer, AnswerRefusal>
     })
 }
 
+// What a check says of a scenario.
+fn faults_of(alloc: Global, text: &[u8]) -> Result<Answer, AnswerRefusal>
+    ensures { MatchResult result (λ answer. IsAnswer Checks text.now answer) (λ e. IsUnanswered (IsRefused Checks text.now) e) }
+{
+    let checked = check_text(alloc, text)?;
+    let text = checked_text(alloc, &checked)?;
+    let verdict = match checked.first_refused() {
+        None => Verdict::Yes,
+        Some(line) => Verdict::BadLine(line),
+    };
+    Ok(Answer { text, verdict })
+}
+
+// The objects of a report's items.
+fn objects_of(alloc: Global, text: &[u8]) -> Result<Answer, AnswerRefusal>
+    ensures { MatchResult result (λ answer. IsAnswer Objects text.now answer) (λ e. IsUnanswered (IsRefused Objects text.now) e) }
+{
+    let text = json_text(alloc, text)?;
+    Ok(Answer {
+        text,
+        verdict: Verdict::Yes,
+    })
+}
+
 impl Question {
     /// Answers the question about this text. Errors: a line that the question has no place for, or memory runs out.
     pub fn answer(&self, alloc: Global, text: &[u8]) -> Result<Answer, AnswerRefusal>
@@ -61,6 +91,8 @@ impl Question {
         match self {
             Question::Bound { a, b, difference } => count_of_keys(alloc, a, b, *difference, text),
             Question::Audit => verdict_on(alloc, text),
+            Question::Check => faults_of(alloc, text),
+            Question::Objects => objects_of(alloc, text),
         }
     }
 }

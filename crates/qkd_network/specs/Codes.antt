@@ -6,7 +6,7 @@ use Rattle.run_lines.specs.declared.stop.Stop.{Stop}
 use Rattle.run_lines.specs.declared.stop.Stop.TheVariants as stops
 use Rattle.net_serve.specs.declared.stop.ServeStop.{ServeStop}
 use Rattle.net_serve.specs.declared.stop.ServeStop.TheVariants as serves
-use Rattle.cli_answers.specs.declared.answer.Verdict.TheVariants.{Yes}
+use Rattle.cli_answers.specs.declared.answer.Verdict.TheVariants as verdicts
 use Rattle.cli_answers.specs.declared.exchange.Ended.{Ended}
 use Rattle.cli_answers.specs.declared.exchange.Ended.TheVariants as ends
 use Rattle.qkd_network.specs.declared.status.Status.{Status}
@@ -49,7 +49,8 @@ served_as (Err serves.Listen) = ListenFault
 
 -- the status of an answer
 abbrev pub answered_as : Ended → Status
-answered_as (ends.Answered Yes) = Done
+answered_as (ends.Answered verdicts.Yes) = Done
+answered_as (ends.Answered (verdicts.BadLine n)) = BadLine n
 answered_as (ends.BadLine n) = BadLine n
 answered_as ends.ReadFault = ReadFault
 answered_as ends.WriteFault = WriteFault

@@ -5,7 +5,7 @@ use lib.Chars.{codes}
 use Rattle.run_model.specs.Course.{Words, Run, Load}
 use Rattle.scenario_text.specs.Words.{number_in}
 use Rattle.tag_bound.specs.Words.{number_of, text_of}
-use Rattle.cli_answers.specs.Answers.{Asked, Bounds, Audits}
+use Rattle.cli_answers.specs.Answers.{Asked, Bounds, Audits, Checks, Objects}
 use Rattle.qkd_network.specs.declared.form.Form.{Form}
 use Rattle.qkd_network.specs.declared.form.Form.TheVariants as forms
 
@@ -93,11 +93,12 @@ unfoldable pub bound_form : List (List ℕ) → Wish
 bound_form [] = Err 1
 bound_form (word ∷ more) = first_of (text_of word) more
 
--- the forms `veil`, `bound` and `audit`
+-- the forms `veil`, `bound`, `audit`, `check` and `json`
 unfoldable pub question_form : (form : List ℕ) → List (List ℕ) → Wish
 question_form form words =
     if bytes_eq form (codes "veil") then alone 1 Veils words else if bytes_eq form (codes "bound") then bound_form words
-    else if bytes_eq form (codes "audit") then alone 1 (Asks Audits) words else Err 0
+    else if bytes_eq form (codes "audit") then alone 1 (Asks Audits) words else if bytes_eq form (codes "check") then alone 1 (Asks Checks) words
+    else if bytes_eq form (codes "json") then alone 1 (Asks Objects) words else Err 0
 
 unfoldable pub asked_by : List (List ℕ) → Wish
 asked_by [] = Err 0
@@ -112,6 +113,8 @@ wanted_of (forms.Serve workers connections port) = Serves workers connections po
 wanted_of forms.Veil = Veils
 wanted_of (forms.Bound a b difference) = Asks (Bounds (take a.size a.octets) (take b.size b.octets) difference)
 wanted_of forms.Audit = Asks Audits
+wanted_of forms.Check = Asks Checks
+wanted_of forms.Json = Asks Objects
 
 abbrev pub IsInRange : Form → Type 0
 IsInRange (forms.Run workers) = (1 ≤ workers) × (workers ≤ 32)
@@ -119,4 +122,6 @@ IsInRange (forms.Load rounds) = (1 ≤ rounds) × (rounds ≤ 500)
 IsInRange (forms.Serve workers connections port) = (1 ≤ workers) × (workers ≤ 32) × (1 ≤ connections) × (connections ≤ 10000) × (1 ≤ port) × (port ≤ 65520)
 IsInRange forms.Veil = Unit {0}
 IsInRange forms.Audit = Unit {0}
+IsInRange forms.Check = Unit {0}
+IsInRange forms.Json = Unit {0}
 IsInRange (forms.Bound a b difference) = ¬ (take a.size a.octets ≡ take b.size b.octets)

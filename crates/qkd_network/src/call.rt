@@ -117,6 +117,12 @@ where
         Ok(Form::Audit) => {
             return Status::of_answer(answer_to(alloc, &Question::Audit, source, sink));
         }
+        Ok(Form::Check) => {
+            return Status::of_answer(answer_to(alloc, &Question::Check, source, sink));
+        }
+        Ok(Form::Json) => {
+            return Status::of_answer(answer_to(alloc, &Question::Objects, source, sink));
+        }
         Ok(Form::Veil) => return veil(rt, alloc, source, sink, bench, gate),
         Ok(
             Form::Serve {

@@ -37,6 +37,10 @@ pub enum Form {
     },
     /// Audits the report of a scenario.
     Audit,
+    /// Tells which lines of a scenario are refused, and why.
+    Check,
+    /// Writes the items of a report as JSON objects.
+    Json,
 }
 
 /// Reads the words as a form. `Err` has the index of the first word that fits no form, or the number of words if one is missing.
@@ -73,6 +77,12 @@ fn question_form(words: &Texts, word: &str) -> Result<Form, usize>
     }
     if word == "audit" {
         return alone(words, Form::Audit);
+    }
+    if word == "check" {
+        return alone(words, Form::Check);
+    }
+    if word == "json" {
+        return alone(words, Form::Json);
     }
     Err(0)
 }

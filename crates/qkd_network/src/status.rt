@@ -74,6 +74,7 @@ impl Status {
     {
         match ended {
             Ended::Answered(Verdict::Yes) => Status::Done,
+            Ended::Answered(Verdict::BadLine(line)) => Status::BadLine(line),
             Ended::BadLine(line) => Status::BadLine(line),
             Ended::ReadFault => Status::ReadFault,
             Ended::WriteFault => Status::WriteFault,

@@ -96,3 +96,9 @@ returns-in-Ok-Bound-clause-source_calm g c = answered_calm _ c.answer_to.result 
 
 pub returns-in-Ok-Audit-clause-source_calm : goal.returns-in-Ok-Audit-clause-source_calm
 returns-in-Ok-Audit-clause-source_calm g c = answered_calm _ c.answer_to-in-Ok-Audit.result _ c.of_answer-in-Ok-Audit.ensures c.answer_to-in-Ok-Audit.ensures.calm
+
+pub returns-in-Ok-Check-clause-source_calm : goal.returns-in-Ok-Check-clause-source_calm
+returns-in-Ok-Check-clause-source_calm g c = answered_calm _ c.answer_to-in-Ok-Check.result _ c.of_answer-in-Ok-Check.ensures c.answer_to-in-Ok-Check.ensures.calm
+
+pub returns-in-Ok-Json-clause-source_calm : goal.returns-in-Ok-Json-clause-source_calm
+returns-in-Ok-Json-clause-source_calm g c = answered_calm _ c.answer_to-in-Ok-Json.result _ c.of_answer-in-Ok-Json.ensures c.answer_to-in-Ok-Json.ensures.calm
