@@ -1,4 +1,3 @@
 pub mod Agreement
 pub mod Parts
 pub mod Written
-pub mod Misfits
