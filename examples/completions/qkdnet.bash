@@ -2,6 +2,7 @@
 _qkdnet() {
     local forms=(
         "run W"
+        "run W --quiet"
         "load N"
         "serve W C PORT"
         "check"

@@ -1,3 +1,4 @@
 pub mod Inputs
 pub mod Outcomes
 pub mod Lined
+pub mod Quietly

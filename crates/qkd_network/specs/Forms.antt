@@ -12,6 +12,8 @@ use Rattle.qkd_network.specs.declared.form.Form.TheVariants as forms
 -- what the words ask for: a run, a run whose managers are then served, the veil of a scenario's wires, or a question about the source's text
 pub data Wanted : Type 0 where
   Runs : Words → Wanted
+  -- a run of whose report only the lines are written that a person asked for
+  Quiets : (workers : ℕ) → Wanted
   Serves : (workers connections port : ℕ) → Wanted
   Veils : Wanted
   Asks : Asked → Wanted
@@ -24,11 +26,15 @@ Wish = Result Wanted ℕ
 abbrev pub alone : (place : ℕ) → Wanted → (more : List (List ℕ)) → Wish
 alone place asked more = if length more == 0 then Ok asked else Err place
 
+unfoldable pub quiet_form : (workers : ℕ) → List (List ℕ) → Wish
+quiet_form workers [] = Ok (Runs (Run workers))
+quiet_form workers (word ∷ more) = if bytes_eq word (codes "--quiet") then alone 3 (Quiets workers) more else Err 2
+
 abbrev pub run_of : Option ℕ → (more : List (List ℕ)) → Wish
 run_of None more = Err 1
-run_of (Some workers) more = alone 2 (Runs (Run workers)) more
+run_of (Some workers) more = quiet_form workers more
 
--- `run W`: runs the scenario, whose blocks W workers do (1 to 32)
+-- `run W`: runs the scenario, whose blocks W workers do (1 to 32). `run W --quiet`: the same, and writes asked lines alone.
 unfoldable pub run_form : List (List ℕ) → Wish
 run_form [] = Err 1
 run_form (count ∷ more) = run_of (number_in 1 32 count) more
@@ -108,6 +114,7 @@ asked_by (form ∷ words) =
 
 abbrev pub wanted_of : Form → Wanted
 wanted_of (forms.Run workers) = Runs (Run workers)
+wanted_of (forms.Quiet workers) = Quiets workers
 wanted_of (forms.Load rounds) = Runs (Load rounds)
 wanted_of (forms.Serve workers connections port) = Serves workers connections port
 wanted_of forms.Veil = Veils
@@ -118,6 +125,7 @@ wanted_of forms.Json = Asks Objects
 
 abbrev pub IsInRange : Form → Type 0
 IsInRange (forms.Run workers) = (1 ≤ workers) × (workers ≤ 32)
+IsInRange (forms.Quiet workers) = (1 ≤ workers) × (workers ≤ 32)
 IsInRange (forms.Load rounds) = (1 ≤ rounds) × (rounds ≤ 500)
 IsInRange (forms.Serve workers connections port) = (1 ≤ workers) × (workers ≤ 32) × (1 ≤ connections) × (connections ≤ 10000) × (1 ≤ port) × (port ≤ 65520)
 IsInRange forms.Veil = Unit {0}

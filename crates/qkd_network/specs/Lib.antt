@@ -2,3 +2,4 @@ pub mod Forms
 pub mod Codes
 pub mod Outcome
 pub mod Lines
+pub mod Quiet

@@ -9,7 +9,7 @@ use Rattle.cli_answers.specs.Answers.{Asked}
 use Rattle.cli_answers.specs.Exchange.{WasAnswered}
 use Rattle.cli_answers.specs.Inputs.{WasRead, IsInput}
 use Rattle.cli_answers.specs.declared.exchange.Ended.{Ended}
-use Rattle.qkd_network.specs.Forms.{Runs, Serves, Veils, Asks, asked_by}
+use Rattle.qkd_network.specs.Forms.{Runs, Quiets, Serves, Veils, Asks, asked_by}
 use Rattle.qkd_network.specs.Codes.{answered_as}
 use Rattle.qkd_network.specs.declared.status.Status.{Status}
 use Rattle.qkd_network.specs.declared.status.Status.TheVariants.{Done, Usage, BadLine, ReadFault, WriteFault, ForgedMatch, Memory, ListenFault}
@@ -123,11 +123,21 @@ pub record HasServed {S W B : Type 0} (left : S → Option (List ℕ)) (Served :
   pub form : asked_by words ≡ Ok (Serves workers connections port)
   pub outcome : ScenarioOutcome left (Served workers connections port) status old new before after given back
 
--- one of these four results
+-- The words ask for a scenario to be run, and for those lines of its report that a person asked for.
+pub record HasQuiet {S W B : Type 0} (left : S → Option (List ℕ)) (Quieted : (workers : ℕ) → Scenario → headline.Stop → Type 0) (status : Status) (words : List (List ℕ)) (old new : S) (before after : W)
+    (given back : B) : Type 0 where
+  pub workers : ℕ
+  pub form : asked_by words ≡ Ok (Quiets workers)
+  pub calm : status ≡ ListenFault → ⊥
+  pub outcome : ScenarioOutcome left (Quieted workers) status old new before after given back
+
+-- one of these five results
 abbrev pub Outcome : {S W B : Type 0} → (S → Option (List ℕ)) → (W → Option (List ℕ)) → (Words → Scenario → headline.Stop → Type 0) → (Scenario → headline.Stop → Type 0) →
-    ((workers connections port : ℕ) → Scenario → headline.Stop → Type 0) → Status → List (List ℕ) → (old new : S) → (before after : W) → (given back : B) → Type 0
-Outcome left taken Ran Veiled Served status words old new before after given back =
+    ((workers connections port : ℕ) → Scenario → headline.Stop → Type 0) → ((workers : ℕ) → Scenario → headline.Stop → Type 0) → Status → List (List ℕ) → (old new : S) → (before after : W) →
+    (given back : B) → Type 0
+Outcome left taken Ran Veiled Served Quieted status words old new before after given back =
     RunOutcome left Ran status words old new before after given back ⊎
     (HasAnswered left taken status words old new before after given back ⊎
     (HasVeiled left Veiled status words old new before after given back ⊎
-    HasServed left Served status words old new before after given back))
+    (HasServed left Served status words old new before after given back ⊎
+    HasQuiet left Quieted status words old new before after given back)))

@@ -1,5 +1,5 @@
 // The top call of the program.
-ghost use Rattle.std.specs.Prelude.{◌≡◌, ◌⊎◌, IsSome};
+ghost use Rattle.std.specs.Prelude.{◌≡◌, ◌⊎◌, [], Some, IsSome};
 ghost use Rattle.std.specs.List.{All};
 ghost use Rattle.qkd_base.specs.Faults.{Rose};
 ghost use Rattle.kme_serve.specs.Doors.{AreFresh, IsListenFault, PortsTold, telling};
@@ -8,11 +8,13 @@ ghost use Rattle.net_world.specs.New.{IsNew};
 ghost use Rattle.net_world.specs.Running.{HasHeadlines};
 ghost use Rattle.net_serve.specs.BenchServing.{HasServedHeadlines};
 ghost use Rattle.net_world.specs.Veiling.{HasVeiled};
-ghost use Rattle.run_model.specs.Course.{Serve};
+ghost use Rattle.run_model.specs.Course.{Run, Serve};
 ghost use Rattle.qkd_network.specs.Lines.{WroteLines};
+ghost use Rattle.qkd_network.specs.Quiet.{IsQuiet};
 ghost use Rattle.qkd_network.specs.Outcome.{AsksServe, Outcome, outside};
 ghost use Rattle.qkd_network.specs.declared.status.Status.TheVariants.{ReadFault, WriteFault, ListenFault};
 
+use crate::quiet::quiet;
 use crate::reading::scenario_in;
 use crate::serve::serve;
 use crate::veil::veil;
@@ -31,6 +33,7 @@ use std::thread::Threads;
 ///
 /// - `run`: reads a scenario from the source to its end, and runs it over a new bench. The given number of workers do its blocks. The
 ///   report goes to the sink, one line at a time.
+/// - `run` with `--quiet`: does the same, and writes those lines of the report that a person asked for, after the run.
 /// - `serve`: does the same. Then each worker serves the given number of connections with the manager of a node, at the node's own port
 ///   (ETSI GS QKD 014). Last it writes the number of connections served.
 /// - `load`: runs the generated load of the given number of rounds, and writes its ledgers and the number of keys that it handed out. The
@@ -54,6 +57,8 @@ use std::thread::Threads;
 ///   of lane bytes, of faults and of armings.
 /// - `ListenFault` says that a port or a listener failed. The sink took the report of all lines, and no more.
 /// - `Memory` may also come before the first line. Then sink, bench and ports are untouched.
+///
+/// With `--quiet` it holds of all lines of the report, of which the sink took those that a person asked for.
 ///
 /// For `veil` the headline holds except for the report, and the wires fit every other key. The sink took the whole line of `veil`, `bound`
 /// or `audit`, or a prefix of it; at a forged match it took nothing. For `serve` the run goes on with what connections asked, and each
@@ -96,6 +101,9 @@ where
         (record { asked = P.asked ports.old; back = P.back ports.old }) (record { asked = P.asked ports.new; back = P.back ports.new })
         workers connections port scenario (W.taken sink.old) (W.taken sink.new) stop
         × WroteLines W.taken W.pieces (Serve workers connections port) scenario sink.old sink.new stop)
+        (λ workers scenario stop. IsQuiet W.taken W.pieces (λ report end.
+        HasHeadlines K.is_honest K.content K.moment K.image E.left Q.told X.frames X.counted K.faults K.armings E.faults Q.faults X.faults bench.old bench.new (Run workers) scenario (Some []) report end)
+        scenario.site.nodes sink.old sink.new stop)
         result words.now source.old source.new sink.old sink.new (outside bench.old ports.old) (outside bench.new ports.new) }
     ensures ports { AsksServe words.now ⊎ (ports.new ≡ ports.old) }
     ensures whole { IsWhole bench.new }
@@ -143,6 +151,9 @@ where
                 ports,
                 gate,
             );
+        }
+        Ok(Form::Quiet { workers }) => {
+            return quiet(rt, alloc, workers, source, sink, bench, gate);
         }
         Ok(Form::Run { workers }) => workers,
     };

@@ -3,7 +3,7 @@ ghost use Rattle.std.specs.Prelude.{◌≡◌, ◌≤◌, Ok, Err, MatchResult, 
 ghost use Rattle.std.specs.Option.{option_map, option_and_then};
 ghost use Rattle.tag_bound.specs.Words.{number_of, text_of};
 ghost use Rattle.scenario_text.specs.Words.{number_in};
-ghost use Rattle.qkd_network.specs.Forms.{asked_by, question_form, alone, run_form, load_form, serve_form, connections_form, port_form, bound_form, second_form, third_form, wanted_of, IsInRange};
+ghost use Rattle.qkd_network.specs.Forms.{asked_by, question_form, alone, run_form, quiet_form, load_form, serve_form, connections_form, port_form, bound_form, second_form, third_form, wanted_of, IsInRange};
 
 use qkd_base::Texts;
 use scenario_text::words::number_in;
@@ -14,6 +14,10 @@ use tag_bound::{ShortText, number};
 pub enum Form {
     /// Runs a scenario. `workers` workers do its blocks.
     Run {
+        workers: u32,
+    },
+    /// Runs a scenario, as `Run`, and writes the lines that a person asked for alone.
+    Quiet {
         workers: u32,
     },
     /// Runs the generated load of `rounds` rounds.
@@ -108,10 +112,27 @@ fn run_form(words: &Texts) -> Result<Form, usize>
     ensures range { IfOk result IsInRange }
 {
     let workers = count_at(words, 1, 1, 32).ok_or(1usize)?;
-    if words.len() > 2 {
+    quiet_form(words, workers)
+}
+
+// Reads the words behind the number of workers of `run`.
+#[tactic(auto, unfolding(crate::specs::Forms::quiet_form))]
+fn quiet_form(words: &Texts, workers: u32) -> Result<Form, usize>
+    requires words { 2 ≤ length words.now }
+    requires workers { (1 ≤ workers) × (workers ≤ 32) }
+    ensures form { MatchResult result (λ form. quiet_form workers (drop 2 words.now) ≡ Ok (wanted_of form)) (λ place. quiet_form workers (drop 2 words.now) ≡ Err place) }
+    ensures range { IfOk result IsInRange }
+{
+    let Some(word) = words.get(2) else {
+        return Ok(Form::Run { workers });
+    };
+    if word.as_str() != "--quiet" {
         return Err(2);
     }
-    Ok(Form::Run { workers })
+    if words.len() > 3 {
+        return Err(3);
+    }
+    Ok(Form::Quiet { workers })
 }
 
 // Reads the form of `load`, which is the first word.

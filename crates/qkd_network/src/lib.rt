@@ -3,6 +3,7 @@
 
 mod call;
 mod form;
+mod quiet;
 mod reading;
 mod serve;
 mod status;

@@ -1,5 +1,5 @@
-use Rattle.std.proofs.Common.{◌≡◌, ℕ, Ok, Err, sym, ap, subst, ◌∙◌, inl, inr}
-use Rattle.std.specs.Prelude.{◌⊎◌}
+use Rattle.std.proofs.Common.{◌≡◌, ℕ, List, [], Some, Ok, Err, sym, ap, subst, ◌∙◌, inl, inr}
+use Rattle.std.specs.Prelude.{◌⊎◌, Option}
 use Rattle.run_types.specs.declared.scenario.Scenario.{Scenario}
 use Rattle.run_lines.specs.declared.stop.Stop.TheVariants as stops
 use Rattle.run_model.specs.Course.{Words, Run, Load}
@@ -11,6 +11,7 @@ use Rattle.qkd_network.specs.Forms.{wanted_of}
 use Rattle.qkd_network.specs.declared.form.Form.{Form}
 use Rattle.run_tasks.specs.Pieces.{IsLoadLine}
 use Rattle.qkd_network.specs.Lines.{IsLineOf, WroteLines}
+use Rattle.qkd_network.specs.Quiet.{IsQuiet}
 use Rattle.qkd_network.specs.Outcome.{RunOutcome, outside}
 use Rattle.qkd_network.specs.declared.status.Status.{Status}
 use Rattle.qkd_network.proofs.Outcomes.{unread, ran, loaded, left_beside, beside_ports, answered_calm}
@@ -39,13 +40,27 @@ returns-in-Ok-Veil-clause-outcome g c =
 
 pub returns-in-Ok-Serve-clause-outcome : goal.returns-in-Ok-Serve-clause-outcome
 returns-in-Ok-Serve-clause-outcome g c =
-    inr (inr (inr (record {
+    inr (inr (inr (inl (record {
       workers = c.in-Ok-Serve.workers;
       connections = c.in-Ok-Serve.connections;
       port = c.in-Ok-Serve.port;
       form = c.in-Ok-Serve.ensures.form ∙ ap (λ (f : Form). Ok (wanted_of f)) c.in-Ok-Serve.field-0-is;
       outcome = c.serve.ensures.outcome;
-    })))
+    }))))
+
+pub returns-in-Ok-Quiet-clause-outcome : goal.returns-in-Ok-Quiet-clause-outcome
+returns-in-Ok-Quiet-clause-outcome g c =
+    inr (inr (inr (inr (record {
+      workers = c.in-Ok-Quiet.workers;
+      form = c.in-Ok-Quiet.ensures.form ∙ ap (λ (f : Form). Ok (wanted_of f)) c.in-Ok-Quiet.field-0-is;
+      calm = c.quiet.ensures.calm;
+      outcome = beside_ports g.S.Source.left
+          (λ (scenario : Scenario) (stop : headline.Stop). IsQuiet g.W.Sink.taken g.W.Sink.pieces
+          (λ (report : Option (List ℕ)) (end : headline.Stop). HasHeadlines g.K.Disk.is_honest g.K.Disk.content g.K.Disk.moment g.K.Disk.image g.E.Entropy.left g.Q.Device.told g.X.Wire.frames g.X.Wire.counted
+          g.K.Disk.faults g.K.Disk.armings g.E.Entropy.faults g.Q.Device.faults g.X.Wire.faults c.args.bench.now c.quiet.new.bench (Run c.in-Ok-Quiet.workers) scenario (Some []) report end)
+          scenario.site.nodes c.args.sink.now c.quiet.new.sink stop)
+          c.args.source.now c.quiet.new.source c.quiet.result c.args.sink.now c.quiet.new.sink c.args.bench.now c.quiet.new.bench c.args.ports.now c.quiet.ensures.outcome;
+    }))))
 
 pub returns-in-Ok-Serve-clause-ports : goal.returns-in-Ok-Serve-clause-ports
 returns-in-Ok-Serve-clause-ports g c =

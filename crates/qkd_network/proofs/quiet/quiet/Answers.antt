@@ -1,0 +1,31 @@
+use Rattle.std.proofs.Common.{[], Some, ℕ, List, sym, subst}
+use Rattle.std.specs.Prelude.{Option}
+use Rattle.run_types.specs.declared.scenario.Scenario.{Scenario}
+use Rattle.run_model.specs.Course.{Run}
+use Rattle.run_model.specs.Headline as headline
+use Rattle.net_world.specs.Running.{HasHeadlines}
+use Rattle.qkd_network.specs.Quiet.{IsQuiet}
+use Rattle.qkd_network.specs.Outcome.{ScenarioOutcome}
+use Rattle.qkd_network.specs.declared.status.Status.{Status}
+use Rattle.qkd_network.proofs.Outcomes.{scenario_unread, veil_ran, left_or}
+use Rattle.qkd_network.proofs.quiet.quiet.Goals as goal
+
+pub returns-in-Err-clause-outcome : goal.returns-in-Err-clause-outcome
+returns-in-Err-clause-outcome g c =
+    scenario_unread g.S.Source.left
+    (λ (scenario : Scenario) (stop : headline.Stop). IsQuiet g.W.Sink.taken g.W.Sink.pieces
+    (λ (report : Option (List ℕ)) (stop : headline.Stop). HasHeadlines g.K.Disk.is_honest g.K.Disk.content g.K.Disk.moment g.K.Disk.image g.E.Entropy.left g.Q.Device.told g.X.Wire.frames g.X.Wire.counted
+    g.K.Disk.faults g.K.Disk.armings g.E.Entropy.faults g.Q.Device.faults g.X.Wire.faults c.args.bench.now c.args.bench.now (Run c.args.workers) scenario (Some []) report stop)
+    scenario.site.nodes c.args.sink.now c.args.sink.now stop)
+    c.args.source.now c.scenario_in.new.source c.in-Err.status c.args.sink.now c.args.bench.now c.in-Err.ensures.read
+
+pub returns-in-Ok-clause-outcome : goal.returns-in-Ok-clause-outcome
+returns-in-Ok-clause-outcome g c =
+    let Quieted = (λ (scenario : Scenario) (stop : headline.Stop). IsQuiet g.W.Sink.taken g.W.Sink.pieces
+    (λ (report : Option (List ℕ)) (stop : headline.Stop). HasHeadlines g.K.Disk.is_honest g.K.Disk.content g.K.Disk.moment g.K.Disk.image g.E.Entropy.left g.Q.Device.told g.X.Wire.frames g.X.Wire.counted
+    g.K.Disk.faults g.K.Disk.armings g.E.Entropy.faults g.Q.Device.faults g.X.Wire.faults c.args.bench.now c.run_quietly.new.bench (Run c.args.workers) scenario (Some []) report stop)
+    scenario.site.nodes c.args.sink.now c.run_quietly.new.sink stop) in
+    subst (λ (s : Status). ScenarioOutcome g.S.Source.left Quieted s c.args.source.now c.scenario_in.new.source c.args.sink.now c.run_quietly.new.sink c.args.bench.now c.run_quietly.new.bench)
+    (sym c.of_run.ensures)
+    (veil_ran g.S.Source.left Quieted c.args.source.now c.scenario_in.new.source c.in-Ok.scenario c.in-Ok.ensures.read c.args.sink.now c.run_quietly.new.sink c.args.bench.now c.run_quietly.new.bench c.run_quietly.result
+    (left_or c.args.bench.now c.run_quietly.new.bench c.args.sink.now c.run_quietly.new.sink c.run_quietly.result _ c.run_quietly.ensures.quiet))
