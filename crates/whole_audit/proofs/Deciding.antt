@@ -1,0 +1,81 @@
+-- The loop over the items of a report: which items were judged so far, and the least rule that one breaks.
+use Rattle.std.proofs.Common.{◌≡◌, ℕ, zero, suc, ◌+◌, ◌<◌, ◌≤◌, Bool, true, false, cond, List, [], ◌∷◌, length, get_or, drop, Option, Some, None, refl, sym, ap, ◌∙◌, arith}
+use Rattle.std.proofs.lemmas.List.{at_drop_more}
+use Rattle.run_types.specs.declared.scenario.Scenario.{Scenario}
+use Rattle.run_types.specs.declared.item.NumberedItem.{NumberedItem}
+use Rattle.whole_audit.specs.declared.judge.Judge.{Judge}
+use Rattle.whole_audit.specs.Order.{rule_7, may_end}
+use Rattle.whole_audit.specs.Blocks.{rule_9}
+use Rattle.whole_audit.specs.Claims.{rule_10}
+use Rattle.whole_audit.specs.Sums.{rule_11}
+use Rattle.whole_audit.specs.Shorts.{rule_17}
+use Rattle.whole_audit.specs.Whole.{broken, first_of, break_from, break_of}
+use Rattle.whole_audit.specs.Kept.{IsJudgeOf}
+
+-- ---- the first rule whose test fails is the one that is broken
+
+module _ (s : Scenario) (before : List NumberedItem) (t : NumberedItem) where
+  pub breaks_7 : rule_7 s before t ≡ false → Some 7 ≡ broken s before t
+  breaks_7 a = rw a refl
+
+  pub breaks_9 : rule_7 s before t ≡ true → rule_9 before t ≡ false → Some 9 ≡ broken s before t
+  breaks_9 a b = rw (a, b) refl
+
+  pub breaks_10 : rule_7 s before t ≡ true → rule_9 before t ≡ true → rule_10 before t.item ≡ false → Some 10 ≡ broken s before t
+  breaks_10 a b d = rw (a, b, d) refl
+
+  pub breaks_11 : rule_7 s before t ≡ true → rule_9 before t ≡ true → rule_10 before t.item ≡ true → rule_11 before t.item ≡ false → Some 11 ≡ broken s before t
+  breaks_11 a b d e = rw (a, b, d, e) refl
+
+  pub breaks_17 : rule_7 s before t ≡ true → rule_9 before t ≡ true → rule_10 before t.item ≡ true → rule_11 before t.item ≡ true → rule_17 before t.item ≡ false → Some 17 ≡ broken s before t
+  breaks_17 a b d e f = rw (a, b, d, e, f) refl
+
+  pub breaks_none : rule_7 s before t ≡ true → rule_9 before t ≡ true → rule_10 before t.item ≡ true → rule_11 before t.item ≡ true → rule_17 before t.item ≡ true → None ≡ broken s before t
+  breaks_none a b d e f = rw (a, b, d, e, f) refl
+
+-- ---- the loop
+
+-- The judge is that of the items before this place, and none of them breaks a rule.
+pub record IsSoFar (s : Scenario) (j : Judge) (items : List NumberedItem) (place : ℕ) : Type 0 where
+  pub before : List NumberedItem
+  pub judge : IsJudgeOf s j before
+  pub judged : break_from s before place (drop place items) ≡ break_of s items
+
+pub none_judged : (s : Scenario) (j : Judge) (items : List NumberedItem) → IsJudgeOf s j [] → IsSoFar s j items 0
+unfolding break_of
+none_judged s j items judge = record { before = []; judge = judge; judged = refl }
+
+module _ (s : Scenario) (items : List NumberedItem) (place : ℕ) (told : NumberedItem) (inside : place < length items) (is : told ≡ get_or items place told) where
+  begins : (before : List NumberedItem) → break_from s before place (drop place items) ≡ break_from s before place (told ∷ drop (place + 1) items)
+  begins before = at_drop_more (break_from s before place) items place told inside ∙ ap (λ (t : NumberedItem). break_from s before place (t ∷ drop (place + 1) items)) (sym is)
+
+  abbrev behind : (before : List NumberedItem) → Option (ℕ × ℕ)
+  behind before = break_from s (told ∷ before) (place + 1) (drop (place + 1) items)
+
+  pub breaks : (j : Judge) (so_far : IsSoFar s j items place) (rule : ℕ) → Some rule ≡ broken s so_far.before told → Some (place, rule) ≡ break_of s items
+  breaks j so_far rule h = ap (λ (o : Option ℕ). first_of place o (behind so_far.before)) h ∙ sym (begins so_far.before) ∙ so_far.judged
+
+  pub goes_on : (j new : Judge) (so_far : IsSoFar s j items place) → None ≡ broken s so_far.before told → IsJudgeOf s new (told ∷ so_far.before) → IsSoFar s new items (place + 1)
+  goes_on j new so_far h judge = record {
+    before = told ∷ so_far.before;
+    judge = judge;
+    judged = ap (λ (o : Option ℕ). first_of place o (behind so_far.before)) h ∙ sym (begins so_far.before) ∙ so_far.judged;
+  }
+
+drop_end : (items : List NumberedItem) (k : ℕ) → length items ≤ k → drop k items ≡ []
+drop_end [] zero h = refl
+drop_end [] (suc k) h = refl
+drop_end (y ∷ ys) zero h = absurd (omega arith)
+drop_end (y ∷ ys) (suc k) h = drop_end ys k (omega arith)
+
+module _ (s : Scenario) (j : Judge) (items : List NumberedItem) (place : ℕ) (ends : length items ≤ place) (within : place ≤ length items) (so_far : IsSoFar s j items place) where
+  at_end : cond (may_end s so_far.before) None (Some (place, 7)) ≡ break_of s items
+  at_end = sym (ap (break_from s so_far.before place) (drop_end items place ends)) ∙ so_far.judged
+
+  pub ends_well : may_end s so_far.before ≡ true → None ≡ break_of s items
+  ends_well h = sym (ap (λ (b : Bool). cond b None (Some (place, 7))) h) ∙ at_end
+
+  pub ends_early : may_end s so_far.before ≡ false → Some (length items, 7) ≡ break_of s items
+  ends_early h =
+      let same : length items ≡ place = omega (arith, ends, within) in
+      ap (λ (n : ℕ). Some (n, 7)) same ∙ sym (ap (λ (b : Bool). cond b None (Some (place, 7))) h) ∙ at_end

@@ -1,0 +1,4 @@
+pub mod Walking
+pub mod Counting
+pub mod Linking
+pub mod Deciding

@@ -1,0 +1,45 @@
+-- The verdict of all rules: the first item that breaks one of them together with those before it, and the least rule that it breaks.
+use Rattle.std.specs.Prelude.{ℕ, ◌+◌, not, nat_lt, if◌then◌else◌, List, [], ◌∷◌, Option, Some, None}
+use Rattle.run_types.specs.declared.scenario.Scenario.{Scenario}
+use Rattle.run_types.specs.declared.item.NumberedItem.{NumberedItem}
+use Rattle.run_audit.specs.declared.verdict.Verdict.{Verdict}
+use Rattle.run_audit.specs.declared.verdict.Verdict.TheVariants as verdicts
+use Rattle.run_audit.specs.Rules.{verdict_of}
+use Rattle.whole_audit.specs.Order.{rule_7, may_end}
+use Rattle.whole_audit.specs.Blocks.{rule_9}
+use Rattle.whole_audit.specs.Claims.{rule_10}
+use Rattle.whole_audit.specs.Sums.{rule_11}
+use Rattle.whole_audit.specs.Shorts.{rule_17}
+
+-- The least rule from 7 on that the item breaks, given the items before it, of which the last one stands first.
+abbrev pub broken : Scenario → List NumberedItem → NumberedItem → Option ℕ
+broken s before t =
+    if not (rule_7 s before t) then Some 7
+    else if not (rule_9 before t) then Some 9
+    else if not (rule_10 before t.item) then Some 10
+    else if not (rule_11 before t.item) then Some 11
+    else if not (rule_17 before t.item) then Some 17
+    else None
+
+-- what is broken at this place, if anything, or else behind it
+abbrev pub first_of : (place : ℕ) → Option ℕ → Option (ℕ × ℕ) → Option (ℕ × ℕ)
+first_of place None behind = behind
+first_of place (Some rule) behind = Some (place, rule)
+
+-- The place of the first item that breaks a rule, from this place on, and the rule. A report that may not end breaks rule 7 behind its last item.
+abbrev pub break_from : Scenario → (before : List NumberedItem) → (place : ℕ) → List NumberedItem → Option (ℕ × ℕ)
+break_from s before place [] = if may_end s before then None else Some (place, 7)
+break_from s before place (t ∷ told) = first_of place (broken s before t) (break_from s (t ∷ before) (place + 1) told)
+
+unfoldable pub break_of : Scenario → List NumberedItem → Option (ℕ × ℕ)
+break_of s told = break_from s [] 0 told
+
+-- The verdict, or what is broken on an earlier line. The report's first item stands on line `first`.
+abbrev pub with_break : (first : ℕ) → Option (ℕ × ℕ) → Verdict → Verdict
+with_break first None verdict = verdict
+with_break first (Some b) (verdicts.Yes frames deliveries ledgers) = verdicts.No (first + b.0) b.1
+with_break first (Some b) (verdicts.No line rule) = if nat_lt (first + b.0) line then verdicts.No (first + b.0) b.1 else verdicts.No line rule
+
+-- Rules 1 to 6 are those of the audit.
+abbrev pub whole_verdict_of : Scenario → List NumberedItem → (first : ℕ) → Verdict
+whole_verdict_of s told first = with_break first (break_of s told) (verdict_of s told first)
