@@ -1,10 +1,12 @@
 -- The verdict of all rules: the first item that breaks one of them together with those before it, and the least rule that it breaks.
-use Rattle.std.specs.Prelude.{ℕ, ◌+◌, not, nat_lt, if◌then◌else◌, List, [], ◌∷◌, Option, Some, None}
+use Rattle.std.specs.Prelude.{◌≡◌, ℕ, ◌+◌, not, nat_lt, if◌then◌else◌, List, [], ◌∷◌, Option, Some, None}
 use Rattle.run_types.specs.declared.scenario.Scenario.{Scenario}
 use Rattle.run_types.specs.declared.item.NumberedItem.{NumberedItem}
 use Rattle.run_audit.specs.declared.verdict.Verdict.{Verdict}
 use Rattle.run_audit.specs.declared.verdict.Verdict.TheVariants as verdicts
 use Rattle.run_audit.specs.Rules.{verdict_of}
+use Rattle.audit_text.specs.declared.input.Input.{Input}
+use Rattle.audit_text.specs.Input.{IsInput}
 use Rattle.whole_audit.specs.Order.{rule_7, may_end}
 use Rattle.whole_audit.specs.Blocks.{rule_9}
 use Rattle.whole_audit.specs.Claims.{rule_10}
@@ -43,3 +45,7 @@ with_break first (Some b) (verdicts.No line rule) = if nat_lt (first + b.0) line
 -- Rules 1 to 6 are those of the audit.
 abbrev pub whole_verdict_of : Scenario → List NumberedItem → (first : ℕ) → Verdict
 whole_verdict_of s told first = with_break first (break_of s told) (verdict_of s told first)
+
+-- The verdict is that of all rules on the text's input.
+abbrev pub IsWholeVerdict : List ℕ → Verdict → Type 0
+IsWholeVerdict text verdict = (input : Input) × IsInput text input × (verdict ≡ whole_verdict_of input.scenario input.items input.first)

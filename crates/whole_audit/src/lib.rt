@@ -20,5 +20,7 @@ mod blocks;
 mod judge;
 mod judging;
 mod order;
+mod text;
 
 pub use judging::whole_audit;
+pub use text::whole_text;
