@@ -8,6 +8,7 @@ _qkdnet() {
         "check"
         "veil"
         "audit"
+        "audit whole"
         "json"
         "bound HEXA HEXB HEXD"
         "help"

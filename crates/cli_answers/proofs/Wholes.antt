@@ -6,7 +6,7 @@ use Rattle.scenario_text.specs.Text.{text_limit, parts_of}
 use Rattle.tag_bound.specs.KeyLines.{keys_of}
 use Rattle.tag_bound.specs.TextLaws.{LongTexts}
 use Rattle.audit_text.specs.Input.{IsInputOf, IsBadLineOf}
-use Rattle.cli_answers.specs.Answers.{Asked, Bounds, Audits, Checks, Objects, verdict_at, IsAnswer, IsRefused}
+use Rattle.cli_answers.specs.Answers.{Asked, Bounds, Audits, WholeAudits, Checks, Objects, verdict_at, IsAnswer, IsRefused}
 use Rattle.scenario_text.specs.Line.{nothing_read}
 use Rattle.scenario_check.specs.declared.refusal.Checked.{Checked}
 use Rattle.scenario_check.specs.Check.{checked_from, first_number}
@@ -54,6 +54,14 @@ pub whole_of : LongTexts → (asked : Asked) (left rest : Option (List ℕ)) (by
 whole_of long (Bounds a b difference) left rest bytes read =
     let f = front_of long left rest bytes read in
     record { input = f.input; input_is = f.input_is; answered = λ answer h. (h.0, f.keys ∙ h.1, h.2); refused = λ n h. f.keys ∙ h }
+whole_of long WholeAudits left rest bytes read =
+    let f = front_of long left rest bytes read in
+    record {
+      input = f.input;
+      input_is = f.input_is;
+      answered = λ answer h. (h.0, (h.1.0, subst (λ (t : List ℕ). IsInputOf t h.1.0) (sym f.same) h.1.1, h.1.2), h.2);
+      refused = λ n h. subst (λ (t : List ℕ). IsBadLineOf t n) (sym f.same) h;
+    }
 whole_of long Checks left rest bytes read =
     let f = front_of long left rest bytes read in
     record {

@@ -6,10 +6,12 @@ use Rattle.tag_bound.specs.Counts.{bound_text}
 use Rattle.tag_bound.specs.declared.text_refusal.KeysRefusal.{KeysRefusal}
 use Rattle.tag_bound.specs.declared.text_refusal.KeysRefusal.TheVariants as keys
 use Rattle.run_audit.specs.declared.verdict.Verdict as audits
+use Rattle.run_audit.specs.declared.verdict.Verdict.TheVariants as verdicts
 use Rattle.audit_text.specs.declared.refusal.AuditRefusal.{AuditRefusal}
 use Rattle.audit_text.specs.declared.refusal.AuditRefusal.TheVariants as audit
 use Rattle.audit_text.specs.Input.{IsBadLine}
 use Rattle.audit_text.specs.Verdicts.{IsVerdict, verdict_text}
+use Rattle.whole_audit.specs.Whole.{IsWholeVerdict}
 use Rattle.scenario_check.specs.Check.{checked_of, first_number}
 use Rattle.scenario_check.specs.Texts.{checked_text}
 use Rattle.report_json.specs.Reading.{IsJson}
@@ -22,17 +24,19 @@ use Rattle.cli_answers.specs.declared.answer.Verdict.TheVariants as found
 use Rattle.cli_answers.specs.declared.question.Question.{Question}
 use Rattle.cli_answers.specs.declared.question.Question.TheVariants as questions
 
--- A question: how many keys give two texts a difference of hashes, whether a report breaks a rule, which lines of a scenario are refused, or what the items
+-- A question: how many keys give two texts a difference of hashes, whether a report breaks a rule of the audit or of that of the whole report, which lines of a scenario are refused, or what the items
 -- of a report are.
 pub data Asked : Type 0 where
   Bounds : (a b : List ℕ) → (difference : ℕ) → Asked
   Audits : Asked
+  WholeAudits : Asked
   Checks : Asked
   Objects : Asked
 
 abbrev pub asked_of : Question → Asked
 asked_of (questions.Bound a b difference) = Bounds (take a.size a.octets) (take b.size b.octets) difference
 asked_of questions.Audit = Audits
+asked_of questions.WholeAudit = WholeAudits
 asked_of questions.Check = Checks
 asked_of questions.Objects = Objects
 
@@ -50,10 +54,16 @@ abbrev pub verdict_at : Option ℕ → Verdict
 verdict_at None = Yes
 verdict_at (Some n) = found.BadLine n
 
+-- what an audit of the whole report comes to
+abbrev pub found_by : audits.Verdict → Verdict
+found_by (verdicts.Yes frames deliveries ledgers) = Yes
+found_by (verdicts.No line rule) = found.BrokenRule
+
 -- this is the answer to the question about the text
 abbrev pub IsAnswer : Asked → (text : List ℕ) → Answer → Type 0
 IsAnswer (Bounds a b difference) text answer = (keys : List ℕ) × (keys_of text ≡ Ok keys) × (answer ≡ record { text = count_line a b difference keys; verdict = Yes })
 IsAnswer Audits text answer = (verdict : audits.Verdict) × IsVerdict text verdict × (answer ≡ record { text = verdict_text verdict; verdict = Yes })
+IsAnswer WholeAudits text answer = (verdict : audits.Verdict) × IsWholeVerdict text verdict × (answer ≡ record { text = verdict_text verdict; verdict = found_by verdict })
 IsAnswer Checks text answer = answer ≡ record { text = checked_text (checked_of text); verdict = verdict_at (first_number (checked_of text)) }
 IsAnswer Objects text answer = (json : List ℕ) × IsJson text json × (answer ≡ record { text = json; verdict = Yes })
 
@@ -61,6 +71,7 @@ IsAnswer Objects text answer = (json : List ℕ) × IsJson text json × (answer 
 abbrev pub IsRefused : Asked → (text : List ℕ) → ℕ → Type 0
 IsRefused (Bounds a b difference) text n = keys_of text ≡ Err n
 IsRefused Audits text n = IsBadLine text n
+IsRefused WholeAudits text n = IsBadLine text n
 IsRefused Checks text n = ⊥
 IsRefused Objects text n = IsBadLine text n
 

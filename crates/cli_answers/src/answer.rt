@@ -8,6 +8,8 @@ use tag_bound::KeysRefusal;
 pub enum Verdict {
     /// The question is answered, or answered with yes.
     Yes,
+    /// An audit of all rules found one that is broken.
+    BrokenRule,
     /// Lines of a scenario are refused, of which this one is the first, counted from 1.
     BadLine(u32),
 }

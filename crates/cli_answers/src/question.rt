@@ -1,6 +1,6 @@
 // The questions about a text.
 ghost use Rattle.std.specs.Prelude.{◌≡◌, MatchResult, take};
-ghost use Rattle.cli_answers.specs.Answers.{Asked, IsAnswer, IsRefused, IsUnanswered, Bounds, Audits, Checks, Objects, asked_of, CanBeAsked};
+ghost use Rattle.cli_answers.specs.Answers.{Asked, IsAnswer, IsRefused, IsUnanswered, Bounds, Audits, WholeAudits, Checks, Objects, asked_of, CanBeAsked};
 
 use crate::answer::{Answer, AnswerRefusal, Verdict};
 use audit_text::{audit_text, verdict_text};
@@ -8,6 +8,7 @@ use report_json::json_text;
 use scenario_check::{check_text, checked_text};
 use std::alloc::Global;
 use tag_bound::{ShortText, bound_of, bound_text};
+use whole_audit::whole_text;
 
 /// A question about a text.
 #[derive(Clone, Copy)]
@@ -20,6 +21,8 @@ pub enum Question {
     },
     /// Does the report behind a scenario break a rule of the audit?
     Audit,
+    /// Does it break a rule of the audit of the whole report?
+    WholeAudit,
     /// Which lines of a scenario are refused, and why?
     Check,
     /// What are the items of the report behind a scenario, as JSON objects?
@@ -58,6 +61,19 @@ fn verdict_on(alloc: Global, text: &[u8]) -> Result<Answer, AnswerRefusal>
     })
 }
 
+// The verdict of the audit of the whole report.
+fn whole_verdict_on(alloc: Global, text: &[u8]) -> Result<Answer, AnswerRefusal>
+    ensures { MatchResult result (λ answer. IsAnswer WholeAudits text.now answer) (λ e. IsUnanswered (IsRefused WholeAudits text.now) e) }
+{
+    let found = whole_text(alloc, text)?;
+    let text = verdict_text(alloc, found)?;
+    let verdict = match found {
+        run_audit::Verdict::Yes { .. } => Verdict::Yes,
+        run_audit::Verdict::No { .. } => Verdict::BrokenRule,
+    };
+    Ok(Answer { text, verdict })
+}
+
 // What a check says of a scenario.
 fn faults_of(alloc: Global, text: &[u8]) -> Result<Answer, AnswerRefusal>
     ensures { MatchResult result (λ answer. IsAnswer Checks text.now answer) (λ e. IsUnanswered (IsRefused Checks text.now) e) }
@@ -91,6 +107,7 @@ impl Question {
         match self {
             Question::Bound { a, b, difference } => count_of_keys(alloc, a, b, *difference, text),
             Question::Audit => verdict_on(alloc, text),
+            Question::WholeAudit => whole_verdict_on(alloc, text),
             Question::Check => faults_of(alloc, text),
             Question::Objects => objects_of(alloc, text),
         }

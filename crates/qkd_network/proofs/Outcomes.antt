@@ -20,7 +20,7 @@ use Rattle.cli_answers.specs.declared.exchange.Ended.{Ended}
 use Rattle.cli_answers.specs.declared.exchange.Ended.TheVariants as ends
 use Rattle.qkd_network.specs.Outcome.{HasScenario, HasRun, HasLoaded, HasCome, IsUnread, RunOutcome, ScenarioOutcome, outside}
 use Rattle.qkd_network.specs.declared.status.Status.{Status}
-use Rattle.qkd_network.specs.declared.status.Status.TheVariants.{Done, Usage, BadLine, ReadFault, WriteFault, ForgedMatch, Memory, ListenFault}
+use Rattle.qkd_network.specs.declared.status.Status.TheVariants.{Done, Usage, BadLine, ReadFault, WriteFault, ForgedMatch, Memory, ListenFault, BrokenRule}
 use Rattle.qkd_network.proofs.Inputs.{read_of}
 
 module _ {S : Type 0} (left : S → Option (List ℕ)) (Ran : Words → Scenario → headline.Stop → Type 0) (words : List (List ℕ)) (workers : ℕ) (form : asked_by words ≡ Ok (Runs (Run workers))) (old new : S) where
@@ -33,6 +33,7 @@ module _ {S : Type 0} (left : S → Option (List ℕ)) (Ran : Words → Scenario
   unread (ForgedMatch n) sink bench h = absurd h
   unread Memory sink bench h = inl ((Run workers, form), refl, refl)
   unread ListenFault sink bench h = absurd h
+  unread BrokenRule sink bench h = absurd h
 
   module _ (scenario : Scenario) (told : HasScenario (left old) (left new) scenario) where
     has_run : (stop : headline.Stop) → Ran (Run workers) scenario stop → HasRun Ran words (left old) (left new) stop
@@ -73,6 +74,7 @@ module _ {S : Type 0} (left : S → Option (List ℕ)) (Came : Scenario → head
   scenario_unread (ForgedMatch n) sink bench h = absurd h
   scenario_unread Memory sink bench h = inl (refl, refl)
   scenario_unread ListenFault sink bench h = absurd h
+  scenario_unread BrokenRule sink bench h = absurd h
 
   module _ (scenario : Scenario) (told : HasScenario (left old) (left new) scenario) where
     has_come : (stop : headline.Stop) → Came scenario stop → HasCome Came (left old) (left new) stop
@@ -114,6 +116,7 @@ module _ {S : Type 0} (left : S → Option (List ℕ)) (Came : Scenario → head
   beside_ports Memory before after given back ports (inl l) = inl (l.0, ap (λ b. outside b ports) l.1)
   beside_ports Memory before after given back ports (inr h) = inr h
   beside_ports ListenFault before after given back ports h = h
+  beside_ports BrokenRule before after given back ports h = h
 
 pub left_or : {K Q E X W T : Type 0} (given back : Bench K Q E X) (before after : W) (result : Result T Stop) (R : Type 0) → WasLeft given back before after result ⊎ R →
     ((result ≡ Err stops.Memory) × (after ≡ before) × (back ≡ given)) ⊎ R

@@ -10,7 +10,7 @@ use Rattle.cli_answers.specs.declared.answer.Verdict.TheVariants as verdicts
 use Rattle.cli_answers.specs.declared.exchange.Ended.{Ended}
 use Rattle.cli_answers.specs.declared.exchange.Ended.TheVariants as ends
 use Rattle.qkd_network.specs.declared.status.Status.{Status}
-use Rattle.qkd_network.specs.declared.status.Status.TheVariants.{Done, Usage, BadLine, ReadFault, WriteFault, ForgedMatch, Memory, ListenFault}
+use Rattle.qkd_network.specs.declared.status.Status.TheVariants.{Done, Usage, BadLine, ReadFault, WriteFault, ForgedMatch, Memory, ListenFault, BrokenRule}
 
 abbrev pub code_of : Status → ℕ
 code_of Done = 0
@@ -21,6 +21,7 @@ code_of WriteFault = 3
 code_of (ForgedMatch n) = 4
 code_of Memory = 5
 code_of ListenFault = 6
+code_of BrokenRule = 7
 
 abbrev pub said_of : Status → List ℕ
 said_of Done = []
@@ -31,6 +32,7 @@ said_of WriteFault = codes "write fault"
 said_of (ForgedMatch n) = codes "forged frame at line " ++ decimal n
 said_of Memory = codes "out of memory"
 said_of ListenFault = codes "listen fault"
+said_of BrokenRule = codes "broken rule"
 
 -- the status of a run
 abbrev pub status_of : {T : Type 0} → Result T Stop → Status
@@ -50,6 +52,7 @@ served_as (Err serves.Listen) = ListenFault
 -- the status of an answer
 abbrev pub answered_as : Ended → Status
 answered_as (ends.Answered verdicts.Yes) = Done
+answered_as (ends.Answered verdicts.BrokenRule) = BrokenRule
 answered_as (ends.Answered (verdicts.BadLine n)) = BadLine n
 answered_as (ends.BadLine n) = BadLine n
 answered_as ends.ReadFault = ReadFault

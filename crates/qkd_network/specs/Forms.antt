@@ -5,7 +5,7 @@ use lib.Chars.{codes}
 use Rattle.run_model.specs.Course.{Words, Run, Load}
 use Rattle.scenario_text.specs.Words.{number_in}
 use Rattle.tag_bound.specs.Words.{number_of, text_of}
-use Rattle.cli_answers.specs.Answers.{Asked, Bounds, Audits, Checks, Objects}
+use Rattle.cli_answers.specs.Answers.{Asked, Bounds, Audits, WholeAudits, Checks, Objects}
 use Rattle.qkd_network.specs.declared.form.Form.{Form}
 use Rattle.qkd_network.specs.declared.form.Form.TheVariants as forms
 
@@ -99,11 +99,16 @@ unfoldable pub bound_form : List (List ℕ) → Wish
 bound_form [] = Err 1
 bound_form (word ∷ more) = first_of (text_of word) more
 
+-- `audit`, and `audit whole`
+unfoldable pub audit_form : List (List ℕ) → Wish
+audit_form [] = Ok (Asks Audits)
+audit_form (word ∷ more) = if bytes_eq word (codes "whole") then alone 2 (Asks WholeAudits) more else Err 1
+
 -- the forms `veil`, `bound`, `audit`, `check` and `json`
 unfoldable pub question_form : (form : List ℕ) → List (List ℕ) → Wish
 question_form form words =
     if bytes_eq form (codes "veil") then alone 1 Veils words else if bytes_eq form (codes "bound") then bound_form words
-    else if bytes_eq form (codes "audit") then alone 1 (Asks Audits) words else if bytes_eq form (codes "check") then alone 1 (Asks Checks) words
+    else if bytes_eq form (codes "audit") then audit_form words else if bytes_eq form (codes "check") then alone 1 (Asks Checks) words
     else if bytes_eq form (codes "json") then alone 1 (Asks Objects) words else Err 0
 
 unfoldable pub asked_by : List (List ℕ) → Wish
@@ -120,6 +125,7 @@ wanted_of (forms.Serve workers connections port) = Serves workers connections po
 wanted_of forms.Veil = Veils
 wanted_of (forms.Bound a b difference) = Asks (Bounds (take a.size a.octets) (take b.size b.octets) difference)
 wanted_of forms.Audit = Asks Audits
+wanted_of forms.WholeAudit = Asks WholeAudits
 wanted_of forms.Check = Asks Checks
 wanted_of forms.Json = Asks Objects
 
@@ -130,6 +136,7 @@ IsInRange (forms.Load rounds) = (1 ≤ rounds) × (rounds ≤ 500)
 IsInRange (forms.Serve workers connections port) = (1 ≤ workers) × (workers ≤ 32) × (1 ≤ connections) × (connections ≤ 10000) × (1 ≤ port) × (port ≤ 65520)
 IsInRange forms.Veil = Unit {0}
 IsInRange forms.Audit = Unit {0}
+IsInRange forms.WholeAudit = Unit {0}
 IsInRange forms.Check = Unit {0}
 IsInRange forms.Json = Unit {0}
 IsInRange (forms.Bound a b difference) = ¬ (take a.size a.octets ≡ take b.size b.octets)

@@ -12,7 +12,7 @@ use Rattle.cli_answers.specs.declared.exchange.Ended.{Ended}
 use Rattle.qkd_network.specs.Forms.{Runs, Quiets, Serves, Veils, Asks, asked_by}
 use Rattle.qkd_network.specs.Codes.{answered_as}
 use Rattle.qkd_network.specs.declared.status.Status.{Status}
-use Rattle.qkd_network.specs.declared.status.Status.TheVariants.{Done, Usage, BadLine, ReadFault, WriteFault, ForgedMatch, Memory, ListenFault}
+use Rattle.qkd_network.specs.declared.status.Status.TheVariants.{Done, Usage, BadLine, ReadFault, WriteFault, ForgedMatch, Memory, ListenFault, BrokenRule}
 
 -- the words ask for a run
 abbrev pub IsForm : List (List ℕ) → Type 0
@@ -87,6 +87,7 @@ RunOutcome left Ran (ForgedMatch n) words old new before after given back = HasD
 RunOutcome left Ran Memory words old new before after given back =
     (IsForm words × (after ≡ before) × (back ≡ given)) ⊎ HasDone left Ran words old new headline.Memory
 RunOutcome left Ran ListenFault words old new before after given back = ⊥
+RunOutcome left Ran BrokenRule words old new before after given back = ⊥
 
 -- The words ask a question about the source's text. The answer depends on that text alone. The bench is as it was, and the sink took only the answer.
 pub record HasAnswered {S W B : Type 0} (left : S → Option (List ℕ)) (taken : W → Option (List ℕ)) (status : Status) (words : List (List ℕ)) (old new : S) (before after : W) (given back : B) : Type 0 where
@@ -107,6 +108,7 @@ ScenarioOutcome left Came WriteFault old new before after given back = HasCome C
 ScenarioOutcome left Came (ForgedMatch n) old new before after given back = HasCome Came (left old) (left new) (headline.ForgedMatch n)
 ScenarioOutcome left Came Memory old new before after given back = ((after ≡ before) × (back ≡ given)) ⊎ HasCome Came (left old) (left new) headline.Memory
 ScenarioOutcome left Came ListenFault old new before after given back = HasCome Came (left old) (left new) headline.ListenFault
+ScenarioOutcome left Came BrokenRule old new before after given back = ⊥
 
 -- The words ask for the veil of a scenario's wires.
 pub record HasVeiled {S W B : Type 0} (left : S → Option (List ℕ)) (Veiled : Scenario → headline.Stop → Type 0) (status : Status) (words : List (List ℕ)) (old new : S) (before after : W) (given back : B) : Type 0 where

@@ -125,6 +125,9 @@ where
         Ok(Form::Audit) => {
             return Status::of_answer(answer_to(alloc, &Question::Audit, source, sink));
         }
+        Ok(Form::WholeAudit) => {
+            return Status::of_answer(answer_to(alloc, &Question::WholeAudit, source, sink));
+        }
         Ok(Form::Check) => {
             return Status::of_answer(answer_to(alloc, &Question::Check, source, sink));
         }

@@ -3,7 +3,7 @@ ghost use Rattle.std.specs.Prelude.{◌≡◌, ◌≤◌, Ok, Err, MatchResult, 
 ghost use Rattle.std.specs.Option.{option_map, option_and_then};
 ghost use Rattle.tag_bound.specs.Words.{number_of, text_of};
 ghost use Rattle.scenario_text.specs.Words.{number_in};
-ghost use Rattle.qkd_network.specs.Forms.{asked_by, question_form, alone, run_form, quiet_form, load_form, serve_form, connections_form, port_form, bound_form, second_form, third_form, wanted_of, IsInRange};
+ghost use Rattle.qkd_network.specs.Forms.{asked_by, question_form, alone, run_form, quiet_form, load_form, serve_form, connections_form, port_form, bound_form, second_form, third_form, audit_form, wanted_of, IsInRange};
 
 use qkd_base::Texts;
 use scenario_text::words::number_in;
@@ -41,6 +41,8 @@ pub enum Form {
     },
     /// Audits the report of a scenario.
     Audit,
+    /// Audits the whole report of a scenario, by more rules.
+    WholeAudit,
     /// Tells which lines of a scenario are refused, and why.
     Check,
     /// Writes the items of a report as JSON objects.
@@ -80,7 +82,7 @@ fn question_form(words: &Texts, word: &str) -> Result<Form, usize>
         return bound_form(words);
     }
     if word == "audit" {
-        return alone(words, Form::Audit);
+        return audit_form(words);
     }
     if word == "check" {
         return alone(words, Form::Check);
@@ -89,6 +91,25 @@ fn question_form(words: &Texts, word: &str) -> Result<Form, usize>
         return alone(words, Form::Json);
     }
     Err(0)
+}
+
+// Reads the form of `audit`, which is the first word.
+#[tactic(auto, unfolding(crate::specs::Forms::audit_form))]
+fn audit_form(words: &Texts) -> Result<Form, usize>
+    requires { 1 ≤ length words.now }
+    ensures form { MatchResult result (λ form. audit_form (drop 1 words.now) ≡ Ok (wanted_of form)) (λ place. audit_form (drop 1 words.now) ≡ Err place) }
+    ensures range { IfOk result IsInRange }
+{
+    let Some(word) = words.get(1) else {
+        return Ok(Form::Audit);
+    };
+    if word.as_str() != "whole" {
+        return Err(1);
+    }
+    if words.len() > 2 {
+        return Err(2);
+    }
+    Ok(Form::WholeAudit)
 }
 
 // Reads a form that has no further word.

@@ -23,6 +23,8 @@ pub enum Status {
     Memory,
     /// A port or a listener failed.
     ListenFault,
+    /// The audit of a whole report found a rule that it breaks.
+    BrokenRule,
 }
 
 impl Status {
@@ -42,6 +44,7 @@ impl Status {
             Status::ForgedMatch(_) => 4,
             Status::Memory => 5,
             Status::ListenFault => 6,
+            Status::BrokenRule => 7,
         }
     }
 
@@ -74,6 +77,7 @@ impl Status {
     {
         match ended {
             Ended::Answered(Verdict::Yes) => Status::Done,
+            Ended::Answered(Verdict::BrokenRule) => Status::BrokenRule,
             Ended::Answered(Verdict::BadLine(line)) => Status::BadLine(line),
             Ended::BadLine(line) => Status::BadLine(line),
             Ended::ReadFault => Status::ReadFault,
@@ -99,6 +103,7 @@ impl fmt::Display for Status {
             Status::ForgedMatch(number) => write!(f, "forged frame at line {number}"),
             Status::Memory => write!(f, "out of memory"),
             Status::ListenFault => write!(f, "listen fault"),
+            Status::BrokenRule => write!(f, "broken rule"),
         }
     }
 }

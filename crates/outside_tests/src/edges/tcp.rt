@@ -59,6 +59,25 @@ fn await_silent<R: Clock + Wait>(door: &mut TcpDoor<'_, R>) -> bool
     read == Ok(0)
 }
 
+// Serves a connection, and then one whose peer sends nothing.
+fn serve_and_await<R: Clock + Wait>(door: &mut TcpDoor<'_, R>) -> (bool, bool)
+    requires few { door.old.accepted < 7 }
+    requires finished { door.old.finished ≤ door.old.accepted }
+{
+    let served = serve(door);
+    (served, await_silent(door))
+}
+
+// Two listeners of a port serve a connection each.
+fn serve_both<R: Clock + Wait>(door: &mut TcpDoor<'_, R>, twin: &mut TcpDoor<'_, R>) -> (bool, bool)
+    requires few { (door.old.accepted < 8) × (twin.old.accepted < 8) }
+    requires finished { (door.old.finished ≤ door.old.accepted) × (twin.old.finished ≤ twin.old.accepted) }
+    ensures finished { (door.new.finished ≤ door.new.accepted) × (twin.new.finished ≤ twin.new.accepted) }
+{
+    let served = serve(door);
+    (served, serve(twin))
+}
+
 // Reads an octet of a connection, answers it, reads another one, and waits for a third. Whether the input ended before that one.
 fn await_slow<R: Clock + Wait>(door: &mut TcpDoor<'_, R>) -> bool
     requires few { door.old.accepted < 8 }
@@ -107,7 +126,7 @@ fn a_silent_peer_delays_nobody_and_the_port_closes_behind_the_last_one(rt: HostR
     let (client, address) = (&rt, door.address());
     let (served, answer) = join(
         &rt,
-        || (serve(&mut door), await_silent(&mut door)),
+        || serve_and_await(&mut door),
         || ask_beside_silence(client, address),
     );
     assert!(rt; served == (true, true));
@@ -148,7 +167,7 @@ fn a_port_and_its_twin_serve_a_client(rt: HostRuntime) {
     assert!(rt; ports.open(address.port()).is_err());
     let (served, answers) = join(
         &rt,
-        || join(&rt, || serve(&mut door), || serve(&mut twin)),
+        || serve_both(&mut door, &mut twin),
         || (ask(client, address, b'a'), ask(client, address, b'c')),
     );
     assert!(rt; served == (true, true));

@@ -117,3 +117,6 @@ returns-in-Ok-Check-clause-source_calm g c = answered_calm _ c.answer_to-in-Ok-C
 
 pub returns-in-Ok-Json-clause-source_calm : goal.returns-in-Ok-Json-clause-source_calm
 returns-in-Ok-Json-clause-source_calm g c = answered_calm _ c.answer_to-in-Ok-Json.result _ c.of_answer-in-Ok-Json.ensures c.answer_to-in-Ok-Json.ensures.calm
+
+pub returns-in-Ok-WholeAudit-clause-source_calm : goal.returns-in-Ok-WholeAudit-clause-source_calm
+returns-in-Ok-WholeAudit-clause-source_calm g c = answered_calm _ c.answer_to-in-Ok-WholeAudit.result _ c.of_answer-in-Ok-WholeAudit.ensures c.answer_to-in-Ok-WholeAudit.ensures.calm
