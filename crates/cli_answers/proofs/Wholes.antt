@@ -51,6 +51,7 @@ pub record Whole (asked : Asked) (left : Option (List ℕ)) (bytes : List ℕ) :
   pub refused : (n : ℕ) → IsRefused asked bytes n → IsRefused asked input n
 
 pub whole_of : LongTexts → (asked : Asked) (left rest : Option (List ℕ)) (bytes : List ℕ) → ReadsWhole left rest bytes → Whole asked left bytes
+unfolding checked_in
 whole_of long (Bounds a b difference) left rest bytes read =
     let f = front_of long left rest bytes read in
     record { input = f.input; input_is = f.input_is; answered = λ answer h. (h.0, f.keys ∙ h.1, h.2); refused = λ n h. f.keys ∙ h }
