@@ -27,11 +27,23 @@ const LINES: &[(&str, bool)] = &[
     ("9 short 0 up 554 546 1024\n", true),
     ("9 sent 0 up 0 8 58\n", false),
     ("9 unsent 0 up 8 wire-fault\n", true),
-    ("10 pass 0 up 0 taken key 00000000-0000-8000-8000-000000000001\n", false),
-    ("10 pass 0 up 0 again key 00000000-0000-8000-8000-000000000001\n", false),
+    (
+        "10 pass 0 up 0 taken key 00000000-0000-8000-8000-000000000001\n",
+        false,
+    ),
+    (
+        "10 pass 0 up 0 again key 00000000-0000-8000-8000-000000000001\n",
+        false,
+    ),
     ("10 pass 0 up 9 no-frame 1\n", true),
-    ("11 flip 0 up 0 7 bad-tag 0000000000000000 0000000000000001\n", true),
-    ("12 forge 0 up again key 00000000-0000-8000-8000-000000000001\n", true),
+    (
+        "11 flip 0 up 0 7 bad-tag 0000000000000000 0000000000000001\n",
+        true,
+    ),
+    (
+        "12 forge 0 up again key 00000000-0000-8000-8000-000000000001\n",
+        true,
+    ),
     ("13 crashed\n", false),
     ("13 down\n", true),
     ("14 started\n", false),
@@ -45,7 +57,10 @@ const LINES: &[(&str, bool)] = &[
     ("19 status 2\n", true),
     ("20 http A 503 {\"message\":\"0 keys ready\"}\n", true),
     ("21 CLOSE 0\n", true),
-    ("22 show A 00000000-0000-8000-8000-000000000001 absent\n", true),
+    (
+        "22 show A 00000000-0000-8000-8000-000000000001 absent\n",
+        true,
+    ),
     ("23 ledger 0 up received 0 unused 0 spent 0 burnt 0\n", true),
     ("no line of a report\n", true),
 ];
