@@ -8,8 +8,11 @@ use Rattle.qkd_network.proofs.quiet.run_quietly.Goals as goal
 
 pub returns-clause-quiet : goal.returns-clause-quiet
 returns-clause-quiet g c =
-    quietly c.args.bench.now c.run_scenario.new.bench g.W.Sink.taken g.W.Sink.pieces
+    let whole = c.run_scenario-ended.ensures.headline in
+    let lined = c.run_scenario-ended.ensures.lined in
+    let told = c.tell_asked.ensures.told in
+    quietly c.args.bench.now c.run_scenario-ended.new.bench g.W.Sink.taken g.W.Sink.pieces
     (λ (report : Option (List ℕ)) (stop : headline.Stop). HasHeadlines g.K.Disk.is_honest g.K.Disk.content g.K.Disk.moment g.K.Disk.image g.E.Entropy.left g.Q.Device.told g.X.Wire.frames g.X.Wire.counted
-    g.K.Disk.faults g.K.Disk.armings g.E.Entropy.faults g.Q.Device.faults g.X.Wire.faults c.args.bench.now c.run_scenario.new.bench (Run c.args.workers) c.args.scenario (Some []) report stop)
-    c.args.scenario.site.nodes c.run_scenario.new.sink c.args.sink.now c.tell_asked.new.sink c.run_scenario.result c.tell_asked.result
-    c.run_scenario.ensures.headline c.run_scenario.ensures.lined c.tell_asked.ensures.none c.tell_asked.ensures.wanting (rw c.in_ok-copy.ensures at c.tell_asked.ensures.told)
+    g.K.Disk.faults g.K.Disk.armings g.E.Entropy.faults g.Q.Device.faults g.X.Wire.faults c.args.bench.now c.run_scenario-ended.new.bench (Run c.args.workers) c.args.scenario (Some []) report stop)
+    c.args.scenario.site.nodes c.run_scenario-ended.new.sink c.args.sink.now c.tell_asked.new.sink c.run_scenario-ended.result c.tell_asked.result
+    (rw c.new-kept.ensures at whole) (rw c.new-kept.ensures at lined) c.tell_asked.ensures.none c.tell_asked.ensures.wanting (rw c.in_ok-nodes.ensures at told)
