@@ -19,13 +19,28 @@ fn patience(silence: u64, request: u64) -> Patience {
     }
 }
 
-// Sends an octet on a new connection, and gives the octet that comes back.
-fn ask<R: Net<Stream = TcpStream>>(net: &R, address: SocketAddr, octet: u8) -> io::Result<u8> {
+// Sends an octet on a new connection.
+fn send<R: Net<Stream = TcpStream>>(
+    net: &R,
+    address: SocketAddr,
+    octet: u8,
+) -> io::Result<TcpStream> {
     let mut stream = TcpStream::connect(net, address)?;
     stream.write_all(&[octet])?;
+    Ok(stream)
+}
+
+// The next octet that comes.
+fn receive(stream: &mut TcpStream) -> io::Result<u8> {
     let mut buffer = [0u8; 1];
     stream.read_exact(&mut buffer)?;
     Ok(buffer[0])
+}
+
+// Sends an octet on a new connection, and gives the octet that comes back.
+fn ask<R: Net<Stream = TcpStream>>(net: &R, address: SocketAddr, octet: u8) -> io::Result<u8> {
+    let mut stream = send(net, address, octet)?;
+    receive(&mut stream)
 }
 
 // Sends what the next connection sends back to it, one more each octet, and finishes the connection.
@@ -59,23 +74,28 @@ fn await_silent<R: Clock + Wait>(door: &mut TcpDoor<'_, R>) -> bool
     read == Ok(0)
 }
 
-// Serves a connection, and then one whose peer sends nothing.
-fn serve_and_await<R: Clock + Wait>(door: &mut TcpDoor<'_, R>) -> (bool, bool)
-    requires few { door.old.accepted < 7 }
-    requires finished { door.old.finished ≤ door.old.accepted }
+// Sends an octet on each of two new connections, serves one of them, and gives the octets that come back.
+fn ask_two_and_serve<R: Net<Stream = TcpStream> + Clock + Wait>(
+    rt: &R,
+    door: &mut TcpDoor<'_, R>,
+) -> io::Result<(bool, u8, u8)>
+    requires none_accepted { door.old.accepted ≡ 0 }
+    requires none_finished { door.old.finished ≡ 0 }
+{
+    let address = door.address();
+    let mut first = send(rt, address, b'a')?;
+    let mut second = send(rt, address, b'c')?;
+    let served = serve(door);
+    Ok((served, receive(&mut first)?, receive(&mut second)?))
+}
+
+// Serves a connection and then awaits a silent one.
+fn serve_and_await_silent<R: Clock + Wait>(door: &mut TcpDoor<'_, R>) -> (bool, bool)
+    requires none_accepted { door.old.accepted ≡ 0 }
+    requires none_finished { door.old.finished ≡ 0 }
 {
     let served = serve(door);
     (served, await_silent(door))
-}
-
-// Two listeners of a port serve a connection each.
-fn serve_both<R: Clock + Wait>(door: &mut TcpDoor<'_, R>, twin: &mut TcpDoor<'_, R>) -> (bool, bool)
-    requires few { (door.old.accepted < 8) × (twin.old.accepted < 8) }
-    requires finished { (door.old.finished ≤ door.old.accepted) × (twin.old.finished ≤ twin.old.accepted) }
-    ensures finished { (door.new.finished ≤ door.new.accepted) × (twin.new.finished ≤ twin.new.accepted) }
-{
-    let served = serve(door);
-    (served, serve(twin))
 }
 
 // Reads an octet of a connection, answers it, reads another one, and waits for a third. Whether the input ended before that one.
@@ -126,7 +146,7 @@ fn a_silent_peer_delays_nobody_and_the_port_closes_behind_the_last_one(rt: HostR
     let (client, address) = (&rt, door.address());
     let (served, answer) = join(
         &rt,
-        || serve_and_await(&mut door),
+        || serve_and_await_silent(&mut door),
         || ask_beside_silence(client, address),
     );
     assert!(rt; served == (true, true));
@@ -163,16 +183,15 @@ fn a_port_and_its_twin_serve_a_client(rt: HostRuntime) {
     let Ok(mut twin) = door.twin() else {
         panic!(rt; "no twin");
     };
-    let (client, address) = (&rt, door.address());
-    assert!(rt; ports.open(address.port()).is_err());
+    assert!(rt; ports.open(door.address().port()).is_err());
+    let client = &rt;
     let (served, answers) = join(
         &rt,
-        || serve_both(&mut door, &mut twin),
-        || (ask(client, address, b'a'), ask(client, address, b'c')),
+        || serve(&mut twin),
+        || ask_two_and_serve(client, &mut door),
     );
-    assert!(rt; served == (true, true));
-    assert!(rt; answers.0.ok() == Some(b'b'));
-    assert!(rt; answers.1.ok() == Some(b'd'));
+    assert!(rt; served);
+    assert!(rt; answers.ok() == Some((true, b'b', b'd')));
     ports.shut(twin);
     ports.shut(door);
 }
