@@ -42,15 +42,18 @@ use std::thread::Threads;
 ///   the same. It writes the number of different frames and the number of lane bytes that change.
 /// - `bound`: reads keys from the source. It writes the bound on the number of keys that give the hashes of two different texts a
 ///   difference, and how many of the read keys do.
-/// - `audit`: reads a scenario and the report of a run of it, and writes the verdict of the audit.
+/// - `audit`, `audit whole`: reads a scenario and the report of a run of it, and writes the verdict of the audit.
+/// - `json`: reads the same, and writes the items of the report as JSON objects.
+/// - `check`: reads a scenario, and writes which of its lines are refused, and why.
 ///
-/// `bound` and `audit` do not touch the bench. Only `serve` touches the ports.
+/// These questions about a text, from `bound` on, do not touch the bench. Only `serve` touches the ports.
 ///
 /// The status says what was done:
 ///
 /// - `Usage`: this word is the first that fits no form. Nothing was touched.
-/// - `BadLine`: this line is the first that is refused. The source was read to its end, or past the limit of a scenario. Sink, bench and
-///   ports are as they were.
+/// - `BadLine`: this line is the first that is refused. The source was read to its end, or past the limit of a scenario. Bench and ports
+///   are as they were, and so is the sink, but for `check`, whose answer it took.
+/// - `BrokenRule`: the answer of `audit whole` was written, and it is a no.
 /// - `ReadFault`: the source's count of faults rose, and a failed read is not tried again. With every other status the count is as it was.
 /// - `Done`, `WriteFault`, `ForgedMatch`, `Memory` and `ListenFault`: if there was a run, its headline holds, whole or up to where the run
 ///   ended. It tells of the report that the sink took, one line a piece, of the frames on the wires, of what the disks hold, of keys and
@@ -60,8 +63,8 @@ use std::thread::Threads;
 ///
 /// With `--quiet` it holds of all lines of the report, of which the sink took those that a person asked for.
 ///
-/// For `veil` the headline holds except for the report, and the wires fit every other key. The sink took the whole line of `veil`, `bound`
-/// or `audit`, or a prefix of it; at a forged match it took nothing. For `serve` the run goes on with what connections asked, and each
+/// For `veil` the headline holds except for the report, and the wires fit every other key. The sink took the whole line of `veil`, or
+/// the whole answer to a question, or a prefix of it; at a forged match it took nothing. For `serve` the run goes on with what connections asked, and each
 /// connection got the responses to its requests. Each port was asked for once, and the listeners came back. The bench has all its parts
 /// back at the end.
 pub fn network<

@@ -10,7 +10,7 @@ pub enum Verdict {
         deliveries: u32,
         ledgers: u32,
     },
-    /// The item on this line is the first that breaks a rule together with the items before it. The rule, 1 to 6, is the
+    /// The item on this line is the first that breaks a rule together with the items before it. The rule, from 1, is the
     /// least that it breaks.
     No {
         line: u32,
