@@ -16,6 +16,7 @@ import os
 import pathlib
 import re
 import socket
+import statistics
 import subprocess
 import sys
 import tempfile
@@ -31,6 +32,9 @@ PORTS = itertools.count(19_000, 16)
 KEYS = 3_072
 STATUSES = 20
 TURNS = 5
+# Of clients that each have a connection for each request, and the workers that serve them.
+REQUESTS = 12_800
+WORKERS = 8
 CALLS = ("status", "enc_keys", "dec_keys")
 SECONDS = 300
 
@@ -79,8 +83,8 @@ def compared():
     ]
 
 
-def served(program, workers, connections, text, use):
-    """What is done with a server, by its port. The server ends by itself, behind its last connection."""
+def served(program, workers, connections, text, use, ends=True):
+    """What is done with a server, by its port. The server ends by itself, behind its last connection, or else is ended."""
     port = next(PORTS)
     words = [program, "serve", str(workers), str(connections), str(port)]
     with tempfile.TemporaryFile() as source, tempfile.TemporaryFile() as sink:
@@ -89,6 +93,8 @@ def served(program, workers, connections, text, use):
         server = subprocess.Popen(words, stdin=source, stdout=sink)
         try:
             result = use(port)
+            if not ends:
+                return result
             status = server.wait(SECONDS)
         finally:
             server.kill()
@@ -142,6 +148,25 @@ def best(programs, load, nodes, workers, depth, text):
     return [[max(rate) for rate in zip(*rates_of)] for rates_of in zip(*turns)]
 
 
+def delayed(program, use_by, clients, text):
+    """The requests a second and both delays of a server that so many clients ask at once."""
+
+    def use(port):
+        ran = subprocess.run([use_by, str(port), str(clients), str(REQUESTS)], capture_output=True, text=True, timeout=SECONDS)
+        if ran.returncode:
+            sys.exit(f"{program} for {clients} clients: {ran.stderr}")
+        count, seconds, *delays = map(float, ran.stdout.split())
+        return (count / seconds, *delays)
+
+    return served(program, WORKERS, 10_000, text, use, ends=False)
+
+
+def delays(programs, use_by, clients, text):
+    """The middle of these of each program, which take turns."""
+    turns = [[delayed(program, use_by, clients, text) for program in programs] for _ in range(TURNS)]
+    return [[statistics.median(it) for it in zip(*of)] for of in zip(*turns)]
+
+
 def main():
     plain, load = built("serving", "server"), built("serving", "load")
     if not PROGRAM.exists():
@@ -150,6 +175,10 @@ def main():
     if served(PROGRAM, 1, 1, text, responses) != served(plain, 1, 1, text, responses):
         sys.exit("the servers differ")
     print(f"processors {len(os.sched_getaffinity(0))}")
+    print("clients  program: a second    p50    p99  plain: a second    p50    p99 (us)")
+    for clients in (1, 16, 64):
+        ours, theirs = delays((PROGRAM, plain), built("serving", "delays"), clients, text)
+        print(f"{clients:7} {ours[0]:18.0f} {ours[1]:6.0f} {ours[2]:6.0f} {theirs[0]:16.0f} {theirs[1]:6.0f} {theirs[2]:6.0f}", flush=True)
     print("nodes workers on-the-way call      program    plain  plain / program")
     for nodes, workers in ((4, 1), (4, 2), (4, 3), (4, 4), (2, 4)):
         text = scenario(nodes, KEYS)

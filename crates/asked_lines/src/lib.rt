@@ -2,9 +2,9 @@
 #![tactic(auto)]
 
 mod asked;
+mod asked_report;
 mod kept_lines;
-mod telling;
 
 pub use asked::is_asked;
+pub use asked_report::tell_asked;
 pub use kept_lines::KeptLines;
-pub use telling::tell_asked;

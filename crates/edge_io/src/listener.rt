@@ -35,7 +35,7 @@ pub trait Listener {
     /// Accepts the next connection and gives its source and its sink, neither of which has failed yet. A failure
     /// accepts no connection.
     fn accept(&mut self) -> Result<(Self::In, Self::Out), Failed>
-        requires few { accepted self.old < 2 ^ 32 }
+        requires few { accepted self.old < 2 ^ 48 }
         ensures next { MatchResult result
             (λ ends. (accepted self.new ≡ accepted self.old + 1) × IsNext (waiting self.old) (waiting self.new) (Self.In.left ends.0) (Self.Out.taken ends.1))
             (λ _. (accepted self.new ≡ accepted self.old) × (waiting self.new ≡ waiting self.old)) }

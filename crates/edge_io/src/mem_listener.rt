@@ -39,7 +39,7 @@ impl Model for MemListener {
 
     ghost view = { λ s. record { port = s.port; waiting = s.waiting.items; done = done_of s.done.items; twins = s.twins.items; accepted = s.accepted; fails = s.fails.items; calls = s.calls; faults = s.faults } };
 
-    ghost invariant = { λ s. (s.accepted + deque_len s.waiting ≤ vec_capacity s.done) × (s.accepted ≤ 2 ^ 32) };
+    ghost invariant = { λ s. (s.accepted + deque_len s.waiting ≤ vec_capacity s.done) × (s.accepted ≤ 2 ^ 48) };
 }
 
 impl MemListener {
@@ -100,7 +100,7 @@ impl Listener for MemListener {
     ghost faults = { λ s. s.faults };
 
     fn accept(&mut self) -> Result<(MemSource, MemSink), Failed>
-        requires few { self.old.accepted < 2 ^ 32 }
+        requires few { self.old.accepted < 2 ^ 48 }
         ensures next { MatchResult result
             (λ ends. (self.new.accepted ≡ self.old.accepted + 1) × IsNext (Some (sent_of self.old.waiting)) (Some (sent_of self.new.waiting)) (Some ends.0.left) (Some ends.1.taken))
             (λ _. (self.new.accepted ≡ self.old.accepted) × (Some (sent_of self.new.waiting) ≡ Some (sent_of self.old.waiting))) }

@@ -1,15 +1,15 @@
 //! The keys at a key manager that wait for their applications, and the record of which application has got which key.
 #![tactic(auto)]
 
-mod listing;
+mod index_entries;
 mod marks;
 mod pool;
 mod pools;
-mod readying;
-mod stocking;
+mod ready_counts;
+mod stock_counts;
 mod stocks;
 mod store;
-mod waiting;
+mod waiting_keys;
 
 pub use marks::Marks;
 pub use pool::{Line, Pool};

@@ -6,11 +6,11 @@ ghost use Rattle.relay_core.specs.Knowledge.{acked_with, forgotten};
 ghost use Rattle.end_store.specs.Waiting.{IsNextWaiting, IsLastWaiting, is_free_key};
 ghost use Rattle.end_store.specs.Pooled.{ready_names};
 
-use crate::listing::{list_more, release, release_parts};
-use crate::readying::{count_ready, readied_pool, ready_last, ready_pool};
-use crate::stocking::{count_stock, lower, pool_at, stock_last};
+use crate::index_entries::{list_more, release, release_parts};
+use crate::ready_counts::{count_ready, readied_pool, ready_last, ready_pool};
+use crate::stock_counts::{count_stock, lower, pool_at, stock_last};
 use crate::stocks::Stocks;
-use crate::waiting::next;
+use crate::waiting_keys::next;
 use crate::{Line, Marks, Pool};
 use net_model::Fact;
 use ordered_set::Entries;

@@ -4,11 +4,11 @@
 pub mod fault;
 pub mod fields;
 mod laws;
+mod payload_parser;
+pub mod payload_printer;
 mod payload_refusal;
-mod reading;
-pub mod spelling;
 
 pub use laws::{read_is_spelled, spelled_is_read};
+pub use payload_parser::read;
+pub use payload_printer::spell;
 pub use payload_refusal::PayloadRefusal;
-pub use reading::read;
-pub use spelling::spell;

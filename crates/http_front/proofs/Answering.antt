@@ -85,11 +85,6 @@ read-answer l0 l2 o0 o2 kept r came few still answer =
       answer = subst (λ (t : List ℕ). IsAnswer t kept l2 r) came.behind answer;
     }
 
--- If no head was read, the answer is the refusal.
-pub read-none : (l0 l1 : Option (List ℕ)) (o0 o1 : List ℕ) (e : FrontRefusal) → Came l0 l1 o0 o1 → length o1 ≤ max (length o0) 8193 → (IsEnough o0 → o1 ≡ o0)
-    → IsRefused o1 e → IsEnd e l1 → IsRead l0 l1 o0 o1 (Err e)
-read-none l0 l1 o0 o1 e came limit still refused end = read-answer l0 l1 o0 o1 o1 (Err e) came (omega arith) still (refl, refused, end)
-
 -- The framing of the parts is the framing of the head.
 framing-same : (octets : List ℕ) (parts : Head) (is : IsHeadOf octets parts) → framing_of parts.method parts.fields ≡ framing_of is.head.method (fields_of is.head)
 framing-same octets parts is =

@@ -4,13 +4,13 @@
 mod fields;
 mod framing;
 mod head;
-mod reading;
 mod refusal;
 mod request;
+mod request_reader;
 mod response;
 
 pub use fields::{decimal, only_value};
-pub use reading::read_request;
 pub use refusal::FrontRefusal;
 pub use request::HttpRequest;
+pub use request_reader::read_request;
 pub use response::{HttpResponse, response_bytes};

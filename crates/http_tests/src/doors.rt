@@ -1,11 +1,11 @@
 // Connections of doors in memory.
 ghost use Rattle.std.specs.Prelude.{◌≡◌, [], IfOk};
 
-use crate::giving::Giving;
+use crate::givers::Giving;
 use crate::rows::{MANY, RESPONSES, ROWS, Row};
 use crate::site::api;
 use edge_io::{Ended, MemConnection, MemFinished, MemListener, MemQueue, MemSocket};
-use kme_serve::serve_door;
+use kme_serve::{Connections, serve_door};
 use qkd_base::{Memory, NodeNo};
 use std::alloc::Global;
 use std::test::Fail;
@@ -65,7 +65,7 @@ fn each_connection_is_answered_and_ends_as_told(rt: HostRuntime) -> Result<(), F
         &mut turns,
         node,
         &mut door,
-        ROWS.len() as u32,
+        Connections::new(ROWS.len() as u32),
     );
     assert!(rt; served.is_ok());
     assert_eq!(rt; door.done().len(), ROWS.len());
@@ -113,7 +113,7 @@ fn a_connection_closes_behind_its_1000th_response(rt: HostRuntime) -> Result<(),
         &mut turns,
         node,
         &mut door,
-        2,
+        Connections::forever(),
     );
     assert!(rt; served.is_err());
     assert_eq!(rt; turns, 0);

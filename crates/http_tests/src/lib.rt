@@ -7,7 +7,7 @@ mod doors;
 #[cfg(test)]
 mod front;
 #[cfg(test)]
-mod giving;
+mod givers;
 #[cfg(test)]
 mod listeners;
 #[cfg(test)]
@@ -17,6 +17,6 @@ mod rows;
 #[cfg(test)]
 mod site;
 #[cfg(test)]
-mod telling;
+mod tellers;
 #[cfg(test)]
 mod workers;

@@ -22,6 +22,17 @@ const OLD: &str = "GET /api/v1/keys/bob/enc_keys HTTP/1.0\r\nX-SAE-ID: alice\r\n
 
 const ELSEWHERE: &str = "GET /elsewhere HTTP/1.1\r\n\r\n";
 
+const HEAD: &str = "HEAD /api/v1/keys/bob/status HTTP/1.1\r\nX-SAE-ID: alice\r\n\r\n";
+
+const CHUNKED: &str =
+    "POST /api/v1/keys/bob/enc_keys HTTP/1.1\r\nX-SAE-ID: alice\r\nTransfer-Encoding: chunked\r\n\r\nd\r\n{\"number\": 1}\r\n0\r\n\r\n";
+
+// A request that asks whether to go on, and its body.
+const EXPECTING: &str =
+    "POST /api/v1/keys/bob/enc_keys HTTP/1.1\r\nX-SAE-ID: alice\r\nExpect: 100-continue\r\nContent-Length: 13\r\n\r\n";
+
+const BODY: &str = "{\"number\": 1}";
+
 /// A key each, then none ready, a fault of a request, and refusals of the front; those behind which the connection closes say
 /// so.
 pub(crate) const RESPONSES: &[&str] = &[
@@ -33,6 +44,7 @@ pub(crate) const RESPONSES: &[&str] = &[
     "HTTP/1.1 400 Bad Request\r\nContent-Type: application/json\r\nContent-Length: 30\r\nConnection: close\r\n\r\n{\"message\":\"bad request head\"}",
     "HTTP/1.1 400 Bad Request\r\nContent-Type: application/json\r\nContent-Length: 25\r\nConnection: close\r\n\r\n{\"message\":\"input ended\"}",
     "HTTP/1.1 400 Bad Request\r\nContent-Type: application/json\r\nContent-Length: 30\r\nConnection: close\r\n\r\n{\"message\":\"unknown resource\"}",
+    "HTTP/1.1 400 Bad Request\r\nContent-Type: application/json\r\nContent-Length: 39\r\nConnection: close\r\n\r\n{\"message\":\"transfer encoding refused\"}",
 ];
 
 /// The connections of one door, one after another: two keys are ready when the first one comes.
@@ -90,6 +102,22 @@ pub(crate) const ROWS: &[Row] = &[
         read_fails: &[],
         write_fails: &[],
         responses: &[2, 6],
+        writes: 2,
+        ended: Ended::Closed,
+    },
+    Row {
+        sent: &[GET, EXPECTING, BODY, HEAD, GET, EXPECTING],
+        read_fails: &[],
+        write_fails: &[],
+        responses: &[2, 2, 3, 2, 6],
+        writes: 2,
+        ended: Ended::Closed,
+    },
+    Row {
+        sent: &[HEAD, CHUNKED, GET],
+        read_fails: &[],
+        write_fails: &[],
+        responses: &[3, 8],
         writes: 2,
         ended: Ended::Closed,
     },

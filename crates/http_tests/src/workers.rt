@@ -3,9 +3,9 @@ ghost use Rattle.std.specs.Prelude.{◌≡◌, [], All, IfOk, length};
 
 use crate::doors::door;
 use crate::site::api;
-use crate::telling::Telling;
+use crate::tellers::Telling;
 use edge_io::{Ended, MemConnection, MemListener};
-use kme_serve::{ServeRefusal, Worker, serve};
+use kme_serve::{Connections, ServeRefusal, Worker, serve};
 use qkd_base::Memory;
 use std::alloc::Global;
 use std::sync::atomic::{AtomicU64, Ordering};
@@ -142,7 +142,8 @@ fn each_worker_serves_its_own_door(rt: HostRuntime) -> Result<(), Fail> {
         };
         let before = workers(alloc, case.doors)?;
         assert!(rt; !before.is_empty() && before.len() <= 32);
-        let (served, after) = serve(&rt, alloc, &managers, &api, before, NODES, case.connections);
+        let connections = Connections::new(case.connections);
+        let (served, after) = serve(&rt, alloc, &managers, &api, before, NODES, connections);
         assert_eq!(rt; served, case.served);
         assert_eq!(rt; after.len(), case.came.len());
         for (place, (worker, came)) in after.iter().zip(case.came).enumerate() {

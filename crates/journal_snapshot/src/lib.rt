@@ -7,8 +7,8 @@ mod area;
 mod checkpoint;
 mod laws;
 mod live;
-mod opening;
 mod place;
+mod snapshot_open;
 mod snapshots;
 
 pub use area::Area;
@@ -17,5 +17,5 @@ pub use laws::{
     a_new_disk_is_blank_or_has_its_head, octets_stand_for_one_list,
 };
 pub use live::Live;
-pub use opening::open;
+pub use snapshot_open::open;
 pub use snapshots::{SnapRefused, Snapshots};

@@ -7,10 +7,10 @@ ghost use Rattle.stream_core.specs.Kept.{Sees};
 ghost use Rattle.kme_facts.specs.Needs.{kept_view, needs_at, IsMasked};
 ghost use Rattle.kme_facts.specs.Taken.{HasRoom};
 
-use crate::letting::let_go;
 use crate::needs::needs_at;
+use crate::record_effects::take_all;
 use crate::show::show;
-use crate::taking::take_all;
+use crate::wiped_bytes::let_go;
 use net_model::{Records, Reply};
 use qkd_base::{KeyName, Memory, NodeNo};
 use std::alloc::Global;

@@ -2,10 +2,10 @@
 #![tactic(auto)]
 
 mod kept;
-mod letting;
 mod needs;
 mod part_test;
+mod record_effects;
 mod show;
-mod taking;
+mod wiped_bytes;
 
 pub use kept::Kept;

@@ -31,7 +31,7 @@ use Rattle.law_recovery.proofs.Restarting.{recovered_restarts}
 use Rattle.kme_node.specs.Holdings.{view}
 use Rattle.kme_journal.specs.BatchRecovery.{AreReadAs}
 use Rattle.kme_journal.specs.Putting.{HoldsEither, IsPut, IsStopped, checkpoint_bodies}
-use Rattle.kme_journal.specs.declared.recovering.Recovered.{Recovered}
+use Rattle.kme_journal.specs.declared.manager_recovery.Recovered.{Recovered}
 use Rattle.kme_journal.specs.declared.refusal.RecoverRefusal.{RecoverRefusal}
 use Rattle.kme_journal.specs.declared.refusal.RecoverRefusal.TheVariants.{Stopped, Foreign, Memory}
 use Rattle.kme_journal.specs.Recovery.{GivesBack, IsAfter, IsLeft, IsRecovered, Leaves, LeavesOneKind, MayMove, Refuses, Stands, Stops, disk_in, why_of}

@@ -19,7 +19,7 @@ use Rattle.journal_snapshot.specs.Standing.{Holds}
 use Rattle.kme_journal.specs.BatchRecovery.{AreReadAs}
 use Rattle.kme_journal.specs.Unread.{IsUnreadable}
 use Rattle.kme_journal.specs.Putting.{IsPut, checkpoint_bodies}
-use Rattle.kme_journal.specs.declared.recovering.Recovered.{Recovered}
+use Rattle.kme_journal.specs.declared.manager_recovery.Recovered.{Recovered}
 use Rattle.kme_journal.specs.declared.refusal.RecoverRefusal.{RecoverRefusal}
 use Rattle.kme_journal.specs.declared.refusal.RecoverRefusal.TheVariants.{Stopped, Foreign, Memory}
 

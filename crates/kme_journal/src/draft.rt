@@ -15,7 +15,7 @@ ghost use Rattle.kme_node.specs.Holdings.{Holdings, view};
 ghost use Rattle.kme_journal.specs.Spelled.{IsSpelling, IsBody, HasBody, IsAsLong, MayRespell, added};
 ghost use Rattle.kme_journal.specs.Drafts.{HasSpare, HasPlace, IsPrepared, IsHeldBack, IsRoomier};
 
-use crate::deciding::decided_over_zeros;
+use crate::event_change::decided_over_zeros;
 use crate::forms::are_learned;
 use crate::spelled::{added, body_of};
 use disk_model::Disk;

@@ -1,29 +1,29 @@
 //! A manager's batches in its journal: how they are spelled, checkpoints, and what is read back after a crash.
 #![tactic(auto)]
 
+mod batch_append;
+mod batch_replay;
 mod batches;
 mod checkpoint;
-mod deciding;
 mod draft;
+mod event_change;
 mod facts;
 mod forms;
 mod frame;
+mod journal_reader;
 mod laws;
+mod manager_recovery;
 mod marks;
 mod ports;
-mod putting;
-mod reading;
-mod recovering;
 mod refusal;
-mod replaying;
 mod spelled;
-mod writing;
+mod start_checkpoint;
 
+pub use batch_append::write;
+pub use batch_replay::replay;
 pub use checkpoint::checkpoint_batches;
 pub use draft::Draft;
 pub use frame::matches;
 pub use laws::law_read_back_is_formed;
-pub use recovering::{Recovered, recover};
+pub use manager_recovery::{Recovered, recover};
 pub use refusal::RecoverRefusal;
-pub use replaying::replay;
-pub use writing::write;

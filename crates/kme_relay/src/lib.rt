@@ -8,10 +8,10 @@ mod fronts;
 mod lanes;
 mod parts;
 mod payload;
-mod planning;
+mod tick_plan;
 mod wanted;
 
 pub use fronts::Fronts;
 pub use lanes::{block, ledger};
 pub use payload::heard;
-pub use planning::{note, plan};
+pub use tick_plan::{note, plan};

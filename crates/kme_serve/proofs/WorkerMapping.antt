@@ -18,6 +18,7 @@ module _ {P Q : Type 0} (Answers : P → Turn → P → Type 0) (seen : P → �
     served = door_maps Answers seen Others seen_there f turns same nodes g node connections before after p q outcome did.served;
     cause = did.cause;
     calm = did.calm;
+    lasts = did.lasts;
   }
 
 module _ {P : Type 0} (Answers : P → Turn → P → Type 0) (seen : P → ℕ) (Keeps : P → P → Type 0) (same : (p : P) → Keeps p p)

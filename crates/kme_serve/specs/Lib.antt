@@ -7,3 +7,4 @@ pub mod Door
 pub mod Workers
 pub mod Doors
 pub mod Twins
+pub mod Endless

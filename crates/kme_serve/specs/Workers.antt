@@ -8,6 +8,7 @@ use Rattle.http_front.specs.declared.request.HttpRequest.{HttpRequest}
 use Rattle.qkd014_api.specs.Calls.{asked}
 use Rattle.kme_serve.specs.declared.turn.Turn.{Turn}
 use Rattle.kme_serve.specs.Door.{Door, IsDoorServed}
+use Rattle.kme_serve.specs.Endless.{endless}
 
 -- what a listener tells of itself: its port, its counters, the connections that wait and those that are done
 abbrev pub door_told : {D : Type 0} → (port accepted finished : D → ℕ) → (waiting : D → Option (List (List ℕ))) → (done : D → Option (List Finished)) → D → Door
@@ -20,7 +21,7 @@ module _ {P : Type 0} where
     pub fits : Fits pass
     pub enough : 1000 * connections ≤ budget pass
     pub takes : (request : HttpRequest) (event : Event) → asked g node request ≡ Ok event → Takes event
-    pub few : door.accepted + connections ≤ 2 ^ 32
+    pub few : door.accepted + connections ≤ 2 ^ 48
     pub finished : door.finished ≤ door.accepted
 
   -- A worker served its listener: all connections, or those that came before the listener failed.
@@ -30,6 +31,8 @@ module _ {P : Type 0} where
     pub served : IsDoorServed nodes g node Answers seen connections before after pass next outcome
     pub cause : HasCause faults_before faults_after outcome
     pub calm : OnOk outcome (faults_after ≡ faults_before)
+    -- Without an end to its connections it came back only since the listener failed.
+    pub lasts : OnOk outcome (¬ (connections ≡ endless))
 
 -- a worker has at most one job, that of its own listener
 abbrev pub IsOneJob : (ℕ → Type 0) → List ℕ → Type 0

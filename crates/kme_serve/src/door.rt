@@ -5,9 +5,10 @@ ghost use Rattle.net_model.specs.declared.event.Event.{Event as EventValue};
 ghost use Rattle.qkd_base.specs.Faults.{HasCause};
 ghost use Rattle.qkd014_api.specs.Calls.{asked};
 ghost use Rattle.kme_serve.specs.Door.{IsDoorServed};
+ghost use Rattle.kme_serve.specs.Endless.{endless};
 
-use crate::Managers;
 use crate::connection::serve_connection;
+use crate::{Connections, Managers};
 use edge_io::{Failed, Listener};
 use qkd_base::NodeNo;
 use qkd014_api::Api;
@@ -15,7 +16,8 @@ use std::alloc::Global;
 use std::sync::Wait;
 
 /// Accepts `connections` connections at a listener, one after another, serves each to its end, and finishes it with the way it
-/// ended. If the listener fails, no more connections are accepted. Those accepted before are served and finished.
+/// ended. If the listener fails, no more connections are accepted. Those accepted before are served and finished. Where there
+/// is no end to the connections, the call only comes back after such a failure.
 pub fn serve_door<R: Wait, M: Managers, D: Listener>(
     rt: &R,
     alloc: Global,
@@ -24,12 +26,12 @@ pub fn serve_door<R: Wait, M: Managers, D: Listener>(
     pass: &mut M::Pass,
     node: NodeNo,
     door: &mut D,
-    connections: u32,
+    connections: Connections,
 ) -> Result<(), Failed>
     requires fits { M.fits managers.now pass.old }
     requires budget { 1000 * connections ≤ M.budget managers.now node pass.old }
     requires takes { (q : RequestValue) (event : EventValue) → asked api.now.entitlements node q ≡ Ok event → M.takes managers.now node event }
-    requires few { D.accepted door.old + connections ≤ 2 ^ 32 }
+    requires few { D.accepted door.old + connections ≤ 2 ^ 48 }
     requires finished { D.finished door.old ≤ D.accepted door.old }
     ensures fits { M.fits managers.now pass.new }
     ensures budget { M.budget managers.now node pass.old ≤ M.budget managers.now node pass.new + 1000 * connections }
@@ -39,13 +41,15 @@ pub fn serve_door<R: Wait, M: Managers, D: Listener>(
         pass.old pass.new result }
     ensures cause { HasCause (D.faults door.old) (D.faults door.new) result }
     ensures calm { OnOk result (D.faults door.new ≡ D.faults door.old) }
+    ensures lasts { OnOk result (¬ (connections ≡ endless)) }
 {
-    'visits: for served in 0..connections {
+    'visits: for served in 0..connections.count() {
         match serve_next(rt, alloc, managers, api, pass, node, door) {
             Ok(()) => {}
             Err(failed) => return Err(failed),
         }
     }
+    connections.end(rt);
     Ok(())
 }
 
@@ -62,7 +66,7 @@ fn serve_next<R: Wait, M: Managers, D: Listener>(
     requires fits { M.fits managers.now pass.old }
     requires budget { 1000 ≤ M.budget managers.now node pass.old }
     requires takes { (q : RequestValue) (event : EventValue) → asked api.now.entitlements node q ≡ Ok event → M.takes managers.now node event }
-    requires few { D.accepted door.old < 2 ^ 32 }
+    requires few { D.accepted door.old < 2 ^ 48 }
     requires finished { D.finished door.old ≤ D.accepted door.old }
     ensures fits { M.fits managers.now pass.new }
     ensures budget { M.budget managers.now node pass.old ≤ M.budget managers.now node pass.new + 1000 }

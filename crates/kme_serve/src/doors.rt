@@ -5,7 +5,7 @@ ghost use Rattle.kme_serve.specs.Doors.{HasRoom, AreOpened, WereOpened, IsListen
 ghost use Rattle.kme_serve.specs.declared.port_refusal.DoorRefusal.TheVariants as refusals;
 
 use crate::DoorRefusal;
-use crate::opening::open_all;
+use crate::port_open::open_all;
 use edge_io::{Failed, Ports};
 use std::alloc::Global;
 

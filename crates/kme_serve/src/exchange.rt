@@ -6,10 +6,10 @@ ghost use Rattle.qkd014_api.specs.Calls.{asked};
 ghost use Rattle.kme_serve.specs.Steps.{Goes};
 
 use crate::Managers;
-use crate::answering::answer;
 use crate::next::next;
 use crate::owed::{give_up, pay};
-use crate::writing::respond;
+use crate::request_answer::answer;
+use crate::response_writer::respond;
 use edge_io::{Ended, Failed, Sink, Source};
 use qkd_base::{Memory, NodeNo, Octets};
 use qkd014_api::Api;

@@ -1,24 +1,26 @@
 //! Connections over HTTP to a node's manager, the listeners that they come from, and a worker for each port.
 #![tactic(auto)]
 
-mod answering;
 mod connection;
+mod connections;
 mod door;
 mod doors;
 mod exchange;
 mod managers;
 mod next;
-mod opening;
 mod owed;
+mod port_open;
 mod port_refusal;
 mod refusal;
-mod serving;
+mod request_answer;
+mod response_writer;
 mod turn;
 mod worker;
+mod worker_jobs;
 mod workers;
-mod writing;
 
 pub use connection::serve_connection;
+pub use connections::Connections;
 pub use door::serve_door;
 pub use doors::{open_doors, shut_doors};
 pub use managers::Managers;

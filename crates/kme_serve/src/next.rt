@@ -4,7 +4,7 @@ ghost use Rattle.http_front.specs.Front.{IsRequest};
 ghost use Rattle.kme_serve.specs.Steps.{IsNext, IsRefusedBy};
 
 use crate::owed::pay;
-use crate::writing::write;
+use crate::response_writer::write;
 use edge_io::{Ended, Failed, MemSource, Sink, Source};
 use http_front::{FrontRefusal, HttpRequest, read_request};
 use qkd_base::{Memory, Octets};

@@ -4,8 +4,8 @@ ghost use Rattle.std.specs.List.{list_all};
 ghost use Rattle.kme_serve.specs.Workers.{MayServe, HasServed, door_told};
 ghost use Rattle.kme_serve.specs.declared.refusal.ServeRefusal.TheVariants as refusals;
 
-use crate::serving::Serving;
-use crate::{Managers, ServeRefusal, Worker};
+use crate::worker_jobs::Serving;
+use crate::{Connections, Managers, ServeRefusal, Worker};
 use block_run::{BlockEnd, run_block};
 use edge_io::{Listener, OpenGate};
 use qkd014_api::Api;
@@ -26,7 +26,7 @@ pub fn serve<R: Threads + Wait + Sync, M: Managers + Sync, D: Listener + Send + 
     api: &Api,
     workers: Vec<Worker<M::Pass, D>>,
     nodes: u8,
-    connections: u32,
+    connections: Connections,
 ) -> (Result<u64, ServeRefusal>, Vec<Worker<M::Pass, D>>)
 where
     M::Pass: Send,
@@ -61,7 +61,7 @@ where
     match run_block(rt, alloc, &serving, workers, count, &OpenGate) {
         Ok(BlockEnd { passes, answers: _ }) => {
             if all_came(&passes) {
-                (Ok(u64::from(count) * u64::from(connections)), passes)
+                (Ok(u64::from(count) * connections.count()), passes)
             } else {
                 (Err(ServeRefusal::Listen), passes)
             }

@@ -3,7 +3,7 @@ ghost use Rattle.std.specs.Prelude.{◌+◌, ◌^◌, length, vec_capacity};
 ghost use Rattle.par_managers.specs.Doing.{DoesJob};
 ghost use Rattle.kme_shared.specs.Working.{MayWork};
 
-use crate::turning::{say_nothing, turn_and_put};
+use crate::manager_turn::{say_nothing, turn_and_put};
 use disk_model::Disk;
 use edge_io::Gate;
 use par_lanes::{AtGate, LaneDesk, Lanes};

@@ -2,30 +2,30 @@
 #![tactic(auto)]
 
 mod block;
-mod dealing;
+mod block_desks;
+mod block_workers;
 mod errands;
-mod gathering;
-mod keeping;
+mod manager_turn;
 mod manages;
+mod node_sheets;
 mod order;
 mod plan;
 mod room;
 mod rows;
-mod running;
+mod run_state;
 mod running_block;
-mod seating;
-mod turning;
 mod work_laws;
-mod working;
+mod worker_keeps;
+mod worker_results;
 
 pub use block::run_block;
-pub use dealing::{Sheet, sheets};
+pub use block_desks::{Seat, rise, sit};
+pub use block_workers::work_block;
 pub use errands::BlockErrands;
-pub use gathering::gather;
+pub use node_sheets::{Sheet, sheets};
 pub use room::Room;
 pub use rows::bare_row;
-pub use running::Running;
+pub use run_state::Running;
 pub use running_block::together;
-pub use seating::{Seat, rise, sit};
 pub use work_laws::law_block_has_worked;
-pub use working::work_block;
+pub use worker_results::gather;

@@ -39,7 +39,7 @@ use Rattle.kme_journal.specs.Spelled.{with_batch, batch_in_doubt, IsBody, added}
 use Rattle.kme_journal.specs.Drafts.{IsHeldBack, IsRoomier, HoldsEither, with_octets, octets_in_doubt}
 use Rattle.kme_store.specs.Drawing.{Gives}
 use Rattle.kme_store.specs.Manager.{ManagerForm, HasDisk, ComesNext, IsDrawn, Keeps, Writes, IsAdded, HasStayed, IsAfter, Answers, IsTaken}
-use Rattle.kme_store.specs.declared.standing.Standing.TheVariants.{Up, Down}
+use Rattle.kme_store.specs.declared.manager_state.Standing.TheVariants.{Up, Down}
 use Rattle.kme_journal.proofs.Bodies.{body_numbered, body_added, body_with, body_in_doubt, body_is_written}
 use Rattle.kme_journal.proofs.Drawn.{drawn_numbered, drawn_added}
 use Rattle.kme_journal.proofs.Decided.{AreOver, step_drawn}

@@ -29,8 +29,8 @@ use Rattle.kme_journal.specs.Drafts.{HasPlace, IsRoomier, HoldsEither, with_octe
 use Rattle.kme_journal.proofs.Decided.{AreOver}
 use Rattle.kme_store.specs.Drawing.{Gives}
 use Rattle.kme_store.specs.Manager.{HasDisk, WhereUp, WhereDown, IsTaken, IsToldBy, Answers}
-use Rattle.kme_store.specs.declared.standing.Standing.{Standing}
-use Rattle.kme_store.specs.declared.standing.Standing.TheVariants.{Up, Down, Between}
+use Rattle.kme_store.specs.declared.manager_state.Standing.{Standing}
+use Rattle.kme_store.specs.declared.manager_state.Standing.TheVariants.{Up, Down, Between}
 use Rattle.kme_store.proofs.Answering.{IsMadeOver, IsWritten, drawn_effect, stopped, gone}
 use Rattle.kme_store.proofs.Told.{Appends, Nothing, told_still, told_more}
 

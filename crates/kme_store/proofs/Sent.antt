@@ -54,7 +54,7 @@ use Rattle.range_journal.specs.contracts.journal.Journal.TheInside as JournalIns
 use Rattle.journal_snapshot.specs.contracts.live.Live as Live
 use Rattle.journal_snapshot.specs.contracts.snapshots.Snapshots as Snapshots
 use Rattle.journal_snapshot.specs.contracts.snapshots.Snapshots.TheInside as SnapshotsInside
-use Rattle.kme_store.specs.contracts.standing.Standing as Standing
+use Rattle.kme_store.specs.contracts.manager_state.Standing as Standing
 use Rattle.kme_store.specs.contracts.manager.Manager as Manager
 use Rattle.kme_store.specs.contracts.manager.Manager.TheInside as ManagerInside
 use Rattle.kme_store.specs.contracts.post.Post as Post

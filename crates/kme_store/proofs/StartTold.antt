@@ -10,7 +10,7 @@ use Rattle.law_recovery.proofs.Kept.{recovered_kept}
 use Rattle.law_recovery.proofs.Restarting.{recovered_restarts}
 use Rattle.kme_journal.specs.Recovery.{GivesBack}
 use Rattle.kme_store.specs.Manager.{IsToldBy}
-use Rattle.kme_store.specs.declared.standing.Standing.TheVariants.{Up}
+use Rattle.kme_store.specs.declared.manager_state.Standing.TheVariants.{Up}
 
 pub told_by : {K : Type 0} (declared site : Declared) (me : ℕ) (v : View) (journal : SnapshotForm K) → site ≡ declared → GivesBack (site_of declared) me journal v → IsToldBy site v (Up journal)
 told_by {K} declared site me v journal at back =

@@ -21,7 +21,7 @@ use Rattle.kme_journal.specs.BatchRecovery.{AreReadAs}
 use Rattle.kme_journal.specs.Spelled.{body, version_named, IsBody}
 use Rattle.kme_journal.specs.Drafts.{with_octets}
 use Rattle.kme_store.specs.Manager.{IsStory, IsToldBy}
-use Rattle.kme_store.specs.declared.standing.Standing.TheVariants.{Up}
+use Rattle.kme_store.specs.declared.manager_state.Standing.TheVariants.{Up}
 
 -- records don't change the node's number
 

@@ -27,8 +27,8 @@ use Rattle.kme_base.specs.Steps.{IsEffect}
 use Rattle.kme_store.specs.Course.{Course, Stays, Stops, Goes, course}
 use Rattle.kme_journal.specs.BatchRecovery.{AreReadAs}
 use Rattle.kme_journal.specs.Spelled.{with_batch, batch_in_doubt, IsBody}
-use Rattle.kme_store.specs.declared.standing.Standing.{Standing}
-use Rattle.kme_store.specs.declared.standing.Standing.TheVariants.{Up, Down, Between}
+use Rattle.kme_store.specs.declared.manager_state.Standing.{Standing}
+use Rattle.kme_store.specs.declared.manager_state.Standing.TheVariants.{Up, Down, Between}
 
 -- its site, its view, whether it is up, and its entropy; the view of a manager that is down means nothing
 pub record ManagerForm (K E : Type 0) : Type 0 where

@@ -8,10 +8,10 @@ use Rattle.declared_site.specs.declared.site.Site.{Site as Declared}
 use Rattle.journal_snapshot.specs.Standing.{IsKept}
 use Rattle.kme_node.specs.Holdings.{view as seen_by}
 use Rattle.kme_journal.specs.Recovery.{GivesBack, IsAfter, IsRecovered, Leaves, LeavesOneKind, Refuses, disk_in}
-use Rattle.kme_journal.specs.declared.recovering.Recovered.{Recovered}
+use Rattle.kme_journal.specs.declared.manager_recovery.Recovered.{Recovered}
 use Rattle.kme_journal.specs.declared.refusal.RecoverRefusal.{RecoverRefusal}
 use Rattle.kme_store.specs.Manager.{ManagerForm}
-use Rattle.kme_store.specs.declared.standing.Standing.TheVariants.{Up}
+use Rattle.kme_store.specs.declared.manager_state.Standing.TheVariants.{Up}
 
 -- the recovered manager is up, with its journal and this entropy; or the start is refused, and the disk and the entropy are given back
 abbrev pub IsOver : {K E : Type 0} → Result (Recovered K) (RecoverRefusal × K) → E → Result (ManagerForm K E) (RecoverRefusal × K × E) → Type 0

@@ -11,7 +11,7 @@ ghost use Rattle.kme_journal.specs.Frames.{is_match};
 ghost use Rattle.kme_store.specs.Manager.{Acts, HasDisk, WhereUp, WhereDown, IsToldBy, IsArmed, StandsOver, is_up, lease_of, length_in};
 
 use crate::Standing;
-use crate::acting::handle;
+use crate::event_handler::handle;
 use crate::lanes::copy_block;
 use disk_model::{Arm, Disk};
 use journal_snapshot::Snapshots;

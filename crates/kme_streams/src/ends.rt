@@ -6,7 +6,7 @@ ghost use Rattle.declared_site.specs.SiteOf.{site_of};
 ghost use Rattle.stream_core.specs.Kept.{Sees, opened_of};
 ghost use Rattle.kme_streams.specs.Calls.{has_open_end, awaits_peer, is_end, end_status};
 
-use crate::answering::me;
+use crate::stream_steps::me;
 use declared_site::Site;
 use kme_base::home;
 use qkd_base::{KeyName, SaeNo};

@@ -2,14 +2,14 @@
 //! 004).
 #![tactic(auto)]
 
-mod answering;
+mod chunk_feed;
+mod chunk_handout;
 mod drawn;
 mod ends;
-mod feeding;
-mod getting;
-mod opening;
+mod stream_open;
+mod stream_steps;
 
+pub use chunk_feed::feed;
+pub use chunk_handout::{close_stream, get_chunk};
 pub use drawn::law_feed_over_other_octets;
-pub use feeding::feed;
-pub use getting::{close_stream, get_chunk};
-pub use opening::{join_stream, open_stream};
+pub use stream_open::{join_stream, open_stream};

@@ -49,7 +49,7 @@ pub record IsSameTable (a b : Durable) : Type 0 where
 
 -- Leases leave the table alone.
 
-abbrev IsLease : Record → Type 0
+abbrev pub IsLease : Record → Type 0
 IsLease (Lease l end) = Unit {0}
 IsLease _ = ⊥
 
@@ -66,7 +66,7 @@ leases_leave s v (r ∷ rs) d h =
     let rest = leases_leave s v rs (apply_record s v r d) h.1 in
     record { facts = rest.facts ∙ one.facts; known = rest.known ∙ one.known; acked = rest.acked ∙ one.acked }
 
-only_leases : (s : Site) (see : View) (ps : List Port) → AllByRecursion IsLease (flat_map (leases_on s see) ps)
+pub only_leases : (s : Site) (see : View) (ps : List Port) → AllByRecursion IsLease (flat_map (leases_on s see) ps)
 only_leases s see [] = tt
 only_leases s see (p ∷ ps) =
     all_both IsLease (leases_on s see p) (flat_map (leases_on s see) ps)

@@ -69,7 +69,7 @@ module _ (net : Network) (x : World) (v : ℕ) where
   told : (ps : List Placing) → ps ≡ [] → Told (handle net x v (Note ps) Ok)
   told ps none = subst (λ (qs : List Placing). Told (handle net x v (Note qs) Ok)) (sym none) told_nothing
 
-none_ticked : (ls : List Lane) → tick_order ls [] [] ≡ []
+pub none_ticked : (ls : List Lane) → tick_order ls [] [] ≡ []
 unfolding tick_order
 none_ticked [] = refl
 none_ticked (l ∷ ls) = none_ticked ls

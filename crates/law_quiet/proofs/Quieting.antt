@@ -36,11 +36,11 @@ first_quiet = (record { claimed = λ l. refl; put = λ l. refl; noted = λ v. re
 
 -- Lemmas on nodes and routes.
 
-numbered : (n m : ℕ) → n ≤ m → AllByRecursion (λ (x : ℕ). nat_lt x m ≡ true) (count_up n)
+pub numbered : (n m : ℕ) → n ≤ m → AllByRecursion (λ (x : ℕ). nat_lt x m ≡ true) (count_up n)
 numbered zero m h = tt
 numbered (suc n) m h = all_both (λ (x : ℕ). nat_lt x m ≡ true) (count_up n) (n ∷ []) (numbered n m (omega arith)) (lt-ltb n m (omega arith), tt)
 
-end_below : (d : Way) (a b n : ℕ) → a < b → b < n → of_way d a b < n
+pub end_below : (d : Way) (a b n : ℕ) → a < b → b < n → of_way d a b < n
 end_below Up a b n h k = omega (arith, h, k)
 end_below Down a b n h k = k
 

@@ -45,7 +45,7 @@ listed me kind (suc c) n node is low high =
 
 -- A key has the parts that its pool asks for.
 
-key_blind : (m t bits : ℕ) → IsBlind (λ (f : Fact). is_key_of m t bits (Some f))
+pub key_blind : (m t bits : ℕ) → IsBlind (λ (f : Fact). is_key_of m t bits (Some f))
 key_blind m t bits (Key name master slave route bytes) = ap (λ (k : ℕ). (master == m) && (slave == t) && (8 * k == bits)) (length-replicate (length bytes) 0)
 key_blind m t bits (Chunk name stream index route bytes) = refl
 key_blind m t bits (Stored note about route) = refl
@@ -57,7 +57,7 @@ key_kind : (m t bits : ℕ) (f : Fact) → is_key_of m t bits (Some f) ≡ true 
 key_kind m t bits (Key name master slave route bytes) h formed = formed.0
 key_kind m t bits _ h formed = cc
 
-key_home : (net : Network) (facts : List Fact) (m t bits : ℕ) (f : Fact) → is_key_of m t bits (Some f) ≡ true → IsEntitled net.site facts f → net.site.home m ≡ origin f
+pub key_home : (net : Network) (facts : List Fact) (m t bits : ℕ) (f : Fact) → is_key_of m t bits (Some f) ≡ true → IsEntitled net.site facts f → net.site.home m ≡ origin f
 key_home net facts m t bits (Key name master slave route bytes) h pair =
     let is : master ≡ m = eq_from master m (and_left (master == m) (slave == t) (and_left ((master == m) && (slave == t)) (8 * length bytes == bits) h)) in
     ap net.site.home (sym is) ∙ sym pair.from
@@ -81,7 +81,7 @@ module _ (net : Network) (w : World) (c : Conserved net w) (n : Name) (f : Fact)
   knows : has (w.durable.known see.me) n ≡ true
   knows = subst (λ (u : ℕ). has (w.durable.known u) n ≡ true) mine (c.now.table n f there).made
 
-  is_own : has (own_names see) n ≡ true
+  pub is_own : has (own_names see) n ≡ true
   is_own =
       let made = c.now.table n f there in
       let name = found_name w.durable.facts n f there in

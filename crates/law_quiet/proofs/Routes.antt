@@ -67,7 +67,7 @@ ends_differ (a ∷ b ∷ rest) h e =
 
 -- A step of the reversed route is a step of the route the other way.
 
-last_push : (xs : List ℕ) (a : ℕ) → last_of (xs ++ a ∷ []) ≡ a
+pub last_push : (xs : List ℕ) (a : ℕ) → last_of (xs ++ a ∷ []) ≡ a
 last_push [] a = refl
 last_push (x ∷ []) a = refl
 last_push (x ∷ y ∷ xs) a = last_push (y ∷ xs) a

@@ -2,3 +2,9 @@ pub mod Delivered
 pub mod Still
 pub mod Noted
 pub mod Silent
+pub mod Awaited
+pub mod Between
+pub mod Settled
+pub mod Chains
+pub mod Raised
+pub mod Flying

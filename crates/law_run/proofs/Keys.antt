@@ -1,8 +1,9 @@
 -- In every run, all clauses of the headline on keys and lane bytes hold.
 use Rattle.std.proofs.Common.{◌≡◌, ℕ, zero, suc, ◌<◌, true, ◌&&◌, List, [], ◌∷◌, length, subst, Some, arith}
-use Rattle.std.specs.Prelude.{nat_le, slice_get, take}
+use Rattle.std.specs.Prelude.{nat_le, nat_lt, slice_get, take}
 use Rattle.std.proofs.lemmas.Bool.Decides.{nat_tests}
 use Rattle.qkd_base.specs.Name.{Name}
+use Rattle.net_model.specs.declared.event.Event.{Event}
 use Rattle.net_model.specs.declared.event.Event.TheVariants.{EncGroup}
 use Rattle.net_model.specs.World.{Network, World, first}
 use Rattle.net_model.specs.Premises.{IsNetwork}
@@ -10,33 +11,17 @@ use Rattle.net_model.specs.Invariant.{Conserved}
 use Rattle.net_model.specs.Events.{are_slaves, is_count, is_rising, is_valid_event}
 use Rattle.net_model.specs.Streams.{is_size}
 use Rattle.net_model.specs.Action.{Action, Ask, Environment, is_shown, environment_of}
-use Rattle.net_model.specs.Step.{step, run, is_enabled, is_node, IsStep, IsRun}
-use Rattle.law_safety.specs.Ends.{IsEntitledEnd}
+use Rattle.net_model.specs.Step.{step, run, is_enabled, is_node, is_asked, IsStep, IsRun}
+use Rattle.net_model.specs.Deliveries.{Delivery, of_step}
 use Rattle.law_base.proofs.Base.{and_left, and_right}
 use Rattle.law_base.proofs.Grow.{Grows}
 use Rattle.law_invariant.proofs.Steps.{run_keeps}
+use Rattle.law_safety.proofs.Replies.{handled_true}
 use Rattle.law_safety.proofs.Worlds.{grows_step}
 use Rattle.law_locality.proofs.Runs.{first_step, later_steps}
 use Rattle.run_model.specs.Course.{Course, whole_run, world_after, last_world}
-use Rattle.run_model.specs.Keys.{IsEntitled, AreBytesOf}
+use Rattle.run_model.specs.Keys.{AreBytesOf}
 use Rattle.law_run.proofs.Fronts.{front_is_run}
-
--- An entitled end in the sense of the conserved properties is one in the sense of the headline.
-pub entitled : (c : Course) (n : Name) (sae : ℕ) → IsEntitledEnd c.net.site (last_world c).durable.facts (last_world c).durable.known n sae → IsEntitled c.net.site (last_world c) n sae
-entitled c n sae e =
-    record {
-      first = e.first;
-      last = e.last;
-      allowed = e.allowed;
-      one = e.is_end;
-      name = e.name;
-      fact = e.fact;
-      there = e.there;
-      is = e.is;
-      from = e.from;
-      to = e.to;
-      knows = e.knows;
-    }
 
 pub got_within : {A : Type 0} (xs : List A) (i : ℕ) (x : A) → slice_get xs i ≡ Some x → i < length xs
 got_within [] i x h = cc
@@ -94,5 +79,35 @@ group_has_slaves c r k v m n bits slaves environment at =
     let now : IsStep c.net (world_after c k) a = step_at c.net k first (whole_run c) a r at in
     enabled_group c.net (world_after c k) v m n bits slaves environment (and_left (is_enabled c.net (world_after c k) a) (is_shown (environment_of a) (step c.net (world_after c k) a).1) now)
 
+asked_at : (net : Network) (w : World) (v : ℕ) (event : Event) (environment : Environment) → is_enabled net w (Ask v event environment) ≡ true →
+    (v < net.site.nodes) × (is_asked event ≡ true) × (is_valid_event net.site v event ≡ true)
+unfolding is_enabled
+asked_at net w v event environment h =
+    let prefix = and_left (is_node net v && is_asked event) (is_valid_event net.site v event) h in (
+      below v net.site.nodes (and_left (is_node net v) (is_asked event) prefix),
+      and_right (is_node net v) (is_asked event) prefix,
+      and_right (is_node net v && is_asked event) (is_valid_event net.site v event) h,
+    )
+  where
+    below : (a b : ℕ) → nat_lt a b ≡ true → a < b
+    below a b h = grind (arith, nat_tests)
+
+-- A reply hands out keys only to applications that are at home at its node.
+home_of : (net : Network) (w : World) (v : ℕ) (event : Event) (environment : Environment) → IsNetwork net → Conserved net w → is_enabled net w (Ask v event environment) ≡ true →
+    (i : ℕ) (d : Delivery) → slice_get (of_step net w (Ask v event environment) (step net w (Ask v event environment)).1) i ≡ Some d → net.site.home d.sae ≡ v
+unfolding step
+home_of net w v event environment network k enabled i d at =
+    let asked = asked_at net w v event environment enabled in
+    (handled_true net w v event environment network k asked.0 asked.1 asked.2).home i d at
+
 pub conserved_after : (c : Course) → IsNetwork c.net → IsRun c.net first (whole_run c) → (k : ℕ) → Conserved c.net (world_after c k)
 conserved_after c network r k = run_keeps c.net (take k (whole_run c)) network (front_is_run c.net first (whole_run c) k r)
+
+pub handed_at_home : (c : Course) → IsNetwork c.net → IsRun c.net first (whole_run c) → (k v i : ℕ) (event : Event) (environment : Environment) (d : Delivery) →
+    slice_get (whole_run c) k ≡ Some (Ask v event environment) →
+    slice_get (of_step c.net (world_after c k) (Ask v event environment) (step c.net (world_after c k) (Ask v event environment)).1) i ≡ Some d → c.net.site.home d.sae ≡ v
+handed_at_home c network r k v i event environment d at given =
+    let a : Action = Ask v event environment in
+    let now : IsStep c.net (world_after c k) a = step_at c.net k first (whole_run c) a r at in
+    home_of c.net (world_after c k) v event environment network (conserved_after c network r k)
+    (and_left (is_enabled c.net (world_after c k) a) (is_shown (environment_of a) (step c.net (world_after c k) a).1) now) i d given

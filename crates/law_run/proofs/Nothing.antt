@@ -4,7 +4,7 @@ use Rattle.std.specs.Prelude.{is_some}
 use Rattle.std.specs.FinSet.{contains-empty}
 use Rattle.std.proofs.lemmas.List.Sums.{count_by-le-length}
 use Rattle.net_model.specs.OctetSequence.{OctetSequence}
-use Rattle.net_model.specs.Sealing.{IsSealing}
+use Rattle.net_model.specs.Sealing.{Sealing, IsSealing}
 use Rattle.net_model.specs.Premises.{IsSite, IsNetwork}
 use Rattle.net_model.specs.World.{first}
 use Rattle.net_model.specs.Faults.{disk_faults, entropy_faults, device_faults, wire_faults, armings}
@@ -15,12 +15,13 @@ use Rattle.declared_site.specs.SiteOf.{site_of, links_in}
 use Rattle.run_types.specs.Texts.{report_text}
 use Rattle.run_model.specs.Report.{report, actions_of}
 use Rattle.run_model.specs.Left.{wire_octets}
-use Rattle.run_model.specs.Bench.{Layers}
+use Rattle.run_model.specs.Turn.{HttpTexts}
+use Rattle.run_model.specs.Bench.{DiskBatches}
 use Rattle.run_model.specs.Course.{Course, Run, whole_run, IsCourseOf}
 use Rattle.run_model.specs.Keys.{KeysAndBytes}
 use Rattle.run_model.specs.Headline.{Headline, Done}
 use Rattle.law_base.proofs.Base.{not_both}
-use Rattle.law_run.specs.Nothing.{nothing_declared, nothing_asked, nothing_told, untouched}
+use Rattle.law_run.specs.Nothing.{nothing_declared, nothing_asked, untouched}
 
 none_linked : (l : ℕ) → l < links_in no_links → ⊥
 none_linked l h = let none : links_in no_links ≡ 0 = refl in omega (arith, h, none)
@@ -43,15 +44,15 @@ is_site =
 abbrev zeros : OctetSequence
 zeros = record { octet = λ i. 0; end = None }
 
-abbrev pub course : Layers → Course
-course layers = record { net = record { site = site_of nothing_declared; sealing = layers.sealing; device = λ link. zeros; entropy = λ v. zeros }; done = []; served = [] }
+abbrev pub course : Sealing → Course
+course sealing = record { net = record { site = site_of nothing_declared; sealing = sealing; device = λ link. zeros; entropy = λ v. zeros }; done = []; served = [] }
 
-pub is_network : (layers : Layers) → IsSealing layers.sealing → IsNetwork (course layers).net
-is_network layers f = record { site = is_site; sealing = f; devices = λ l i. omega arith; entropies = λ v i. omega arith }
+pub is_network : (sealing : Sealing) → IsSealing sealing → IsNetwork (course sealing).net
+is_network sealing f = record { site = is_site; sealing = f; devices = λ l i. omega arith; entropies = λ v i. omega arith }
 
-pub runs : (layers : Layers) → IsRun (course layers).net first (whole_run (course layers))
+pub runs : (sealing : Sealing) → IsRun (course sealing).net first (whole_run (course sealing))
 unfolding actions_of is_run
-runs layers = refl
+runs sealing = refl
 
 some_same : {A : Type 0} (x y : A) → Some x ≡ Some y → x ≡ y
 some_same x y h = cc
@@ -65,26 +66,22 @@ no_more n e = omega (arith, e)
 none_below : (v : ℕ) → v < 0 → ⊥
 none_below v h = omega (arith, h)
 
-is_course : (layers : Layers) → IsSealing layers.sealing → IsCourseOf (Run 1) layers nothing_told nothing_asked (course layers)
-is_course layers f =
+is_course : (sealing : Sealing) (http : HttpTexts) → IsSealing sealing → IsCourseOf (Run 1) http nothing_asked (course sealing)
+is_course sealing http f =
     record {
-      network = is_network layers f;
+      network = is_network sealing f;
       scenario_is = tt;
       site = refl;
-      sealing = refl;
-      devices = λ link. tt;
-      entropies = λ v. tt;
       lines = tt;
       served = refl;
-      steps = runs layers;
+      steps = runs sealing;
     }
 
-pub headline : (layers : Layers) → IsSealing layers.sealing → KeysAndBytes (course layers) → Headline (Run 1) Done layers nothing_told nothing_asked untouched (Some []) (Some [])
+pub headline : (sealing : Sealing) (http : HttpTexts) (reading : DiskBatches) → IsSealing sealing → KeysAndBytes (course sealing) → Headline (Run 1) Done http reading nothing_asked untouched (Some []) (Some []) (course sealing)
 unfolding report report_text actions_of run first wire_octets disk_faults entropy_faults device_faults wire_faults armings
-headline layers f keys =
+headline sealing http reading f keys =
     record {
-      course = course layers;
-      run = is_course layers f;
+      run = is_course sealing http f;
       reported = (refl, nothing_more);
       wires = λ l frames e. sym (some_same [] frames e);
       disks = λ v h blank. absurd (none_below v h);

@@ -9,7 +9,7 @@ use Rattle.net_model.specs.Step.{run, IsRun}
 use Rattle.net_model.specs.BlockOrder.{AreChains}
 use Rattle.run_types.specs.declared.scenario.Scenario.{Scenario}
 use Rattle.run_model.specs.Report.{IsRunOf}
-use Rattle.run_model.specs.Bench.{Layers}
+use Rattle.run_model.specs.Turn.{HttpTexts}
 use Rattle.run_model.specs.Course.{Words, Run, Load, Serve, Course, lines_run, whole_run, tasks_of, workers_of, AreServed}
 use Rattle.law_invariant.proofs.Steps.{first_keeps}
 use Rattle.law_locality.proofs.Runs.{nothing_runs, runs-append}
@@ -26,16 +26,16 @@ none_served net w hs e = subst (λ (xs : List (List Action)). IsRun net w (flat 
 chains_run : (net : Network) → IsNetwork net → (w : World) → Conserved net w → (hs : List (List Action)) → AreChains net w 0 hs → IsRun net w (flat hs)
 chains_run net network w c hs chains = histories_run net network w c hs 0 w c (λ k more. same_for net k w) chains
 
-served_run : (words : Words) (layers : Layers) (scenario : Scenario) (c : Course) → IsNetwork c.net → Conserved c.net (run c.net first (lines_run c)) → AreServed words layers scenario c →
+served_run : (words : Words) (http : HttpTexts) (scenario : Scenario) (c : Course) → IsNetwork c.net → Conserved c.net (run c.net first (lines_run c)) → AreServed words http scenario c →
     IsRun c.net (run c.net first (lines_run c)) (flat c.served)
-served_run (Serve workers connections port) layers scenario c network k (inl none) = none_served c.net _ c.served none
-served_run (Serve workers connections port) layers scenario c network k (inr served) = chains_run c.net network _ k c.served served.2
-served_run (Run workers) layers scenario c network k none = none_served c.net _ c.served none
-served_run (Load rounds) layers scenario c network k none = none_served c.net _ c.served none
+served_run (Serve workers connections port) http scenario c network k (inl none) = none_served c.net _ c.served none
+served_run (Serve workers connections port) http scenario c network k (inr served) = chains_run c.net network _ k c.served served.2
+served_run (Run workers) http scenario c network k none = none_served c.net _ c.served none
+served_run (Load rounds) http scenario c network k none = none_served c.net _ c.served none
 
-pub course_is_run : (words : Words) (layers : Layers) (scenario : Scenario) (c : Course) → IsNetwork c.net →
-    IsRunOf layers.http c.net (workers_of words) first (tasks_of scenario) c.done → AreServed words layers scenario c → IsRun c.net first (whole_run c)
-course_is_run words layers scenario c network h served =
-    let lines = tasks_are_run layers.http c.net network (workers_of words) first (first_keeps c.net) (tasks_of scenario) c.done h in
+pub course_is_run : (words : Words) (http : HttpTexts) (scenario : Scenario) (c : Course) → IsNetwork c.net →
+    IsRunOf http c.net (workers_of words) first (tasks_of scenario) c.done → AreServed words http scenario c → IsRun c.net first (whole_run c)
+course_is_run words http scenario c network h served =
+    let lines = tasks_are_run http c.net network (workers_of words) first (first_keeps c.net) (tasks_of scenario) c.done h in
     let after : Conserved c.net (run c.net first (lines_run c)) = kept c.net network (lines_run c) first (first_keeps c.net) lines.0 in
-    runs-append c.net (lines_run c) (flat c.served) first lines.0 (served_run words layers scenario c network after served)
+    runs-append c.net (lines_run c) (flat c.served) first lines.0 (served_run words http scenario c network after served)

@@ -1,5 +1,5 @@
 -- The parts of the headline, put together.
-use Rattle.std.proofs.Common.{◌≡◌, ℕ, ◌<◌, false, List, Option, Some, refl, sym, subst, append-nil}
+use Rattle.std.proofs.Common.{◌≡◌, ℕ, ◌<◌, false, List, Option, Some, sym, subst, append-nil}
 use Rattle.net_model.specs.declared.record.Record.{Record}
 use Rattle.net_model.specs.Journal.{is_blank}
 use Rattle.net_model.specs.World.{Network, World, first}
@@ -7,58 +7,54 @@ use Rattle.net_model.specs.Action.{Action}
 use Rattle.run_types.specs.declared.scenario.Scenario.{Scenario}
 use Rattle.run_model.specs.Report.{Performed, report, actions_of}
 use Rattle.run_model.specs.Left.{IsFoldOf}
-use Rattle.run_model.specs.Bench.{Layers, Sources, Seen}
+use Rattle.run_model.specs.Turn.{HttpTexts}
+use Rattle.run_model.specs.Bench.{DiskBatches, Seen}
 use Rattle.run_model.specs.Course.{Words, Run, Course, tasks_of, whole_run, last_world, IsCourseOf}
 use Rattle.run_model.specs.Keys.{KeysAndBytes}
-use Rattle.run_model.specs.Headline.{Stop, Done, ForgedMatch, ListenFault, WriteFault, Memory, IsReported}
+use Rattle.run_model.specs.Headline.{Stop, Done, ForgedMatch, ListenFault, WriteFault, Memory, IsReported, Headline}
 use Rattle.law_run.specs.Benched.{lines_alone}
-use Rattle.law_run.specs.Headlines.{HeadlineOf}
 use Rattle.law_run.specs.Seen.{IsTold, IsKept, IsSeen}
 use Rattle.law_run.proofs.Telling.{no_more, still_first}
 use Rattle.law_run.proofs.Folds.{is_fold}
 
-pub is_reported : (layers : Layers) (scenario : Scenario) (workers : ℕ) (c : Course) (old new : Option (List ℕ)) (stop : Stop) →
-    IsTold stop scenario.site.nodes (report layers.http c.net first (tasks_of scenario) c.done) old new → IsReported (Run workers) stop layers scenario c old new
-is_reported layers scenario workers c old new Done h = (h.0, no_more layers scenario workers c old new h.1)
-is_reported layers scenario workers c old new (ForgedMatch line) h = h
-is_reported layers scenario workers c old new ListenFault h = absurd h
-is_reported layers scenario workers c old new WriteFault h = still_first layers scenario workers c old new h
-is_reported layers scenario workers c old new Memory h = still_first layers scenario workers c old new h
+pub is_reported : (http : HttpTexts) (scenario : Scenario) (workers : ℕ) (c : Course) (old new : Option (List ℕ)) (stop : Stop) →
+    IsTold stop scenario.site.nodes (report http c.net first (tasks_of scenario) c.done) old new → IsReported (Run workers) stop http scenario c old new
+is_reported http scenario workers c old new Done h = (h.0, no_more http scenario workers c old new h.1)
+is_reported http scenario workers c old new (ForgedMatch line) h = h
+is_reported http scenario workers c old new ListenFault h = absurd h
+is_reported http scenario workers c old new WriteFault h = still_first http scenario workers c old new h
+is_reported http scenario workers c old new Memory h = still_first http scenario workers c old new h
 
-module _ (layers : Layers) (sources : Sources) (net : Network) (done : List Performed) (seen : Seen) where
+module _ (reading : DiskBatches) (net : Network) (done : List Performed) (seen : Seen) where
   -- What the bench shows of the world and the actions of the course.
-  pub seen_of_course : (w : World) → w ≡ last_world (lines_alone net done) → IsSeen layers sources net w (actions_of net done) seen →
-      IsSeen layers sources net (last_world (lines_alone net done)) (whole_run (lines_alone net done)) seen
+  pub seen_of_course : (w : World) → w ≡ last_world (lines_alone net done) → IsSeen reading net w (actions_of net done) seen →
+      IsSeen reading net (last_world (lines_alone net done)) (whole_run (lines_alone net done)) seen
   seen_of_course w is h =
-      subst (λ (xs : List Action). IsSeen layers sources net (last_world (lines_alone net done)) xs seen) (sym (append-nil (actions_of net done)))
-      (subst (λ (x : World). IsSeen layers sources net x (actions_of net done) seen) is h)
+      subst (λ (xs : List Action). IsSeen reading net (last_world (lines_alone net done)) xs seen) (sym (append-nil (actions_of net done)))
+      (subst (λ (x : World). IsSeen reading net x (actions_of net done) seen) is h)
 
-module _ (words : Words) (layers : Layers) (sources : Sources) (scenario : Scenario) (c : Course) (run : IsCourseOf words layers sources scenario c) (seen : Seen)
-    (h : IsSeen layers sources c.net (last_world c) (whole_run c) seen) where
+module _ (words : Words) (http : HttpTexts) (scenario : Scenario) (c : Course) (run : IsCourseOf words http scenario c) (reading : DiskBatches) (seen : Seen)
+    (h : IsSeen reading c.net (last_world c) (whole_run c) seen) where
   folded : (v : ℕ) → v < c.net.site.nodes → is_blank ((last_world c).journal v) ≡ false →
-      (batches : List (List Record)) × (layers.batches (seen.disk v) ≡ Some batches) × IsFoldOf c.net (whole_run c) (last_world c) v batches
+      (batches : List (List Record)) × (reading (seen.disk v) ≡ Some batches) × IsFoldOf c.net (whole_run c) (last_world c) v batches
   folded v is blank =
       let d = h.disks v is blank in
       let kept : IsKept c.net (last_world c) v d.0 = d.2 in
       (d.0, d.1, is_fold c.net (whole_run c) v kept.committed d.0 run.network run.steps kept.may kept.given)
 
-  pub headline : (stop : Stop) (old new : Option (List ℕ)) → IsReported words stop layers scenario c old new → KeysAndBytes c →
-      HeadlineOf words stop layers sources scenario seen old new c
-  headline stop old new reported keys = (
-    record {
-      course = c;
-      run = run;
-      reported = reported;
-      wires = h.wires;
-      disks = folded;
-      other_disks = h.other_disks;
-      left = h.left;
-      keys = keys;
-      disk_faults = h.disk_faults;
-      entropy_faults = h.entropy_faults;
-      device_faults = h.device_faults;
-      wire_faults = h.wire_faults;
-      armed = h.armed;
-    },
-    refl,
-  )
+  pub headline : (stop : Stop) (old new : Option (List ℕ)) → IsReported words stop http scenario c old new → KeysAndBytes c →
+      Headline words stop http reading scenario seen old new c
+  headline stop old new reported keys = record {
+    run = run;
+    reported = reported;
+    wires = h.wires;
+    disks = folded;
+    other_disks = h.other_disks;
+    left = h.left;
+    keys = keys;
+    disk_faults = h.disk_faults;
+    entropy_faults = h.entropy_faults;
+    device_faults = h.device_faults;
+    wire_faults = h.wire_faults;
+    armed = h.armed;
+  }

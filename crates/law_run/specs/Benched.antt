@@ -8,16 +8,13 @@ use Rattle.net_model.specs.Fold.{view_batch}
 use Rattle.declared_site.specs.SiteOf.{site_of}
 use Rattle.run_types.specs.declared.scenario.Scenario.{Scenario}
 use Rattle.run_model.specs.Report.{Performed}
-use Rattle.run_model.specs.Bench.{Layers, Sources, Tells, Count}
+use Rattle.run_model.specs.Bench.{Count}
 use Rattle.run_model.specs.Course.{Course}
 
--- The network is that of the scenario on this bench.
-pub record IsBenched (layers : Layers) (sources : Sources) (scenario : Scenario) (net : Network) : Type 0 where
+-- The network is one of the scenario.
+pub record IsBenched (scenario : Scenario) (net : Network) : Type 0 where
   pub network : IsNetwork net
   pub site : net.site ≡ site_of scenario.site
-  pub sealing : net.sealing ≡ layers.sealing
-  pub devices : (link : ℕ) → Tells (sources.devices link) (net.device link)
-  pub entropies : (v : ℕ) → Tells (sources.entropies v) (net.entropy v)
 
 -- The course in which nothing was asked for after the lines.
 abbrev pub lines_alone : Network → List Performed → Course

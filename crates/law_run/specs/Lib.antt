@@ -1,6 +1,5 @@
 pub mod Nothing
 pub mod Benched
-pub mod Headlines
 pub mod Seen
 pub mod Handed
 pub mod Kinds

@@ -4,9 +4,10 @@ use Rattle.route_table.specs.Table.{no_links}
 use Rattle.sae_entitlements.specs.Grants.{none}
 use Rattle.declared_site.specs.declared.site.Site.{Site}
 use Rattle.run_types.specs.declared.scenario.Scenario.{Scenario}
-use Rattle.net_model.specs.Sealing.{IsSealing}
-use Rattle.run_model.specs.Bench.{Layers, Sources, Count, Seen}
-use Rattle.run_model.specs.Course.{Run}
+use Rattle.net_model.specs.Sealing.{Sealing, IsSealing}
+use Rattle.run_model.specs.Turn.{HttpTexts}
+use Rattle.run_model.specs.Bench.{DiskBatches, Count, Seen}
+use Rattle.run_model.specs.Course.{Course, Run}
 use Rattle.run_model.specs.Headline.{Headline, Done}
 
 abbrev pub nothing_declared : Site
@@ -14,9 +15,6 @@ nothing_declared = record { nodes = []; routes = no_links; entitlements = none }
 
 abbrev pub nothing_asked : Scenario
 nothing_asked = record { site = nothing_declared; node_lines = []; entries = [] }
-
-abbrev pub nothing_told : Sources
-nothing_told = record { devices = λ link. None; entropies = λ v. None }
 
 abbrev pub no_fault : Count
 no_fault = record { old = 0; new = 0; greatest = 1 }
@@ -36,4 +34,4 @@ untouched =
 
 -- The headline of this scenario holds, with an empty report.
 abbrev pub NothingIsDone : Type 0
-NothingIsDone = (layers : Layers) → IsSealing layers.sealing → Headline (Run 1) Done layers nothing_told nothing_asked untouched (Some []) (Some [])
+NothingIsDone = (sealing : Sealing) (http : HttpTexts) (reading : DiskBatches) → IsSealing sealing → (c : Course) × Headline (Run 1) Done http reading nothing_asked untouched (Some []) (Some []) c

@@ -2,6 +2,7 @@
 use Rattle.std.specs.Prelude.{◌≡◌, ℕ, ◌<◌, ◌≤◌, Bool, true, false, List, [], drop, Option, Some}
 use Rattle.qkd_base.specs.declared.lane.Lane.{Lane}
 use Rattle.net_model.specs.declared.record.Record.{Record}
+use Rattle.net_model.specs.OctetSequence.{sequence_of}
 use Rattle.net_model.specs.World.{Network, World}
 use Rattle.net_model.specs.Journal.{is_blank}
 use Rattle.net_model.specs.Start.{may_resolve}
@@ -10,7 +11,7 @@ use Rattle.net_model.specs.Faults.{disk_faults, entropy_faults, device_faults, w
 use Rattle.run_types.specs.Texts.{report_text}
 use Rattle.run_model.specs.Play.{Played, Whole, ForgedAt}
 use Rattle.run_model.specs.Left.{wire_octets}
-use Rattle.run_model.specs.Bench.{Layers, Sources, Seen, RoseBy, IsArmedWith}
+use Rattle.run_model.specs.Bench.{DiskBatches, Seen, RoseBy, IsArmedWith}
 use Rattle.run_model.specs.Headline.{Stop, Done, ForgedMatch, ListenFault, WriteFault, Memory, Took, TookFirst}
 use Rattle.law_recovery.specs.GivesBack.{GivesBack}
 use Rattle.law_run.specs.Benched.{kept_view}
@@ -31,12 +32,12 @@ pub record IsKept (net : Network) (w : World) (v : ℕ) (batches : List (List Re
   pub given : GivesBack net.site v batches (kept_view net w v committed)
 
 -- The bench shows this world, to which these actions led.
-pub record IsSeen (layers : Layers) (sources : Sources) (net : Network) (w : World) (actions : List Action) (seen : Seen) : Type 0 where
+pub record IsSeen (reading : DiskBatches) (net : Network) (w : World) (actions : List Action) (seen : Seen) : Type 0 where
   pub wires : (l : Lane) (frames : List (List ℕ)) → seen.wire l ≡ Some frames → frames ≡ wire_octets net w l
   pub disks : (v : ℕ) → v < net.site.nodes → is_blank (w.journal v) ≡ false →
-      (batches : List (List Record)) × (layers.batches (seen.disk v) ≡ Some batches) × IsKept net w v batches
+      (batches : List (List Record)) × (reading (seen.disk v) ≡ Some batches) × IsKept net w v batches
   pub other_disks : (v : ℕ) → net.site.nodes ≤ v → seen.disk v ≡ []
-  pub left : (v : ℕ) (told rest : List ℕ) → sources.entropies v ≡ Some told → seen.entropy v ≡ Some rest → rest ≡ drop (w.drawn v) told
+  pub left : (v : ℕ) (told rest : List ℕ) → net.entropy v ≡ sequence_of told → seen.entropy v ≡ Some rest → rest ≡ drop (w.drawn v) told
   pub disk_faults : (v : ℕ) → RoseBy (seen.disk_count v) (disk_faults net.site v actions)
   pub entropy_faults : (v : ℕ) → RoseBy (seen.entropy_count v) (entropy_faults v actions)
   pub device_faults : (link : ℕ) → RoseBy (seen.device_count link) (device_faults link actions)

@@ -17,23 +17,23 @@ ghost use Rattle.run_model.specs.Play.{Whole, ForgedAt};
 ghost use Rattle.run_model.specs.Report.{Performed, report, actions_of, IsRunOf};
 ghost use Rattle.run_model.specs.Load.{load_scenario};
 ghost use Rattle.run_model.specs.Left.{batches_made, IsFoldOf};
-ghost use Rattle.run_model.specs.Bench.{Layers, Sources, Seen, RoseBy};
+ghost use Rattle.run_model.specs.Turn.{HttpTexts};
+ghost use Rattle.run_model.specs.Bench.{DiskBatches, Seen, RoseBy};
 ghost use Rattle.run_model.specs.Course.{Words, Run, Load, Course, tasks_of, whole_run, last_world, lines_played, IsCourseOf};
 ghost use Rattle.run_model.specs.Keys.{KeysAndBytes};
-ghost use Rattle.run_model.specs.Headline.{Stop, Took, TookFirst, Done, ForgedMatch, WriteFault, Memory, IsReported};
+ghost use Rattle.run_model.specs.Headline.{Stop, Took, TookFirst, Done, ForgedMatch, WriteFault, Memory, IsReported, Headline};
 ghost use Rattle.law_recovery.specs.GivesBack.{GivesBack};
 ghost use Rattle.law_run.specs.Benched.{IsBenched, lines_alone, counter, kept_view};
-ghost use Rattle.law_run.specs.Headlines.{HeadlineOf};
 ghost use Rattle.law_run.specs.Seen.{IsTold, IsSeen};
 
 use crate::{law_course_is_run, law_keys_and_bytes, law_tasks_are_run};
 
 /// What was done for the tasks of a scenario is its course, if nothing is asked for after the lines.
 pub fn law_tasks_make_a_course()
-    ensures run { (layers : Layers) (sources : Sources) (scenario : Scenario) (workers : ℕ) (net : Network) (done : List Performed) → IsBenched layers sources scenario net →
-        IsRunOf layers.http net workers first (tasks_of scenario) done → IsCourseOf (Run workers) layers sources scenario (lines_alone net done) }
-    ensures load { (layers : Layers) (sources : Sources) (scenario : Scenario) (rounds : ℕ) (net : Network) (done : List Performed) → scenario ≡ load_scenario rounds →
-        IsBenched layers sources scenario net → IsRunOf layers.http net 1 first (tasks_of scenario) done → IsCourseOf (Load rounds) layers sources scenario (lines_alone net done) }
+    ensures run { (http : HttpTexts) (scenario : Scenario) (workers : ℕ) (net : Network) (done : List Performed) → IsBenched scenario net →
+        IsRunOf http net workers first (tasks_of scenario) done → IsCourseOf (Run workers) http scenario (lines_alone net done) }
+    ensures load { (http : HttpTexts) (scenario : Scenario) (rounds : ℕ) (net : Network) (done : List Performed) → scenario ≡ load_scenario rounds →
+        IsBenched scenario net → IsRunOf http net 1 first (tasks_of scenario) done → IsCourseOf (Load rounds) http scenario (lines_alone net done) }
 {
     law_course_is_run();
 }
@@ -41,9 +41,9 @@ pub fn law_tasks_make_a_course()
 /// Such a course consists of the actions of its tasks, and leads to the world that is reported.
 pub fn law_lines_are_the_whole()
     ensures actions { (net : Network) (done : List Performed) → whole_run (lines_alone net done) ≡ actions_of net done }
-    ensures world { (layers : Layers) (sources : Sources) (scenario : Scenario) (workers : ℕ) (net : Network) (done : List Performed) → IsBenched layers sources scenario net →
-        IsRunOf layers.http net workers first (tasks_of scenario) done →
-        (report layers.http net first (tasks_of scenario) done).world ≡ last_world (lines_alone net done) }
+    ensures world { (http : HttpTexts) (scenario : Scenario) (workers : ℕ) (net : Network) (done : List Performed) → IsBenched scenario net →
+        IsRunOf http net workers first (tasks_of scenario) done →
+        (report http net first (tasks_of scenario) done).world ≡ last_world (lines_alone net done) }
 {
     law_tasks_are_run();
 }
@@ -51,20 +51,20 @@ pub fn law_lines_are_the_whole()
 /// The sink took the items of the lines as the headline of a `run` says: all of them, or all up to a forged match, or
 /// a prefix.
 pub fn law_reported()
-    ensures done { (layers : Layers) (scenario : Scenario) (workers : ℕ) (c : Course) (old new : Option (List ℕ)) → (lines_played layers scenario c).ending ≡ Whole →
-        Took old new (report_text scenario.site.nodes (lines_played layers scenario c).items) → IsReported (Run workers) Done layers scenario c old new }
-    ensures forged { (layers : Layers) (scenario : Scenario) (workers line : ℕ) (c : Course) (old new : Option (List ℕ)) →
-        (lines_played layers scenario c).ending ≡ ForgedAt line →
-        Took old new (report_text scenario.site.nodes (lines_played layers scenario c).items) → IsReported (Run workers) (ForgedMatch line) layers scenario c old new }
-    ensures failed { (layers : Layers) (scenario : Scenario) (workers : ℕ) (c : Course) (old new : Option (List ℕ)) →
-        TookFirst old new (report_text scenario.site.nodes (lines_played layers scenario c).items) → IsReported (Run workers) WriteFault layers scenario c old new }
-    ensures memory { (layers : Layers) (scenario : Scenario) (workers : ℕ) (c : Course) (old new : Option (List ℕ)) →
-        TookFirst old new (report_text scenario.site.nodes (lines_played layers scenario c).items) → IsReported (Run workers) Memory layers scenario c old new }
+    ensures done { (http : HttpTexts) (scenario : Scenario) (workers : ℕ) (c : Course) (old new : Option (List ℕ)) → (lines_played http scenario c).ending ≡ Whole →
+        Took old new (report_text scenario.site.nodes (lines_played http scenario c).items) → IsReported (Run workers) Done http scenario c old new }
+    ensures forged { (http : HttpTexts) (scenario : Scenario) (workers line : ℕ) (c : Course) (old new : Option (List ℕ)) →
+        (lines_played http scenario c).ending ≡ ForgedAt line →
+        Took old new (report_text scenario.site.nodes (lines_played http scenario c).items) → IsReported (Run workers) (ForgedMatch line) http scenario c old new }
+    ensures failed { (http : HttpTexts) (scenario : Scenario) (workers : ℕ) (c : Course) (old new : Option (List ℕ)) →
+        TookFirst old new (report_text scenario.site.nodes (lines_played http scenario c).items) → IsReported (Run workers) WriteFault http scenario c old new }
+    ensures memory { (http : HttpTexts) (scenario : Scenario) (workers : ℕ) (c : Course) (old new : Option (List ℕ)) →
+        TookFirst old new (report_text scenario.site.nodes (lines_played http scenario c).items) → IsReported (Run workers) Memory http scenario c old new }
 {}
 
 /// In every course, all clauses of the headline on keys and lane bytes hold.
 pub fn law_keys_of_a_course()
-    ensures { (words : Words) (layers : Layers) (sources : Sources) (scenario : Scenario) (c : Course) → IsCourseOf words layers sources scenario c → KeysAndBytes c }
+    ensures { (words : Words) (http : HttpTexts) (scenario : Scenario) (c : Course) → IsCourseOf words http scenario c → KeysAndBytes c }
 {
     law_keys_and_bytes();
 }
@@ -75,7 +75,7 @@ pub fn law_keys_of_a_course()
 pub fn law_disks_of_a_course()
     ensures made { (net : Network) (actions : List Action) (v : ℕ) → IsNetwork net → IsRun net first actions →
         GivesBack net.site v (batches_made net v first actions) (view_of net (run net first actions) v) }
-    ensures fold { (words : Words) (layers : Layers) (sources : Sources) (scenario : Scenario) (c : Course) → IsCourseOf words layers sources scenario c →
+    ensures fold { (words : Words) (http : HttpTexts) (scenario : Scenario) (c : Course) → IsCourseOf words http scenario c →
         (v : ℕ) (committed : Bool) (batches : List (List Record)) → may_resolve ((last_world c).in_doubt v) committed ≡ true →
         GivesBack c.net.site v batches (kept_view c.net (last_world c) v committed) → IsFoldOf c.net (whole_run c) (last_world c) v batches }
 {}
@@ -97,19 +97,19 @@ pub fn law_octets_left()
         (sequence_of rest).end ≡ option_map (λ (e : ℕ). e - n) (sequence_of told).end → rest ≡ drop n told }
 {}
 
-/// What was done for the tasks of a scenario has a headline of just this course, if the sink and the bench's parts
+/// The headline holds of what was done for the tasks of a scenario, if the sink and the bench's parts
 /// show what they should. For a generated load, what the sink took is a further premise.
 pub fn law_headline_of_tasks()
-    ensures run { (layers : Layers) (sources : Sources) (scenario : Scenario) (workers : ℕ) (stop : Stop) (seen : Seen) (old new : Option (List ℕ)) (net : Network) (done : List Performed) →
-        IsBenched layers sources scenario net → IsRunOf layers.http net workers first (tasks_of scenario) done →
-        IsTold stop scenario.site.nodes (report layers.http net first (tasks_of scenario) done) old new →
-        IsSeen layers sources net (report layers.http net first (tasks_of scenario) done).world (actions_of net done) seen →
-        HeadlineOf (Run workers) stop layers sources scenario seen old new (lines_alone net done) }
-    ensures load { (layers : Layers) (sources : Sources) (scenario : Scenario) (rounds : ℕ) (stop : Stop) (seen : Seen) (old new : Option (List ℕ)) (net : Network) (done : List Performed) →
-        scenario ≡ load_scenario rounds → IsBenched layers sources scenario net → IsRunOf layers.http net 1 first (tasks_of scenario) done →
-        IsReported (Load rounds) stop layers scenario (lines_alone net done) old new →
-        IsSeen layers sources net (report layers.http net first (tasks_of scenario) done).world (actions_of net done) seen →
-        HeadlineOf (Load rounds) stop layers sources scenario seen old new (lines_alone net done) }
+    ensures run { (http : HttpTexts) (scenario : Scenario) (workers : ℕ) (stop : Stop) (reading : DiskBatches) (seen : Seen) (old new : Option (List ℕ)) (net : Network) (done : List Performed) →
+        IsBenched scenario net → IsRunOf http net workers first (tasks_of scenario) done →
+        IsTold stop scenario.site.nodes (report http net first (tasks_of scenario) done) old new →
+        IsSeen reading net (report http net first (tasks_of scenario) done).world (actions_of net done) seen →
+        Headline (Run workers) stop http reading scenario seen old new (lines_alone net done) }
+    ensures load { (http : HttpTexts) (scenario : Scenario) (rounds : ℕ) (stop : Stop) (reading : DiskBatches) (seen : Seen) (old new : Option (List ℕ)) (net : Network) (done : List Performed) →
+        scenario ≡ load_scenario rounds → IsBenched scenario net → IsRunOf http net 1 first (tasks_of scenario) done →
+        IsReported (Load rounds) stop http scenario (lines_alone net done) old new →
+        IsSeen reading net (report http net first (tasks_of scenario) done).world (actions_of net done) seen →
+        Headline (Load rounds) stop http reading scenario seen old new (lines_alone net done) }
 {
     law_tasks_make_a_course();
     law_lines_are_the_whole();

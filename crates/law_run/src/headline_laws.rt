@@ -12,7 +12,6 @@ ghost use Rattle.run_types.specs.declared.scenario.Scenario.{Scenario};
 ghost use Rattle.run_model.specs.Turn.{HttpTexts};
 ghost use Rattle.run_model.specs.Works.{Works, Done, flat, parts, turns_done, IsBlockOf};
 ghost use Rattle.run_model.specs.Report.{Task, Performed, report, actions_of, IsRunOf};
-ghost use Rattle.run_model.specs.Bench.{Layers};
 ghost use Rattle.run_model.specs.Course.{Words, Course, tasks_of, workers_of, whole_run, AreServed};
 ghost use Rattle.run_model.specs.Keys.{KeysAndBytes};
 ghost use Rattle.law_run.specs.Nothing.{NothingIsDone};
@@ -34,8 +33,8 @@ pub fn law_tasks_are_run()
 
 /// The whole course of a call is such a run too, including what connections asked for after the lines.
 pub fn law_course_is_run()
-    ensures { (words : Words) (layers : Layers) (scenario : Scenario) (c : Course) → IsNetwork c.net →
-        IsRunOf layers.http c.net (workers_of words) first (tasks_of scenario) c.done → AreServed words layers scenario c → IsRun c.net first (whole_run c) }
+    ensures { (words : Words) (http : HttpTexts) (scenario : Scenario) (c : Course) → IsNetwork c.net →
+        IsRunOf http c.net (workers_of words) first (tasks_of scenario) c.done → AreServed words http scenario c → IsRun c.net first (whole_run c) }
 {}
 
 /// The outcome of a turn in a block is the same whether its manager's history is made on its own from the block's

@@ -1,4 +1,4 @@
--- An application that was handed a key is an entitled end of it.
+-- An application that was handed a key is entitled to it.
 use Rattle.std.proofs.Common.{◌≡◌, ℕ, true, false, ◌&&◌, List, refl, sym, ◌∙◌, ap, subst, Option, Some, inl, inr}
 use Rattle.qkd_base.specs.Name.{Name, name_eq, has}
 use Rattle.qkd_base.specs.Route.{first_of, last_of}
@@ -12,18 +12,21 @@ use Rattle.net_model.specs.Handings.{is_single, KnowsStored, IsPart, MayHaveOne,
 use Rattle.net_model.specs.Invariant.{Conserved}
 use Rattle.law_base.proofs.Base.{name_eq_same, or_left, or_right, or_cases, and_both}
 use Rattle.law_base.proofs.Tables.{found_name}
-use Rattle.law_safety.specs.Ends.{AreConfirmed, IsEntitledEnd}
+use Rattle.run_model.specs.Keys.{AreConfirmed, IsEntitled as MayHaveIt}
 use Rattle.law_safety.proofs.ConservedNames.{single_is, a_part, no_fact_has_it}
 
--- The two applications of a key, a part or an open stream.
+-- The two applications of a key, a chunk or a part.
 record Pair (s : Site) (T : List Fact) (f : Fact) : Type 0 where
   first : ℕ
   last : ℕ
+  is_first : sae_at T true f ≡ Some first
+  is_last : sae_at T false f ≡ Some last
   allowed : s.allowed first last ≡ true
   from : first_of (route_of f) ≡ s.home first
   to : last_of (route_of f) ≡ s.home last
-  at_first : (sae : ℕ) → sae_at T true f ≡ Some sae → first ≡ sae
-  at_last : (sae : ℕ) → sae_at T false f ≡ Some sae → last ≡ sae
+
+some_is : {A : Type 0} {a b : A} → Some a ≡ Some b → a ≡ b
+some_is h = cc
 
 chunk_pair : (s : Site) (T : List Fact) (known : ℕ → List Name) → IsTable s T known → (name stream : Name) (index : ℕ) (route bytes : List ℕ) (o : Option Fact) →
     fact_at T stream ≡ o → IsOpenBetween route o → Pair s T (Chunk name stream index route bytes)
@@ -32,17 +35,17 @@ chunk_pair s T known t name stream index route bytes (Some (Open other source pe
     record {
       first = source;
       last = peer;
+      is_first = ap (stream_end true) e;
+      is_last = ap (stream_end false) e;
       allowed = x.allowed;
       from = h.0 ∙ x.from;
       to = h.1 ∙ x.to;
-      at_first = λ sae k. let y : stream_end true (Some (Open other source peer size nodes)) ≡ Some sae = sym (ap (stream_end true) e) ∙ k in cc;
-      at_last = λ sae k. let y : stream_end false (Some (Open other source peer size nodes)) ≡ Some sae = sym (ap (stream_end false) e) ∙ k in cc;
     }
 chunk_pair s T known t name stream index route bytes _ e h = absurd h
 
 pair_of : (s : Site) (T : List Fact) (known : ℕ → List Name) → IsTable s T known → (f : Fact) → is_single f ≡ true → IsEntitled s T f → Pair s T f
 pair_of s T known t (Key name master slave route bytes) one x =
-    record { first = master; last = slave; allowed = x.allowed; from = x.from; to = x.to; at_first = λ sae k. cc; at_last = λ sae k. cc }
+    record { first = master; last = slave; is_first = refl; is_last = refl; allowed = x.allowed; from = x.from; to = x.to }
 pair_of s T known t (Chunk name stream index route bytes) one x = chunk_pair s T known t name stream index route bytes (fact_at T stream) refl x
 pair_of s T known t _ one x = cc
 
@@ -53,26 +56,33 @@ one_confirmed T groups n f known there named stored m g at is = elim (or_cases (
   | inr part ↦ absurd (no_fact_has_it T groups n m n g f at there part named)
 ]
 
-one_end : (s : Site) (T : List Fact) (known : ℕ → List Name) → IsTable s T known → IsGroups T → (n : Name) (sae : ℕ) → MayHaveOne s T known n sae → IsEntitledEnd s T known n sae
+one_end : (s : Site) (T : List Fact) (known : ℕ → List Name) → IsTable s T known → IsGroups T → (n : Name) (sae : ℕ) → MayHaveOne s T known n sae → MayHaveIt s T known n sae
 one_end s T known t groups n sae h =
     let p = pair_of s T known t h.fact h.single (t n h.fact h.there).entitled in
     let named : name_of h.fact ≡ n = found_name T n h.fact h.there in
     record {
-      first = p.first;
-      last = p.last;
-      allowed = p.allowed;
-      is_end = elim h.is_end [ inl x ↦ inl (p.at_first sae x.0, one_confirmed T groups n h.fact (known (s.home sae)) h.there named x.1) | inr x ↦ inr (p.at_last sae x) ];
       name = n;
       fact = h.fact;
       there = h.there;
       is = or_left _ _ (and_both (is_single h.fact) (name_eq (name_of h.fact) n) h.single (ap (λ (m : Name). name_eq m n) named ∙ name_eq_same n));
+      first = p.first;
+      last = p.last;
+      is_first = p.is_first;
+      is_last = p.is_last;
+      allowed = p.allowed;
       from = p.from;
       to = p.to;
+      one = elim h.is_end [
+        | inl x ↦ inl (some_is (sym p.is_first ∙ x.0), one_confirmed T groups n h.fact (known (s.home sae)) h.there named x.1)
+        | inr x ↦ inr (some_is (sym p.is_last ∙ x))
+      ];
       knows = h.knows;
     }
 
 -- The group key and the two applications that a part names.
 record PartEnds (s : Site) (T : List Fact) (f : Fact) (p : PartOf) : Type 0 where
+  is_first : sae_at T true f ≡ Some p.master
+  is_last : sae_at T false f ≡ Some p.slave
   allowed : s.allowed p.master p.slave ≡ true
   from : first_of (route_of f) ≡ s.home p.master
   to : last_of (route_of f) ≡ s.home p.slave
@@ -80,10 +90,8 @@ record PartEnds (s : Site) (T : List Fact) (f : Fact) (p : PartOf) : Type 0 wher
 
 part_ends : (s : Site) (T : List Fact) (f : Fact) (p : PartOf) → part_of f ≡ Some p → IsEntitled s T f → PartEnds s T f p
 part_ends s T (Part name key master slave route bytes) p e x =
-    subst (λ (q : PartOf). PartEnds s T (Part name key master slave route bytes) q) (some_is e) (record { allowed = x.allowed; from = x.from; to = x.to; is = name_eq_same key })
-  where
-    some_is : {q : PartOf} → Some q ≡ Some p → q ≡ p
-    some_is {q} h = cc
+    subst (λ (q : PartOf). PartEnds s T (Part name key master slave route bytes) q) (some_is e)
+    (record { is_first = refl; is_last = refl; allowed = x.allowed; from = x.from; to = x.to; is = name_eq_same key })
 part_ends s T _ p e x = cc
 
 -- The facts of a group key's name are its parts.
@@ -94,29 +102,31 @@ group_confirmed s T groups n q f known there part all m g at is = elim (or_cases
   | inr other ↦ let x = a_part n g other in (all m (record { fact = g; part = x.part; there = at; is = x.is; key = x.key })).1
 ]
 
-group_end : (s : Site) (T : List Fact) (known : ℕ → List Name) → IsTable s T known → IsGroups T → (n : Name) (sae : ℕ) (h : MayHaveGroup s T known n sae) → IsEntitledEnd s T known n sae
+group_end : (s : Site) (T : List Fact) (known : ℕ → List Name) → IsTable s T known → IsGroups T → (n : Name) (sae : ℕ) (h : MayHaveGroup s T known n sae) → MayHaveIt s T known n sae
 group_end s T known t groups n sae h =
     let x = part_ends s T h.one.fact h.one.part h.one.is (t h.name h.one.fact h.one.there).entitled in
     let is : is_part_of n h.one.fact ≡ true = ap (λ (m : Name). is_part_of m h.one.fact) (sym h.one.key) ∙ x.is in
     record {
-      first = h.one.part.master;
-      last = h.one.part.slave;
-      allowed = x.allowed;
-      is_end = elim h.is_end [
-        | inl y ↦ inl (y.0, group_confirmed s T groups n h.name h.one.fact (known (s.home sae)) h.one.there is y.1)
-        | inr y ↦ inr y.0
-      ];
       name = h.name;
       fact = h.one.fact;
       there = h.one.there;
       is = or_right _ _ is;
+      first = h.one.part.master;
+      last = h.one.part.slave;
+      is_first = x.is_first;
+      is_last = x.is_last;
+      allowed = x.allowed;
       from = x.from;
       to = x.to;
+      one = elim h.is_end [
+        | inl y ↦ inl (y.0, group_confirmed s T groups n h.name h.one.fact (known (s.home sae)) h.one.there is y.1)
+        | inr y ↦ inr y.0
+      ];
       knows = elim h.is_end [ inl y ↦ (y.1 h.name h.one).0 | inr y ↦ y.1 ];
     }
 
 pub handed_end : (net : Network) (w : World) → Conserved net w → (n : Name) (sae : ℕ) → was_handed w.durable.handed n sae ≡ true →
-    IsEntitledEnd net.site w.durable.facts w.durable.known n sae
+    MayHaveIt net.site w.durable.facts w.durable.known n sae
 handed_end net w c n sae h = elim (c.now.handings.entitled n sae h) [
   | inl x ↦ one_end net.site w.durable.facts w.durable.known c.now.table c.now.groups n sae x
   | inr x ↦ group_end net.site w.durable.facts w.durable.known c.now.table c.now.groups n sae x

@@ -27,7 +27,8 @@ ghost use Rattle.net_model.specs.Show.{counted_of};
 ghost use Rattle.net_model.specs.Needed.{view_of};
 ghost use Rattle.net_model.specs.Decision.{next_count};
 ghost use Rattle.net_model.specs.Invariant.{Conserved};
-ghost use Rattle.law_safety.specs.Ends.{stands_before, IsEntitledEnd};
+ghost use Rattle.run_model.specs.Keys.{IsEntitled};
+ghost use Rattle.law_safety.specs.Ends.{stands_before};
 
 /// If the frames at two places of a wire cover the same lane byte, they are the same frame. So no byte masks two
 /// different frames.
@@ -62,7 +63,7 @@ pub fn law_handed_once()
 /// after the target confirmed it.
 pub fn law_handed_to_entitled()
     ensures { (net : Network) (w : World) → Conserved net w → (n : Name) (sae : ℕ) → was_handed w.durable.handed n sae ≡ true →
-        IsEntitledEnd net.site w.durable.facts w.durable.known n sae }
+        IsEntitled net.site w.durable.facts w.durable.known n sae }
 {}
 
 /// A node that knows a fact is on the fact's route, and all nodes before it on the route know the fact.

@@ -14,6 +14,7 @@ use Rattle.net_model.specs.World.{Network, World}
 use Rattle.declared_site.specs.declared.site.Site.{Site as Declared}
 use Rattle.world_state.specs.Passed.{Post}
 use Rattle.kme_serve.specs.Door.{Door}
+use Rattle.kme_serve.specs.Endless.{endless}
 use Rattle.turnstile.specs.declared.machine.Machine.{Ghosts}
 use Rattle.turnstile.specs.declared.turnstile.Turnstile.{Turnstile}
 use Rattle.turnstile.specs.Names.{opening as first_of}
@@ -48,7 +49,7 @@ numbered f xs n i x are at =
     some_is (sym (slice_get-map f xs i ∙ ap (option_map f) at) ∙ ap (λ (ns : List ℕ). slice_get ns i) are ∙ counted_at n i (omega (arith, within, same)))
 
 -- the number of all calls is in range
-pub few_calls : (workers connections : ℕ) → workers ≤ 32 → connections ≤ 10000 → workers * (1000 * connections) < 2 ^ 63
+pub few_calls : (workers connections : ℕ) → workers ≤ 32 → connections ≤ endless → workers * (1000 * connections) < 2 ^ 63
 few_calls workers connections few some =
     let product : workers * (1000 * connections) ≤ 32 * (1000 * connections) = mul-le-mul_right (1000 * connections) few in
     omega (arith, product, some)

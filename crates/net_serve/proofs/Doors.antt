@@ -73,7 +73,7 @@ module _ {M : Type 0} {g : Ghosts M Event Answered (Site × ℕ)} (charter : M �
 
   pub may_serve : (accepted finished : D → ℕ) (tell : D → Door) (entitlements : Grants) (n connections : ℕ) → ((d : D) → (tell d).accepted ≡ accepted d) → ((d : D) → (tell d).finished ≡ finished d) →
       n ≡ length ts → 0 < length ts → length ts ≡ length site.nodes → IsDeclared site → entitlements ≡ site.entitlements → calls ≡ 1000 * connections →
-      ((k : ℕ) (d : D) → slice_get doors k ≡ Some d → (accepted d + connections ≤ 2 ^ 32) × (finished d ≤ accepted d)) → (k : ℕ) (w : W) → slice_get ws k ≡ Some w →
+      ((k : ℕ) (d : D) → slice_get doors k ≡ Some d → (accepted d + connections ≤ 2 ^ 48) × (finished d ≤ accepted d)) → (k : ℕ) (w : W) → slice_get ws k ≡ Some w →
       MayServe Fits (λ p. if node p == k % n then left p else 0) (λ event. IsRequestTo (site_of site) (k % n) event) entitlements (k % n) connections (pass w) (tell (door w))
   may_serve accepted finished tell entitlements n connections same_accepted same_finished many some nodes declared granted is fresh k w at =
       let h = seats k w at in
@@ -87,7 +87,7 @@ module _ {M : Type 0} {g : Ghosts M Event Answered (Site × ℕ)} (charter : M �
         enough = omega (arith, budget, is);
         takes = λ request event is_asked. request_to site (k % n) request event declared (omega (arith, below, many, nodes))
             (subst (λ (e : Grants). asked e (k % n) request ≡ Ok event) granted is_asked);
-        few = subst (λ (m : ℕ). m + connections ≤ 2 ^ 32) (sym (same_accepted (door w))) d.0;
+        few = subst (λ (m : ℕ). m + connections ≤ 2 ^ 48) (sym (same_accepted (door w))) d.0;
         finished = subst (λ (m : ℕ). m ≤ (tell (door w)).accepted) (sym (same_finished (door w))) (subst (λ (m : ℕ). finished (door w) ≤ m) (sym (same_accepted (door w))) d.1);
       }
 

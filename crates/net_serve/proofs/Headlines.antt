@@ -11,24 +11,25 @@ use Rattle.net_model.specs.Step.{run}
 use Rattle.net_model.specs.BlockOrder.{AreChains}
 use Rattle.declared_site.specs.SiteOf.{IsDeclared}
 use Rattle.declared_site.specs.declared.site.Site.{Site as Declared}
-use Rattle.hop_frames.specs.Sealing.{hop_sealing}
 use Rattle.run_types.specs.declared.scenario.Scenario.{Scenario}
+use Rattle.run_types.specs.declared.item.NumberedItem.{NumberedItem}
 use Rattle.run_types.specs.Texts.{report_text, served_text}
 use Rattle.run_model.specs.Turn.{HttpTexts}
 use Rattle.run_model.specs.Play.{Whole}
 use Rattle.run_model.specs.Report.{Task, Performed, IsRunOf, report, actions_of}
-use Rattle.run_model.specs.Bench.{Layers, Sources, Seen}
-use Rattle.run_model.specs.Course.{Serve, Course, tasks_of, served_by, last_world}
+use Rattle.run_model.specs.Course.{Serve, Course, tasks_of, served_by, whole_run, last_world}
 use Rattle.run_model.specs.Headline as headline
 use Rattle.run_model.specs.Headline.{Took}
 use Rattle.run_ops.specs.Acting.{IsReady}
 use Rattle.run_lines.specs.Running.{StopsAs}
 use Rattle.run_lines.specs.declared.stop.Stop.{Stop}
+use Rattle.run_lines.specs.declared.stop.Stop.TheVariants as stops
+use Rattle.run_lines.proofs.Taking.{took_none}
+use Rattle.run_tasks.specs.Tasks.{IsCut}
+use Rattle.run_tasks.proofs.Cuts.{HasTaken, cut_more}
 use Rattle.law_locality.proofs.Runs.{run-append}
 use Rattle.law_run.specs.Benched.{IsBenched}
-use Rattle.law_run.specs.Headlines.{HeadlineOf}
-use Rattle.net_serve.specs.Over.{course_on, IsServedOver}
-use Rattle.net_serve.specs.ServedRun.{MayFollow}
+use Rattle.net_serve.specs.ServedRun.{course_on, MayFollow}
 use Rattle.net_serve.specs.Told.{IsServeTold}
 use Rattle.kme_serve.specs.Door.{Door}
 use Rattle.kme_serve.specs.Doors.{PortsTold}
@@ -37,29 +38,40 @@ use Rattle.world_state.specs.Stands.{Stands}
 use Rattle.world_state.specs.declared.state.State.{State}
 use Rattle.world_state.proofs.Tallies.{tallied_more}
 use Rattle.net_world.specs.Laid.{IsPutBack}
-use Rattle.net_world.specs.New.{IsNew, AreKnown, network_on}
+use Rattle.net_world.specs.New.{IsNew, network_on}
+use Rattle.net_world.specs.Over.{IsOver, HasHeadline}
 use Rattle.net_world.specs.declared.bench.Bench.{Bench}
 use Rattle.net_world.specs.Running.{RanOut}
-use Rattle.net_serve.specs.BenchServing.{ended, ServedBehind, ServedBy, HasServedHeadlines}
+use Rattle.net_serve.specs.BenchServing.{ended, ServedBehind, HasServedHeadlines}
 use Rattle.net_serve.specs.Behind.{AreRequests, IsLineTold, Ends}
 use Rattle.net_serve.specs.declared.stop.ServeStop.{ServeStop}
-use Rattle.net_serve.specs.declared.stop.ServeStop.TheVariants.{Stopped}
+use Rattle.net_serve.specs.declared.stop.ServeStop.TheVariants.{Listen, Stopped}
 use Rattle.net_serve.proofs.Told.{all_told}
 
 -- if the lines came to their end, requests may follow them
-follows : {T : Type 0} (lines : Result T Stop) (layers : Layers) (scenario : Scenario) (net : Network) (done : List Performed) (served : List (List Action)) (before after : Option (List ℕ)) →
-    (report layers.http net first (tasks_of scenario) done).world ≡ run net first (actions_of net done) →
-    MatchResult lines (λ answer. ((report layers.http net first (tasks_of scenario) done).ending ≡ Whole) × Took before after (report_text scenario.site.nodes (report layers.http net first (tasks_of scenario) done).items))
-    (λ stop. StopsAs stop scenario.site.nodes (report layers.http net first (tasks_of scenario) done) before after) →
-    (served ≡ []) ⊎ ((is_ok lines ≡ true) × AreRequests net (report layers.http net first (tasks_of scenario) done).world served) → MayFollow layers scenario net done served
-follows lines layers scenario net done served before after leads told (inl none) = inl none
-follows (Ok answer) layers scenario net done served before after leads told (inr asked) = inr (record {
+follows : {T : Type 0} (lines : Result T Stop) (http : HttpTexts) (scenario : Scenario) (net : Network) (done : List Performed) (served : List (List Action)) (before after : Option (List ℕ)) →
+    (report http net first (tasks_of scenario) done).world ≡ run net first (actions_of net done) →
+    MatchResult lines (λ answer. ((report http net first (tasks_of scenario) done).ending ≡ Whole) × Took before after (report_text scenario.site.nodes (report http net first (tasks_of scenario) done).items))
+    (λ stop. StopsAs stop scenario.site.nodes (report http net first (tasks_of scenario) done) before after) →
+    (served ≡ []) ⊎ ((is_ok lines ≡ true) × AreRequests net (report http net first (tasks_of scenario) done).world served) → MayFollow http scenario net done served
+follows lines http scenario net done served before after leads told (inl none) = inl none
+follows (Ok answer) http scenario net done served before after leads told (inr asked) = inr (record {
   whole = told.0;
   nodes = asked.1.nodes;
   chains = subst (λ (w : World). AreChains net w 0 served) leads asked.1.chains;
   requests = asked.1.requests;
 })
-follows (Err stop) layers scenario net done served before after leads told (inr asked) = absurd (let wrong = asked.0 in cc)
+follows (Err stop) http scenario net done served before after leads told (inr asked) = absurd (let wrong = asked.0 in cc)
+
+-- what the sink took after the lines
+taken_behind : {T U : Type 0} (lines : Result T Stop) (result : Result U ServeStop) (between after : Option (List ℕ)) (text : List ℕ) →
+    MatchResult lines (λ done. IsLineTold (ended result) between after text) (λ stop. (result ≡ Err (Stopped stop)) × (after ≡ between)) → HasTaken between after
+taken_behind (Ok answer) (Ok done) between after text told = record { text = text; took = told }
+taken_behind (Ok answer) (Err Listen) between after text told = record { text = []; took = subst (λ (t : Option (List ℕ)). Took between t []) (sym told) (took_none between) }
+taken_behind (Ok answer) (Err (Stopped stops.WriteFault)) between after text told = record { text = told.0; took = told.3 }
+taken_behind (Ok answer) (Err (Stopped stops.Memory)) between after text told = record { text = told.0; took = told.3 }
+taken_behind (Ok answer) (Err (Stopped (stops.Forged line))) between after text told = absurd told
+taken_behind (Err stop) result between after text told = record { text = []; took = subst (λ (t : Option (List ℕ)). Took between t []) (sym told.1) (took_none between) }
 
 module _ {K Q E X D : Type 0} (is_honest : K → Bool) (content : K → List ℕ) (moment : K → ℕ) (image : K → ℕ → List ℕ → Type 0) (left : E → Option OctetSequence)
     (told : Q → Option OctetSequence) (frames : X → Option (List (List ℕ))) (counted : X → ℕ)
@@ -74,16 +86,17 @@ module _ {K Q E X D : Type 0} (is_honest : K → Bool) (content : K → List ℕ
       (ports_before ports_after : PortsTold D) (lines : Result T Stop) (result : Result U ServeStop)
       (tasks_lead : (http : HttpTexts) (net : Network) (workers : ℕ) (tasks : List Task) (done : List Performed) → IsNetwork net → IsRunOf http net workers first tasks done →
       (report http net first tasks done).world ≡ run net first (actions_of net done))
-      (bench_begins : (b : Bench K Q E X) (scenario : Scenario) (layers : Layers) (sources : Sources) → IsNew is_honest moment image left told frames b → IsDeclared scenario.site →
-      layers.sealing ≡ hop_sealing → AreKnown told b.devices.items sources.devices → AreKnown left b.entropies.items sources.entropies →
-      IsBenched layers sources scenario (network_on told left b scenario.site))
-      (bench_serves : (layers : Layers) (sources : Sources) (scenario : Scenario) (workers connections port : ℕ) (stop : headline.Stop) (seen : Seen) (old new : Bench K Q E X) (before after : Option (List ℕ))
+      (bench_begins : (b : Bench K Q E X) (scenario : Scenario) → IsNew is_honest moment image left told frames b → IsDeclared scenario.site → IsBenched scenario (network_on told left b scenario.site))
+      (bench_serves : (http : HttpTexts) (scenario : Scenario) (workers connections port : ℕ) (stop : headline.Stop) (old new : Bench K Q E X) (before after : Option (List ℕ))
       (done : List Performed) (served : List (List Action)) →
-      IsServedOver is_honest content moment image left told frames counted disk_count armed entropy_count device_count wire_count old new layers sources scenario (course_on told left old scenario done served) seen →
-      IsRunOf layers.http (network_on told left old scenario.site) workers first (tasks_of scenario) done → MayFollow layers scenario (network_on told left old scenario.site) done served →
-      IsServeTold stop scenario.site.nodes (report layers.http (network_on told left old scenario.site) first (tasks_of scenario) done)
+      IsOver is_honest content moment image left told frames counted disk_count armed entropy_count device_count wire_count old new scenario.site
+      (whole_run (course_on told left old scenario done served)) (last_world (course_on told left old scenario done served)) →
+      IsRunOf http (network_on told left old scenario.site) workers first (tasks_of scenario) done → MayFollow http scenario (network_on told left old scenario.site) done served →
+      IsServeTold stop scenario.site.nodes (report http (network_on told left old scenario.site) first (tasks_of scenario) done)
       (served_by (Serve workers connections port) (length scenario.site.nodes)) before after →
-      HeadlineOf (Serve workers connections port) stop layers sources scenario seen before after (course_on told left old scenario done served))
+      IsCut (headline.written_of (Serve workers connections port)) scenario.site.nodes http (network_on told left old scenario.site) first (tasks_of scenario) done before after →
+      HasHeadline moment image left told frames disk_count armed entropy_count device_count wire_count old new (Serve workers connections port) stop http scenario before after
+      (course_on told left old scenario done served))
       (fresh : IsNew is_honest moment image left told frames old) (declared : IsDeclared scenario.site)
       (ran : RanOut is_honest moment image left told frames counted disk_count armed entropy_count device_count wire_count old stayed workers scenario before between state lines)
       (ends : (net : Network) (w : World) →
@@ -93,24 +106,20 @@ module _ {K Q E X D : Type 0} (is_honest : K → Bool) (content : K → List ℕ
       (back : IsPutBack is_honest content moment image final stayed new) where
     pub headlines : HasServedHeadlines moment image left told frames disk_count armed entropy_count device_count wire_count tell failed told_ports old new ports_before ports_after workers connections port
         scenario before after (ended result)
-    headlines = λ layers sources seen sealing speaks reads devices entropies shows.
+    headlines = λ http speaks.
         let net = network_on told left old scenario.site in
-        let r = ran.ran layers.http speaks in
-        let p = report layers.http net first (tasks_of scenario) r.done in
+        let r = ran.ran http speaks in
+        let p = report http net first (tasks_of scenario) r.done in
         let actions = actions_of net r.done in
-        let benched = bench_begins old scenario layers sources fresh declared sealing devices entropies in
-        let leads : p.world ≡ run net first actions = tasks_lead layers.http net workers (tasks_of scenario) r.done benched.network r.is in
+        let benched = bench_begins old scenario fresh declared in
+        let leads : p.world ≡ run net first actions = tasks_lead http net workers (tasks_of scenario) r.done benched.network r.is in
         let e = ends net p.world (left_of state net p.world lines r.left) in
         let course : Course = course_on told left old scenario r.done e.served in
         let behind : List Action = flat_map (λ h. h) e.served in
         let last : run net p.world behind ≡ last_world course = ap (λ (w : World). run net w behind) {x = p.world} {y = run net first actions} leads ∙ sym (run-append net actions behind first) in
-        let over : IsServedOver is_honest content moment image left told frames counted disk_count armed entropy_count device_count wire_count old new layers sources scenario course seen = record {
+        let over : IsOver is_honest content moment image left told frames counted disk_count armed entropy_count device_count wire_count old new scenario.site (whole_run course) (last_world course) = record {
           fresh = fresh;
           declared = declared;
-          sealing = sealing;
-          reads = reads;
-          devices = devices;
-          entropies = entropies;
           ran = record {
             begin = ran.begin;
             end = final;
@@ -120,18 +129,15 @@ module _ {K Q E X D : Type 0} (is_honest : K → Bool) (content : K → List ℕ
             tallied = tallied_more disk_count armed entropy_count device_count wire_count net.site ran.begin state final actions behind r.tallied e.tallied;
             back = back;
           };
-          shows = shows;
         } in
         let count = served_by (Serve workers connections port) (length scenario.site.nodes) in
         let line = subst (λ (s : Declared). MatchResult lines (λ done. IsLineTold (ended result) between after (served_text (served_by (Serve workers connections port) (length s.nodes))))
         (λ stop. (result ≡ Err (Stopped stop)) × (after ≡ between))) ran.sited e.line in
-        let says = all_told scenario.site.nodes p count before between after lines result r.told line in
-        let all = bench_serves layers sources scenario workers connections port (ended result) seen old new before after r.done e.served over r.is
-        (follows lines layers scenario net r.done e.served before between leads r.told e.asked) says in
-        let ports : ServedBehind tell failed told_ports workers connections port scenario.site ports_before ports_after (ended result) net (run net first actions) e.served =
-        subst (λ (w : World). ServedBehind tell failed told_ports workers connections port scenario.site ports_before ports_after (ended result) net w e.served) leads
-        (subst (λ (s : Declared). ServedBehind tell failed told_ports workers connections port s ports_before ports_after (ended result) net p.world e.served) ran.sited e.ports) in (
-          all.0,
-          ap (λ (c : Course). c.net) {x = all.0.course} {y = course} all.1,
-          subst (λ (c : Course). ServedBy tell failed told_ports workers connections port scenario.site ports_before ports_after (ended result) c) (sym all.1) ports,
+        let says = all_told scenario.site.nodes p count before between after lines result r.told line in (
+          course,
+          bench_serves http scenario workers connections port (ended result) old new before after r.done e.served over r.is
+              (follows lines http scenario net r.done e.served before between leads r.told e.asked) says
+              (cut_more (λ (items : List NumberedItem). items) scenario.site.nodes http net first (tasks_of scenario) r.done before between after r.cut (taken_behind lines result between after _ line)),
+          subst (λ (w : World). ServedBehind tell failed told_ports workers connections port scenario.site ports_before ports_after (ended result) net w e.served) leads
+              (subst (λ (s : Declared). ServedBehind tell failed told_ports workers connections port s ports_before ports_after (ended result) net p.world e.served) ran.sited e.ports),
         )

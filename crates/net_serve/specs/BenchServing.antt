@@ -8,19 +8,16 @@ use Rattle.net_model.specs.World.{Network, World, first}
 use Rattle.net_model.specs.Action.{Action}
 use Rattle.net_model.specs.Step.{run}
 use Rattle.declared_site.specs.declared.site.Site.{Site as Declared}
-use Rattle.hop_frames.specs.Sealing.{hop_sealing}
 use Rattle.run_types.specs.declared.scenario.Scenario.{Scenario}
 use Rattle.run_http.specs.Speaking.{IsTextsOf}
 use Rattle.run_lines.specs.declared.stop.Stop.TheVariants as stops
-use Rattle.run_model.specs.Bench.{Layers, Sources, Seen}
+use Rattle.run_model.specs.Turn.{HttpTexts}
 use Rattle.run_model.specs.Course.{Serve, Course, lines_run}
 use Rattle.run_model.specs.Headline as headline
 use Rattle.kme_serve.specs.Door.{Door}
 use Rattle.kme_serve.specs.Doors.{PortsTold, ports_of, AreOpened, WereOpened}
 use Rattle.net_serve.specs.Served.{AreConnected}
-use Rattle.net_world.specs.New.{AreKnown, network_on}
-use Rattle.net_world.specs.Reading.{ReadsDisks}
-use Rattle.net_world.specs.Seen.{IsSeenOn}
+use Rattle.net_world.specs.Over.{HasHeadline}
 use Rattle.net_world.specs.declared.bench.Bench.{Bench}
 use Rattle.net_serve.specs.declared.stop.ServeStop.{ServeStop}
 use Rattle.net_serve.specs.declared.stop.ServeStop.TheVariants.{Stopped, Listen}
@@ -82,13 +79,12 @@ module _ {D : Type 0} (tell : D → Door) (failed : D → ℕ) (told : Type 0) (
   abbrev pub ServedBy : headline.Stop → Course → Type 0
   ServedBy stop c = ServedBehind stop c.net (run c.net first (lines_run c)) c.served
 
--- The headline holds of the run, which goes on with what connections asked, and of the ports. The premises are those of a run that isn't served.
+-- For all texts of HTTP that are the site's there is one course whose headline holds: it goes on with what connections asked. What became of the ports is told
+-- of the same course.
 abbrev pub HasServedHeadlines : {K Q E X D : Type 0} → (K → ℕ) → (K → ℕ → List ℕ → Type 0) → (E → Option OctetSequence) → (Q → Option OctetSequence) → (X → Option (List (List ℕ))) →
     (K → ℕ) → (K → Armings) → (E → ℕ) → (Q → ℕ) → (X → ℕ) → (tell : D → Door) → (failed : D → ℕ) → (told_ports : Type 0) → (old new : Bench K Q E X) → (ports_before ports_after : PortsTold D) →
     (workers connections port : ℕ) → Scenario → (before after : Option (List ℕ)) → headline.Stop → Type 0
 HasServedHeadlines moment image left told frames disk_count armed entropy_count device_count wire_count tell failed told_ports old new ports_before ports_after workers connections port scenario before after stop =
-    (layers : Layers) (sources : Sources) (seen : Seen) → layers.sealing ≡ hop_sealing → IsTextsOf scenario.site.nodes scenario.site.entitlements layers.http → ReadsDisks layers.batches →
-    AreKnown told old.devices.items sources.devices → AreKnown left old.entropies.items sources.entropies →
-    IsSeenOn moment image left frames disk_count armed entropy_count device_count wire_count old new seen →
-    (h : headline.Headline (Serve workers connections port) stop layers sources scenario seen before after) × (h.course.net ≡ network_on told left old scenario.site) ×
-    ServedBy tell failed told_ports workers connections port scenario.site ports_before ports_after stop h.course
+    (http : HttpTexts) → IsTextsOf scenario.site.nodes scenario.site.entitlements http →
+    (c : Course) × HasHeadline moment image left told frames disk_count armed entropy_count device_count wire_count old new (Serve workers connections port) stop http scenario before after c ×
+    ServedBy tell failed told_ports workers connections port scenario.site ports_before ports_after stop c

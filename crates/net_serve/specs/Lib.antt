@@ -3,7 +3,6 @@ pub mod Passes
 pub mod Asked
 pub mod Seats
 pub mod Served
-pub mod Over
 pub mod ServedRun
 pub mod Told
 pub mod BenchServing

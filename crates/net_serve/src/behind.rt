@@ -3,6 +3,7 @@ ghost use Rattle.std.specs.Prelude.{◌≡◌, ◌≤◌, Err, IsSome, Result, M
 ghost use Rattle.declared_site.specs.SiteOf.{IsDeclared};
 ghost use Rattle.net_model.specs.World.{Network, World};
 ghost use Rattle.kme_serve.specs.Doors.{HasRoom, IsListenFault};
+ghost use Rattle.kme_serve.specs.Endless.{endless};
 ghost use Rattle.run_types.specs.Texts.{served_text};
 ghost use Rattle.run_model.specs.Course.{Serve, served_by};
 ghost use Rattle.world_state.specs.Sized.{IsSized};
@@ -19,7 +20,7 @@ use crate::line::{connections_in_all, write_served};
 use crate::over::serve_nodes;
 use disk_model::Disk;
 use edge_io::{Listener, Ports, Sink};
-use kme_serve::ServeRefusal;
+use kme_serve::{Connections, ServeRefusal};
 use run_lines::Stop;
 use source_devices::{Device, Entropy, Wire};
 use std::alloc::Global;
@@ -43,7 +44,7 @@ pub(crate) fn serve_behind<
     lines: Result<(), Stop>,
     state: &mut State<K, Q, E, X>,
     workers: u32,
-    connections: u32,
+    connections: Connections,
     port: u16,
     sink: &mut W,
     ports: &mut P,
@@ -56,7 +57,7 @@ where
     requires declared { IsDeclared state.old.site }
     requires sized { IsSized state.old }
     requires workers { (1 ≤ workers) × (workers ≤ 32) }
-    requires connections { connections ≤ 10000 }
+    requires connections { connections ≤ endless }
     requires port { port ≤ 65520 }
     requires asked { HasRoom P.asked ports.old workers }
     requires back { HasRoom P.back ports.old workers }

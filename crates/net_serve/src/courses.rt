@@ -4,11 +4,11 @@ ghost use Rattle.net_model.specs.World.{Network, first};
 ghost use Rattle.net_model.specs.Action.{Action};
 ghost use Rattle.run_types.specs.declared.scenario.Scenario.{Scenario};
 ghost use Rattle.run_model.specs.Report.{Performed, IsRunOf};
-ghost use Rattle.run_model.specs.Bench.{Layers, Sources, Seen};
+ghost use Rattle.run_model.specs.Turn.{HttpTexts};
+ghost use Rattle.run_model.specs.Bench.{DiskBatches, Seen};
 ghost use Rattle.run_model.specs.Course.{Words, Serve, Course, tasks_of, served_by, whole_run, last_world, lines_played, IsCourseOf};
-ghost use Rattle.run_model.specs.Headline.{Stop, IsReported};
+ghost use Rattle.run_model.specs.Headline.{Stop, IsReported, Headline};
 ghost use Rattle.law_run.specs.Benched.{IsBenched};
-ghost use Rattle.law_run.specs.Headlines.{HeadlineOf};
 ghost use Rattle.law_run.specs.Seen.{IsSeen};
 ghost use Rattle.net_serve.specs.ServedRun.{course_of, MayFollow};
 ghost use Rattle.net_serve.specs.Told.{IsServeTold};
@@ -17,25 +17,25 @@ use law_run::{law_course_is_run, law_keys_of_a_course};
 
 /// What was done for the lines of a scenario, followed by what connections had each manager do, is a course of the scenario.
 pub fn law_served_lines_make_a_course()
-    ensures { (layers : Layers) (sources : Sources) (scenario : Scenario) (workers connections port : ℕ) (net : Network) (done : List Performed) (served : List (List Action)) →
-        IsBenched layers sources scenario net → IsRunOf layers.http net workers first (tasks_of scenario) done → MayFollow layers scenario net done served →
-        IsCourseOf (Serve workers connections port) layers sources scenario (course_of net done served) }
+    ensures { (http : HttpTexts) (scenario : Scenario) (workers connections port : ℕ) (net : Network) (done : List Performed) (served : List (List Action)) →
+        IsBenched scenario net → IsRunOf http net workers first (tasks_of scenario) done → MayFollow http scenario net done served →
+        IsCourseOf (Serve workers connections port) http scenario (course_of net done served) }
 {
     law_course_is_run();
 }
 
 /// The headline holds of a course if the sink and the bench's parts tell what they should.
 pub fn law_headline_of_a_course()
-    ensures { (words : Words) (stop : Stop) (layers : Layers) (sources : Sources) (scenario : Scenario) (c : Course) (seen : Seen) (old new : Option (List ℕ)) →
-        IsCourseOf words layers sources scenario c → IsReported words stop layers scenario c old new → IsSeen layers sources c.net (last_world c) (whole_run c) seen →
-        HeadlineOf words stop layers sources scenario seen old new c }
+    ensures { (words : Words) (stop : Stop) (http : HttpTexts) (reading : DiskBatches) (scenario : Scenario) (c : Course) (seen : Seen) (old new : Option (List ℕ)) →
+        IsCourseOf words http scenario c → IsReported words stop http scenario c old new → IsSeen reading c.net (last_world c) (whole_run c) seen →
+        Headline words stop http reading scenario seen old new c }
 {
     law_keys_of_a_course();
 }
 
 /// What the sink took of a scenario's lines, and of the line after them, is what the headline says of it, whatever connections asked for.
 pub fn law_reported_of_serve()
-    ensures { (workers connections port : ℕ) (stop : Stop) (layers : Layers) (scenario : Scenario) (c : Course) (old new : Option (List ℕ)) →
-        IsServeTold stop scenario.site.nodes (lines_played layers scenario c) (served_by (Serve workers connections port) (length scenario.site.nodes)) old new →
-        IsReported (Serve workers connections port) stop layers scenario c old new }
+    ensures { (workers connections port : ℕ) (stop : Stop) (http : HttpTexts) (scenario : Scenario) (c : Course) (old new : Option (List ℕ)) →
+        IsServeTold stop scenario.site.nodes (lines_played http scenario c) (served_by (Serve workers connections port) (length scenario.site.nodes)) old new →
+        IsReported (Serve workers connections port) stop http scenario c old new }
 {}

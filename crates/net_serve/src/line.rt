@@ -7,24 +7,26 @@ ghost use Rattle.net_serve.specs.Behind.{IsLineTold};
 ghost use Rattle.net_serve.specs.Lines.{IsServedLine};
 ghost use Rattle.net_serve.specs.BenchServing.{IsBlamed, ended};
 ghost use Rattle.net_serve.specs.declared.stop.ServeStop.TheVariants.{Listen};
+ghost use Rattle.kme_serve.specs.Endless.{endless};
 
 use crate::ServeStop;
 use declared_site::Site;
 use edge_io::{Failed, Sink};
+use kme_serve::Connections;
 use report_text::served_text;
 use run_lines::Stop;
 use std::alloc::Global;
 
 /// The number of connections if all are served: `workers` times `connections`, or 0 if there is no node.
-pub(crate) fn connections_in_all(site: &Site, workers: u32, connections: u32) -> u64
+pub(crate) fn connections_in_all(site: &Site, workers: u32, connections: Connections) -> u64
     requires workers { workers ≤ 32 }
-    requires connections { connections ≤ 10000 }
+    requires connections { connections ≤ endless }
     ensures { (port : ℕ) → result ≡ served_by (Serve workers connections port) (length site.now.nodes) }
 {
     if site.nodes.len() == 0 {
         0
     } else {
-        u64::from(workers) * u64::from(connections)
+        u64::from(workers) * connections.count()
     }
 }
 

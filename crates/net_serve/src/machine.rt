@@ -2,7 +2,6 @@
 ghost use Rattle.declared_site.specs.SiteOf.{site_of};
 ghost use Rattle.net_serve.specs.Serving.{IsRequestTo, TookRequest};
 
-use crate::putting::put;
 use crate::{Answered, ServedPost};
 use declared_site::Site;
 use disk_model::Disk;
@@ -10,6 +9,7 @@ use net_model::Event;
 use qkd_base::NodeNo;
 use source_devices::Entropy;
 use turnstile::Machine;
+use world_state::ask_if_up;
 
 impl<K: Disk + Drop, E: Entropy + Drop> Machine for ServedPost<K, E> {
     type Request = Event;
@@ -25,7 +25,7 @@ impl<K: Disk + Drop, E: Entropy + Drop> Machine for ServedPost<K, E> {
     ghost turns = { λ p event answered n. TookRequest K.is_honest K.moment K.image K.faults K.armings E.left E.faults p.node p.up p.post event (answered.event, answered.reply) n.up n.post };
 
     fn turn(&mut self, request: Event) -> Answered {
-        let reply = put(&mut self.post, &request, self.up);
+        let reply = ask_if_up(&mut self.post, &request, self.up);
         Answered {
             event: request,
             reply,

@@ -4,13 +4,14 @@ ghost use Rattle.declared_site.specs.SiteOf.{IsDeclared};
 ghost use Rattle.net_model.specs.World.{Network, World};
 ghost use Rattle.kme_serve.specs.Doors.{HasRoom, IsListenFault};
 ghost use Rattle.kme_serve.specs.declared.refusal.ServeRefusal.TheVariants as refusals;
+ghost use Rattle.kme_serve.specs.Endless.{endless};
 ghost use Rattle.world_state.specs.Stands.{Stands};
 ghost use Rattle.net_serve.specs.Behind.{IsServed, served_as};
 
 use crate::serve;
 use disk_model::Disk;
 use edge_io::{Listener, Ports};
-use kme_serve::{DoorRefusal, ServeRefusal, open_doors, shut_doors};
+use kme_serve::{Connections, DoorRefusal, ServeRefusal, open_doors, shut_doors};
 use source_devices::{Device, Entropy, Wire};
 use std::alloc::Global;
 use std::sync::Wait;
@@ -30,7 +31,7 @@ fn serve_over<
     alloc: Global,
     state: &mut State<K, Q, E, X>,
     workers: u32,
-    connections: u32,
+    connections: Connections,
     port: u16,
     ports: &mut P,
 ) -> Result<(), ServeRefusal>
@@ -42,7 +43,7 @@ where
     requires declared { IsDeclared state.old.site }
     requires some { 0 < length state.old.site.nodes }
     requires workers { (1 ≤ workers) × (workers ≤ 32) }
-    requires connections { connections ≤ 10000 }
+    requires connections { connections ≤ endless }
     requires port { port ≤ 65520 }
     requires asked { HasRoom P.asked ports.old workers }
     requires back { HasRoom P.back ports.old workers }
@@ -80,7 +81,7 @@ pub(crate) fn serve_nodes<
     alloc: Global,
     state: &mut State<K, Q, E, X>,
     workers: u32,
-    connections: u32,
+    connections: Connections,
     port: u16,
     ports: &mut P,
 ) -> Result<(), ServeRefusal>
@@ -91,7 +92,7 @@ where
     requires ready { (net : Network) × (w : World) × Stands K.is_honest K.moment K.image E.left Q.told X.frames X.counted state.old net w }
     requires declared { IsDeclared state.old.site }
     requires workers { (1 ≤ workers) × (workers ≤ 32) }
-    requires connections { connections ≤ 10000 }
+    requires connections { connections ≤ endless }
     requires port { port ≤ 65520 }
     requires asked { HasRoom P.asked ports.old workers }
     requires back { HasRoom P.back ports.old workers }

@@ -1,6 +1,6 @@
 -- What is seen of a bench after a run is what the run says.
 use Rattle.std.proofs.Common.{◌≡◌, ◌⊎◌, inl, inr, ℕ, ◌*◌, ◌<◌, ◌≤◌, Bool, false, List, [], ◌++◌, drop, refl, sym, ap, subst, ◌∙◌, arith, Option, Some, None}
-use Rattle.std.specs.Prelude.{slice_get}
+use Rattle.std.specs.Prelude.{slice_get, unwrap_or}
 use Rattle.std.proofs.lemmas.Bool.{lt-ltb}
 use Rattle.qkd_base.specs.declared.lane.Lane.{Lane}
 use Rattle.net_model.specs.declared.record.Record.{Record}
@@ -21,21 +21,21 @@ use Rattle.hop_frames.specs.Sealing.{hop_sealing}
 use Rattle.source_devices.specs.Telling.{IsRest}
 use Rattle.lane_sender.specs.Lane.{LaneForm}
 use Rattle.run_model.specs.Left.{wire_octets}
-use Rattle.run_model.specs.Bench.{Layers, Sources, Seen, Count, RoseBy, Arming, IsArmedWith}
+use Rattle.run_model.specs.Bench.{DiskBatches, Seen, Count, RoseBy, Arming, IsArmedWith}
 use Rattle.law_run.specs.Seen.{IsKept as IsGiven, IsSeen}
 use Rattle.world_state.specs.Passed.{Post, Off, disk_of, entropy_of}
 use Rattle.world_state.specs.Stands.{place_of}
 use Rattle.world_state.specs.Tallied.{Counted, PostTallied}
 use Rattle.world_state.specs.declared.state.State.{State}
 use Rattle.net_world.specs.Laid.{without_bytes, IsOnDisk}
-use Rattle.net_world.specs.New.{IsNew, network_on, AreKnown}
+use Rattle.net_world.specs.New.{IsNew, zeros, octets_of, network_on, AreKnown}
 use Rattle.net_world.specs.Reading.{ReadsDisks}
 use Rattle.net_world.specs.Seen.{counted_in, armings_of, armed_between, frames_on, MayLeave, IsSeenOn}
 use Rattle.net_world.specs.Ran.{HasRun}
 use Rattle.net_world.specs.declared.bench.Bench.{Bench}
 use Rattle.net_world.proofs.Lists.{some_is, mapped, there, within, all_at, at_take, in_front, behind}
 use Rattle.net_world.proofs.Back.{below_or_past, given_back, stayed_there, gives_back, stays_there}
-use Rattle.net_world.proofs.Networks.{is_network, known_is}
+use Rattle.net_world.proofs.Networks.{is_network}
 use Rattle.net_world.proofs.Firsts.{all_left, node_first}
 use Rattle.net_world.proofs.Images.{rest_gives}
 use Rattle.net_world.proofs.Shown.{seen_risen, seen_still, seen_armed, seen_unarmed}
@@ -216,7 +216,7 @@ module _ {K Q E X : Type 0} (is_honest : K → Bool) (content : K → List ℕ) 
 
   -- the disks of the nodes
 
-  disks_give : (batches : List ℕ → Option (List (List Record))) → ReadsDisks batches → (v : ℕ) → v < nodes → is_blank (w.journal v) ≡ false → (octets : List ℕ) →
+  disks_give : (batches : DiskBatches) → ReadsDisks batches → (v : ℕ) → v < nodes → is_blank (w.journal v) ≡ false → (octets : List ℕ) →
       MayLeave moment image (slice_get new.disks.items v) octets → (story : List (List Record)) × (batches octets ≡ Some story) × IsGiven net w v story
   disks_give batches reads v below started octets may =
       let n = node_back v below in
@@ -235,9 +235,12 @@ module _ {K Q E X : Type 0} (is_honest : K → Bool) (content : K → List ℕ) 
 
   -- the entropies of the nodes
 
-  still_left : (known now : ℕ → Option (List ℕ)) → AreKnown left old.entropies.items known → AreKnown left new.entropies.items now → (v : ℕ) (all rest : List ℕ) → known v ≡ Some all → now v ≡ Some rest →
+  told_of : (o : Option E) (part : E) (octets : List ℕ) → o ≡ Some part → left part ≡ Some (sequence_of octets) → octets_of left o ≡ sequence_of octets
+  told_of o part octets is tells = ap (octets_of left) is ∙ ap (λ (t : Option OctetSequence). unwrap_or t zeros) tells
+
+  still_left : (now : ℕ → Option (List ℕ)) → AreKnown left new.entropies.items now → (v : ℕ) (all rest : List ℕ) → net.entropy v ≡ sequence_of all → now v ≡ Some rest →
       IsRest (sequence_of all) (w.drawn v) (sequence_of rest)
-  still_left known now before after v all rest was is = by (below_or_past v nodes)
+  still_left now after v all rest was is = by (below_or_past v nodes)
     where
       by : (v < nodes) ⊎ (nodes ≤ v) → IsRest (sequence_of all) (w.drawn v) (sequence_of rest)
       by (inl below) =
@@ -247,27 +250,25 @@ module _ {K Q E X : Type 0} (is_honest : K → Bool) (content : K → List ℕ) 
           let part = after v rest is in
           let same : part.0 ≡ entropy_of n.post = some_is (sym part.1 ∙ n.has_entropy) in
           let left_is : e.rest ≡ sequence_of rest = some_is (sym e.tells ∙ ap left (sym same) ∙ part.2) in
-          subst (λ (t : OctetSequence). IsRest t (w.drawn v) (sequence_of rest)) (known_is left old.entropies.items known before v all was)
+          subst (λ (t : OctetSequence). IsRest t (w.drawn v) (sequence_of rest)) was
           (subst (λ (n : ℕ). IsRest (net.entropy v) n (sequence_of rest)) (sym at_rest.1.drawn)
           (subst (λ (t : OctetSequence). IsRest (net.entropy v) (at_rest.0.drawn v) t) left_is e.left))
       by (inr past) =
           let part = after v rest is in
-          let older = before v all was in
-          let same : part.0 ≡ older.0 = some_is (sym part.1 ∙ entropy_stays v past ∙ older.1) in
-          let told_is : sequence_of all ≡ sequence_of rest = some_is (sym older.2 ∙ ap left (sym same) ∙ part.2) in
+          let told_is : sequence_of all ≡ sequence_of rest = sym was ∙ told_of (slice_get old.entropies.items v) part.0 rest (sym (entropy_stays v past) ∙ part.1) part.2 in
           let drawn : w.drawn v ≡ 0 = ap (λ (x : World). x.drawn v) leads ∙ none_drawn net network v past actions may in
           subst (λ (n : ℕ). IsRest (sequence_of all) n (sequence_of rest)) (sym drawn)
           (subst (λ (t : OctetSequence). IsRest (sequence_of all) 0 t) told_is (all_left (sequence_of all)))
 
   -- all that is seen of the bench
 
-  pub is_seen : (layers : Layers) (sources : Sources) (seen : Seen) → ReadsDisks layers.batches → AreKnown left old.entropies.items sources.entropies →
-      IsSeenOn moment image left frames disk_count armed entropy_count device_count wire_count old new seen → IsSeen layers sources net w actions seen
-  is_seen layers sources seen reads known on = record {
+  pub is_seen : (reading : DiskBatches) (seen : Seen) → ReadsDisks reading → IsSeenOn moment image left frames disk_count armed entropy_count device_count wire_count old new seen →
+      IsSeen reading net w actions seen
+  is_seen reading seen reads on = record {
     wires = λ l all is. wires_hold l all (sym (on.wires l) ∙ is);
-    disks = λ v below started. disks_give layers.batches reads v below started (seen.disk v) (on.disks v);
+    disks = λ v below started. disks_give reading reads v below started (seen.disk v) (on.disks v);
     other_disks = λ v past. disks_empty v past (seen.disk v) (on.disks v);
-    left = λ v all rest was is. left_of all rest (w.drawn v) (still_left sources.entropies seen.entropy known on.entropies v all rest was is);
+    left = λ v all rest was is. left_of all rest (w.drawn v) (still_left seen.entropy on.entropies v all rest was is);
     disk_faults = λ v. subst (λ (c : Count). RoseBy c (disk_faults net.site v actions)) (sym (on.disk_counts v)) (disks_rose v);
     entropy_faults = λ v. subst (λ (c : Count). RoseBy c (entropy_faults v actions)) (sym (on.entropy_counts v)) (entropies_rose v);
     device_faults = λ link. subst (λ (c : Count). RoseBy c (device_faults link actions)) (sym (on.device_counts link)) (devices_rose link);

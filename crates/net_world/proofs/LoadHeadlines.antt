@@ -13,7 +13,6 @@ use Rattle.run_types.specs.declared.scenario.Scenario.{Scenario}
 use Rattle.run_model.specs.Turn.{HttpTexts}
 use Rattle.run_model.specs.Report.{Performed, IsRunOf, report, actions_of}
 use Rattle.run_model.specs.Load.{load_scenario}
-use Rattle.run_model.specs.Bench.{Layers, Sources, Seen}
 use Rattle.run_model.specs.Course.{Load, Course, tasks_of, lines_run, lines_played}
 use Rattle.run_model.specs.Headline as headline
 use Rattle.run_ops.specs.Acting.{IsReady}
@@ -22,6 +21,7 @@ use Rattle.run_lines.specs.declared.stop.Stop.TheVariants as stops
 use Rattle.law_run.specs.Benched.{lines_alone}
 use Rattle.law_run.specs.Handed.{enc_keys, dec_keys}
 use Rattle.run_tasks.specs.Loaded.{RanLoad}
+use Rattle.run_tasks.specs.Tasks.{IsCut}
 use Rattle.run_tasks.specs.Told as loads
 use Rattle.run_tasks.specs.Told.{IsLoadTold, IsLoadOver}
 use Rattle.world_state.specs.Rests.{Rests}
@@ -31,9 +31,9 @@ use Rattle.world_state.specs.declared.state.State.{State}
 use Rattle.world_state.proofs.Resting.{comes_to_rest}
 use Rattle.net_world.specs.Laid.{IsLaidOut, IsPutBack}
 use Rattle.net_world.specs.New.{IsNew, network_on}
-use Rattle.net_world.specs.Over.{IsOver, HeadlineOver}
+use Rattle.net_world.specs.Over.{IsOver, HasHeadline}
 use Rattle.net_world.specs.declared.bench.Bench.{Bench}
-use Rattle.net_world.proofs.Headlines.{over_network}
+use Rattle.net_world.proofs.Headlines.{over_benched}
 use Rattle.net_world.specs.Running.{ended, HasHeadlines}
 
 ends_alike : {T : Type 0} (result : Result T Stop) → loads.ended result ≡ ended result
@@ -59,47 +59,38 @@ module _ {K Q E X S : Type 0} (is_honest : K → Bool) (content : K → List ℕ
   rests_in s net w (Err stop) h = h
 
   pub headlines : {T : Type 0} (old stayed new : Bench K Q E X) (begin end : S) (scenario : Scenario) (rounds : ℕ) (before after : Option (List ℕ)) (result : Result T Stop) →
-      ((layers : Layers) (sources : Sources) (scenario : Scenario) (rounds : ℕ) (stop : headline.Stop) (seen : Seen) (old new : Bench K Q E X) (before after : Option (List ℕ)) (done : List Performed) →
+      ((http : HttpTexts) (scenario : Scenario) (rounds : ℕ) (stop : headline.Stop) (old new : Bench K Q E X) (before after : Option (List ℕ)) (done : List Performed) →
       scenario ≡ load_scenario rounds →
-      IsOver is_honest content moment image left told frames counted disk_count armed entropy_count device_count wire_count old new layers sources scenario done seen →
-      IsRunOf layers.http (network_on told left old scenario.site) 1 first (tasks_of scenario) done →
-      headline.IsReported (Load rounds) stop layers scenario (lines_alone (network_on told left old scenario.site) done) before after →
-      HeadlineOver told left old (Load rounds) stop layers sources scenario seen before after) →
-      ((layers : Layers) (scenario : Scenario) (rounds : ℕ) (c : Course) (stop : headline.Stop) (old new : Option (List ℕ)) → IsLoadOver layers scenario rounds c →
-      IsLoadTold stop scenario.site.nodes (lines_played layers scenario c) (enc_keys c.net first (lines_run c)) (dec_keys c.net first (lines_run c)) old new →
-      headline.IsReported (Load rounds) stop layers scenario c old new) →
+      IsOver is_honest content moment image left told frames counted disk_count armed entropy_count device_count wire_count old new scenario.site
+      (actions_of (network_on told left old scenario.site) done) (report http (network_on told left old scenario.site) first (tasks_of scenario) done).world →
+      IsRunOf http (network_on told left old scenario.site) 1 first (tasks_of scenario) done →
+      headline.IsReported (Load rounds) stop http scenario (lines_alone (network_on told left old scenario.site) done) before after →
+      IsCut (headline.written_of (Load rounds)) scenario.site.nodes http (network_on told left old scenario.site) first (tasks_of scenario) done before after →
+      HasHeadline moment image left told frames disk_count armed entropy_count device_count wire_count old new (Load rounds) stop http scenario before after
+      (lines_alone (network_on told left old scenario.site) done)) →
+      ((http : HttpTexts) (scenario : Scenario) (rounds : ℕ) (c : Course) (stop : headline.Stop) (old new : Option (List ℕ)) → IsLoadOver http scenario rounds c →
+      IsLoadTold stop scenario.site.nodes (lines_played http scenario c) (enc_keys c.net first (lines_run c)) (dec_keys c.net first (lines_run c)) old new →
+      headline.IsReported (Load rounds) stop http scenario c old new) →
       IsSealing hop_sealing → scenario ≡ load_scenario rounds →
       IsNew is_honest moment image left told frames old → IsDeclared scenario.site → IsLaidOut old stayed scenario.site (part begin) →
       ((http : HttpTexts) →
       RanLoad Standing Resting Counting scenario.site.nodes begin end before after http (network_on told left old scenario.site) first (tasks_of scenario) result) →
       IsPutBack is_honest content moment image (part end) stayed new →
-      HasHeadlines is_honest content moment image left told frames counted disk_count armed entropy_count device_count wire_count old new (Load rounds) scenario before after (ended result)
-  headlines old stayed new begin end scenario rounds before after result law reported frame_law is fresh declared laid ran back =
-      λ layers sources seen sealing speaks reads devices entropies shows.
+      HasHeadlines moment image left told frames disk_count armed entropy_count device_count wire_count old new (Load rounds) scenario before after (ended result)
+  headlines old stayed new begin end scenario rounds before after result law reported frame_law is fresh declared laid ran back = λ http speaks.
       let net = network_on told left old scenario.site in
-      let r = ran layers.http in
-      let over : IsOver is_honest content moment image left told frames counted disk_count armed entropy_count device_count wire_count old new layers sources scenario r.done seen = record {
+      let r = ran http in
+      let w = (report http net first (tasks_of scenario) r.done).world in
+      let over : IsOver is_honest content moment image left told frames counted disk_count armed entropy_count device_count wire_count old new scenario.site (actions_of net r.done) w = record {
         fresh = fresh;
         declared = declared;
-        sealing = sealing;
-        reads = reads;
-        devices = devices;
-        entropies = entropies;
-        ran = record {
-          begin = part begin;
-          end = part end;
-          stayed = stayed;
-          laid = laid;
-          rests = rests_in end net (report layers.http net first (tasks_of scenario) r.done).world result r.left;
-          tallied = r.tallied;
-          back = back;
-        };
-        shows = shows;
+        ran = record { begin = part begin; end = part end; stayed = stayed; laid = laid; rests = rests_in end net w result r.left; tallied = r.tallied; back = back };
       } in
-      let network = over_network is_honest content moment image left told frames counted disk_count armed entropy_count device_count wire_count old new layers sources scenario r.done seen
-      frame_law over in
-      let told_so = subst (λ (stop : headline.Stop). IsLoadTold stop scenario.site.nodes (report layers.http net first (tasks_of scenario) r.done)
-      (enc_keys net first (actions_of net r.done)) (dec_keys net first (actions_of net r.done)) before after) (ends_alike result) r.told in
-      law layers sources scenario rounds (ended result) seen old new before after r.done is over r.is
-      (reported layers scenario rounds (lines_alone net r.done) (ended result) before after
-      (record { scenario_is = is; network = network; lines = r.is; alone = refl }) told_so)
+      let benched = over_benched is_honest content moment image left told frames counted disk_count armed entropy_count device_count wire_count old new scenario (actions_of net r.done) w frame_law over in
+      let told_so = subst (λ (stop : headline.Stop). IsLoadTold stop scenario.site.nodes (report http net first (tasks_of scenario) r.done)
+      (enc_keys net first (actions_of net r.done)) (dec_keys net first (actions_of net r.done)) before after) (ends_alike result) r.told in (
+        lines_alone net r.done,
+        law http scenario rounds (ended result) old new before after r.done is over r.is
+            (reported http scenario rounds (lines_alone net r.done) (ended result) before after
+            (record { scenario_is = is; network = benched.network; lines = r.is; alone = refl }) told_so) r.cut,
+      )

@@ -2,7 +2,7 @@
 use Rattle.std.proofs.Common.{◌≡◌, ℕ, Bool, List, refl, sym, ap, ◌∙◌, arith, Option, Some, None}
 use Rattle.std.specs.Prelude.{slice_get, unwrap_or}
 use Rattle.std.specs.List.{All}
-use Rattle.net_model.specs.OctetSequence.{OctetSequence, sequence_of}
+use Rattle.net_model.specs.OctetSequence.{OctetSequence}
 use Rattle.net_model.specs.Premises.{IsOctetSequence, IsNetwork}
 use Rattle.net_model.specs.Sealing.{IsSealing}
 use Rattle.declared_site.specs.SiteOf.{IsDeclared}
@@ -10,9 +10,8 @@ use Rattle.declared_site.specs.declared.site.Site.{Site as Declared}
 use Rattle.declared_site.proofs.Sites.{is_site}
 use Rattle.hop_frames.specs.Sealing.{hop_sealing}
 use Rattle.run_types.specs.declared.scenario.Scenario.{Scenario}
-use Rattle.run_model.specs.Bench.{Layers, Sources, Tells}
 use Rattle.law_run.specs.Benched.{IsBenched}
-use Rattle.net_world.specs.New.{TellsOctets, IsNew, zeros, octets_of, network_on, AreKnown}
+use Rattle.net_world.specs.New.{TellsOctets, IsNew, zeros, octets_of, network_on}
 use Rattle.net_world.specs.declared.bench.Bench.{Bench}
 use Rattle.net_world.proofs.Lists.{all_at}
 
@@ -39,17 +38,6 @@ are_octets {T} told parts all n = of (slice_get parts n) (λ part at. all_at (λ
     of None h = zeros_are
     of (Some part) h = tells_octets (told part) (h part refl)
 
-known_tells : (o : Option (List ℕ)) (stream : OctetSequence) → ((octets : List ℕ) → o ≡ Some octets → stream ≡ sequence_of octets) → Tells o stream
-known_tells None stream h = tt
-known_tells (Some octets) stream h = h octets refl
-
-pub known_is : {T : Type 0} (told : T → Option OctetSequence) (parts : List T) (known : ℕ → Option (List ℕ)) → AreKnown told parts known → (n : ℕ) (octets : List ℕ) → known n ≡ Some octets →
-    octets_of told (slice_get parts n) ≡ sequence_of octets
-known_is told parts known h n octets is = let part = h n octets is in ap (octets_of told) part.1 ∙ ap (λ (o : Option OctetSequence). unwrap_or o zeros) part.2
-
-pub known_told : {T : Type 0} (told : T → Option OctetSequence) (parts : List T) (known : ℕ → Option (List ℕ)) → AreKnown told parts known → (n : ℕ) → Tells (known n) (octets_of told (slice_get parts n))
-known_told told parts known h n = known_tells (known n) (octets_of told (slice_get parts n)) (λ octets is. known_is told parts known h n octets is)
-
 module _ {K Q E X : Type 0} (is_honest : K → Bool) (moment : K → ℕ) (image : K → ℕ → List ℕ → Type 0) (left : E → Option OctetSequence) (told : Q → Option OctetSequence)
     (frames : X → Option (List (List ℕ))) (b : Bench K Q E X) (new : IsNew is_honest moment image left told frames b) where
   pub is_network : (site : Declared) → IsDeclared site → IsSealing hop_sealing → IsNetwork (network_on told left b site)
@@ -60,12 +48,5 @@ module _ {K Q E X : Type 0} (is_honest : K → Bool) (moment : K → ℕ) (image
     entropies = λ v. are_octets left b.entropies.items new.entropies v;
   }
 
-  pub is_benched : (scenario : Scenario) → IsDeclared scenario.site → IsSealing hop_sealing → (layers : Layers) → layers.sealing ≡ hop_sealing → (sources : Sources) →
-      AreKnown told b.devices.items sources.devices → AreKnown left b.entropies.items sources.entropies → IsBenched layers sources scenario (network_on told left b scenario.site)
-  is_benched scenario declared sealing layers same sources devices entropies = record {
-    network = is_network scenario.site declared sealing;
-    site = refl;
-    sealing = sym same;
-    devices = λ link. known_told told b.devices.items sources.devices devices link;
-    entropies = λ v. known_told left b.entropies.items sources.entropies entropies v;
-  }
+  pub is_benched : (scenario : Scenario) → IsDeclared scenario.site → IsSealing hop_sealing → IsBenched scenario (network_on told left b scenario.site)
+  is_benched scenario declared sealing = record { network = is_network scenario.site declared sealing; site = refl }

@@ -12,14 +12,14 @@ use Rattle.run_types.specs.Texts.{report_text}
 use Rattle.run_model.specs.Turn.{HttpTexts}
 use Rattle.run_model.specs.Play.{Played, Whole}
 use Rattle.run_model.specs.Report.{Task, Performed, IsRunOf, report, actions_of}
-use Rattle.run_model.specs.Bench.{Layers, Sources, Seen}
 use Rattle.run_model.specs.Course.{Run, tasks_of}
 use Rattle.run_model.specs.Headline as headline
 use Rattle.run_ops.specs.Acting.{IsReady}
 use Rattle.run_lines.specs.Running.{StopsAs, IsReadySomewhere}
-use Rattle.run_tasks.specs.Tasks.{RanTasks}
+use Rattle.run_tasks.specs.Tasks.{IsCut, RanTasks}
 use Rattle.run_lines.specs.declared.stop.Stop.{Stop}
 use Rattle.run_lines.specs.declared.stop.Stop.TheVariants as stops
+use Rattle.law_run.specs.Benched.{lines_alone}
 use Rattle.law_run.specs.Seen.{IsTold}
 use Rattle.run_http.specs.Speaking.{IsTextsOf}
 use Rattle.world_state.specs.Rests.{Rests}
@@ -29,7 +29,7 @@ use Rattle.world_state.specs.declared.state.State.{State}
 use Rattle.world_state.proofs.Resting.{comes_to_rest}
 use Rattle.net_world.specs.Laid.{IsLaidOut, IsPutBack}
 use Rattle.net_world.specs.New.{IsNew, network_on}
-use Rattle.net_world.specs.Over.{IsOver, HeadlineOver}
+use Rattle.net_world.specs.Over.{IsOver, HasHeadline}
 use Rattle.net_world.specs.declared.bench.Bench.{Bench}
 use Rattle.net_world.specs.Running.{ended, HasHeadlines}
 
@@ -71,6 +71,7 @@ module _ {K Q E X S : Type 0} (is_honest : K → Bool) (content : K → List ℕ
     tallied = subst (λ (s : State K Q E X). Tallied disk_count armed entropy_count device_count wire_count b s net.site (actions_of net r.done)) ends
         (subst (λ (s : State K Q E X). Tallied disk_count armed entropy_count device_count wire_count s (part end) net.site (actions_of net r.done)) begins r.tallied);
     told = r.told;
+    cut = r.cut;
   }
 
   -- if the run came to its end, the state stands for some network and world
@@ -84,36 +85,36 @@ module _ {K Q E X S : Type 0} (is_honest : K → Bool) (content : K → List ℕ
   rests_in s net w (Err stop) h = h
 
   pub headlines : {T : Type 0} (old stayed new : Bench K Q E X) (begin end : S) (scenario : Scenario) (workers : ℕ) (before after : Option (List ℕ)) (result : Result T Stop) →
-      ((layers : Layers) (sources : Sources) (scenario : Scenario) (workers : ℕ) (stop : headline.Stop) (seen : Seen) (old new : Bench K Q E X) (before after : Option (List ℕ)) (done : List Performed) →
-      IsOver is_honest content moment image left told frames counted disk_count armed entropy_count device_count wire_count old new layers sources scenario done seen →
-      IsRunOf layers.http (network_on told left old scenario.site) workers first (tasks_of scenario) done →
-      IsTold stop scenario.site.nodes (report layers.http (network_on told left old scenario.site) first (tasks_of scenario) done) before after →
-      HeadlineOver told left old (Run workers) stop layers sources scenario seen before after) →
+      ((http : HttpTexts) (scenario : Scenario) (workers : ℕ) (stop : headline.Stop) (old new : Bench K Q E X) (before after : Option (List ℕ)) (done : List Performed) →
+      IsOver is_honest content moment image left told frames counted disk_count armed entropy_count device_count wire_count old new scenario.site
+      (actions_of (network_on told left old scenario.site) done) (report http (network_on told left old scenario.site) first (tasks_of scenario) done).world →
+      IsRunOf http (network_on told left old scenario.site) workers first (tasks_of scenario) done →
+      IsTold stop scenario.site.nodes (report http (network_on told left old scenario.site) first (tasks_of scenario) done) before after →
+      IsCut (headline.written_of (Run workers)) scenario.site.nodes http (network_on told left old scenario.site) first (tasks_of scenario) done before after →
+      HasHeadline moment image left told frames disk_count armed entropy_count device_count wire_count old new (Run workers) stop http scenario before after
+      (lines_alone (network_on told left old scenario.site) done)) →
       IsNew is_honest moment image left told frames old → IsDeclared scenario.site → IsLaidOut old stayed scenario.site (part begin) →
       ((http : HttpTexts) → IsTextsOf scenario.site.nodes scenario.site.entitlements http →
       RanTasks Standing Resting Told scenario.site.nodes begin end before after http (network_on told left old scenario.site) workers first (tasks_of scenario) result) →
       IsPutBack is_honest content moment image (part end) stayed new →
-      HasHeadlines is_honest content moment image left told frames counted disk_count armed entropy_count device_count wire_count old new (Run workers) scenario before after (ended result)
-  headlines old stayed new begin end scenario workers before after result law fresh declared laid ran back = λ layers sources seen sealing speaks reads devices entropies shows.
+      HasHeadlines moment image left told frames disk_count armed entropy_count device_count wire_count old new (Run workers) scenario before after (ended result)
+  headlines old stayed new begin end scenario workers before after result law fresh declared laid ran back = λ http speaks.
       let net = network_on told left old scenario.site in
-      let r = ran layers.http speaks in
-      law layers sources scenario workers (ended result) seen old new before after r.done
-      record {
-        fresh = fresh;
-        declared = declared;
-        sealing = sealing;
-        reads = reads;
-        devices = devices;
-        entropies = entropies;
-        ran = record {
-          begin = part begin;
-          end = part end;
-          stayed = stayed;
-          laid = laid;
-          rests = rests_in end net (report layers.http net first (tasks_of scenario) r.done).world result r.left;
-          tallied = r.tallied;
-          back = back;
-        };
-        shows = shows;
-      }
-      r.is (told_of result scenario.site.nodes (report layers.http net first (tasks_of scenario) r.done) before after r.told)
+      let r = ran http speaks in (
+        lines_alone net r.done,
+        law http scenario workers (ended result) old new before after r.done
+            (record {
+              fresh = fresh;
+              declared = declared;
+              ran = record {
+                begin = part begin;
+                end = part end;
+                stayed = stayed;
+                laid = laid;
+                rests = rests_in end net (report http net first (tasks_of scenario) r.done).world result r.left;
+                tallied = r.tallied;
+                back = back;
+              };
+            })
+            r.is (told_of result scenario.site.nodes (report http net first (tasks_of scenario) r.done) before after r.told) r.cut,
+      )

@@ -15,8 +15,8 @@ use Rattle.run_types.specs.Texts.{report_text}
 use Rattle.run_model.specs.Turn.{HttpTexts}
 use Rattle.run_model.specs.Play.{Played, Whole}
 use Rattle.run_model.specs.Report.{Task, Performed, IsRunOf, report, actions_of}
-use Rattle.run_model.specs.Bench.{Layers, Sources, Seen}
-use Rattle.run_model.specs.Course.{Run, Course, tasks_of, last_world, lines_played}
+use Rattle.run_model.specs.Bench.{DiskBatches, Seen}
+use Rattle.run_model.specs.Course.{Run, Course, tasks_of, last_world}
 use Rattle.run_model.specs.Headline as headline
 use Rattle.run_model.specs.Headline.{Took, TookFirst}
 use Rattle.run_ops.specs.Acting.{IsReady}
@@ -25,7 +25,6 @@ use Rattle.run_lines.specs.Running.{StopsAs}
 use Rattle.run_lines.specs.declared.stop.Stop.{Stop}
 use Rattle.run_lines.specs.declared.stop.Stop.TheVariants as stops
 use Rattle.law_run.specs.Benched.{IsBenched, lines_alone}
-use Rattle.law_run.specs.Headlines.{HeadlineOf}
 use Rattle.law_run.specs.Seen.{IsTold, IsSeen}
 use Rattle.net_world.specs.Other.{EveryKeyFits}
 use Rattle.world_state.specs.Rests.{Rests}
@@ -36,7 +35,7 @@ use Rattle.net_world.specs.Laid.{IsPutBack}
 use Rattle.net_world.specs.New.{IsNew, network_on}
 use Rattle.net_world.specs.Over.{IsOver}
 use Rattle.net_world.specs.declared.bench.Bench.{Bench}
-use Rattle.net_world.proofs.Headlines.{over_network, over_benched, over_seen}
+use Rattle.net_world.proofs.Headlines.{over_benched, over_seen}
 use Rattle.net_world.specs.Running.{RanOut, ended}
 use Rattle.net_world.specs.Lanes.{AreLanes, veil_line, Tells}
 use Rattle.net_world.specs.Veiling.{Ends, IsVeilTold, HasVeiled}
@@ -107,49 +106,48 @@ module _ {K Q E X : Type 0} (is_honest : K → Bool) (content : K → List ℕ) 
       (tasks_run : (http : HttpTexts) (net : Network) (workers : ℕ) (tasks : List Task) (done : List Performed) → IsNetwork net → IsRunOf http net workers first tasks done → IsRun net first (actions_of net done))
       (tasks_lead : (http : HttpTexts) (net : Network) (workers : ℕ) (tasks : List Task) (done : List Performed) → IsNetwork net → IsRunOf http net workers first tasks done →
       (report http net first tasks done).world ≡ run net first (actions_of net done))
-      (headline_law : (layers : Layers) (sources : Sources) (scenario : Scenario) (workers : ℕ) (stop : headline.Stop) (seen : Seen) (old new : Option (List ℕ)) (net : Network) (done : List Performed) →
-      IsBenched layers sources scenario net → IsRunOf layers.http net workers first (tasks_of scenario) done →
-      IsTold stop scenario.site.nodes (report layers.http net first (tasks_of scenario) done) old new →
-      IsSeen layers sources net (report layers.http net first (tasks_of scenario) done).world (actions_of net done) seen →
-      HeadlineOf (Run workers) stop layers sources scenario seen old new (lines_alone net done))
-      (whole_law : (layers : Layers) (sources : Sources) (scenario : Scenario) (workers : ℕ) (net : Network) (done : List Performed) → IsBenched layers sources scenario net →
-      IsRunOf layers.http net workers first (tasks_of scenario) done →
-      (report layers.http net first (tasks_of scenario) done).world ≡ last_world (lines_alone net done))
+      (headline_law : (http : HttpTexts) (scenario : Scenario) (workers : ℕ) (stop : headline.Stop) (reading : DiskBatches) (seen : Seen) (old new : Option (List ℕ)) (net : Network) (done : List Performed) →
+      IsBenched scenario net → IsRunOf http net workers first (tasks_of scenario) done →
+      IsTold stop scenario.site.nodes (report http net first (tasks_of scenario) done) old new →
+      IsSeen reading net (report http net first (tasks_of scenario) done).world (actions_of net done) seen →
+      headline.Headline (Run workers) stop http reading scenario seen old new (lines_alone net done))
+      (whole_law : (http : HttpTexts) (scenario : Scenario) (workers : ℕ) (net : Network) (done : List Performed) → IsBenched scenario net → IsRunOf http net workers first (tasks_of scenario) done →
+      (report http net first (tasks_of scenario) done).world ≡ last_world (lines_alone net done))
       (fit_law : (net : Network) (w : World) → IsNetwork net → Conserved net w → net.sealing ≡ hop_sealing → EveryKeyFits net w)
       (fresh : IsNew is_honest moment image left told frames old) (declared : IsDeclared scenario.site)
       (ran : RanOut is_honest moment image left told frames counted disk_count armed entropy_count device_count wire_count old stayed 1 scenario None None state result)
       (back : IsPutBack is_honest content moment image state stayed new) (calm : result ≡ Err stops.WriteFault → ⊥)
       (ends : (net : Network) (w : World) → OnOk result (Stands is_honest moment image left told frames counted state net w) → Ends taken result (veil_line net w) before after final) where
     pub veiled : HasVeiled moment image left told frames disk_count armed entropy_count device_count wire_count taken old new scenario before after (ended final)
-    veiled layers sources seen sealing speaks reads devices entropies shows =
+    veiled http speaks =
         let net = network_on told left old scenario.site in
-        let r = ran.ran layers.http speaks in
-        let p = report layers.http net first (tasks_of scenario) r.done in
+        let r = ran.ran http speaks in
+        let actions = actions_of net r.done in
+        let p = report http net first (tasks_of scenario) r.done in
         let rests = rests_in state net p.world result r.left in
-        let over : IsOver is_honest content moment image left told frames counted disk_count armed entropy_count device_count wire_count old new layers sources scenario r.done seen = record {
+        let over : IsOver is_honest content moment image left told frames counted disk_count armed entropy_count device_count wire_count old new scenario.site actions p.world = record {
           fresh = fresh;
           declared = declared;
-          sealing = sealing;
-          reads = reads;
-          devices = devices;
-          entropies = entropies;
           ran = record { begin = ran.begin; end = state; stayed = stayed; laid = ran.laid; rests = rests; tallied = r.tallied; back = back };
-          shows = shows;
         } in
-        let network = over_network is_honest content moment image left told frames counted disk_count armed entropy_count device_count wire_count old new layers sources scenario r.done seen frame_law over in
-        let benched = over_benched is_honest content moment image left told frames counted disk_count armed entropy_count device_count wire_count old new layers sources scenario r.done seen frame_law over in
-        let sees = over_seen is_honest content moment image left told frames counted disk_count armed entropy_count device_count wire_count old new layers sources scenario r.done seen frame_law over
-        (tasks_run layers.http net 1 (tasks_of scenario) r.done network r.is) (tasks_lead layers.http net 1 (tasks_of scenario) r.done network r.is) in
+        let benched = over_benched is_honest content moment image left told frames counted disk_count armed entropy_count device_count wire_count old new scenario actions p.world frame_law over in
+        let sees = over_seen is_honest content moment image left told frames counted disk_count armed entropy_count device_count wire_count old new scenario actions p.world frame_law over
+        (tasks_run http net 1 (tasks_of scenario) r.done benched.network r.is) (tasks_lead http net 1 (tasks_of scenario) r.done benched.network r.is) in
         let end : Ends taken result (veil_line net p.world) before after final = ends net p.world (stands_of net p.world result r.left) in
-        let all = headline_law layers sources scenario 1 (ended final) seen None None net r.done benched r.is (told_none taken result scenario.site.nodes p (veil_line net p.world) before after final r.told end) sees in
-        let leads : last_world (lines_alone net r.done) ≡ p.world = sym (whole_law layers sources scenario 1 net r.done benched r.is) in
-        let fits : EveryKeyFits net p.world = fit_law net p.world network rests.running.conserved rests.running.sealing in
-        record {
-          run = (all.0, ap (λ (c : Course). c.net) all.1);
-          fits = subst (λ (c : Course). EveryKeyFits c.net (last_world c)) (sym all.1) (subst (λ (w : World). EveryKeyFits net w) (sym leads) fits);
-          line = subst (λ (c : Course). IsVeilTold taken (ended final) (lines_played layers scenario c).ending c before after) (sym all.1)
-              (line_told taken result scenario.site.nodes p net p.world (lines_alone net r.done) before after final refl leads calm r.told end);
-        }
+        let leads : last_world (lines_alone net r.done) ≡ p.world = sym (whole_law http scenario 1 net r.done benched r.is) in
+        let fits : EveryKeyFits net p.world = fit_law net p.world benched.network rests.running.conserved rests.running.sealing in (
+          lines_alone net r.done,
+          record {
+            run = record {
+              net = refl;
+              holds = λ reading seen reads shows. headline_law http scenario 1 (ended final) reading seen None None net r.done benched r.is
+                  (told_none taken result scenario.site.nodes p (veil_line net p.world) before after final r.told end) (sees reading seen reads shows);
+              cut = r.cut;
+            };
+            fits = subst (λ (w : World). EveryKeyFits net w) (sym leads) fits;
+            line = line_told taken result scenario.site.nodes p net p.world (lines_alone net r.done) before after final refl leads calm r.told end;
+          },
+        )
       where
         stands_of : {T : Type 0} (net : Network) (w : World) (result : Result T Stop) →
             MatchResult result (λ answer. IsReady (Stands is_honest moment image left told frames counted) state net w) (λ stop. Rests is_honest moment image left told frames counted state net w) →

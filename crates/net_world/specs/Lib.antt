@@ -10,3 +10,5 @@ pub mod Veiled
 pub mod Frame
 pub mod Lanes
 pub mod Veiling
+pub mod Shown
+pub mod Asking

@@ -1,39 +1,39 @@
--- What a scenario's tasks did over a new bench.
+-- Actions that were done over a new bench, and the headline of their course.
 use Rattle.std.specs.Prelude.{◌≡◌, ℕ, Bool, List, Option}
 use Rattle.net_model.specs.OctetSequence.{OctetSequence}
-use Rattle.net_model.specs.World.{first}
+use Rattle.net_model.specs.World.{World, first}
+use Rattle.net_model.specs.Action.{Action}
 use Rattle.declared_site.specs.SiteOf.{IsDeclared}
+use Rattle.declared_site.specs.declared.site.Site.{Site as Declared}
 use Rattle.disk_model.specs.declared.arm.Armings.{Armings}
-use Rattle.hop_frames.specs.Sealing.{hop_sealing}
 use Rattle.run_types.specs.declared.scenario.Scenario.{Scenario}
-use Rattle.run_model.specs.Report.{Performed, report, actions_of}
-use Rattle.run_model.specs.Bench.{Layers, Sources, Seen}
-use Rattle.run_model.specs.Course.{Words, tasks_of}
-use Rattle.run_model.specs.Headline.{Stop, Headline}
-use Rattle.net_world.specs.New.{IsNew, network_on, AreKnown}
+use Rattle.run_model.specs.Turn.{HttpTexts}
+use Rattle.run_model.specs.Bench.{DiskBatches, Seen}
+use Rattle.run_model.specs.Course.{Words, Course, tasks_of}
+use Rattle.run_model.specs.Headline.{Stop, written_of, Headline}
+use Rattle.run_tasks.specs.Tasks.{IsCut}
+use Rattle.net_world.specs.New.{IsNew, network_on}
 use Rattle.net_world.specs.Reading.{ReadsDisks}
 use Rattle.net_world.specs.Seen.{IsSeenOn}
 use Rattle.net_world.specs.Ran.{HasRun}
 use Rattle.net_world.specs.declared.bench.Bench.{Bench}
 
--- Frames are hop frames, and the batches of a disk are read from it. What is known of devices and entropies is what they tell, and what is seen after the run
--- is what the bench's parts show.
+-- the bench was new, and the actions were done in the network over its parts
 pub record IsOver {K Q E X : Type 0} (is_honest : K → Bool) (content : K → List ℕ) (moment : K → ℕ) (image : K → ℕ → List ℕ → Type 0) (left : E → Option OctetSequence)
     (told : Q → Option OctetSequence) (frames : X → Option (List (List ℕ))) (counted : X → ℕ)
     (disk_count : K → ℕ) (armed : K → Armings) (entropy_count : E → ℕ) (device_count : Q → ℕ) (wire_count : X → ℕ)
-    (old new : Bench K Q E X) (layers : Layers) (sources : Sources) (scenario : Scenario) (done : List Performed) (seen : Seen) : Type 0 where
+    (old new : Bench K Q E X) (site : Declared) (actions : List Action) (w : World) : Type 0 where
   pub fresh : IsNew is_honest moment image left told frames old
-  pub declared : IsDeclared scenario.site
-  pub sealing : layers.sealing ≡ hop_sealing
-  pub reads : ReadsDisks layers.batches
-  pub devices : AreKnown told old.devices.items sources.devices
-  pub entropies : AreKnown left old.entropies.items sources.entropies
-  pub ran : HasRun is_honest content moment image left told frames counted disk_count armed entropy_count device_count wire_count old new scenario.site (network_on told left old scenario.site)
-      (actions_of (network_on told left old scenario.site) done) (report layers.http (network_on told left old scenario.site) first (tasks_of scenario) done).world
-  pub shows : IsSeenOn moment image left frames disk_count armed entropy_count device_count wire_count old new seen
+  pub declared : IsDeclared site
+  pub ran : HasRun is_honest content moment image left told frames counted disk_count armed entropy_count device_count wire_count old new site (network_on told left old site) actions w
 
--- The headline holds, for a run over what the bench's parts told.
-abbrev pub HeadlineOver : {K Q E X : Type 0} → (told : Q → Option OctetSequence) → (left : E → Option OctetSequence) → (old : Bench K Q E X) →
-    Words → Stop → Layers → Sources → Scenario → Seen → (before after : Option (List ℕ)) → Type 0
-HeadlineOver told left old words stop layers sources scenario seen before after =
-    (h : Headline words stop layers sources scenario seen before after) × (h.course.net ≡ network_on told left old scenario.site)
+-- The course is a run over what the bench's parts told. Its headline holds for whatever is seen of the bench afterwards, if the batches of a disk are read from
+-- it.
+pub record HasHeadline {K Q E X : Type 0} (moment : K → ℕ) (image : K → ℕ → List ℕ → Type 0) (left : E → Option OctetSequence) (told : Q → Option OctetSequence)
+    (frames : X → Option (List (List ℕ))) (disk_count : K → ℕ) (armed : K → Armings) (entropy_count : E → ℕ) (device_count : Q → ℕ) (wire_count : X → ℕ)
+    (old new : Bench K Q E X) (words : Words) (stop : Stop) (http : HttpTexts) (scenario : Scenario) (before after : Option (List ℕ)) (c : Course) : Type 0 where
+  pub net : c.net ≡ network_on told left old scenario.site
+  pub holds : (reading : DiskBatches) (seen : Seen) → ReadsDisks reading → IsSeenOn moment image left frames disk_count armed entropy_count device_count wire_count old new seen →
+      Headline words stop http reading scenario seen before after c
+  -- where the run was cut, only items of the last task that was done may be missing
+  pub cut : IsCut (written_of words) scenario.site.nodes http c.net first (tasks_of scenario) c.done before after

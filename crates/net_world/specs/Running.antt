@@ -1,17 +1,14 @@
 -- The result of a scenario that is run over a bench.
-use Rattle.std.specs.Prelude.{◌≡◌, ℕ, Bool, List, [], Option, Result, Ok, Err}
+use Rattle.std.specs.Prelude.{◌≡◌, ℕ, Bool, List, Option, Result, Ok, Err}
 use Rattle.net_model.specs.OctetSequence.{OctetSequence}
 use Rattle.net_model.specs.World.{first}
 use Rattle.disk_model.specs.declared.arm.Armings.{Armings}
-use Rattle.hop_frames.specs.Sealing.{hop_sealing}
 use Rattle.run_types.specs.declared.scenario.Scenario.{Scenario}
 use Rattle.run_model.specs.Turn.{HttpTexts}
-use Rattle.run_model.specs.Bench.{Layers, Sources, Seen}
-use Rattle.run_model.specs.Course.{Words, tasks_of}
+use Rattle.run_model.specs.Course.{Words, Course, tasks_of}
 use Rattle.run_model.specs.Headline as headline
 use Rattle.run_lines.specs.declared.stop.Stop.{Stop}
 use Rattle.run_lines.specs.declared.stop.Stop.TheVariants as stops
-use Rattle.run_lines.specs.Reporting.{IsPart, TookLines}
 use Rattle.run_tasks.specs.Tasks.{RanTasks}
 use Rattle.run_http.specs.Speaking.{IsTextsOf}
 use Rattle.world_state.specs.Rests.{Rests}
@@ -19,10 +16,8 @@ use Rattle.world_state.specs.Stands.{Stands}
 use Rattle.world_state.specs.Tallied.{Tallied}
 use Rattle.world_state.specs.declared.state.State.{State}
 use Rattle.net_world.specs.Laid.{IsLaidOut, HasRoomFor}
-use Rattle.net_world.specs.New.{AreKnown, network_on}
-use Rattle.net_world.specs.Over.{HeadlineOver}
-use Rattle.net_world.specs.Reading.{ReadsDisks}
-use Rattle.net_world.specs.Seen.{IsSeenOn}
+use Rattle.net_world.specs.New.{network_on}
+use Rattle.net_world.specs.Over.{HasHeadline}
 use Rattle.net_world.specs.declared.bench.Bench.{Bench}
 use Rattle.world_state.specs.Sized.{IsSized}
 
@@ -32,11 +27,6 @@ ended (Ok done) = headline.Done
 ended (Err stops.WriteFault) = headline.WriteFault
 ended (Err stops.Memory) = headline.Memory
 ended (Err (stops.Forged line)) = headline.ForgedMatch line
-
--- The sink took each line as one piece, in order, and no other piece. If the run did not end as `Done`, the first part of one more line may follow.
-abbrev pub IsInLines : {S : Type 0} → (S → Option (List ℕ)) → (S → Option (List (List ℕ))) → (List ℕ → Type 0) → (old new : S) → headline.Stop → Type 0
-IsInLines taken pieces IsLine old new headline.Done = TookLines taken pieces IsLine old new []
-IsInLines taken pieces IsLine old new _ = (part : List ℕ) × IsPart IsLine part × TookLines taken pieces IsLine old new part
 
 -- memory ran out before the first line, and bench and sink are as they were
 pub record WasLeft {K Q E X W T : Type 0} (old new : Bench K Q E X) (before after : W) (result : Result T Stop) : Type 0 where
@@ -59,12 +49,9 @@ pub record RanOut {K Q E X T : Type 0} (is_honest : K → Bool) (moment : K → 
   pub sited : state.site ≡ scenario.site
   pub room : HasRoomFor stayed state
 
--- The headline holds of the run, over what the bench's parts told, for whatever is known of their octets and whatever is seen of them afterwards. Premises:
--- frames are hop frames, requests over HTTP have the site's texts, and the batches of a disk are read from it.
-abbrev pub HasHeadlines : {K Q E X : Type 0} → (K → Bool) → (K → List ℕ) → (K → ℕ) → (K → ℕ → List ℕ → Type 0) → (E → Option OctetSequence) → (Q → Option OctetSequence) → (X → Option (List (List ℕ))) → (X → ℕ) →
+-- For all texts of HTTP that are the site's there is one course whose headline holds.
+abbrev pub HasHeadlines : {K Q E X : Type 0} → (K → ℕ) → (K → ℕ → List ℕ → Type 0) → (E → Option OctetSequence) → (Q → Option OctetSequence) → (X → Option (List (List ℕ))) →
     (K → ℕ) → (K → Armings) → (E → ℕ) → (Q → ℕ) → (X → ℕ) → (old new : Bench K Q E X) → Words → Scenario → (before after : Option (List ℕ)) → headline.Stop → Type 0
-HasHeadlines is_honest content moment image left told frames counted disk_count armed entropy_count device_count wire_count old new words scenario before after stop =
-    (layers : Layers) (sources : Sources) (seen : Seen) → layers.sealing ≡ hop_sealing → IsTextsOf scenario.site.nodes scenario.site.entitlements layers.http → ReadsDisks layers.batches →
-    AreKnown told old.devices.items sources.devices → AreKnown left old.entropies.items sources.entropies →
-    IsSeenOn moment image left frames disk_count armed entropy_count device_count wire_count old new seen →
-    HeadlineOver told left old words stop layers sources scenario seen before after
+HasHeadlines moment image left told frames disk_count armed entropy_count device_count wire_count old new words scenario before after stop =
+    (http : HttpTexts) → IsTextsOf scenario.site.nodes scenario.site.entitlements http →
+    (c : Course) × HasHeadline moment image left told frames disk_count armed entropy_count device_count wire_count old new words stop http scenario before after c

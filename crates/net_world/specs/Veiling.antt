@@ -2,18 +2,14 @@
 use Rattle.std.specs.Prelude.{◌≡◌, ℕ, List, Option, None, Result, Ok, Err}
 use Rattle.net_model.specs.OctetSequence.{OctetSequence}
 use Rattle.disk_model.specs.declared.arm.Armings.{Armings}
-use Rattle.hop_frames.specs.Sealing.{hop_sealing}
 use Rattle.run_types.specs.declared.scenario.Scenario.{Scenario}
 use Rattle.run_model.specs.Play.{Ending, Whole}
-use Rattle.run_model.specs.Bench.{Layers, Sources, Seen}
+use Rattle.run_model.specs.Turn.{HttpTexts}
 use Rattle.run_model.specs.Course.{Run, Course, last_world, lines_played}
 use Rattle.run_model.specs.Headline.{Took, TookFirst}
 use Rattle.run_model.specs.Headline as headline
 use Rattle.run_http.specs.Speaking.{IsTextsOf}
-use Rattle.net_world.specs.New.{AreKnown}
-use Rattle.net_world.specs.Over.{HeadlineOver}
-use Rattle.net_world.specs.Reading.{ReadsDisks}
-use Rattle.net_world.specs.Seen.{IsSeenOn}
+use Rattle.net_world.specs.Over.{HasHeadline}
 use Rattle.net_world.specs.declared.bench.Bench.{Bench}
 use Rattle.net_world.specs.Other.{EveryKeyFits}
 use Rattle.run_lines.specs.declared.stop.Stop.{Stop}
@@ -34,19 +30,17 @@ IsVeilTold taken headline.Memory ending c before after = after ≡ before
 IsVeilTold taken (headline.ForgedMatch line) ending c before after = after ≡ before
 IsVeilTold taken headline.ListenFault ending c before after = ⊥
 
--- The headline of the run with one worker holds, except that no sink took its report. The wires fit every other key, and the sink took the line.
-pub record IsVeiled {K Q E X W : Type 0} (told : Q → Option OctetSequence) (left : E → Option OctetSequence) (old : Bench K Q E X) (taken : W → Option (List ℕ))
-    (stop : headline.Stop) (layers : Layers) (sources : Sources) (scenario : Scenario) (seen : Seen) (before after : W) : Type 0 where
-  pub run : HeadlineOver told left old (Run 1) stop layers sources scenario seen None None
-  pub fits : EveryKeyFits run.0.course.net (last_world run.0.course)
-  pub line : IsVeilTold taken stop (lines_played layers scenario run.0.course).ending run.0.course before after
+-- The headline of the run with one worker holds of the course, except that no sink took its report. The wires fit every other key, and the sink took the line.
+pub record IsVeiled {K Q E X W : Type 0} (moment : K → ℕ) (image : K → ℕ → List ℕ → Type 0) (left : E → Option OctetSequence) (told : Q → Option OctetSequence)
+    (frames : X → Option (List (List ℕ))) (disk_count : K → ℕ) (armed : K → Armings) (entropy_count : E → ℕ) (device_count : Q → ℕ) (wire_count : X → ℕ)
+    (taken : W → Option (List ℕ)) (old new : Bench K Q E X) (stop : headline.Stop) (http : HttpTexts) (scenario : Scenario) (before after : W) (c : Course) : Type 0 where
+  pub run : HasHeadline moment image left told frames disk_count armed entropy_count device_count wire_count old new (Run 1) stop http scenario None None c
+  pub fits : EveryKeyFits c.net (last_world c)
+  pub line : IsVeilTold taken stop (lines_played http scenario c).ending c before after
 
--- The veil holds for whatever is known of the octets of the bench's parts, and whatever is seen of them afterwards. Premises: frames are hop frames, requests
--- over HTTP have the site's texts, and the batches of a disk are read from it.
+-- For all texts of HTTP that are the site's there is one course that is veiled.
 abbrev pub HasVeiled : {K Q E X W : Type 0} → (K → ℕ) → (K → ℕ → List ℕ → Type 0) → (E → Option OctetSequence) → (Q → Option OctetSequence) → (X → Option (List (List ℕ))) →
     (K → ℕ) → (K → Armings) → (E → ℕ) → (Q → ℕ) → (X → ℕ) → (W → Option (List ℕ)) → (old new : Bench K Q E X) → Scenario → (before after : W) → headline.Stop → Type 0
 HasVeiled moment image left told frames disk_count armed entropy_count device_count wire_count taken old new scenario before after stop =
-    (layers : Layers) (sources : Sources) (seen : Seen) → layers.sealing ≡ hop_sealing → IsTextsOf scenario.site.nodes scenario.site.entitlements layers.http → ReadsDisks layers.batches →
-    AreKnown told old.devices.items sources.devices → AreKnown left old.entropies.items sources.entropies →
-    IsSeenOn moment image left frames disk_count armed entropy_count device_count wire_count old new seen →
-    IsVeiled told left old taken stop layers sources scenario seen before after
+    (http : HttpTexts) → IsTextsOf scenario.site.nodes scenario.site.entitlements http →
+    (c : Course) × IsVeiled moment image left told frames disk_count armed entropy_count device_count wire_count taken old new stop http scenario before after c

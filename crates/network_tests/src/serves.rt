@@ -122,6 +122,18 @@ const ROWS: &[Row] = &[
         asked: &[],
         written: &[],
     },
+    // There is no end to the connections of no node.
+    Row {
+        words: "serve 2 forever 9000",
+        text: "end\n",
+        sockets: &[(9000, &[(&[""], &[])])],
+        open_fails: &[],
+        write_fails: &[],
+        status: Status::Done,
+        report: "served 0\n",
+        asked: &[],
+        written: &[],
+    },
     // Three workers at two nodes.
     Row {
         words: "serve 3 2 9000",
@@ -289,7 +301,8 @@ const KEYS_REPORT: &str = "7 bits 0 low 0\n\
     9 pass 0 up 2 taken ack 00000000-0000-8001-8002-000000000001\n\
     9 pass 0 up 3 taken ack 00000000-0000-8001-8002-000000000002\n";
 
-// The keys go to two connections of one worker, and then there is none that waits. The report is what stands behind that of the keys.
+// The keys go to two connections of one worker, and then there is none that waits, which is a failure where there is no end to them.
+// The report is what stands behind that of the keys.
 const HANDED: &[Row] = &[
     Row {
         words: "serve 1 2 9000",
@@ -299,6 +312,17 @@ const HANDED: &[Row] = &[
         write_fails: &[],
         status: Status::Done,
         report: "served 2\n",
+        asked: &[9000],
+        written: &[&[FIRST, SECOND]],
+    },
+    Row {
+        words: "serve 1 forever 9000",
+        text: KEYS,
+        sockets: &[(9000, &[(&[GET, GET], &[])])],
+        open_fails: &[],
+        write_fails: &[],
+        status: Status::ListenFault,
+        report: "",
         asked: &[9000],
         written: &[&[FIRST, SECOND]],
     },

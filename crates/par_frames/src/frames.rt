@@ -5,7 +5,7 @@ ghost use Rattle.world_state.specs.Armed.{most_armed};
 ghost use Rattle.par_frames.specs.FrameNoting.{EndsNotes};
 ghost use Rattle.par_frames.specs.Noting.{MayNoteFrames, NotesFrames};
 
-use crate::recording::record_frames;
+use crate::frame_records::record_frames;
 use crate::{Log, note_all};
 use disk_model::Disk;
 use par_lanes::Emitted;

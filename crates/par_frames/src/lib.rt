@@ -2,13 +2,13 @@
 #![tactic(auto)]
 
 mod block;
+mod frame_placing;
+mod frame_records;
 mod frames;
 mod lane_block_laws;
 mod lane_work_laws;
 mod log;
-mod noting;
-mod placing;
-mod recording;
+mod node_notes;
 mod sent;
 mod worked;
 
@@ -25,5 +25,5 @@ pub use lane_work_laws::{
     law_sorted_frames_stand_lane_by_lane, law_sorted_is_in_order,
 };
 pub use log::{Log, Refused};
-pub use noting::note_all;
+pub use node_notes::note_all;
 pub use worked::Worked;

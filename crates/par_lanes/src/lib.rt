@@ -3,32 +3,32 @@
 
 mod any_desk;
 mod ask;
+mod byte_grants;
 mod called;
 mod charter;
 mod desk;
 mod emitted;
-mod emitting;
 mod frame_log;
-mod granting;
+mod frame_turns;
 mod laws;
 mod leases;
 mod machine;
 mod place;
 mod plan;
+mod plan_emission;
 mod seals;
-mod sending;
 mod turns;
 
 pub use any_desk::Desk;
 pub use ask::{LaneAnswer, LaneAsk};
+pub use byte_grants::grant_plan;
 pub use called::law_desks_are_called_for_their_frames;
 pub use charter::LaneCharter;
 pub use desk::LaneDesk;
 pub use emitted::Emitted;
-pub use emitting::emit_plan;
 pub use frame_log::FrameLog;
-pub use granting::grant_plan;
 pub use laws::law_desks_lead_their_lanes;
 pub use leases::law_plans_are_leased;
 pub use plan::{Lanes, Plan};
+pub use plan_emission::emit_plan;
 pub use seals::{AtGate, Seals};

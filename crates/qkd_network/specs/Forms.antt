@@ -1,10 +1,11 @@
 -- The forms of the program's words, and the index of the first word that fits none.
-use Rattle.std.specs.Prelude.{ℕ, ◌≡◌, ◌≤◌, ◌==◌, if◌then◌else◌, List, [], ◌∷◌, length, take, Option, Some, None, Result, Ok, Err}
+use Rattle.std.specs.Prelude.{ℕ, ◌≡◌, ◌⊎◌, ◌≤◌, ◌==◌, if◌then◌else◌, List, [], ◌∷◌, length, take, Option, Some, None, Result, Ok, Err}
 use Rattle.std.specs.Str.{bytes_eq}
 use lib.Chars.{codes}
 use Rattle.run_model.specs.Course.{Words, Run, Load}
 use Rattle.scenario_text.specs.Words.{number_in}
 use Rattle.tag_bound.specs.Words.{number_of, text_of}
+use Rattle.kme_serve.specs.Endless.{endless}
 use Rattle.cli_answers.specs.Answers.{Asked, Bounds, Audits, WholeAudits, Checks, Objects}
 use Rattle.qkd_network.specs.declared.form.Form.{Form}
 use Rattle.qkd_network.specs.declared.form.Form.TheVariants as forms
@@ -60,16 +61,20 @@ abbrev pub connections_of : (workers : ℕ) → Option ℕ → (more : List (Lis
 connections_of workers None more = Err 2
 connections_of workers (Some connections) more = port_form workers connections more
 
+-- how many connections each worker serves
+unfoldable pub connections_in : List ℕ → Option ℕ
+connections_in word = if bytes_eq word (codes "forever") then Some endless else number_in 1 10000 word
+
 unfoldable pub connections_form : (workers : ℕ) → List (List ℕ) → Wish
 connections_form workers [] = Err 2
-connections_form workers (word ∷ more) = connections_of workers (number_in 1 10000 word) more
+connections_form workers (word ∷ more) = connections_of workers (connections_in word) more
 
 abbrev pub workers_of : Option ℕ → (more : List (List ℕ)) → Wish
 workers_of None more = Err 1
 workers_of (Some workers) more = connections_form workers more
 
 -- `serve W C PORT`: runs the scenario with W workers (1 to 32). Then each worker serves C connections (1 to 10,000). The nodes' ports begin at PORT (1 to
--- 65,520).
+-- 65,520). `serve W forever PORT`: each worker serves connections without end.
 unfoldable pub serve_form : List (List ℕ) → Wish
 serve_form [] = Err 1
 serve_form (word ∷ more) = workers_of (number_in 1 32 word) more
@@ -129,11 +134,15 @@ wanted_of forms.WholeAudit = Asks WholeAudits
 wanted_of forms.Check = Asks Checks
 wanted_of forms.Json = Asks Objects
 
+-- so many connections may be asked for
+abbrev pub AreServable : ℕ → Type 0
+AreServable connections = (1 ≤ connections) × ((connections ≤ 10000) ⊎ (connections ≡ endless))
+
 abbrev pub IsInRange : Form → Type 0
 IsInRange (forms.Run workers) = (1 ≤ workers) × (workers ≤ 32)
 IsInRange (forms.Quiet workers) = (1 ≤ workers) × (workers ≤ 32)
 IsInRange (forms.Load rounds) = (1 ≤ rounds) × (rounds ≤ 500)
-IsInRange (forms.Serve workers connections port) = (1 ≤ workers) × (workers ≤ 32) × (1 ≤ connections) × (connections ≤ 10000) × (1 ≤ port) × (port ≤ 65520)
+IsInRange (forms.Serve workers connections port) = (1 ≤ workers) × (workers ≤ 32) × AreServable connections × (1 ≤ port) × (port ≤ 65520)
 IsInRange forms.Veil = Unit {0}
 IsInRange forms.Audit = Unit {0}
 IsInRange forms.WholeAudit = Unit {0}

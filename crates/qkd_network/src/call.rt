@@ -1,22 +1,18 @@
 // The top call of the program.
-ghost use Rattle.std.specs.Prelude.{◌≡◌, ◌⊎◌, [], Some, IsSome};
+ghost use Rattle.std.specs.Prelude.{◌≡◌, ◌⊎◌};
 ghost use Rattle.std.specs.List.{All};
 ghost use Rattle.qkd_base.specs.Faults.{Rose};
-ghost use Rattle.kme_serve.specs.Doors.{AreFresh, IsListenFault, PortsTold, telling};
+ghost use Rattle.kme_serve.specs.Doors.{AreFresh, IsListenFault, telling};
 ghost use Rattle.net_world.specs.Laid.{IsWhole};
 ghost use Rattle.net_world.specs.New.{IsNew};
-ghost use Rattle.net_world.specs.Running.{HasHeadlines};
-ghost use Rattle.net_serve.specs.BenchServing.{HasServedHeadlines};
-ghost use Rattle.net_world.specs.Veiling.{HasVeiled};
-ghost use Rattle.run_model.specs.Course.{Run, Serve};
-ghost use Rattle.qkd_network.specs.Lines.{WroteLines};
-ghost use Rattle.qkd_network.specs.Quiet.{IsQuiet};
-ghost use Rattle.qkd_network.specs.Outcome.{AsksServe, Outcome, outside};
+ghost use Rattle.qkd_network.specs.Call.{IsCalled, told_of};
+ghost use Rattle.qkd_network.specs.Outcome.{AsksServe};
 ghost use Rattle.qkd_network.specs.declared.status.Status.TheVariants.{ReadFault, WriteFault, ListenFault};
 
+use crate::form::connections_of;
 use crate::quiet::quiet;
-use crate::reading::scenario_in;
 use crate::serve::serve;
+use crate::source_scenario::scenario_in;
 use crate::veil::veil;
 use crate::{Form, Status, read_form};
 use cli_answers::{Question, answer_to};
@@ -35,7 +31,8 @@ use std::thread::Threads;
 ///   report goes to the sink, one line at a time.
 /// - `run` with `--quiet`: does the same, and writes those lines of the report that a person asked for, after the run.
 /// - `serve`: does the same. Then each worker serves the given number of connections with the manager of a node, at the node's own port
-///   (ETSI GS QKD 014). Last it writes the number of connections served.
+///   (ETSI GS QKD 014). Last it writes the number of connections served. With `forever` there is no end to them: where there is a node,
+///   it comes back after a fault alone.
 /// - `load`: runs the generated load of the given number of rounds, and writes its ledgers and the number of keys that it handed out. The
 ///   source is not touched.
 /// - `veil`: reads a scenario and runs it like `run 1`, without a report. Then it complements each key in the frames and keeps the wires
@@ -94,27 +91,16 @@ where
     requires fresh { IsNew K.is_honest K.moment K.image E.left Q.told X.frames bench.old }
     requires unarmed { All (λ k. (K.armings k).count ≡ 0) bench.old.disks.items }
     requires ports { AreFresh P.asked P.back ports.old }
-    ensures outcome { Outcome (λ s. S.left s) (λ k. W.taken k) (λ asked scenario stop.
-        HasHeadlines K.is_honest K.content K.moment K.image E.left Q.told X.frames X.counted K.faults K.armings E.faults Q.faults X.faults bench.old bench.new asked scenario (W.taken sink.old) (W.taken sink.new) stop
-        × WroteLines W.taken W.pieces asked scenario sink.old sink.new stop)
-        (λ scenario stop. HasVeiled K.moment K.image E.left Q.told X.frames K.faults K.armings E.faults Q.faults X.faults (λ k. W.taken k) bench.old bench.new scenario sink.old sink.new stop)
-        (λ workers connections port scenario stop.
-        HasServedHeadlines K.moment K.image E.left Q.told X.frames K.faults K.armings E.faults Q.faults X.faults
-        (telling P.Door.port P.Door.accepted P.Door.finished P.Door.waiting P.Door.done) P.Door.faults (IsSome (P.asked ports.old)) bench.old bench.new
-        (record { asked = P.asked ports.old; back = P.back ports.old }) (record { asked = P.asked ports.new; back = P.back ports.new })
-        workers connections port scenario (W.taken sink.old) (W.taken sink.new) stop
-        × WroteLines W.taken W.pieces (Serve workers connections port) scenario sink.old sink.new stop)
-        (λ workers scenario stop. IsQuiet W.taken W.pieces (λ report end.
-        HasHeadlines K.is_honest K.content K.moment K.image E.left Q.told X.frames X.counted K.faults K.armings E.faults Q.faults X.faults bench.old bench.new (Run workers) scenario (Some []) report end)
-        scenario.site.nodes sink.old sink.new stop)
-        result words.now source.old source.new sink.old sink.new (outside bench.old ports.old) (outside bench.new ports.new) }
+    ensures outcome { IsCalled (λ s. S.left s) (λ k. W.taken k) W.pieces K.moment K.image E.left Q.told X.frames K.faults K.armings E.faults Q.faults X.faults
+        (telling P.Door.port P.Door.accepted P.Door.finished P.Door.waiting P.Door.done) P.Door.faults P.asked P.back
+        result words.now source.old source.new sink.old sink.new bench.old bench.new ports.old ports.new }
     ensures ports { AsksServe words.now ⊎ (ports.new ≡ ports.old) }
     ensures whole { IsWhole bench.new }
     ensures read_fault { result ≡ ReadFault → Rose (S.faults source.old) (S.faults source.new) }
     ensures source_calm { (result ≡ ReadFault) ⊎ (S.faults source.new ≡ S.faults source.old) }
     ensures write_fault { result ≡ WriteFault → Rose (W.faults sink.old) (W.faults sink.new) }
-    ensures listen_fault { result ≡ ListenFault → IsListenFault P.Door.faults (P.faults ports.old) (P.faults ports.new)
-        (record { asked = P.asked ports.old; back = P.back ports.old }) (record { asked = P.asked ports.new; back = P.back ports.new }) }
+    ensures listen_fault { result ≡ ListenFault →
+        IsListenFault P.Door.faults (P.faults ports.old) (P.faults ports.new) (told_of P.asked P.back ports.old) (told_of P.asked P.back ports.new) }
 {
     let workers = match read_form(words) {
         Err(place) => return Status::Usage(place),
@@ -149,7 +135,7 @@ where
                 rt,
                 alloc,
                 workers,
-                connections,
+                connections_of(connections),
                 port,
                 source,
                 sink,

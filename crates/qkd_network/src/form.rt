@@ -3,8 +3,10 @@ ghost use Rattle.std.specs.Prelude.{◌≡◌, ◌≤◌, Ok, Err, MatchResult, 
 ghost use Rattle.std.specs.Option.{option_map, option_and_then};
 ghost use Rattle.tag_bound.specs.Words.{number_of, text_of};
 ghost use Rattle.scenario_text.specs.Words.{number_in};
-ghost use Rattle.qkd_network.specs.Forms.{asked_by, question_form, alone, run_form, quiet_form, load_form, serve_form, connections_form, port_form, bound_form, second_form, third_form, audit_form, wanted_of, IsInRange};
+ghost use Rattle.kme_serve.specs.Endless.{endless};
+ghost use Rattle.qkd_network.specs.Forms.{asked_by, question_form, alone, run_form, quiet_form, load_form, serve_form, connections_form, connections_in, port_form, bound_form, second_form, third_form, audit_form, wanted_of, AreServable, IsInRange};
 
+use kme_serve::Connections;
 use qkd_base::Texts;
 use scenario_text::words::number_in;
 use tag_bound::{ShortText, number};
@@ -24,11 +26,11 @@ pub enum Form {
     Load {
         rounds: u32,
     },
-    /// Runs a scenario, whose blocks `workers` workers do. Then each worker serves `connections` connections at the port of its node, which
+    /// Runs a scenario, whose blocks `workers` workers do. Then each worker serves `connections` connections (1 to 10,000, or 2^48 for ever) at the port of its node, which
     /// is `port` plus the node's number.
     Serve {
         workers: u32,
-        connections: u32,
+        connections: u64,
         port: u16,
     },
     /// Runs a scenario, and counts the frames on its wires and the lane bytes that differ under other keys.
@@ -181,6 +183,33 @@ fn count_at(words: &Texts, place: usize, least: u32, most: u32) -> Option<u32>
     }
 }
 
+// How many connections a word asks for.
+#[tactic(auto, unfolding(crate::specs::Forms::connections_in))]
+fn connections_at(words: &Texts, place: usize) -> Option<u64>
+    ensures number { result ≡ option_and_then connections_in (slice_get words.now place) }
+    ensures bounds { IfSome result AreServable }
+{
+    let word = words.get(place)?;
+    if word.as_str() == "forever" {
+        return Some(Connections::forever().count());
+    }
+    let count = number_in(1, 10_000, word.as_str().as_bytes())?;
+    Some(u64::from(count))
+}
+
+/// The connections of a form.
+pub(crate) fn connections_of(count: u64) -> Connections
+    requires { AreServable count }
+    ensures number { result ≡ count }
+    ensures few { result ≤ endless }
+{
+    if count <= 10_000 {
+        Connections::new(count as u32)
+    } else {
+        Connections::forever()
+    }
+}
+
 // Reads the form of `serve`, which is the first word.
 #[tactic(auto, unfolding(crate::specs::Forms::serve_form, crate::specs::Forms::connections_form, crate::specs::Forms::port_form))]
 fn serve_form(words: &Texts) -> Result<Form, usize>
@@ -189,7 +218,7 @@ fn serve_form(words: &Texts) -> Result<Form, usize>
     ensures range { IfOk result IsInRange }
 {
     let workers = count_at(words, 1, 1, 32).ok_or(1usize)?;
-    let connections = count_at(words, 2, 1, 10_000).ok_or(2usize)?;
+    let connections = connections_at(words, 2).ok_or(2usize)?;
     let port = count_at(words, 3, 1, 65_520).ok_or(3usize)?;
     if words.len() > 4 {
         return Err(4);

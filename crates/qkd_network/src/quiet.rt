@@ -13,7 +13,7 @@ ghost use Rattle.qkd_network.specs.Outcome.{ScenarioOutcome};
 ghost use Rattle.qkd_network.specs.declared.status.Status.TheVariants.{ReadFault, WriteFault, ListenFault};
 
 use crate::Status;
-use crate::reading::scenario_in;
+use crate::source_scenario::scenario_in;
 use asked_lines::{KeptLines, tell_asked};
 use disk_model::Disk;
 use edge_io::{Gate, Sink, Source};
@@ -50,7 +50,7 @@ fn run_quietly<
     requires fresh { IsNew K.is_honest K.moment K.image E.left Q.told X.frames bench.old }
     requires unarmed { All (λ k. (K.armings k).count ≡ 0) bench.old.disks.items }
     ensures quiet { WasLeft bench.old bench.new sink.old sink.new result
-        ⊎ IsQuiet W.taken W.pieces (λ report stop. HasHeadlines K.is_honest K.content K.moment K.image E.left Q.told X.frames X.counted K.faults K.armings E.faults Q.faults X.faults
+        ⊎ IsQuiet W.taken W.pieces (λ report stop. HasHeadlines K.moment K.image E.left Q.told X.frames K.faults K.armings E.faults Q.faults X.faults
         bench.old bench.new (Run workers) scenario (Some []) report stop) scenario.site.nodes sink.old sink.new (ended result) }
     ensures whole { IsWhole bench.new }
     ensures blame { IsBlamed (W.faults sink.old) (W.faults sink.new) result }
@@ -84,7 +84,7 @@ pub(crate) fn quiet<
     requires fresh { IsNew K.is_honest K.moment K.image E.left Q.told X.frames bench.old }
     requires unarmed { All (λ k. (K.armings k).count ≡ 0) bench.old.disks.items }
     ensures outcome { ScenarioOutcome (λ s. S.left s) (λ scenario stop.
-        IsQuiet W.taken W.pieces (λ report stop. HasHeadlines K.is_honest K.content K.moment K.image E.left Q.told X.frames X.counted K.faults K.armings E.faults Q.faults X.faults
+        IsQuiet W.taken W.pieces (λ report stop. HasHeadlines K.moment K.image E.left Q.told X.frames K.faults K.armings E.faults Q.faults X.faults
         bench.old bench.new (Run workers) scenario (Some []) report stop) scenario.site.nodes sink.old sink.new stop)
         result source.old source.new sink.old sink.new bench.old bench.new }
     ensures calm { result ≡ ListenFault → ⊥ }

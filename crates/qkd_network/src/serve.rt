@@ -3,6 +3,7 @@ ghost use Rattle.std.specs.Prelude.{◌≡◌, ◌⊎◌, ◌≤◌, IsSome};
 ghost use Rattle.std.specs.List.{All};
 ghost use Rattle.qkd_base.specs.Faults.{Rose};
 ghost use Rattle.kme_serve.specs.Doors.{AreFresh, IsListenFault, PortsTold, telling};
+ghost use Rattle.kme_serve.specs.Endless.{endless};
 ghost use Rattle.net_world.specs.Laid.{IsWhole};
 ghost use Rattle.net_world.specs.New.{IsNew};
 ghost use Rattle.net_serve.specs.BenchServing.{HasServedHeadlines};
@@ -12,9 +13,10 @@ ghost use Rattle.qkd_network.specs.Outcome.{ScenarioOutcome, outside};
 ghost use Rattle.qkd_network.specs.declared.status.Status.TheVariants.{ReadFault, WriteFault, ListenFault};
 
 use crate::Status;
-use crate::reading::scenario_in;
+use crate::source_scenario::scenario_in;
 use disk_model::Disk;
 use edge_io::{Gate, Listener, Ports, Sink, Source};
+use kme_serve::Connections;
 use net_serve::run_serve;
 use net_world::Bench;
 use source_devices::{Device, Entropy, Wire};
@@ -37,7 +39,7 @@ pub(crate) fn serve<
     rt: &R,
     alloc: Global,
     workers: u32,
-    connections: u32,
+    connections: Connections,
     port: u16,
     source: &mut S,
     sink: &mut W,
@@ -50,7 +52,7 @@ where
     <P::Door as Listener>::In: Send,
     <P::Door as Listener>::Out: Send,
     requires workers { (1 ≤ workers) × (workers ≤ 32) }
-    requires connections { connections ≤ 10000 }
+    requires connections { connections ≤ endless }
     requires port { port ≤ 65520 }
     requires fresh { IsNew K.is_honest K.moment K.image E.left Q.told X.frames bench.old }
     requires unarmed { All (λ k. (K.armings k).count ≡ 0) bench.old.disks.items }

@@ -9,7 +9,7 @@ ghost use Rattle.qkd_network.specs.Outcome.{ScenarioOutcome};
 ghost use Rattle.qkd_network.specs.declared.status.Status.TheVariants.{ReadFault, WriteFault, ListenFault};
 
 use crate::Status;
-use crate::reading::scenario_in;
+use crate::source_scenario::scenario_in;
 use disk_model::Disk;
 use edge_io::{Gate, Sink, Source};
 use net_world::{Bench, run_veil};

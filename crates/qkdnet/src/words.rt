@@ -1,15 +1,16 @@
 // The words with which the program was called.
+use crate::call::{Call, read_call};
 use qkd_base::{Items, Memory, Text, Texts};
 use std::alloc::Global;
 use std::env::{Env, FillError};
 use std::str;
 
-/// What the words ask of the program itself (`Help`, `Version`), or the words for `qkd_network`.
+/// What the words ask of the program itself (`Help`, `Version`), or a call of `network`.
 #[derive(Debug, Drop)]
 pub enum Request {
     Help,
     Version,
-    Words(Texts),
+    Network(Call),
 }
 
 // Stands for a word that is too long or no UTF-8 text. It fits no form.
@@ -59,6 +60,6 @@ pub fn read_request(rt: &HostRuntime) -> Result<Request, Memory> {
     } else if is_sole(&words, "--version") || is_sole(&words, "-V") {
         Ok(Request::Version)
     } else {
-        Ok(Request::Words(words))
+        Ok(Request::Network(read_call(rt.alloc(), words)?))
     }
 }

@@ -5,9 +5,9 @@ use Rattle.qkd_base.specs.Faults.{Rose}
 use Rattle.range_journal.specs.Batches.{LacksBatch, AreShort, spelled}
 use Rattle.range_journal.specs.declared.refusal.JournalRefusal.{JournalRefusal}
 use Rattle.range_journal.specs.declared.refusal.JournalRefusal.TheVariants.{JournalFull, Memory, Disk, Foreign}
-use Rattle.range_journal.specs.declared.reading.Found.{Found}
-use Rattle.range_journal.specs.declared.reading.Next.{Next}
-use Rattle.range_journal.specs.declared.reading.Next.TheVariants.{Shut, Batch}
+use Rattle.range_journal.specs.declared.batch_reader.Found.{Found}
+use Rattle.range_journal.specs.declared.batch_reader.Next.{Next}
+use Rattle.range_journal.specs.declared.batch_reader.Next.TheVariants.{Shut, Batch}
 
 -- The disk failed, and its count of faults rose, or memory ran out.
 abbrev pub IsFaulty : ℕ → ℕ → JournalRefusal → Type 0

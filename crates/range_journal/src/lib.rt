@@ -6,21 +6,21 @@
 #![tactic(auto)]
 
 mod batch;
-mod closing;
+mod batch_reader;
 mod durable;
+mod gate_close;
 mod header;
 mod journal;
+mod journal_open;
 mod laws;
-mod opening;
-mod reading;
 mod refusal;
 
 pub use durable::write_synced;
 pub use header::header_fault;
 pub use journal::{Journal, MOST_OCTETS, Refused};
+pub use journal_open::{looks_blank, make_new, open, open_at, open_sized, settle};
 pub use laws::{
     a_doubt_stays_or_is_made, a_new_disk_is_blank_or_has_its_head, batches_behind_a_header_stand,
     octets_stand_for_one_list,
 };
-pub use opening::{looks_blank, make_new, open, open_at, open_sized, settle};
 pub use refusal::JournalRefusal;

@@ -13,7 +13,7 @@ ghost use Rattle.relay_core.specs.Knowledge.{place_of, AreDistinct, owes_fact, o
 
 use crate::Group;
 use crate::fact_parts::{fact_name, fact_route, later_count, wipe};
-use crate::listing::{list_new, next_in};
+use crate::index_entries::{list_new, next_in};
 use net_model::Fact;
 use ordered_set::Entries;
 use qkd_base::{KeyName, Memory, NodeNo};

@@ -3,8 +3,8 @@
 
 mod fact_parts;
 mod group;
+mod index_entries;
 mod known;
-mod listing;
 
 pub use fact_parts::{fact_name, fact_route, is_secret, kind_octet};
 pub use group::{Group, origin_number};

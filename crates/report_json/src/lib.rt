@@ -7,12 +7,12 @@ mod key_items;
 mod laws;
 mod object;
 mod place;
-mod reading;
 mod refusal;
+mod report_objects;
 mod text;
 mod words;
 
 pub use laws::law_objects_tell;
 pub use place::Place;
-pub use reading::json_text;
+pub use report_objects::json_text;
 pub use text::{json_line, json_of};

@@ -8,7 +8,7 @@ use Rattle.httparse.specs.Grammar.{is_uri_byte, AllPass, RequestHead, print_requ
 use Rattle.httparse.specs.Pieces.{Blank, Method}
 use Rattle.httparse.proofs.PieceLemmas.{Blank_deterministic, Method_deterministic, Stops_token}
 use Rattle.httparse.proofs.GrammarLemmas.{request_pieces}
-use Rattle.http_front.specs.Front.{HasNoHead, IsRefused}
+use Rattle.http_front.specs.Front.{HasHead, HasNoHead, IsRefused}
 use Rattle.http_front.specs.Reading.{MayBe, IsMeant, Reads}
 use Rattle.http_front.proofs.Lines.{split_front}
 use Rattle.http_front.specs.declared.refusal.FrontRefusal.{FrontRefusal}
@@ -35,15 +35,19 @@ open_none text h head rest reads =
     let next = Method_deterministic.unique _ h.1 (h.1 ++ 32 ∷ h.2) _ h.2 (subst (λ (t : List ℕ). Method head.method t p.1.2.0) same.1 p.1.2.1) word in
     no_space head.target h.2 _ h.4 (sym next.1 ∙ p.1.2.2.1.0.2)
 
-pub no_head : (octets : List ℕ) → EndsInTarget (take 8193 octets) → HasNoHead octets
-no_head octets h head rest has =
+-- A head of at most 8,192 octets is found in the first 8,193.
+pub in_front : (octets : List ℕ) (head : RequestHead) (rest : List ℕ) → HasHead octets head rest → (behind : List ℕ) × ReadsRequest (take 8193 octets) head behind
+in_front octets head rest has =
     let whole : length octets ≡ length (print_request head) + length rest = ap length has.reads.1 ∙ length-append (print_request head) rest in
     let size : length (take 8193 octets) ≡ min 8193 (length octets) = length-take 8193 octets in
     let short = has.short in
     let cut = split_front (print_request head) rest (take 8193 octets) (drop 8193 octets) (sym has.reads.1 ∙ sym (take-append-drop 8193 octets)) (omega (arith, whole, size, short)) in
-    open_none (take 8193 octets) h head cut.0 (has.reads.0, cut.1)
+    (cut.0, (has.reads.0, cut.1))
 
-pub some_octets : (text : List ℕ) → EndsInTarget text → 0 < length text
+no_head : (octets : List ℕ) → EndsInTarget (take 8193 octets) → HasNoHead octets
+no_head octets h head rest has = let front = in_front octets head rest has in open_none (take 8193 octets) h head front.0 front.1
+
+some_octets : (text : List ℕ) → EndsInTarget text → 0 < length text
 some_octets text h =
     let whole = ap length (h.5 ∙ append_assoc (print_blank h.0) h.1 (32 ∷ h.2)) in
     let a = length-append (print_blank h.0) (h.1 ++ 32 ∷ h.2) in

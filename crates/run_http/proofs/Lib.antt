@@ -5,5 +5,10 @@ pub mod Saying
 pub mod Ends
 pub mod Cut
 pub mod Readings
+pub mod Looks
+pub mod Sections
+pub mod Heads
 pub mod Existing
+pub mod Texts
+pub mod Asking
 pub mod Turns

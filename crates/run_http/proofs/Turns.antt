@@ -42,8 +42,8 @@ request_fits d http v octets (Calls event) declared below texts some is = by_tes
     by_test : (b : Bool) → is_fit (site_of d) (Ask v event Fine) ≡ b → is_fit (site_of d) (Ask v event Fine) ≡ true
     by_test true fit = fit
     by_test false unfit =
-        absurd (readable octets (λ r may decided.
-        none_unfit d v octets event r declared below some may decided (subst (IsAskedBy d.entitlements v r) is (texts.request v octets r may)) unfit))
+        let read = readable octets in
+        absurd (none_unfit d v octets event read.0 declared below some read.1 read.2 (subst (IsAskedBy d.entitlements v read.0) is (texts.request v octets read.0 read.1)) unfit)
 
 pub turn_fits : (d : Site) (http : HttpTexts) (v : ℕ) (octets : List ℕ) → IsDeclared d → v < length d.nodes → IsTextsOf d.nodes d.entitlements http → ¬ (octets ≡ []) →
     IsTurnFor d (http_turn v http.response (http.request v octets))

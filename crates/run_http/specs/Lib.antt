@@ -2,3 +2,4 @@ pub mod LineEnds
 pub mod Reading
 pub mod Speaking
 pub mod Serving
+pub mod Asking

@@ -14,6 +14,6 @@ pub record MayBeRead (octets : List ℕ) (r : Result HttpRequest FrontRefusal) :
   pub may : MayBe octets r
   pub short : EndsInTarget (take 8193 octets) → r ≡ Err (cut_short octets)
 
--- The octets have a decided reading: it is impossible that they have none.
+-- The octets have a reading that they alone decide.
 abbrev pub IsReadable : List ℕ → Type 0
-IsReadable octets = ((r : Result HttpRequest FrontRefusal) → MayBeRead octets r → ¬ (IsDecided r)) → ⊥
+IsReadable octets = (r : Result HttpRequest FrontRefusal) × MayBeRead octets r × IsDecided r

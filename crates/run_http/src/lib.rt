@@ -1,8 +1,9 @@
 //! HTTP requests to the managers of a site: which event a request asks for, and how a manager's reply is answered.
 #![tactic(auto)]
 
-ghost use Rattle.std.specs.Prelude.{◌≡◌, ◌<◌, ℕ, List, [], length, Result, Ok};
+ghost use Rattle.std.specs.Prelude.{◌≡◌, ◌<◌, ℕ, List, [], length, Result, Ok, codes};
 ghost use Rattle.net_model.specs.declared.event.Event.{Event as EventValue};
+ghost use Rattle.net_model.specs.declared.event.Event.TheVariants.{Enc};
 ghost use Rattle.net_model.specs.Action.{Ok as Fine, Ask};
 ghost use Rattle.declared_site.specs.declared.site.Site.{Site as SiteValue};
 ghost use Rattle.declared_site.specs.SiteOf.{IsDeclared};
@@ -11,12 +12,13 @@ ghost use Rattle.http_front.specs.declared.refusal.FrontRefusal.{FrontRefusal};
 ghost use Rattle.http_front.specs.Reading.{IsDecided};
 ghost use Rattle.sae_entitlements.specs.Grants.{Grants};
 ghost use Rattle.qkd014_api.specs.Calls.{asked};
-ghost use Rattle.run_model.specs.Turn.{HttpTexts, Request, http_turn};
+ghost use Rattle.run_model.specs.Turn.{HttpTexts, Request, Calls, http_turn};
 ghost use Rattle.run_ops.specs.Runnable.{IsFit, IsTurnFor};
 ghost use Rattle.run_http.specs.Reading.{MayBeRead, IsReadable};
-ghost use Rattle.run_http.specs.Speaking.{IsAskedBy, IsTextsOf};
+ghost use Rattle.run_http.specs.Speaking.{message, IsAskedBy, IsTextsOf};
+ghost use Rattle.run_http.specs.Asking.{alice_and_bob, by_alice, by_carol};
 
-mod answering;
+mod event_answers;
 mod requests;
 mod site_requests;
 mod target;
@@ -41,4 +43,15 @@ pub fn law_readings_agree()
 /// All the octets of a connection can be read as something.
 pub fn law_octets_are_readable()
     ensures { (octets : List ℕ) → IsReadable octets }
+{}
+
+/// Each site has HTTP texts.
+pub fn law_texts_exist()
+    ensures { (nodes : List (List ℕ)) (g : Grants) → (http : HttpTexts) × IsTextsOf nodes g http }
+{}
+
+/// For example, where alice may have keys with bob: whatever the texts are, one request of hers asks for a key, and the same by carol, who
+/// isn't declared, is refused.
+pub fn law_requests_ask()
+    ensures { (nodes : List (List ℕ)) (http : HttpTexts) → IsTextsOf nodes alice_and_bob http → (http.request 0 by_alice ≡ Calls (Enc 0 1 1 256)) × (http.request 0 by_carol ≡ message 401 (codes "not allowed")) }
 {}

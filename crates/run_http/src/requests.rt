@@ -1,6 +1,6 @@
 // How a run reads requests and answers them.
 use crate::SiteRequests;
-use crate::answering::{answer_of, called, refused};
+use crate::event_answers::{answer_of, called, refused};
 use crate::target::request_in;
 use net_model::{Event, Reply};
 use qkd_base::{Memory, NodeNo, Octets};

@@ -17,7 +17,7 @@ use Rattle.run_lines.specs.declared.stop.Stop.TheVariants.{Memory}
 use Rattle.run_lines.specs.Going.{Reached}
 use Rattle.run_lines.specs.Running.{Finishes, Stops}
 use Rattle.run_lines.specs.Counting.{on_wire, AreOn}
-use Rattle.run_lines.specs.declared.settling.Frames.{Frames}
+use Rattle.run_lines.specs.declared.settle_rounds.Frames.{Frames}
 use Rattle.run_lines.proofs.Going.{Ways, reached_none, reached_on, reached_stop, reached_after, stops_after, stops_here, finishes}
 use Rattle.run_lines.proofs.Wires.{wires_stay, passes_deliver}
 

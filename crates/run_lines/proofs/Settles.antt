@@ -15,7 +15,7 @@ use Rattle.run_lines.specs.declared.stop.Stop.{Stop}
 use Rattle.run_lines.specs.Going.{Reached}
 use Rattle.run_lines.specs.Running.{Finishes, Stops}
 use Rattle.run_lines.specs.Counting.{on_wire, AreOn, round}
-use Rattle.run_lines.specs.declared.settling.Frames.{Frames}
+use Rattle.run_lines.specs.declared.settle_rounds.Frames.{Frames}
 use Rattle.run_lines.proofs.Going.{Ways, reached_on, reached_stop, reached_after, reached_looks, stops_after}
 use Rattle.run_lines.proofs.Wires.{wires_stay, all_passes_deliver}
 

@@ -5,7 +5,7 @@ use Rattle.net_model.specs.Site.{Site, count_up}
 use Rattle.net_model.specs.World.{World}
 use Rattle.run_model.specs.Script.{Script, Looks, Ends, then_comes}
 use Rattle.run_model.specs.Lines.{ticks, all_passes, all_lanes, on_wires}
-use Rattle.run_lines.specs.declared.settling.Frames.{Frames}
+use Rattle.run_lines.specs.declared.settle_rounds.Frames.{Frames}
 
 abbrev pub on_wire : World → Lane → ℕ
 on_wire w l = length (w.wire l)

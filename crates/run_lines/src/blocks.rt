@@ -117,14 +117,8 @@ pub fn bits<S: Acts, W: Sink>(
     let mut low = has_low(ends);
     let mut high = has_high(ends);
     for _turn in 0..count {
-        match take_at(alloc, net, number, link, End::Low, low, sink) {
-            Ok(goes_on) => low = goes_on,
-            Err(stop) => return Err(stop),
-        }
-        match take_at(alloc, net, number, link, End::High, high, sink) {
-            Ok(goes_on) => high = goes_on,
-            Err(stop) => return Err(stop),
-        }
+        low = take_at(alloc, net, number, link, End::Low, low, sink)?;
+        high = take_at(alloc, net, number, link, End::High, high, sink)?;
     }
     Ok(())
 }

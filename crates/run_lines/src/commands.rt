@@ -14,14 +14,14 @@ ghost use Rattle.run_lines.specs.Running.{Runs, IsReadySomewhere};
 ghost use Rattle.run_lines.specs.Commands.{acts_once, any_texts, armings_of, is_request};
 
 use crate::Stop;
-use crate::asking::{ask, ledger, tick};
 use crate::blocks::bits;
-use crate::forging::forge;
+use crate::forged_octets::forge;
 use crate::frames::{flip, pass};
 use crate::http_lines::http;
 use crate::life::{arm, crash, set_link, start};
+use crate::manager_lines::{ask, ledger, tick};
 use crate::requests::Requests;
-use crate::settling::settle;
+use crate::settle_rounds::settle;
 use disk_model::{Arm, Image};
 use edge_io::Sink;
 use run_ops::{Acts, asked_by};

@@ -72,10 +72,7 @@ pub fn write_items<W: Sink>(
     ensures lined { InLines W.taken W.pieces (IsItemLine site.now.nodes) sink.old sink.new result }
 {
     for item in items {
-        match write_item(alloc, site, number, item, sink) {
-            Ok(()) => {}
-            Err(stop) => return Err(stop),
-        }
+        write_item(alloc, site, number, item, sink)?;
     }
     Ok(())
 }

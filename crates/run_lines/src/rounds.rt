@@ -9,8 +9,8 @@ ghost use Rattle.run_lines.specs.Reporting.{InLines, IsBlamed, IsItemLine};
 ghost use Rattle.run_lines.specs.Running.{Runs, IsReadySomewhere};
 
 use crate::Stop;
-use crate::asking::tick;
 use crate::frames::pass;
+use crate::manager_lines::tick;
 use edge_io::Sink;
 use qkd_base::{Lane, Memory, NodeNo};
 use run_ops::Acts;
@@ -57,10 +57,7 @@ pub fn tick_all<S: Acts, W: Sink>(
     let nodes = net.declared().nodes.len();
     for place in 0..nodes {
         let node = NodeNo::new(place as u8).unwrap();
-        match tick_if_up(alloc, net, number, node, sink) {
-            Ok(()) => {}
-            Err(stop) => return Err(stop),
-        }
+        tick_if_up(alloc, net, number, node, sink)?;
     }
     Ok(())
 }
@@ -98,10 +95,7 @@ pub fn pass_from<S: Acts, W: Sink>(
             Ok(frame) => frame,
             Err(_) => return Err(Stop::Memory),
         };
-        match pass(alloc, net, number, lane, frame, sink) {
-            Ok(()) => {}
-            Err(stop) => return Err(stop),
-        }
+        pass(alloc, net, number, lane, frame, sink)?;
     }
     Ok(())
 }

@@ -1,29 +1,12 @@
--- The bench of a run: what the call is given beside its words and its scenario, and what the parts of the bench show
--- after it.
-use Rattle.std.specs.Prelude.{◌≡◌, ◌⊎◌, ℕ, ◌+◌, ◌≤◌, List, [], ◌∷◌, length, Option, Some, None}
+-- What the parts of the bench show after a run.
+use Rattle.std.specs.Prelude.{◌≡◌, ◌⊎◌, ℕ, ◌+◌, ◌≤◌, List, [], ◌∷◌, length, Option, Some}
 use Rattle.qkd_base.specs.declared.lane.Lane.{Lane}
 use Rattle.net_model.specs.declared.record.Record.{Record}
-use Rattle.net_model.specs.OctetSequence.{OctetSequence, sequence_of}
-use Rattle.net_model.specs.Sealing.{Sealing}
 use Rattle.net_model.specs.Action.{Fault}
-use Rattle.run_model.specs.Turn.{HttpTexts}
 
--- what other layers define: how payloads become frames, the texts of HTTP, and which batches the octets of a disk
--- encode, if they encode any
-pub record Layers : Type 0 where
-  pub sealing : Sealing
-  pub http : HttpTexts
-  pub batches : List ℕ → Option (List (List Record))
-
--- the octets of each link's device and of each node's entropy, or None where contracts don't know them
-pub record Sources : Type 0 where
-  pub devices : ℕ → Option (List ℕ)
-  pub entropies : ℕ → Option (List ℕ)
-
--- the sequence has these octets if they are known, and otherwise any
-abbrev pub Tells : Option (List ℕ) → OctetSequence → Type 0
-Tells None stream = Unit {0}
-Tells (Some octets) stream = stream ≡ sequence_of octets
+-- which batches the octets of a disk encode, if they encode any
+abbrev pub DiskBatches : Type 0
+DiskBatches = List ℕ → Option (List (List Record))
 
 -- a count of faults before and after the call, and the greatest value of its counter, at which it stays
 pub record Count : Type 0 where

@@ -13,7 +13,7 @@ use Rattle.declared_site.specs.SiteOf.{site_of}
 use Rattle.run_types.specs.declared.scenario.Scenario.{Scenario}
 use Rattle.run_model.specs.Play.{Played, Whole}
 use Rattle.run_model.specs.Report.{Task, tasks, Performed, report, actions_of, IsRunOf}
-use Rattle.run_model.specs.Bench.{Layers, Sources, Tells}
+use Rattle.run_model.specs.Turn.{HttpTexts}
 use Rattle.run_model.specs.Load.{load_scenario}
 
 -- the words of the call: `run W`, `load N`, `serve W C PORT`
@@ -62,8 +62,8 @@ abbrev pub tasks_of : Scenario → List Task
 tasks_of scenario = tasks scenario.node_lines scenario.entries
 
 -- what the lines reported, and how far they got
-abbrev pub lines_played : Layers → Scenario → Course → Played
-lines_played layers scenario c = report layers.http c.net first (tasks_of scenario) c.done
+abbrev pub lines_played : HttpTexts → Scenario → Course → Played
+lines_played http scenario c = report http c.net first (tasks_of scenario) c.done
 
 -- what the replies of the run handed out
 abbrev pub handed_out : Course → List Delivery
@@ -83,26 +83,21 @@ is_request_of _ = false
 
 -- Connections are served only for `serve`, and only after all lines were done. The turns of each manager are then a run
 -- of its own, of requests only.
-abbrev pub AreServed : Words → Layers → Scenario → Course → Type 0
-AreServed (Serve workers connections port) layers scenario c =
+abbrev pub AreServed : Words → HttpTexts → Scenario → Course → Type 0
+AreServed (Serve workers connections port) http scenario c =
     (c.served ≡ []) ⊎
-    (((lines_played layers scenario c).ending ≡ Whole) × (length c.served ≡ c.net.site.nodes) × AreChains c.net (run c.net first (lines_run c)) 0 c.served ×
+    (((lines_played http scenario c).ending ≡ Whole) × (length c.served ≡ c.net.site.nodes) × AreChains c.net (run c.net first (lines_run c)) 0 c.served ×
     (list_all (list_all is_request_of) c.served ≡ true))
-AreServed _ layers scenario c = c.served ≡ []
+AreServed _ http scenario c = c.served ≡ []
 
--- The run consists of the actions that the scenario's lines make, from the first world on. The devices and the
--- entropies of this bench gave its octets, and this bench gave its answers.
-pub record IsCourseOf (words : Words) (layers : Layers) (sources : Sources) (scenario : Scenario) (c : Course) : Type 0 where
+-- The run consists of the actions that the scenario's lines make, from the first world on.
+pub record IsCourseOf (words : Words) (http : HttpTexts) (scenario : Scenario) (c : Course) : Type 0 where
   pub network : IsNetwork c.net
   pub scenario_is : IsOfWords words scenario
   pub site : c.net.site ≡ site_of scenario.site
-  pub sealing : c.net.sealing ≡ layers.sealing
-  -- each device gave one list of octets, which both ends read
-  pub devices : (link : ℕ) → Tells (sources.devices link) (c.net.device link)
-  pub entropies : (v : ℕ) → Tells (sources.entropies v) (c.net.entropy v)
   -- the actions of the lines, with each block as its workers did it
-  pub lines : IsRunOf layers.http c.net (workers_of words) first (tasks_of scenario) c.done
+  pub lines : IsRunOf http c.net (workers_of words) first (tasks_of scenario) c.done
   -- for `serve`, the run goes on with the managers' turns for the connections, in order of node
-  pub served : AreServed words layers scenario c
+  pub served : AreServed words http scenario c
   -- all of it is one list of actions, each of which may happen when it does
   pub steps : IsRun c.net first (whole_run c)

@@ -2,6 +2,7 @@
 use Rattle.std.specs.Prelude.{◌≡◌, ℕ, ◌<◌, ◌≤◌, Bool, true, false, List, [], ◌++◌, filter, drop, Option, Some, length}
 use Rattle.qkd_base.specs.declared.lane.Lane.{Lane}
 use Rattle.net_model.specs.declared.record.Record.{Record}
+use Rattle.net_model.specs.OctetSequence.{sequence_of}
 use Rattle.net_model.specs.Journal.{is_blank}
 use Rattle.net_model.specs.Faults.{disk_faults, entropy_faults, device_faults, wire_faults, armings}
 use Rattle.run_types.specs.declared.scenario.Scenario.{Scenario}
@@ -11,7 +12,8 @@ use Rattle.run_types.specs.declared.item.NumberedItem.{NumberedItem}
 use Rattle.run_types.specs.Texts.{report_text, handed_text, served_text}
 use Rattle.run_model.specs.Play.{Ending, Whole, ForgedAt}
 use Rattle.run_model.specs.Left.{wire_octets, IsFoldOf, to_masters, to_slaves}
-use Rattle.run_model.specs.Bench.{Layers, Sources, Seen, RoseBy, IsArmedWith}
+use Rattle.run_model.specs.Turn.{HttpTexts}
+use Rattle.run_model.specs.Bench.{DiskBatches, Seen, RoseBy, IsArmedWith}
 use Rattle.run_model.specs.Course.{Words, Run, Load, Serve, served_by, Course, whole_run, last_world, lines_played, handed_out, IsCourseOf}
 use Rattle.run_model.specs.Keys.{KeysAndBytes}
 
@@ -35,8 +37,8 @@ abbrev pub written_of : Words → List NumberedItem → List NumberedItem
 written_of (Load rounds) items = filter (λ (i : NumberedItem). is_ledger i.item) items
 written_of _ items = items
 
-abbrev pub lines_text : Words → Layers → Scenario → Course → List ℕ
-lines_text words layers scenario c = report_text scenario.site.nodes (written_of words (lines_played layers scenario c).items)
+abbrev pub lines_text : Words → HttpTexts → Scenario → Course → List ℕ
+lines_text words http scenario c = report_text scenario.site.nodes (written_of words (lines_played http scenario c).items)
 
 -- The text after the lines. For a generated load it says how many keys were handed to masters and to slaves. For
 -- `serve` it says how many connections were served.
@@ -50,9 +52,9 @@ after_all Whole text = text
 after_all _ text = []
 
 -- the report so far; once all lines are done, it includes the text after them
-abbrev pub text_so_far : Words → Layers → Scenario → Course → List ℕ
-text_so_far words layers scenario c =
-    lines_text words layers scenario c ++ after_all (lines_played layers scenario c).ending (last_text words scenario c)
+abbrev pub text_so_far : Words → HttpTexts → Scenario → Course → List ℕ
+text_so_far words http scenario c =
+    lines_text words http scenario c ++ after_all (lines_played http scenario c).ending (last_text words scenario c)
 
 -- if contracts know what the sink took, this text was appended to it
 abbrev pub Took : (old new : Option (List ℕ)) → List ℕ → Type 0
@@ -69,33 +71,32 @@ IsServe _ = ⊥
 -- What the sink took, by how the call ended. Done: exactly the text of the run. ForgedMatch: the text of the lines up
 -- to the forged match. ListenFault: the text of all lines. WriteFault or Memory: a prefix of the text of the run so
 -- far.
-abbrev pub IsReported : Words → Stop → Layers → Scenario → Course → (old new : Option (List ℕ)) → Type 0
-IsReported words Done layers scenario c old new = ((lines_played layers scenario c).ending ≡ Whole) × Took old new (text_so_far words layers scenario c)
-IsReported words (ForgedMatch line) layers scenario c old new =
-    ((lines_played layers scenario c).ending ≡ ForgedAt line) × Took old new (lines_text words layers scenario c)
-IsReported words ListenFault layers scenario c old new =
-    IsServe words × ((lines_played layers scenario c).ending ≡ Whole) × Took old new (lines_text words layers scenario c)
-IsReported words WriteFault layers scenario c old new = TookFirst old new (text_so_far words layers scenario c)
-IsReported words Memory layers scenario c old new = TookFirst old new (text_so_far words layers scenario c)
+abbrev pub IsReported : Words → Stop → HttpTexts → Scenario → Course → (old new : Option (List ℕ)) → Type 0
+IsReported words Done http scenario c old new = ((lines_played http scenario c).ending ≡ Whole) × Took old new (text_so_far words http scenario c)
+IsReported words (ForgedMatch line) http scenario c old new =
+    ((lines_played http scenario c).ending ≡ ForgedAt line) × Took old new (lines_text words http scenario c)
+IsReported words ListenFault http scenario c old new =
+    IsServe words × ((lines_played http scenario c).ending ≡ Whole) × Took old new (lines_text words http scenario c)
+IsReported words WriteFault http scenario c old new = TookFirst old new (text_so_far words http scenario c)
+IsReported words Memory http scenario c old new = TookFirst old new (text_so_far words http scenario c)
 
--- ---- the headline of one run
+-- ---- the headline of one run, for what was seen of the bench after it
 
-pub record Headline (words : Words) (stop : Stop) (layers : Layers) (sources : Sources) (scenario : Scenario) (seen : Seen) (old new : Option (List ℕ)) : Type 0 where
-  pub course : Course
-  -- the run is one of this scenario over this bench
-  pub run : IsCourseOf words layers sources scenario course
+pub record Headline (words : Words) (stop : Stop) (http : HttpTexts) (reading : DiskBatches) (scenario : Scenario) (seen : Seen) (old new : Option (List ℕ)) (course : Course) : Type 0 where
+  -- the run is one of this scenario
+  pub run : IsCourseOf words http scenario course
   -- the sink took the report of this run
-  pub reported : IsReported words stop layers scenario course old new
+  pub reported : IsReported words stop http scenario course old new
   -- each wire whose frames are known has exactly the frames of its lane, in order; a wire of no link has none
   pub wires : (l : Lane) (frames : List (List ℕ)) → seen.wire l ≡ Some frames → frames ≡ wire_octets course.net (last_world course) l
   -- The disk of each node that was ever started encodes batches. Their fold is that of the batches of the node's
   -- events. A batch in doubt may or may not be among these.
   pub disks : (v : ℕ) → v < course.net.site.nodes → is_blank ((last_world course).journal v) ≡ false →
-      (batches : List (List Record)) × (layers.batches (seen.disk v) ≡ Some batches) × IsFoldOf course.net (whole_run course) (last_world course) v batches
+      (batches : List (List Record)) × (reading (seen.disk v) ≡ Some batches) × IsFoldOf course.net (whole_run course) (last_world course) v batches
   -- the disk of a number that no node has is empty, as it was before
   pub other_disks : (v : ℕ) → course.net.site.nodes ≤ v → seen.disk v ≡ []
   -- what is left of an entropy is what it had, without the octets that its node drew
-  pub left : (v : ℕ) (told rest : List ℕ) → sources.entropies v ≡ Some told → seen.entropy v ≡ Some rest → rest ≡ drop ((last_world course).drawn v) told
+  pub left : (v : ℕ) (told rest : List ℕ) → course.net.entropy v ≡ sequence_of told → seen.entropy v ≡ Some rest → rest ≡ drop ((last_world course).drawn v) told
   -- all that is promised of keys and of lane bytes
   pub keys : KeysAndBytes course
   -- Failures have causes. A node answers `stopped`, at a start or later, at most as often as its disk failed. It

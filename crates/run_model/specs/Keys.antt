@@ -4,12 +4,13 @@ use Rattle.std.specs.List.{list_all}
 use Rattle.qkd_base.specs.Name.{Name, has}
 use Rattle.qkd_base.specs.Route.{first_of, last_of}
 use Rattle.qkd_base.specs.declared.lane.Lane.{Lane}
+use Rattle.net_model.specs.declared.event.Event.{Event}
 use Rattle.net_model.specs.declared.event.Event.TheVariants.{Enc, EncGroup, Show}
 use Rattle.net_model.specs.declared.fact.Fact.{Fact}
 use Rattle.net_model.specs.declared.held.Held.{Held}
 use Rattle.net_model.specs.declared.reply.Reply.TheVariants.{Handed, Shown}
 use Rattle.net_model.specs.Item.{need}
-use Rattle.net_model.specs.Table.{bytes_of, route_of, fact_at, is_secret, was_handed}
+use Rattle.net_model.specs.Table.{bytes_of, route_of, fact_at, is_secret, was_handed, sae_at}
 use Rattle.net_model.specs.Site.{Site}
 use Rattle.net_model.specs.World.{Network, World, Allocation, Frame}
 use Rattle.net_model.specs.Journal.{added_len, journal_limit}
@@ -21,7 +22,7 @@ use Rattle.net_model.specs.Drawn.{IsDrawn}
 use Rattle.net_model.specs.Handings.{PairsDiffer, KnowsStored}
 use Rattle.net_model.specs.Action.{Ask, Outcome, Replies, Environment, is_io_fault, is_no_memory}
 use Rattle.net_model.specs.Step.{step}
-use Rattle.net_model.specs.Deliveries.{Delivery, is_of_name, IsTrueDelivery, pairs_of, IsWithin}
+use Rattle.net_model.specs.Deliveries.{Delivery, of_step, is_of_name, IsTrueDelivery, pairs_of, IsWithin}
 use Rattle.net_model.specs.Invariant.{Conserved}
 use Rattle.run_model.specs.Course.{Course, whole_run, world_after, last_world, handed_out}
 
@@ -46,26 +47,28 @@ pub record Answers (w : World) (m : ℕ) (ns : List Name) (outcome : Outcome) : 
 
 -- ---- entitled applications
 
--- the node knows a Stored note of the target about each fact of this name
+-- the node knows the target's Stored note about each fact of this name
 abbrev pub AreConfirmed : List Fact → List Name → Name → Type 0
 AreConfirmed facts known n = (m : Name) (f : Fact) → fact_at facts m ≡ Some f → is_of_name n f ≡ true → KnowsStored facts known m
 
--- The application may have the key of this name. It is one of an allowed pair: the first, a master or source, or the
--- last. The fact of the key or chunk, or of a part of the group key, goes from the home of the first to that of the
--- last, and the application's home knows it. If the application is the first one, each fact of the name is also
--- confirmed.
-pub record IsEntitled (s : Site) (d : World) (n : Name) (sae : ℕ) : Type 0 where
-  pub first : ℕ
-  pub last : ℕ
-  pub allowed : s.allowed first last ≡ true
-  pub one : ((first ≡ sae) × AreConfirmed d.durable.facts (d.durable.known (s.home sae)) n) ⊎ (last ≡ sae)
+-- The application may have the key of this name: the key's or chunk's own fact, or a part of the group key, is for it.
+-- That fact is for an allowed pair, the key's master and slave, the source and peer of the chunk's stream, or the
+-- group's master and one slave, and goes from the home of the first to that of the last. The application is one of the
+-- two, and its home knows the fact. If it is the first, each fact of the name is also confirmed there.
+pub record IsEntitled (s : Site) (facts : List Fact) (known : ℕ → List Name) (n : Name) (sae : ℕ) : Type 0 where
   pub name : Name
   pub fact : Fact
-  pub there : fact_at d.durable.facts name ≡ Some fact
+  pub there : fact_at facts name ≡ Some fact
   pub is : is_of_name n fact ≡ true
+  pub first : ℕ
+  pub last : ℕ
+  pub is_first : sae_at facts true fact ≡ Some first
+  pub is_last : sae_at facts false fact ≡ Some last
+  pub allowed : s.allowed first last ≡ true
   pub from : first_of (route_of fact) ≡ s.home first
   pub to : last_of (route_of fact) ≡ s.home last
-  pub knows : has (d.durable.known (s.home sae)) name ≡ true
+  pub one : ((first ≡ sae) × AreConfirmed facts (known (s.home sae)) n) ⊎ (last ≡ sae)
+  pub knows : has (known (s.home sae)) name ≡ true
 
 -- the frame covers lane byte x
 abbrev pub Covers : World → Allocation → ℕ → Type 0
@@ -94,8 +97,11 @@ pub record KeysAndBytes (c : Course) : Type 0 where
   pub once : PairsDiffer (pairs_of (handed_out c))
   -- each handing is marked, in order
   pub marked : IsWithin (pairs_of (handed_out c)) (last_world c).durable.handed
+  -- keys are handed out only where their applications are at home
+  pub at_home : (k v i : ℕ) (event : Event) (environment : Environment) (d : Delivery) → slice_get (whole_run c) k ≡ Some (Ask v event environment) →
+      slice_get (of_step c.net (world_after c k) (Ask v event environment) (step c.net (world_after c k) (Ask v event environment)).1) i ≡ Some d → c.net.site.home d.sae ≡ v
   -- keys are handed only to applications that are entitled to them
-  pub entitled : (name : Name) (sae : ℕ) → was_handed (pairs_of (handed_out c)) name sae ≡ true → IsEntitled c.net.site (last_world c) name sae
+  pub entitled : (name : Name) (sae : ℕ) → was_handed (pairs_of (handed_out c)) name sae ≡ true → IsEntitled c.net.site (last_world c).durable.facts (last_world c).durable.known name sae
   -- no lane byte masks two different frames: two frames of a wire that cover the same byte are the same frame
   pub masks_one : (l : Lane) (m n i j x : ℕ) (a b : Allocation) → slice_get ((last_world c).wire l) m ≡ Some i → slice_get ((last_world c).wire l) n ≡ Some j →
       slice_get ((last_world c).frames l) i ≡ Some a → slice_get ((last_world c).frames l) j ≡ Some b →

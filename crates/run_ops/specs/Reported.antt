@@ -7,8 +7,8 @@ use Rattle.run_types.specs.declared.start_result.StartResult.TheVariants as star
 use Rattle.run_types.specs.declared.unsent_cause.UnsentCause.{UnsentCause}
 use Rattle.run_types.specs.declared.unsent_cause.UnsentCause.TheVariants as causes
 use Rattle.run_model.specs.Outcomes.{made_items, handed_items, status_items, stream_items, show_items, plan_items}
-use Rattle.run_ops.specs.declared.reporting.Reporting.{Reporting}
-use Rattle.run_ops.specs.declared.reporting.Reporting.TheVariants as ways
+use Rattle.run_ops.specs.declared.reply_report.Reporting.{Reporting}
+use Rattle.run_ops.specs.declared.reply_report.Reporting.TheVariants as ways
 use Rattle.run_ops.specs.declared.delivery.Delivery.{Delivery}
 use Rattle.run_ops.specs.declared.delivery.Delivery.TheVariants as deliveries
 use Rattle.run_ops.specs.declared.block_take.BlockTake.{BlockTake}

@@ -7,7 +7,7 @@ ghost use Rattle.run_types.specs.declared.command.Command.TheVariants as command
 ghost use Rattle.run_model.specs.Turn.{event_of};
 ghost use Rattle.run_ops.specs.Asking.{Asks};
 
-use crate::reporting::Reporting;
+use crate::reply_report::Reporting;
 use crate::slaves::in_order;
 use declared_site::Site;
 use kme_base::home;

@@ -1,3 +1,4 @@
+pub mod Cuts
 pub mod Tasking
 pub mod Writes
 pub mod Made

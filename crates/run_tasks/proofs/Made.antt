@@ -24,7 +24,7 @@ use Rattle.run_model.specs.Outcomes.{frame_items, http_items}
 use Rattle.run_model.specs.Turn.{HttpTexts, Turn, Unasked, Asked, AnswersAtOnce, Calls, turn_of, at_node, http_turn}
 use Rattle.run_model.specs.Works.{block_turn, may_stand_in_block}
 use Rattle.run_model.specs.Block.{unasked_items}
-use Rattle.run_ops.specs.declared.reporting.Reporting.{Reporting}
+use Rattle.run_ops.specs.declared.reply_report.Reporting.{Reporting}
 use Rattle.run_ops.specs.Reported.{reported}
 use Rattle.run_ops.specs.Asking.{asks_an_event}
 use Rattle.run_ops.specs.Fitting.{is_plan}

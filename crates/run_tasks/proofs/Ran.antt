@@ -1,5 +1,5 @@
 -- A block of lines as a task.
-use Rattle.std.proofs.Common.{◌≡◌, inl, inr, ℕ, List, [], ◌∷◌, map, sym, ap, subst, ◌∙◌}
+use Rattle.std.proofs.Common.{◌≡◌, inl, inr, ℕ, List, [], ◌∷◌, map, sym, ap, subst, ◌∙◌, refl, arith}
 use Rattle.std.specs.Prelude.{Option, Some, None, Result, Ok, Err}
 use Rattle.std.specs.List.{All}
 use Rattle.std.proofs.lemmas.List.{append-nil}
@@ -28,11 +28,12 @@ use Rattle.run_lines.specs.declared.stop.Stop.{Stop}
 use Rattle.run_lines.specs.declared.stop.Stop.TheVariants.{WriteFault, Memory, Forged}
 use Rattle.run_lines.specs.Reporting.{Wrote}
 use Rattle.run_lines.specs.Running.{StopsAs}
-use Rattle.run_lines.proofs.Taking.{first_none}
+use Rattle.run_lines.proofs.Taking.{first_none, took_none}
 use Rattle.run_lines.proofs.Going.{Ways}
 use Rattle.run_tasks.specs.declared.prepared.Prepared.{Prepared}
 use Rattle.run_tasks.specs.Prepared.{IsPrepared}
 use Rattle.run_tasks.specs.Tasks.{RanTasks}
+use Rattle.run_tasks.proofs.Cuts.{taken_of, cut_first}
 use Rattle.run_tasks.proofs.Tasking.{LeadsOn, leads_one, nothing_more, all_done, acts_none, all_ran}
 use Rattle.run_tasks.proofs.Asked.{all_same_asked}
 use Rattle.run_tasks.proofs.Items.{items_told, same_items}
@@ -77,6 +78,7 @@ module _ {S : Type 0} (Stands Rests : S → Network → World → Type 0) (Talli
     left = subst (Rests b net) (sym (nothing_more http net w tasks)) rests;
     tallied = subst (Tallied a b net.site) (sym (acts_none net)) tallied;
     told = first_none r _;
+    cut = cut_first (λ items. items) nodes http net w tasks [] r r refl (omega arith) (record { text = []; took = took_none r });
   }
 
   block_leads : (w : World) (lines : List Line) (works : Works) → IsBlockOf http net workers w lines works → works.left_out ≡ None →
@@ -100,6 +102,8 @@ module _ {S : Type 0} (Stands Rests : S → Network → World → Type 0) (Talli
         left = subst (λ (q : Played). Rests b net q.world) (sym said) rests;
         tallied = subst (Tallied a b net.site) (sym (acts_together net works)) tallied;
         told = first_so stop _ (ap (λ (q : Played). q.items) said ∙ append-nil items) wrote;
+        cut = cut_first (λ xs. xs) nodes http net w (Does (entries.Block lines) ∷ []) (Together works ∷ []) r t refl (omega arith)
+            (taken_of stop nodes (record { items = items; world = after; ending = Whole }) r t (first_so stop (record { items = items; world = after; ending = Whole }) refl wrote));
       }
     where
       first_so : (stop : Stop) (q : Played) → q.items ≡ block_items http net w lines works → Wrote {T = Unit {0}} (Err stop) r t (report_text nodes (block_items http net w lines works)) →

@@ -8,7 +8,7 @@ use Rattle.net_model.specs.Deliveries.{deliveries}
 use Rattle.run_types.specs.Texts.{handed_text}
 use Rattle.run_types.specs.declared.scenario.Scenario.{Scenario}
 use Rattle.run_model.specs.Play.{Ending, Whole}
-use Rattle.run_model.specs.Bench.{Layers}
+use Rattle.run_model.specs.Turn.{HttpTexts}
 use Rattle.run_model.specs.Left.{to_masters, to_slaves}
 use Rattle.run_model.specs.Course.{Load, Course, lines_run, whole_run, last_world, handed_out, lines_played}
 use Rattle.run_model.specs.Headline.{Done, ForgedMatch, ListenFault, WriteFault, Memory, TookFirst, Took, after_all, last_text, text_so_far, IsReported}
@@ -16,7 +16,7 @@ use Rattle.run_model.specs.Headline as headline
 use Rattle.law_run.specs.Handed.{enc_keys, dec_keys}
 use Rattle.run_tasks.specs.Told.{ledger_text, load_text, IsLoadTold, IsLoadOver}
 
-module _ (layers : Layers) (scenario : Scenario) (rounds : ℕ) (c : Course) (over : IsLoadOver layers scenario rounds c)
+module _ (http : HttpTexts) (scenario : Scenario) (rounds : ℕ) (c : Course) (over : IsLoadOver http scenario rounds c)
     (masters : to_masters (run c.net first (lines_run c)) (deliveries c.net first (lines_run c)) ≡ enc_keys c.net first (lines_run c))
     (slaves : to_slaves (run c.net first (lines_run c)) (deliveries c.net first (lines_run c)) ≡ dec_keys c.net first (lines_run c)) where
   abbrev encs : ℕ
@@ -26,7 +26,7 @@ module _ (layers : Layers) (scenario : Scenario) (rounds : ℕ) (c : Course) (ov
   decs = dec_keys c.net first (lines_run c)
 
   abbrev ledgers : List ℕ
-  ledgers = ledger_text scenario.site.nodes (lines_played layers scenario c)
+  ledgers = ledger_text scenario.site.nodes (lines_played http scenario c)
 
   -- The whole run is the run of the lines.
   whole_is : whole_run c ≡ lines_run c
@@ -41,14 +41,14 @@ module _ (layers : Layers) (scenario : Scenario) (rounds : ℕ) (c : Course) (ov
   last_is : last_text (Load rounds) scenario c ≡ handed_text encs decs
   last_is = ap (λ (n : ℕ). handed_text n (to_slaves (last_world c) (handed_out c))) to_masters_are ∙ ap (handed_text encs) to_slaves_are
 
-  text_is : text_so_far (Load rounds) layers scenario c ≡ load_text scenario.site.nodes (lines_played layers scenario c) encs decs
-  text_is = ap (λ (text : List ℕ). ledgers ++ after_all (lines_played layers scenario c).ending text) last_is
+  text_is : text_so_far (Load rounds) http scenario c ≡ load_text scenario.site.nodes (lines_played http scenario c) encs decs
+  text_is = ap (λ (text : List ℕ). ledgers ++ after_all (lines_played http scenario c).ending text) last_is
 
-  whole_text : (lines_played layers scenario c).ending ≡ Whole → ledgers ++ handed_text encs decs ≡ text_so_far (Load rounds) layers scenario c
+  whole_text : (lines_played http scenario c).ending ≡ Whole → ledgers ++ handed_text encs decs ≡ text_so_far (Load rounds) http scenario c
   whole_text whole = ap (λ (e : Ending). ledgers ++ after_all e (handed_text encs decs)) (sym whole) ∙ sym text_is
 
-  pub is_reported : (stop : headline.Stop) (old new : Option (List ℕ)) → IsLoadTold stop scenario.site.nodes (lines_played layers scenario c) encs decs old new →
-      IsReported (Load rounds) stop layers scenario c old new
+  pub is_reported : (stop : headline.Stop) (old new : Option (List ℕ)) → IsLoadTold stop scenario.site.nodes (lines_played http scenario c) encs decs old new →
+      IsReported (Load rounds) stop http scenario c old new
   is_reported Done old new told = (told.0, subst (Took old new) (whole_text told.0) told.1)
   is_reported (ForgedMatch line) old new told = told
   is_reported ListenFault old new told = absurd told

@@ -27,6 +27,7 @@ use Rattle.run_lines.specs.declared.stop.Stop.TheVariants.{WriteFault, Memory, F
 use Rattle.run_lines.specs.Running.{StopsAs, Finishes, Stops, Ran}
 use Rattle.run_tasks.specs.Tasks.{RanTasks}
 use Rattle.run_lines.proofs.Taking.{took_none, took_on, text_on, text_none}
+use Rattle.run_tasks.proofs.Cuts.{taken_of, cut_first, cut_none, cut_on, cut_as, front_runs}
 use Rattle.run_lines.proofs.Going.{Ways, stops_as}
 
 -- What was done is a first part of a run of these tasks. It reports these items and leads to a world where `rest` is left to do.
@@ -258,15 +259,15 @@ module _ {S : Type 0} (Stands Rests : S → Network → World → Type 0) (Talli
   all_ran T answer a b r t w after tasks p =
       let said : report http net w tasks p.done ≡ reporting p.items (stopped_at after Whole) =
       ap (report http net w tasks) (sym (append-nil p.done)) ∙ p.leads.said [] ∙ ap (reporting p.items) (all_done http net after) in
+      let took : Took r t (report_text nodes (report http net w tasks p.done).items) =
+      subst (λ (q : Played). Took r t (report_text nodes q.items)) (sym said) (subst (λ (xs : List NumberedItem). Took r t (report_text nodes xs)) (sym (append-nil p.items)) p.took) in
       record {
         done = p.done;
         is = subst (IsRunOf http net workers w tasks) (append-nil p.done) (p.leads.is [] tt);
         left = subst (λ (q : Played). IsReady Stands b net q.world) (sym said) p.ready;
         tallied = p.tallied;
-        told = (
-          ap (λ (q : Played). q.ending) said,
-          subst (λ (q : Played). Took r t (report_text nodes q.items)) (sym said) (subst (λ (xs : List NumberedItem). Took r t (report_text nodes xs)) (sym (append-nil p.items)) p.took),
-        );
+        told = (ap (λ (q : Played). q.ending) said, took);
+        cut = cut_none (λ items. items) nodes http net w tasks p.done r t took;
       }
 
   pub one_stopped : (T : Type 0) (a b : S) (r t : Option (List ℕ)) (w : World) (task : Task) (tasks : List Task) (number : ℕ) (script : Script) (stop : Stop) → IsTask http net workers w task number script →
@@ -284,6 +285,7 @@ module _ {S : Type 0} (Stands Rests : S → Network → World → Type 0) (Talli
         tallied = subst (Tallied a b net.site) (sym (acts_one net s.actions)) s.tallied;
         told = subst (λ (q : Played). StopsAs stop nodes q r t) (sym (first_done http net w task tasks d []))
             (cut_told nodes p.ending p rest stop r t refl (nothing_told http net p.world tasks) (subst (λ (q : Played). StopsAs stop nodes q r t) (sym same) s.told));
+        cut = cut_first (λ items. items) nodes http net w (task ∷ tasks) (d ∷ []) r t refl (omega arith) (taken_of stop nodes _ r t s.told);
       }
 
   pub did_stop : (T : Type 0) (a b c : S) (r t u : Option (List ℕ)) (w m : World) (tasks mid : List Task) (stop : Stop) → DidSo Stands Tallied nodes a b r t http net workers w tasks m mid →
@@ -296,6 +298,7 @@ module _ {S : Type 0} (Stands Rests : S → Network → World → Type 0) (Talli
         left = subst (λ (x : Played). Rests c net x.world) (sym said) q.left;
         tallied = subst (Tallied a c net.site) (sym (acts_on net p.done q.done)) (ways.more a b c net.site (actions_of net p.done) (actions_of net q.done) p.tallied q.tallied);
         told = stops_as nodes _ _ p.items r t u stop said p.took q.told;
+        cut = cut_on (λ items. items) nodes http net w m tasks mid p.done q.done p.items r t u (λ xs ys. refl) p.leads.said p.took q.cut;
       }
 
   -- ---- tasks that follow others
@@ -340,6 +343,8 @@ module _ {S : Type 0} (Stands Rests : S → Network → World → Type 0) (Talli
         left = subst (Rests b net) (sym same.world) p.left;
         tallied = p.tallied;
         told = told_before w tasks last p.done stop r t same p.told;
+        cut = cut_as (λ items. items) nodes http net w tasks (tasks ++ last) p.done r t p.cut
+            (same_before http net workers last tasks p.cut.front w (front_runs http net workers tasks p.cut.front p.cut.last w (subst (IsRunOf http net workers w tasks) p.cut.split p.is))).items;
       }
 
   -- ---- a single task that is a line

@@ -1,5 +1,5 @@
 -- The tasks of a load, in order.
-use Rattle.std.proofs.Common.{◌≡◌, ◌∙◌, ℕ, ◌+◌, Bool, true, false, List, [], ◌∷◌, ◌++◌, refl, sym, ap, subst}
+use Rattle.std.proofs.Common.{◌≡◌, ◌∙◌, ℕ, ◌+◌, Bool, true, false, List, [], ◌∷◌, ◌++◌, refl, sym, ap, subst, arith}
 use Rattle.std.specs.Prelude.{Option, Result, Ok, Err, MatchResult}
 use Rattle.std.proofs.lemmas.List.{append_assoc, append-nil}
 use Rattle.std.proofs.lemmas.List.Concat.{flat_map-append}
@@ -20,8 +20,9 @@ use Rattle.run_lines.specs.declared.stop.Stop.{Stop}
 use Rattle.run_lines.specs.declared.stop.Stop.TheVariants.{WriteFault, Memory, Forged}
 use Rattle.run_lines.specs.Reporting.{Wrote}
 use Rattle.run_lines.specs.Running.{StopsAs}
-use Rattle.run_lines.proofs.Taking.{took_on, first_none, first_within, first_after}
+use Rattle.run_lines.proofs.Taking.{took_none, took_on, first_none, first_within, first_after}
 use Rattle.run_lines.proofs.Going.{Ways, stops_as}
+use Rattle.run_tasks.proofs.Cuts.{HasTaken, taken_of, cut_first, cut_none, cut_more, cut_on}
 use Rattle.run_tasks.proofs.Tasking.{IsTask}
 use Rattle.law_locality.proofs.Runs.{run_none, run-append}
 use Rattle.law_run.proofs.Plays.{play_is_run}
@@ -196,6 +197,7 @@ module _ {S : Type 0} (Stands Rests : S → Network → World → Type 0) (Talli
         tallied = subst (Tallied a b net.site) (sym (acts_one net s.actions)) s.tallied;
         told = subst (λ (q : Played). StopsAs stop nodes (ledgers_alone q) r t) (sym (first_done http net w task tasks d []))
             (cut_told nodes p.ending p rest stop r t refl (nothing_told http net p.world tasks) (subst (λ (q : Played). StopsAs stop nodes (ledgers_alone q) r t) (sym same) s.told));
+        cut = cut_first ledgers_of nodes http net w (task ∷ tasks) (d ∷ []) r t refl (omega arith) (taken_of stop nodes _ r t s.told);
       }
 
   pub went_stop : (a b c : S) (r t u : Option (List ℕ)) (w m : World) (tasks mid : List Task) (stop : Stop) (handed : Handed) → Went Stands Tallied nodes a b r t http net w tasks m mid handed →
@@ -209,6 +211,7 @@ module _ {S : Type 0} (Stands Rests : S → Network → World → Type 0) (Talli
         tallied = subst (Tallied a c net.site) (sym (acts_on net p.done q.done)) (ways.more a b c net.site (actions_of net p.done) (actions_of net q.done) p.tallied q.tallied);
         told = stops_as nodes (ledgers_alone (report http net m mid q.done)) (ledgers_alone (report http net w tasks (p.done ++ q.done))) (ledgers_of p.items) r t u stop
             (alone_on (report http net m mid q.done) (report http net w tasks (p.done ++ q.done)) p.items said) p.took q.told;
+        cut = cut_on ledgers_of nodes http net w m tasks mid p.done q.done p.items r t u ledgers_on p.leads.said p.took q.cut;
       }
 
   -- Memory runs out before anything more is done.
@@ -219,6 +222,7 @@ module _ {S : Type 0} (Stands Rests : S → Network → World → Type 0) (Talli
     rests = subst (Rests a net) (sym (nothing_more http net w tasks)) (ways.rest a net w ready.stands);
     tallied = subst (Tallied a a net.site) (sym (acts_none net)) (ways.none a net w ready.stands);
     told = first_none r (report_text nodes (ledgers_of (report http net w tasks []).items));
+    cut = cut_first ledgers_of nodes http net w tasks [] r r refl (omega arith) (record { text = []; took = took_none r });
   }
 
   pub went_short : (a b : S) (r t : Option (List ℕ)) (w m : World) (tasks mid : List Task) (handed : Handed) → Went Stands Tallied nodes a b r t http net w tasks m mid handed →
@@ -240,6 +244,7 @@ module _ {S : Type 0} (Stands Rests : S → Network → World → Type 0) (Talli
     left = p.rests;
     tallied = p.tallied;
     told = stopped_as (report http net w tasks p.done) (enc_keys net w (actions_of net p.done)) (dec_keys net w (actions_of net p.done)) r t stop p.told;
+    cut = p.cut;
   }
 
   -- All tasks were done, and the last line was written, or a prefix of it.
@@ -253,6 +258,12 @@ module _ {S : Type 0} (Stands Rests : S → Network → World → Type 0) (Talli
       subst (λ (e : Ending). TookFirst r u (ledger_text nodes p ++ after_all e (handed_text masters slaves))) (sym whole)
       (first_after r t u (ledger_text nodes p) (handed_text masters slaves) took wrote)
   last_told p masters slaves r t u (Err (Forged line)) whole took wrote = absurd wrote
+
+  wrote_so : (result : Result (Unit {0}) Stop) (t u : Option (List ℕ)) (text : List ℕ) → Wrote result t u text → HasTaken t u
+  wrote_so (Ok done) t u text wrote = record { text = text; took = wrote }
+  wrote_so (Err WriteFault) t u text wrote = record { text = wrote.0; took = wrote.3 }
+  wrote_so (Err Memory) t u text wrote = record { text = wrote.0; took = wrote.3 }
+  wrote_so (Err (Forged line)) t u text wrote = absurd wrote
 
   left_then : (b : S) (w : World) (result : Result (Unit {0}) Stop) → IsReady Stands b net w → MatchResult result (λ answer. IsReady Stands b net w) (λ stop. Rests b net w)
   left_then b w (Ok done) ready = ready
@@ -275,4 +286,6 @@ module _ {S : Type 0} (Stands Rests : S → Network → World → Type 0) (Talli
         told = last_told (report http net w tasks p.done) masters slaves r t u result (ap (λ (q : Played). q.ending) said)
             (subst (λ (q : Played). Took r t (ledger_text nodes q)) (sym said) p.took)
             (subst (λ (n : ℕ). Wrote result t u (handed_text masters n)) p.keys.slaves (subst (λ (n : ℕ). Wrote result t u (handed_text n handed.slaves)) p.keys.masters wrote));
+        cut = cut_more ledgers_of nodes http net w tasks p.done r t u (cut_none ledgers_of nodes http net w tasks p.done r t (subst (λ (q : Played). Took r t (ledger_text nodes q)) (sym said) p.took))
+            (wrote_so result t u (handed_text handed.masters handed.slaves) wrote);
       }

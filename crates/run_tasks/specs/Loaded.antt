@@ -9,9 +9,11 @@ use Rattle.run_ops.specs.Acting.{IsReady}
 use Rattle.run_lines.specs.declared.stop.Stop.{Stop}
 use Rattle.run_lines.specs.Running.{StopsAs}
 use Rattle.law_run.specs.Handed.{enc_keys, dec_keys}
+use Rattle.law_run.specs.Ledgers.{ledgers_of}
 use Rattle.run_tasks.specs.declared.handed.Handed.{Handed}
 use Rattle.run_tasks.specs.Told.{ledgers_alone, ended, IsLoadTold}
 use Rattle.run_tasks.specs.Leading.{Went}
+use Rattle.run_tasks.specs.Tasks.{IsCut}
 
 -- The tasks stopped early, or after the last of them. What is left of the network rests in the world after that. The stop says what the sink took of
 -- the ledgers.
@@ -22,6 +24,7 @@ pub record Stopped {S : Type 0} (Rests : S → Network → World → Type 0) (Ta
   pub rests : Rests new net (report http net w tasks done).world
   pub tallied : Tallied old new net.site (actions_of net done)
   pub told : StopsAs stop nodes (ledgers_alone (report http net w tasks done)) before taken
+  pub cut : IsCut ledgers_of nodes http net w tasks done before taken
 
 -- All tasks before `rest` were done, and this many keys were handed out; or the tasks stopped.
 abbrev pub Goes : {S : Type 0} → (Stands Rests : S → Network → World → Type 0) → (Tallied : S → S → Site → List Action → Type 0) → List (List ℕ) → (old new : S) →
@@ -40,3 +43,4 @@ pub record RanLoad {S T : Type 0} (Stands Rests : S → Network → World → Ty
   pub left : MatchResult result (λ answer. IsReady Stands new net (report http net w tasks done).world) (λ stop. Rests new net (report http net w tasks done).world)
   pub tallied : Tallied old new net.site (actions_of net done)
   pub told : IsLoadTold (ended result) nodes (report http net w tasks done) (enc_keys net w (actions_of net done)) (dec_keys net w (actions_of net done)) before taken
+  pub cut : IsCut ledgers_of nodes http net w tasks done before taken

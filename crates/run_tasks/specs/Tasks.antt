@@ -1,8 +1,9 @@
 -- The outcome of tasks that are done in order.
-use Rattle.std.specs.Prelude.{◌≡◌, ℕ, List, Option, Result, MatchResult}
+use Rattle.std.specs.Prelude.{◌≡◌, ℕ, ◌≤◌, List, ◌++◌, length, Option, Result, MatchResult}
 use Rattle.net_model.specs.Site.{Site}
 use Rattle.net_model.specs.World.{Network, World}
 use Rattle.net_model.specs.Action.{Action}
+use Rattle.run_types.specs.declared.item.NumberedItem.{NumberedItem}
 use Rattle.run_types.specs.Texts.{report_text}
 use Rattle.run_model.specs.Turn.{HttpTexts}
 use Rattle.run_model.specs.Play.{Whole}
@@ -11,6 +12,17 @@ use Rattle.run_model.specs.Headline.{Took}
 use Rattle.run_ops.specs.Acting.{IsReady}
 use Rattle.run_lines.specs.declared.stop.Stop.{Stop}
 use Rattle.run_lines.specs.Running.{StopsAs}
+
+-- What the sink took begins with the text of all that was reported before the last task that was done. So only items of this task may be missing, and after a
+-- task whose items are missing no other was done. `written` says which items are written.
+pub record IsCut (written : List NumberedItem → List NumberedItem) (nodes : List (List ℕ)) (http : HttpTexts) (net : Network) (w : World) (tasks : List Task) (done : List Performed)
+    (before taken : Option (List ℕ)) : Type 0 where
+  pub front : List Performed
+  pub last : List Performed
+  pub split : done ≡ front ++ last
+  pub one : length last ≤ 1
+  pub more : List ℕ
+  pub took : Took before taken (report_text nodes (written (report http net w tasks front).items) ++ more)
 
 -- What was done is a run of these tasks by `workers` workers. If all tasks were done, the network is ready for the world after them, and the sink
 -- took exactly the text of the report. If the run stopped early, what is left rests in the world where it stopped, and the report ends as that stop
@@ -23,3 +35,4 @@ pub record RanTasks {S T : Type 0} (Stands Rests : S → Network → World → T
   pub tallied : Tallied old new net.site (actions_of net done)
   pub told : MatchResult result (λ answer. ((report http net w tasks done).ending ≡ Whole) × Took before taken (report_text nodes (report http net w tasks done).items))
       (λ stop. StopsAs stop nodes (report http net w tasks done) before taken)
+  pub cut : IsCut (λ items. items) nodes http net w tasks done before taken

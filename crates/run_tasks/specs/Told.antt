@@ -7,7 +7,7 @@ use Rattle.run_types.specs.Texts.{report_text, handed_text}
 use Rattle.run_model.specs.Play.{Played, Whole, ForgedAt}
 use Rattle.run_model.specs.Report.{IsRunOf}
 use Rattle.run_model.specs.Load.{load_scenario}
-use Rattle.run_model.specs.Bench.{Layers}
+use Rattle.run_model.specs.Turn.{HttpTexts}
 use Rattle.run_model.specs.Course.{Course, tasks_of}
 use Rattle.run_model.specs.Headline.{Done, ForgedMatch, ListenFault, WriteFault, Memory, Took, TookFirst, after_all}
 use Rattle.run_model.specs.Headline as headline
@@ -43,8 +43,8 @@ IsLoadTold WriteFault nodes p masters slaves old new = TookFirst old new (load_t
 IsLoadTold Memory nodes p masters slaves old new = TookFirst old new (load_text nodes p masters slaves)
 
 -- the course of a load's scenario over a network, with nothing after its lines
-pub record IsLoadOver (layers : Layers) (scenario : Scenario) (rounds : ℕ) (c : Course) : Type 0 where
+pub record IsLoadOver (http : HttpTexts) (scenario : Scenario) (rounds : ℕ) (c : Course) : Type 0 where
   pub scenario_is : scenario ≡ load_scenario rounds
   pub network : IsNetwork c.net
-  pub lines : IsRunOf layers.http c.net 1 first (tasks_of scenario) c.done
+  pub lines : IsRunOf http c.net 1 first (tasks_of scenario) c.done
   pub alone : c.served ≡ []

@@ -12,8 +12,8 @@ ghost use Rattle.run_lines.specs.Reporting.{InLines, IsBlamed, IsItemLine};
 ghost use Rattle.run_lines.specs.Running.{IsReadySomewhere};
 ghost use Rattle.run_tasks.specs.Tasks.{RanTasks};
 
+use crate::block_report::report;
 use crate::prepared::{Prepared, prepare};
-use crate::reporting::report;
 use edge_io::Sink;
 use qkd_base::Memory;
 use run_lines::{Requests, Stop};

@@ -2,13 +2,13 @@
 #![tactic(auto)]
 
 mod block;
+mod block_report;
 mod entries;
 mod handed;
 mod laws;
 mod lines;
 mod load;
 mod prepared;
-mod reporting;
 mod unheard;
 
 pub use block::do_block;

@@ -2,10 +2,10 @@
 //! chunk counts.
 #![tactic(auto)]
 
-mod counting;
 mod opened;
 mod streams;
 mod tallies;
+mod tally_updates;
 
 pub use opened::Opened;
 pub use streams::{FeedPlace, Streams};

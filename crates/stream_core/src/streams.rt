@@ -7,8 +7,8 @@ ghost use Rattle.relay_core.specs.Knowledge.{acked_with, forgotten};
 ghost use Rattle.end_store.specs.Pooled.{ends_view};
 ghost use Rattle.stream_core.specs.Tallied.{IsTally};
 
-use crate::counting::{count_chunks, tally_handing, tally_last};
 use crate::tallies::{Tallies, Tally};
+use crate::tally_updates::{count_chunks, tally_handing, tally_last};
 use end_store::{EndStore, Marks};
 use net_model::Fact;
 use qkd_base::{KeyName, Memory, NodeNo, SaeNo};

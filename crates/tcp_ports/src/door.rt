@@ -1,11 +1,11 @@
 // A listener over TCP.
-ghost use Rattle.std.specs.Prelude.{◌≡◌, ◌+◌, ◌<◌, ◌^◌, OnOk, OnErr, IfOk, IsSome, MatchResult, None};
-ghost use Rattle.qkd_base.specs.Faults.{HasCause, one_more};
+ghost use Rattle.std.specs.Prelude.{◌≡◌, ◌+◌, ◌<◌, ◌≤◌, ◌^◌, OnOk, OnErr, IfOk, IsSome, MatchResult, None};
+ghost use Rattle.qkd_base.specs.Faults.{HasCause, Rose, one_more};
 ghost use Rattle.edge_io.specs.Connections.{IsNext, IsNewDoor};
 ghost use Rattle.tcp_ports.specs.Tcp.{TcpForm, untold_waiting, untold_done};
 
 use crate::hall::Hall;
-use crate::{Crew, Patience, PeerReader, PeerWriter};
+use crate::{Crew, PeerReader, PeerWriter, Service};
 use edge_io::{Ended, Failed, Listener, ReadSource, WriteSink};
 use std::alloc::Global;
 use std::io;
@@ -22,10 +22,10 @@ pub struct TcpDoor<'a, R> {
     rt: &'a R,
     hall: Arc<Hall, Global>,
     crew: &'a Crew,
-    patience: Patience,
-    address: SocketAddr,
+    service: Service<'a>,
+    // None at a socket in a folder.
+    address: Option<SocketAddr>,
     port: u16,
-    connections: u64,
     // Whether a thread serves the listener.
     ready: bool,
     accepted: u64,
@@ -41,19 +41,18 @@ impl<'a, R> Model for TcpDoor<'a, R> {
 
     ghost view = { λ s. record { port = s.port; accepted = s.accepted; finished = s.finished; faults = s.faults } };
 
-    ghost invariant = { λ s. s.accepted ≤ 2 ^ 32 };
+    ghost invariant = { λ s. s.accepted ≤ 2 ^ 48 };
 }
 
 impl<'a, R> TcpDoor<'a, R> {
-    /// A listener of this port, bound to this address, before its first call. Behind so many connections it has served all.
+    /// A listener of this port, bound to this address, before its first call.
     pub(crate) fn new(
         rt: &'a R,
         hall: Arc<Hall, Global>,
         crew: &'a Crew,
-        patience: Patience,
-        address: SocketAddr,
+        service: Service<'a>,
+        address: Option<SocketAddr>,
         port: u16,
-        connections: u64,
     ) -> Self
         ensures { result ≡ record { port = port; accepted = 0; finished = 0; faults = 0 } }
     {
@@ -63,10 +62,9 @@ impl<'a, R> TcpDoor<'a, R> {
             rt,
             hall,
             crew,
-            patience,
+            service,
             address,
             port,
-            connections,
             ready: false,
             accepted: 0,
             finished: 0,
@@ -74,14 +72,20 @@ impl<'a, R> TcpDoor<'a, R> {
         }
     }
 
-    /// The address that the listener is bound to.
-    pub fn address(&self) -> SocketAddr {
+    /// The TCP address that the listener is bound to. A socket in a folder has none.
+    pub fn address(&self) -> Option<SocketAddr> {
         self.address
+    }
+
+    pub(crate) fn port(&self) -> u16 {
+        self.port
     }
 
     // Counts an error, and tells all other listeners.
     fn fail(&mut self) -> Failed
-        ensures { self.new ≡ record self.old { faults = one_more self.old.faults } }
+        ensures whole { self.new ≡ record self.old { faults = one_more self.old.faults } }
+        ensures later { self.old.faults ≤ self.new.faults }
+        ensures rose { Rose self.old.faults self.new.faults }
     {
         self.crew.fail();
         self.faults = self.faults.saturating_add(1);
@@ -98,13 +102,13 @@ impl<'a, R: Clock + Wait> TcpDoor<'a, R> {
         let peer = self.hall.next(self.rt, self.crew)?;
         let other = Arc::try_clone(&peer)?;
         Ok((
-            PeerReader::new(self.rt, peer, self.patience),
-            PeerWriter::new(self.rt, other, self.patience),
+            PeerReader::new(self.rt, peer, self.service.patience),
+            PeerWriter::new(self.rt, other, self.service),
         ))
     }
 }
 
-impl<'a, R: Clock + Wait> Listener for TcpDoor<'a, R> {
+impl<'a, R: Clock + Wait + Eprint> Listener for TcpDoor<'a, R> {
     type In = ReadSource<PeerReader<'a, R>>;
 
     type Out = WriteSink<PeerWriter<'a, R>>;
@@ -124,7 +128,7 @@ impl<'a, R: Clock + Wait> Listener for TcpDoor<'a, R> {
     fn accept(
         &mut self,
     ) -> Result<(ReadSource<PeerReader<'a, R>>, WriteSink<PeerWriter<'a, R>>), Failed>
-        requires few { self.old.accepted < 2 ^ 32 }
+        requires few { self.old.accepted < 2 ^ 48 }
         ensures next { MatchResult result
             (λ ends. (self.new.accepted ≡ self.old.accepted + 1) × IsNext untold_waiting untold_waiting None None)
             (λ _. (self.new.accepted ≡ self.old.accepted) × (untold_waiting ≡ untold_waiting)) }
@@ -158,7 +162,7 @@ impl<'a, R: Clock + Wait> Listener for TcpDoor<'a, R> {
     {
         let _ = (source, sink, ended);
         self.finished += 1;
-        if self.finished == self.connections {
+        if self.finished == self.service.connections {
             self.hall.leave(self.rt);
         }
     }
@@ -176,10 +180,9 @@ impl<'a, R: Clock + Wait> Listener for TcpDoor<'a, R> {
                 self.rt,
                 hall,
                 self.crew,
-                self.patience,
+                self.service,
                 self.address,
                 self.port,
-                self.connections,
             )),
             Err(_) => Err(self.fail()),
         }

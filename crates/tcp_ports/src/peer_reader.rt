@@ -4,7 +4,7 @@ use crate::peer::Peer;
 use std::alloc::Global;
 use std::io;
 use std::io::{ErrorKind, Read};
-use std::sync::Arc;
+use std::sync::{Arc, Wait};
 use std::time::{Clock, Duration};
 
 /// Reads what a peer sends. Its input has ended, too, where the peer is silent for too long between two requests, or a request isn't
@@ -48,7 +48,7 @@ impl<'a, R: Clock> PeerReader<'a, R> {
     // Lets the system's reads wait no longer than that.
     fn limit(&mut self, wait: Duration) -> io::Result<()> {
         if wait != self.wait {
-            self.peer.stream.set_read_timeout(Some(wait))?;
+            self.peer.stream.set_read_timeout(wait)?;
             self.wait = wait;
         }
         Ok(())
@@ -72,7 +72,7 @@ impl<'a, R: Clock> PeerReader<'a, R> {
     }
 }
 
-impl<R: Clock> Read for PeerReader<'_, R> {
+impl<R: Clock + Wait> Read for PeerReader<'_, R> {
     fn read(&mut self, into: &mut [u8]) -> io::Result<usize> {
         for _ in 0..u64::MAX {
             let wait = self.left()?;
@@ -80,9 +80,10 @@ impl<R: Clock> Read for PeerReader<'_, R> {
                 return Ok(0);
             }
             self.limit(wait)?;
-            match (&self.peer.stream).read(into) {
+            match self.peer.stream.read(into) {
                 Ok(count) => {
                     self.begin()?;
+                    self.peer.hear(self.rt, &into[..count]);
                     return Ok(count);
                 }
                 Err(error) => match error.kind() {

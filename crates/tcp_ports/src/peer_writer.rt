@@ -1,10 +1,10 @@
-use crate::Patience;
+use crate::Service;
 use crate::deadline::Deadline;
 use crate::peer::Peer;
 use std::alloc::Global;
 use std::io;
 use std::io::{ErrorKind, Write};
-use std::sync::Arc;
+use std::sync::{Arc, Wait};
 use std::time::{Clock, Duration};
 
 /// Writes to a peer. A write fails where the peer doesn't take all up to the next flush in time.
@@ -12,17 +12,17 @@ use std::time::{Clock, Duration};
 pub struct PeerWriter<'a, R> {
     rt: &'a R,
     peer: Arc<Peer, Global>,
-    patience: Patience,
+    service: Service<'a>,
     // By when what is written must be taken. After a flush there is none.
     deadline: Option<Deadline>,
 }
 
 impl<'a, R: Clock> PeerWriter<'a, R> {
-    pub(crate) fn new(rt: &'a R, peer: Arc<Peer, Global>, patience: Patience) -> Self {
+    pub(crate) fn new(rt: &'a R, peer: Arc<Peer, Global>, service: Service<'a>) -> Self {
         PeerWriter {
             rt,
             peer,
-            patience,
+            service,
             deadline: None,
         }
     }
@@ -32,24 +32,41 @@ impl<'a, R: Clock> PeerWriter<'a, R> {
         match self.deadline {
             Some(deadline) => deadline.left(self.rt),
             None => {
-                self.deadline = Some(Deadline::new(self.rt, self.patience.request)?);
-                Ok(self.patience.request)
+                self.deadline = Some(Deadline::new(self.rt, self.service.patience.request)?);
+                Ok(self.service.patience.request)
             }
         }
     }
 }
 
-impl<R: Clock> Write for PeerWriter<'_, R> {
+impl<R: Clock + Wait + Eprint> PeerWriter<'_, R> {
+    // Tells the log, if there is one, of octets that went, or were cut.
+    fn tell(&self, octets: &[u8], cut: bool) {
+        if let Some(log) = self.service.log {
+            self.peer.say(self.rt, log, octets, cut);
+        }
+    }
+}
+
+impl<R: Clock + Wait + Eprint> Write for PeerWriter<'_, R> {
     fn write(&mut self, bytes: &[u8]) -> io::Result<usize> {
         for _ in 0..u64::MAX {
             let wait = self.left()?;
             if wait.is_zero() {
+                self.tell(bytes, true);
                 return Err(io::Error::from(ErrorKind::TimedOut));
             }
-            self.peer.stream.set_write_timeout(Some(wait))?;
-            match (&self.peer.stream).write(bytes) {
+            self.peer.stream.set_write_timeout(wait)?;
+            match self.peer.stream.write(bytes) {
+                Ok(count) => {
+                    self.tell(&bytes[..count], false);
+                    return Ok(count);
+                }
                 Err(error) if error.kind() == ErrorKind::Interrupted => self.deadline = None,
-                ended => return ended,
+                Err(error) => {
+                    self.tell(bytes, true);
+                    return Err(error);
+                }
             }
         }
         Err(io::Error::from(ErrorKind::Interrupted))

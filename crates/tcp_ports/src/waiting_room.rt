@@ -1,7 +1,9 @@
 // The connections of a port that have said nothing yet.
 ghost use Rattle.std.specs.Prelude.{◌<◌, IfOk, IfSome, vec_len};
 
+use crate::entrance::Entrance;
 use crate::peer::Peer;
+use crate::talk::Talk;
 use crate::{Crew, Patience};
 use libc::EMFILE;
 use libc::net::{POLLIN, poll};
@@ -9,8 +11,7 @@ use libc::types::pollfd;
 use std::alloc::Global;
 use std::io;
 use std::io::ErrorKind;
-use std::net::{Shutdown, TcpListener};
-use std::os::fd::{AsRawFd, RawFd};
+use std::os::fd::RawFd;
 use std::sync::{Arc, Wait};
 use std::thread::sleep;
 use std::time::{Clock, Duration, Instant};
@@ -50,14 +51,16 @@ enum Admitted {
     Crowd,
 }
 
-/// A listener, and those of its connections that have said nothing yet. A worker gets a connection once its first octet is there,
+/// An entrance, and those of its connections that have said nothing yet. A worker gets a connection once its first octet is there,
 /// its peer has ended it, or its peer was silent for too long.
 #[derive(Drop)]
 pub(crate) struct WaitingRoom {
     alloc: Global,
     // None once the port is closed.
-    listener: Option<TcpListener>,
+    entrance: Option<Entrance>,
     patience: Patience,
+    // The node of the port, where its connections are told of.
+    told: Option<u16>,
     waiting: Vec<Waiting>,
 }
 
@@ -91,13 +94,19 @@ fn told_by(error: io::Error) -> io::Result<Admitted> {
 }
 
 impl WaitingRoom {
-    /// The waiting room of a listener, with nobody in it.
-    pub fn new(alloc: Global, listener: TcpListener, patience: Patience) -> io::Result<Self> {
-        listener.set_nonblocking(true)?;
+    /// The waiting room of an entrance, with nobody in it. Where its connections are told of, they are those of this node.
+    pub fn new(
+        alloc: Global,
+        entrance: Entrance,
+        patience: Patience,
+        told: Option<u16>,
+    ) -> io::Result<Self> {
+        entrance.set_nonblocking()?;
         Ok(WaitingRoom {
             alloc,
-            listener: Some(listener),
+            entrance: Some(entrance),
             patience,
+            told,
             waiting: Vec::with_capacity(alloc, ROOM)?,
         })
     }
@@ -116,7 +125,7 @@ impl WaitingRoom {
 
     /// Closes the port, and the connections that have said nothing yet.
     pub fn close(&mut self) {
-        self.listener = None;
+        self.entrance = None;
         self.waiting.clear();
     }
 
@@ -135,18 +144,22 @@ impl WaitingRoom {
     // Takes in one connection. Each write at it is sent at once, since a peer that sent several requests may wait for all
     // responses before it sends more.
     fn admit_one<C: Clock>(&mut self, clock: &C) -> io::Result<Admitted> {
-        let Some(listener) = &self.listener else {
+        let Some(entrance) = &self.entrance else {
             return Err(io::Error::from(ErrorKind::NotConnected));
         };
-        let stream = match listener.accept() {
-            Ok((stream, _)) => stream,
+        let stream = match entrance.accept() {
+            Ok(stream) => stream,
             Err(error) => return told_by(error),
         };
-        if stream.set_nodelay(true).is_err() {
+        if stream.set_nodelay().is_err() {
             return Ok(Admitted::One);
         }
         let since = Instant::now(clock)?;
-        let Ok(peer) = Arc::new(self.alloc, Peer::new(stream)) else {
+        let talk = match self.told {
+            Some(node) => Some(Talk::new(self.alloc, node)),
+            None => None,
+        };
+        let Ok(peer) = Arc::new(self.alloc, Peer::new(stream, talk)) else {
             return Ok(Admitted::Crowd);
         };
         match self.waiting.push(Waiting { peer, since }) {
@@ -184,8 +197,8 @@ impl WaitingRoom {
         for place in 0..count {
             asked[place] = asks(self.waiting[place].peer.stream.as_raw_fd());
         }
-        match &self.listener {
-            Some(listener) if !crowded => asked[count] = asks(listener.as_raw_fd()),
+        match &self.entrance {
+            Some(entrance) if !crowded => asked[count] = asks(entrance.as_raw_fd()),
             _ => {}
         }
         if poll(&mut asked[..=count], millis(time)) < 0 {
@@ -210,7 +223,7 @@ impl WaitingRoom {
             return Ok(None);
         }
         // It may have ended before.
-        let _ = first.peer.stream.shutdown(Shutdown::Read);
+        let _ = first.peer.stream.end_input();
         Ok(Some(0))
     }
 }

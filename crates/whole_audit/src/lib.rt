@@ -18,9 +18,9 @@
 
 mod blocks;
 mod judge;
-mod judging;
 mod order;
 mod text;
+mod whole_verdict;
 
-pub use judging::whole_audit;
 pub use text::whole_text;
+pub use whole_verdict::whole_audit;

@@ -3,7 +3,7 @@ ghost use Rattle.std.specs.Prelude.{◌≡◌, MatchResult};
 ghost use Rattle.audit_text.specs.Input.{IsBadLine, IsNotRead};
 ghost use Rattle.whole_audit.specs.Whole.{IsWholeVerdict};
 
-use crate::judging::whole_audit;
+use crate::whole_verdict::whole_audit;
 use audit_text::{AuditRefusal, read_input};
 use run_audit::Verdict;
 use std::alloc::Global;

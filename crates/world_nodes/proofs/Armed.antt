@@ -14,8 +14,8 @@ use Rattle.journal_snapshot.specs.declared.live.Live.{Live}
 use Rattle.journal_snapshot.specs.Snapshots.{SnapshotForm}
 use Rattle.law_base.proofs.Base.{and_both}
 use Rattle.kme_store.specs.Manager.{ManagerForm, IsArmed, StandsOver}
-use Rattle.kme_store.specs.declared.standing.Standing.{Standing}
-use Rattle.kme_store.specs.declared.standing.Standing.TheVariants.{Up, Down, Between}
+use Rattle.kme_store.specs.declared.manager_state.Standing.{Standing}
+use Rattle.kme_store.specs.declared.manager_state.Standing.TheVariants.{Up, Down, Between}
 use Rattle.kme_store.specs.declared.post.Post.{Post}
 use Rattle.kme_store.specs.declared.post.Post.TheVariants.{On, Off}
 use Rattle.world_nodes.specs.Stands.{HasStory, UpStands, journal_with, DownStands, StandingStands, PostStands}

@@ -18,8 +18,8 @@ use Rattle.run_ops.specs.Reported.{crashed}
 use Rattle.law_recovery.specs.Fitting.{AllFit}
 use Rattle.law_base.proofs.Base.{and_both, number_set_same}
 use Rattle.kme_store.specs.Manager.{ManagerForm, HasDisk, WhereUp, is_up}
-use Rattle.kme_store.specs.declared.standing.Standing.{Standing}
-use Rattle.kme_store.specs.declared.standing.Standing.TheVariants.{Up, Down, Between}
+use Rattle.kme_store.specs.declared.manager_state.Standing.{Standing}
+use Rattle.kme_store.specs.declared.manager_state.Standing.TheVariants.{Up, Down, Between}
 use Rattle.kme_store.specs.declared.post.Post.{Post}
 use Rattle.kme_store.specs.declared.post.Post.TheVariants.{On, Off}
 use Rattle.world_nodes.specs.LaneStands.{IsRunning}

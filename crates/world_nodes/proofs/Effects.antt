@@ -31,8 +31,8 @@ use Rattle.kme_store.specs.Passed.{with_batch, batch_in_doubt, IsBody, IsSpellin
 use Rattle.kme_store.proofs.Passed.{body_written, body_with, body_in_doubt}
 use Rattle.kme_store.specs.Course.{Course, Stays, Stops, Goes, course, in_world}
 use Rattle.kme_store.specs.Manager.{ManagerForm, IsUpWith, IsDownWith, HasDisk, Keeps, Writes, IsAdded, HasBodyIn, HasStayed, HasStopped, HasGone, IsAfter, Answers, Acts}
-use Rattle.kme_store.specs.declared.standing.Standing.{Standing}
-use Rattle.kme_store.specs.declared.standing.Standing.TheVariants.{Up, Down, Between}
+use Rattle.kme_store.specs.declared.manager_state.Standing.{Standing}
+use Rattle.kme_store.specs.declared.manager_state.Standing.TheVariants.{Up, Down, Between}
 use Rattle.kme_store.specs.declared.post.Post.TheVariants.{On}
 use Rattle.kme_store.proofs.Courses.{asks}
 use Rattle.law_recovery.specs.Starting.{resolved_view}

@@ -17,8 +17,8 @@ use Rattle.journal_snapshot.specs.Snapshots.{SnapshotForm}
 use Rattle.source_devices.specs.Telling.{IsRest}
 use Rattle.kme_store.specs.Course.{Course, Stays, Stops, Goes, course, in_world}
 use Rattle.kme_store.specs.Manager.{ManagerForm, IsUpWith, IsDownWith, HasDisk, Keeps, Writes, IsAdded, HasBodyIn, IsAfter, Answers, Acts}
-use Rattle.kme_store.specs.declared.standing.Standing.{Standing}
-use Rattle.kme_store.specs.declared.standing.Standing.TheVariants.{Up, Down, Between}
+use Rattle.kme_store.specs.declared.manager_state.Standing.{Standing}
+use Rattle.kme_store.specs.declared.manager_state.Standing.TheVariants.{Up, Down, Between}
 use Rattle.kme_store.specs.declared.post.Post.TheVariants.{On}
 use Rattle.kme_store.proofs.Courses.{asks}
 use Rattle.world_nodes.specs.LaneStands.{IsRunning}

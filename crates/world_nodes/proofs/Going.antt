@@ -14,8 +14,8 @@ use Rattle.law_locality.specs.Touched.{ManagerStays}
 use Rattle.law_recovery.specs.Fitting.{AllFit}
 use Rattle.law_recovery.specs.Starting.{resolved_view, MayCheckpoint}
 use Rattle.law_recovery.specs.GivesBack.{GivesBack}
-use Rattle.kme_store.specs.declared.standing.Standing.{Standing}
-use Rattle.kme_store.specs.declared.standing.Standing.TheVariants.{Up, Down, Between}
+use Rattle.kme_store.specs.declared.manager_state.Standing.{Standing}
+use Rattle.kme_store.specs.declared.manager_state.Standing.TheVariants.{Up, Down, Between}
 use Rattle.kme_store.specs.declared.post.Post.{Post}
 use Rattle.kme_store.specs.declared.post.Post.TheVariants.{On, Off}
 use Rattle.journal_snapshot.specs.declared.live.Live.{Live}

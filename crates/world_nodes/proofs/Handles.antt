@@ -16,8 +16,8 @@ use Rattle.declared_site.specs.declared.site.Site.{Site as Declared}
 use Rattle.disk_model.specs.declared.arm.Armings.{Armings}
 use Rattle.journal_snapshot.specs.Snapshots.{SnapshotForm}
 use Rattle.kme_store.specs.Manager.{ManagerForm, HasDisk, Acts, is_up}
-use Rattle.kme_store.specs.declared.standing.Standing.{Standing}
-use Rattle.kme_store.specs.declared.standing.Standing.TheVariants.{Up, Down, Between}
+use Rattle.kme_store.specs.declared.manager_state.Standing.{Standing}
+use Rattle.kme_store.specs.declared.manager_state.Standing.TheVariants.{Up, Down, Between}
 use Rattle.kme_store.specs.declared.post.Post.{Post}
 use Rattle.kme_store.specs.declared.post.Post.TheVariants.{On, Off}
 use Rattle.world_nodes.specs.LaneStands.{IsRunning}

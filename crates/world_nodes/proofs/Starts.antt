@@ -41,8 +41,8 @@ use Rattle.kme_store.specs.Passed.{view as seen_by, GivesBack, IsAfter, IsLeft, 
 use Rattle.kme_store.specs.Refusals as refusals
 use Rattle.kme_store.specs.Start.{IsOver, Recovers}
 use Rattle.kme_store.specs.Manager.{ManagerForm, HasDisk, is_up}
-use Rattle.kme_store.specs.declared.standing.Standing.{Standing}
-use Rattle.kme_store.specs.declared.standing.Standing.TheVariants.{Up, Down, Between}
+use Rattle.kme_store.specs.declared.manager_state.Standing.{Standing}
+use Rattle.kme_store.specs.declared.manager_state.Standing.TheVariants.{Up, Down, Between}
 use Rattle.kme_store.specs.declared.post.Post.{Post}
 use Rattle.kme_store.specs.declared.post.Post.TheVariants.{On, Off}
 use Rattle.world_nodes.specs.Stands.{EntropyStands, HasStory, UpStands, journal_with, HoldsJournal, HoldsCheckpoint, HoldsNothing, MayFind, DownStands, StandingStands, PostStands}

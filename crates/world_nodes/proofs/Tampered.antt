@@ -19,8 +19,8 @@ use Rattle.hop_frames.specs.Opening.{open_of}
 use Rattle.law_base.proofs.Base.{and_both}
 use Rattle.kme_store.specs.Passed.{is_match}
 use Rattle.kme_store.specs.Manager.{ManagerForm, is_up}
-use Rattle.kme_store.specs.declared.standing.Standing.{Standing}
-use Rattle.kme_store.specs.declared.standing.Standing.TheVariants.{Up, Down, Between}
+use Rattle.kme_store.specs.declared.manager_state.Standing.{Standing}
+use Rattle.kme_store.specs.declared.manager_state.Standing.TheVariants.{Up, Down, Between}
 use Rattle.kme_store.specs.declared.post.Post.{Post}
 use Rattle.kme_store.specs.declared.post.Post.TheVariants.{On}
 use Rattle.world_nodes.specs.LaneStands.{IsRunning}

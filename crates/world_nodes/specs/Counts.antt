@@ -2,8 +2,8 @@
 use Rattle.std.specs.Prelude.{◌≡◌, ℕ, ◌≤◌, Bool, true, Option, Some, None}
 use Rattle.qkd_base.specs.Faults.{Rose}
 use Rattle.disk_model.specs.declared.arm.Armings.{Armings}
-use Rattle.kme_store.specs.declared.standing.Standing.{Standing}
-use Rattle.kme_store.specs.declared.standing.Standing.TheVariants.{Up, Down, Between}
+use Rattle.kme_store.specs.declared.manager_state.Standing.{Standing}
+use Rattle.kme_store.specs.declared.manager_state.Standing.TheVariants.{Up, Down, Between}
 use Rattle.kme_store.specs.declared.post.Post.{Post}
 use Rattle.kme_store.specs.declared.post.Post.TheVariants.{On, Off}
 

@@ -22,8 +22,8 @@ use Rattle.law_recovery.specs.GivesBack.{GivesBack}
 use Rattle.law_recovery.specs.Starting.{resolved_view, MayCheckpoint, checkpoint_of}
 use Rattle.kme_store.specs.Passed.{AreReadAs}
 use Rattle.kme_store.specs.Manager.{ManagerForm}
-use Rattle.kme_store.specs.declared.standing.Standing.{Standing}
-use Rattle.kme_store.specs.declared.standing.Standing.TheVariants.{Up, Down, Between}
+use Rattle.kme_store.specs.declared.manager_state.Standing.{Standing}
+use Rattle.kme_store.specs.declared.manager_state.Standing.TheVariants.{Up, Down, Between}
 use Rattle.kme_store.specs.declared.post.Post.{Post}
 use Rattle.kme_store.specs.declared.post.Post.TheVariants.{On, Off}
 

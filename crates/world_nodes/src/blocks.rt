@@ -9,7 +9,7 @@ ghost use Rattle.qkd_base.specs.Faults.{Rose};
 ghost use Rattle.run_ops.specs.Reported.{taken};
 ghost use Rattle.world_nodes.specs.Blocks.{MayTake, IsNext, MayPut, IsTaken};
 
-use crate::handling::handle;
+use crate::event_handler::handle;
 use disk_model::Disk;
 use kme_store::Post;
 use net_model::{Event, Reply};

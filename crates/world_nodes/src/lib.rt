@@ -1,25 +1,26 @@
 //! One lane and one node of the program stand for those of the model: each call is an action there.
 #![tactic(auto)]
 
-mod asking;
 mod blocks;
-mod handling;
-mod hearing;
+mod event_handler;
+mod frame_puts;
+mod heard_frames;
 mod lane_blocks;
 mod lane_laws;
 mod lane_lives;
+mod lane_reads;
 mod laws;
 mod lives;
-mod noting;
+mod manager_event;
+mod manager_start;
+mod node_notes;
 mod placings;
-mod reading;
-mod sending;
-mod starting;
-mod tampering;
+mod tampered_octets;
 
-pub use asking::ask;
 pub use blocks::take_block;
-pub use hearing::hear;
+pub use event_handler::ask_if_up;
+pub use frame_puts::{again, emit};
+pub use heard_frames::hear;
 pub use kme_store::{Manager, Post};
 pub use lane_blocks::take;
 pub use lane_laws::{
@@ -27,11 +28,11 @@ pub use lane_laws::{
     law_step_goes_on,
 };
 pub use lane_lives::{begin, restart};
+pub use lane_reads::{counts, frame};
 pub use laws::{law_answered_is_handled, law_post_goes_on};
 pub use lives::{arm, crash};
-pub use noting::note;
+pub use manager_event::ask;
+pub use manager_start::start;
+pub use node_notes::note;
 pub use placings::{order_placing, repeat_placing};
-pub use reading::{counts, frame};
-pub use sending::{again, emit};
-pub use starting::start;
-pub use tampering::{flip, forge};
+pub use tampered_octets::{flip, forge};

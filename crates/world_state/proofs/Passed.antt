@@ -3,7 +3,7 @@ pub use Rattle.world_nodes.proofs.Asks.{asked, may_handle}
 pub use Rattle.world_nodes.proofs.Counted.{post_disk}
 pub use Rattle.world_nodes.proofs.Delivered.{heard, may_handle as may_handle_of_Delivered}
 pub use Rattle.world_nodes.proofs.Going.{post_on}
-pub use Rattle.world_nodes.proofs.Handles.{handled_off, handled_on_down, handled_up, valid_there}
+pub use Rattle.world_nodes.proofs.Handles.{valid_there}
 pub use Rattle.world_nodes.proofs.LaneGoing.{get_within}
 pub use Rattle.world_nodes.proofs.LaneStarts.{begins}
 pub use Rattle.world_nodes.proofs.Passed.{post_field}

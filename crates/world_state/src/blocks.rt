@@ -16,7 +16,7 @@ ghost use Rattle.world_state.specs.Stands.{Stands};
 ghost use Rattle.world_state.specs.Tallied.{Tallied};
 
 use crate::State;
-use crate::reading::lane_place;
+use crate::state_reads::lane_place;
 use declared_site::Site;
 use disk_model::Disk;
 use kme_base::sender;

@@ -16,7 +16,7 @@ ghost use Rattle.world_state.specs.Tallied.{Tallied};
 
 use crate::State;
 use crate::places::at;
-use crate::reading::{lane_place, on_wire};
+use crate::state_reads::{lane_place, on_wire};
 use disk_model::Disk;
 use kme_base::receiver;
 use net_model::Reply;

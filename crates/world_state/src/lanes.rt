@@ -5,7 +5,7 @@ ghost use Rattle.net_model.specs.World.{Network, World};
 ghost use Rattle.net_model.specs.Tick.{Emission, tick_order};
 ghost use Rattle.world_state.specs.Sending.{Sending, PutsOn, Breaks, repeats_on, orders_on};
 
-use crate::sending::{put_order, put_repeat};
+use crate::plan_puts::{put_order, put_repeat};
 use crate::{Progress, State};
 use disk_model::Disk;
 use net_model::{Order, Repeat};

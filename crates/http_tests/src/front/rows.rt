@@ -31,6 +31,19 @@ pub(super) const ROWS: &[(&str, &str)] = &[
         "GET / HTTP/1.1\r\ntransfer-encoding:\r\n\r\n",
         "transfer encoding refused",
     ),
+    (
+        "POST / HTTP/1.1\r\nContent-Length: 4\r\nTransfer-Encoding: chunked\r\n\r\n4\r\nabcd\r\n0\r\n\r\n",
+        "transfer encoding refused",
+    ),
+    (
+        "POST / HTTP/1.1\r\nExpect: 100-continue\r\nContent-Length: 4\r\n\r\nabcd",
+        "POST / 2 4",
+    ),
+    (
+        "POST / HTTP/1.1\r\nExpect: 100-continue\r\nContent-Length: 4\r\n\r\n",
+        "input ended",
+    ),
+    ("HEAD / HTTP/1.1\r\n\r\nGET", "HEAD / 0 0"),
     ("POST / HTTP/1.1\r\n\r\n", "length missing"),
     ("post / HTTP/1.1\r\n\r\n", "post / 0 0"),
     ("POST / HTTP/1.1\r\nContent-Length: 0\r\n\r\n", "POST / 1 0"),

@@ -8,7 +8,7 @@ use std::net::{Net, SocketAddr, TcpStream};
 use std::sync::Wait;
 use std::thread::join;
 use std::time::{Clock, Duration};
-use tcp_ports::{Crew, Patience, TcpDoor, TcpPorts};
+use tcp_ports::{Crew, Patience, Place, Service, TcpDoor, TcpPorts};
 
 // Waits that a test can wait for, and others that none comes to the end of.
 fn patience(silence: u64, request: u64) -> Patience {
@@ -16,6 +16,25 @@ fn patience(silence: u64, request: u64) -> Patience {
         silence: Duration::from_millis(silence),
         request: Duration::from_millis(request),
         crowd: Duration::from_millis(silence),
+    }
+}
+
+// TCP ports with these waits, each listener for so many connections.
+fn service<'a>(patience: Patience, connections: u64) -> Service<'a> {
+    Service {
+        place: Place::Loopback,
+        first: 0,
+        patience,
+        connections,
+        log: None,
+    }
+}
+
+// The address of a listener.
+fn address_of<R>(door: &TcpDoor<'_, R>) -> SocketAddr {
+    match door.address() {
+        Some(address) => address,
+        None => SocketAddr::from(([127, 0, 0, 1], 0)),
     }
 }
 
@@ -44,7 +63,7 @@ fn ask<R: Net<Stream = TcpStream>>(net: &R, address: SocketAddr, octet: u8) -> i
 }
 
 // Sends what the next connection sends back to it, one more each octet, and finishes the connection.
-fn serve<R: Clock + Wait>(door: &mut TcpDoor<'_, R>) -> bool
+fn serve<R: Clock + Wait + Eprint>(door: &mut TcpDoor<'_, R>) -> bool
     requires few { door.old.accepted < 8 }
     requires finished { door.old.finished ≤ door.old.accepted }
     ensures few { door.new.accepted ≤ door.old.accepted + 1 }
@@ -61,7 +80,7 @@ fn serve<R: Clock + Wait>(door: &mut TcpDoor<'_, R>) -> bool
 }
 
 // Accepts a connection whose peer sends nothing, and finishes it. Whether it has ended for its reader.
-fn await_silent<R: Clock + Wait>(door: &mut TcpDoor<'_, R>) -> bool
+fn await_silent<R: Clock + Wait + Eprint>(door: &mut TcpDoor<'_, R>) -> bool
     requires few { door.old.accepted < 8 }
     requires finished { door.old.finished ≤ door.old.accepted }
 {
@@ -75,14 +94,14 @@ fn await_silent<R: Clock + Wait>(door: &mut TcpDoor<'_, R>) -> bool
 }
 
 // Sends an octet on each of two new connections, serves one of them, and gives the octets that come back.
-fn ask_two_and_serve<R: Net<Stream = TcpStream> + Clock + Wait>(
+fn ask_two_and_serve<R: Net<Stream = TcpStream> + Clock + Wait + Eprint>(
     rt: &R,
     door: &mut TcpDoor<'_, R>,
 ) -> io::Result<(bool, u8, u8)>
     requires none_accepted { door.old.accepted ≡ 0 }
     requires none_finished { door.old.finished ≡ 0 }
 {
-    let address = door.address();
+    let address = address_of(door);
     let mut first = send(rt, address, b'a')?;
     let mut second = send(rt, address, b'c')?;
     let served = serve(door);
@@ -90,7 +109,7 @@ fn ask_two_and_serve<R: Net<Stream = TcpStream> + Clock + Wait>(
 }
 
 // Serves a connection and then awaits a silent one.
-fn serve_and_await_silent<R: Clock + Wait>(door: &mut TcpDoor<'_, R>) -> (bool, bool)
+fn serve_and_await_silent<R: Clock + Wait + Eprint>(door: &mut TcpDoor<'_, R>) -> (bool, bool)
     requires none_accepted { door.old.accepted ≡ 0 }
     requires none_finished { door.old.finished ≡ 0 }
 {
@@ -99,7 +118,7 @@ fn serve_and_await_silent<R: Clock + Wait>(door: &mut TcpDoor<'_, R>) -> (bool, 
 }
 
 // Reads an octet of a connection, answers it, reads another one, and waits for a third. Whether the input ended before that one.
-fn await_slow<R: Clock + Wait>(door: &mut TcpDoor<'_, R>) -> bool
+fn await_slow<R: Clock + Wait + Eprint>(door: &mut TcpDoor<'_, R>) -> bool
     requires few { door.old.accepted < 8 }
     requires finished { door.old.finished ≤ door.old.accepted }
 {
@@ -139,11 +158,11 @@ fn ask_slowly<R: Net<Stream = TcpStream>>(net: &R, address: SocketAddr) -> io::R
 #[test]
 fn a_silent_peer_delays_nobody_and_the_port_closes_behind_the_last_one(rt: HostRuntime) {
     let crew = Crew::new();
-    let mut ports = TcpPorts::new(&rt, rt.alloc(), &crew, patience(1_000, 60_000), 2);
+    let mut ports = TcpPorts::new(&rt, rt.alloc(), &crew, service(patience(1_000, 60_000), 2));
     let Ok(mut door) = ports.open(0) else {
         panic!(rt; "not opened");
     };
-    let (client, address) = (&rt, door.address());
+    let (client, address) = (&rt, address_of(&door));
     let (served, answer) = join(
         &rt,
         || serve_and_await_silent(&mut door),
@@ -158,11 +177,11 @@ fn a_silent_peer_delays_nobody_and_the_port_closes_behind_the_last_one(rt: HostR
 #[test]
 fn a_request_has_to_be_whole_in_time(rt: HostRuntime) {
     let crew = Crew::new();
-    let mut ports = TcpPorts::new(&rt, rt.alloc(), &crew, patience(60_000, 500), 9);
+    let mut ports = TcpPorts::new(&rt, rt.alloc(), &crew, service(patience(60_000, 500), 9));
     let Ok(mut door) = ports.open(0) else {
         panic!(rt; "not opened");
     };
-    let (client, address) = (&rt, door.address());
+    let (client, address) = (&rt, address_of(&door));
     let (served, rest) = join(
         &rt,
         || await_slow(&mut door),
@@ -176,14 +195,14 @@ fn a_request_has_to_be_whole_in_time(rt: HostRuntime) {
 #[test]
 fn a_port_and_its_twin_serve_a_client(rt: HostRuntime) {
     let crew = Crew::new();
-    let mut ports = TcpPorts::new(&rt, rt.alloc(), &crew, patience(60_000, 60_000), 1);
+    let mut ports = TcpPorts::new(&rt, rt.alloc(), &crew, service(patience(60_000, 60_000), 1));
     let Ok(mut door) = ports.open(0) else {
         panic!(rt; "not opened");
     };
     let Ok(mut twin) = door.twin() else {
         panic!(rt; "no twin");
     };
-    assert!(rt; ports.open(door.address().port()).is_err());
+    assert!(rt; ports.open(address_of(&door).port()).is_err());
     let client = &rt;
     let (served, answers) = join(
         &rt,

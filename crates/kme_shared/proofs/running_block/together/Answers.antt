@@ -7,7 +7,7 @@ use Rattle.world_state.specs.Rests.{Rests}
 use Rattle.world_state.specs.Stands.{Stands}
 use Rattle.world_state.specs.Tallied.{Tallied}
 use Rattle.world_state.specs.declared.state.State.{State}
-use Rattle.kme_shared.specs.declared.running.Running.{Running}
+use Rattle.kme_shared.specs.declared.run_state.Running.{Running}
 use Rattle.kme_shared.proofs.Carried.{together_in, together_out}
 use Rattle.kme_shared.proofs.Sizes.{sized_together}
 use Rattle.kme_shared.proofs.running_block.together.Goals as goal

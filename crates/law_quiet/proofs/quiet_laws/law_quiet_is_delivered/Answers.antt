@@ -1,6 +1,7 @@
 use Rattle.net_model.specs.World.{World, first}
 use Rattle.net_model.specs.Step.{run}
 use Rattle.law_invariant.proofs.Steps.{run_keeps}
+use Rattle.law_quiet.proofs.AwaitedRuns.{run_awaited, quiet_awaits}
 use Rattle.law_quiet.proofs.NotedSteps.{run_noted}
 use Rattle.law_quiet.proofs.Quieting.{first_quiet, calm4, there_after, arrives, returns}
 use Rattle.law_quiet.proofs.quiet_laws.law_quiet_is_delivered.Goals as goal
@@ -21,11 +22,13 @@ returns-clause-returns c = λ net w after n f network conserved quiet awaits sil
     returns net network w after conserved quiet awaits silent noted.table n f there secret way
 
 pub returns-clause-run_arrives : goal.returns-clause-run_arrives
-returns-clause-run_arrives c = λ net actions after n f network is_run quiet awaits silent there way.
+returns-clause-run_arrives c = λ net actions after n f network is_run quiet silent there way.
     let w : World = run net first actions in
+    let awaits = quiet_awaits net w (run_awaited net actions network is_run) quiet in
     arrives net network w after (run_keeps net actions network is_run) quiet awaits silent n f there way
 
 pub returns-clause-run_returns : goal.returns-clause-run_returns
-returns-clause-run_returns c = λ net actions after n f network is_run quiet awaits silent there secret way.
+returns-clause-run_returns c = λ net actions after n f network is_run quiet silent there secret way.
     let w : World = run net first actions in
+    let awaits = quiet_awaits net w (run_awaited net actions network is_run) quiet in
     returns net network w after (run_keeps net actions network is_run) quiet awaits silent (run_noted net actions network is_run).table n f there secret way

@@ -6,4 +6,4 @@ pub returns-clause-made : goal.returns-clause-made
 returns-clause-made c = λ net actions v network r. made_gives_back net actions v network r
 
 pub returns-clause-fold : goal.returns-clause-fold
-returns-clause-fold c = λ words layers sources scenario course h v committed batches may given. is_fold course.net (whole_run course) v committed batches h.network h.steps may given
+returns-clause-fold c = λ words http scenario course h v committed batches may given. is_fold course.net (whole_run course) v committed batches h.network h.steps may given

@@ -10,6 +10,6 @@ pub returns-clause-actions : goal.returns-clause-actions
 returns-clause-actions c = λ net done. append-nil (actions_of net done)
 
 pub returns-clause-world : goal.returns-clause-world
-returns-clause-world c = λ layers sources scenario workers net done b lines.
-    c.law_tasks_are_run.ensures.world layers.http net workers (tasks_of scenario) done b.network lines ∙
+returns-clause-world c = λ http scenario workers net done b lines.
+    c.law_tasks_are_run.ensures.world http net workers (tasks_of scenario) done b.network lines ∙
     ap (λ (xs : List Action). run net first xs) (sym (append-nil (actions_of net done)))

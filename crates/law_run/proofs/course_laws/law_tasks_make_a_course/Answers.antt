@@ -4,27 +4,21 @@ use Rattle.law_run.specs.Benched.{lines_alone}
 use Rattle.law_run.proofs.course_laws.law_tasks_make_a_course.Goals as goal
 
 pub returns-clause-run : goal.returns-clause-run
-returns-clause-run c = λ layers sources scenario workers net done b lines. record {
+returns-clause-run c = λ http scenario workers net done b lines. record {
   network = b.network;
   scenario_is = tt;
   site = b.site;
-  sealing = b.sealing;
-  devices = b.devices;
-  entropies = b.entropies;
   lines = lines;
   served = refl;
-  steps = c.law_course_is_run.ensures (Run workers) layers scenario (lines_alone net done) b.network lines refl;
+  steps = c.law_course_is_run.ensures (Run workers) http scenario (lines_alone net done) b.network lines refl;
 }
 
 pub returns-clause-load : goal.returns-clause-load
-returns-clause-load c = λ layers sources scenario rounds net done is b lines. record {
+returns-clause-load c = λ http scenario rounds net done is b lines. record {
   network = b.network;
   scenario_is = is;
   site = b.site;
-  sealing = b.sealing;
-  devices = b.devices;
-  entropies = b.entropies;
   lines = lines;
   served = refl;
-  steps = c.law_course_is_run.ensures (Load rounds) layers scenario (lines_alone net done) b.network lines refl;
+  steps = c.law_course_is_run.ensures (Load rounds) http scenario (lines_alone net done) b.network lines refl;
 }

@@ -3,7 +3,7 @@ use Rattle.law_run.proofs.Owned.{one_place, past_the_key}
 use Rattle.law_run.proofs.Within.{handed_within}
 use Rattle.law_run.proofs.Succeeds.{asked_succeeds, asked_group_succeeds}
 use Rattle.law_run.proofs.Shown.{shown_in}
-use Rattle.law_run.proofs.Keys.{entitled, got_within, bytes_stay, group_has_slaves, conserved_after}
+use Rattle.law_run.proofs.Keys.{got_within, bytes_stay, handed_at_home, group_has_slaves, conserved_after}
 use Rattle.law_run.proofs.headline_laws.law_keys_and_bytes.Goals as goal
 
 pub returns : goal.returns
@@ -16,7 +16,8 @@ returns c = λ r is run.
       shown = λ n v name environment held b bytes at shown. bytes_stay r n name _ (shown_in r.net (world_after r n) v name environment held b bytes shown);
       once = handed.once;
       marked = handed.marked;
-      entitled = λ name sae was. entitled r name sae (c.law_handed_to_entitled.ensures r.net _ last name sae (handed_within _ _ handed.marked name sae was));
+      at_home = handed_at_home r is run;
+      entitled = λ name sae was. c.law_handed_to_entitled.ensures r.net _ last name sae (handed_within _ _ handed.marked name sae was);
       masks_one = λ l m n i j x a b first second one other at_a at_b.
           c.law_no_byte_masks_two.ensures r.net _ last l m n i j x a b first second one other at_a.0 at_a.1 at_b.0 at_b.1;
       hash_key = λ l j x a at covers. past_the_key r.net _ last l j x a at covers.0 covers.1 (got_within _ x _ (one_place r.net _ last l j x a at covers.0 covers.1));

@@ -17,7 +17,7 @@ use Rattle.world_state.specs.declared.state.State.{State}
 use Rattle.net_world.specs.Laid.{IsLaidOut, IsPutBack}
 use Rattle.net_world.specs.New.{network_on}
 use Rattle.net_world.proofs.Firsts.{stands_first}
-use Rattle.kme_shared.specs.declared.running.Running.{Running}
+use Rattle.kme_shared.specs.declared.run_state.Running.{Running}
 use Rattle.net_world.proofs.Rooms.{first_is_quiet, whole_again}
 use Rattle.net_world.proofs.LoadHeadlines.{headlines}
 use Rattle.net_world.proofs.Lined.{none_written}

@@ -12,7 +12,7 @@ use Rattle.net_world.proofs.load.run_load.Goals as goal
 pub returns-clause-headline : goal.returns-clause-headline
 returns-clause-headline g c =
     subst (λ (s : Scenario). WasLeft c.args.bench.now c.run_lines_of.new.bench c.args.sink.now c.run_lines_of.new.sink c.run_lines_of.result
-    ⊎ HasHeadlines g.K.Disk.is_honest g.K.Disk.content g.K.Disk.moment g.K.Disk.image g.E.Entropy.left g.Q.Device.told g.X.Wire.frames g.X.Wire.counted
+    ⊎ HasHeadlines g.K.Disk.moment g.K.Disk.image g.E.Entropy.left g.Q.Device.told g.X.Wire.frames
     g.K.Disk.faults g.K.Disk.armings g.E.Entropy.faults g.Q.Device.faults g.X.Wire.faults c.args.bench.now c.run_lines_of.new.bench (Load c.args.rounds) s
     (g.W.Sink.taken c.args.sink.now) (g.W.Sink.taken c.run_lines_of.new.sink) (ended c.run_lines_of.result))
     c.in-Ok.ensures.is (c.run_lines_of.ensures.headline c.args.rounds c.in-Ok.ensures.is)

@@ -17,7 +17,7 @@ use Rattle.world_state.specs.Rests.{Rests}
 use Rattle.world_state.specs.Stands.{Stands}
 use Rattle.world_state.specs.declared.state.State.{State}
 use Rattle.world_state.specs.Tallied.{Tallied}
-use Rattle.kme_shared.specs.declared.running.Running.{Running}
+use Rattle.kme_shared.specs.declared.run_state.Running.{Running}
 use Rattle.world_state.specs.Sized.{IsSized}
 use Rattle.net_world.proofs.RunHeadlines.{of_states, ready_after}
 use Rattle.net_world.proofs.Rooms.{none_armed, first_is_quiet, has_room}

@@ -21,7 +21,7 @@ use Rattle.qkd_network.proofs.call.network.Goals as goal
 pub returns-in-Err-scenario_in-clause-outcome : goal.returns-in-Err-scenario_in-clause-outcome
 returns-in-Err-scenario_in-clause-outcome g c =
     inl (unread g.S.Source.left
-    (λ (asked : Words) (scenario : Scenario) (stop : headline.Stop). HasHeadlines g.K.Disk.is_honest g.K.Disk.content g.K.Disk.moment g.K.Disk.image g.E.Entropy.left g.Q.Device.told g.X.Wire.frames g.X.Wire.counted
+    (λ (asked : Words) (scenario : Scenario) (stop : headline.Stop). HasHeadlines g.K.Disk.moment g.K.Disk.image g.E.Entropy.left g.Q.Device.told g.X.Wire.frames
     g.K.Disk.faults g.K.Disk.armings g.E.Entropy.faults g.Q.Device.faults g.X.Wire.faults c.args.bench.now c.args.bench.now asked scenario (g.W.Sink.taken c.args.sink.now) (g.W.Sink.taken c.args.sink.now) stop
     × WroteLines g.W.Sink.taken g.W.Sink.pieces asked scenario c.args.sink.now c.args.sink.now stop)
     c.args.words.now c.in-Ok-Run.workers (c.in-Ok-Run.ensures.form ∙ ap (λ (f : Form). Ok (wanted_of f)) c.in-Ok-Run.field-0-is) c.args.source.now c.scenario_in.new.source
@@ -45,7 +45,7 @@ returns-in-Ok-Serve-clause-outcome g c =
       connections = c.in-Ok-Serve.connections;
       port = c.in-Ok-Serve.port;
       form = c.in-Ok-Serve.ensures.form ∙ ap (λ (f : Form). Ok (wanted_of f)) c.in-Ok-Serve.field-0-is;
-      outcome = c.serve.ensures.outcome;
+      outcome = let outcome = c.serve.ensures.outcome in rw (c.connections_of.ensures.number) at outcome;
     }))))
 
 pub returns-in-Ok-Quiet-clause-outcome : goal.returns-in-Ok-Quiet-clause-outcome
@@ -56,7 +56,7 @@ returns-in-Ok-Quiet-clause-outcome g c =
       calm = c.quiet.ensures.calm;
       outcome = beside_ports g.S.Source.left
           (λ (scenario : Scenario) (stop : headline.Stop). IsQuiet g.W.Sink.taken g.W.Sink.pieces
-          (λ (report : Option (List ℕ)) (end : headline.Stop). HasHeadlines g.K.Disk.is_honest g.K.Disk.content g.K.Disk.moment g.K.Disk.image g.E.Entropy.left g.Q.Device.told g.X.Wire.frames g.X.Wire.counted
+          (λ (report : Option (List ℕ)) (end : headline.Stop). HasHeadlines g.K.Disk.moment g.K.Disk.image g.E.Entropy.left g.Q.Device.told g.X.Wire.frames
           g.K.Disk.faults g.K.Disk.armings g.E.Entropy.faults g.Q.Device.faults g.X.Wire.faults c.args.bench.now c.quiet.new.bench (Run c.in-Ok-Quiet.workers) scenario (Some []) report end)
           scenario.site.nodes c.args.sink.now c.quiet.new.sink stop)
           c.args.source.now c.quiet.new.source c.quiet.result c.args.sink.now c.quiet.new.sink c.args.bench.now c.quiet.new.bench c.args.ports.now c.quiet.ensures.outcome;
@@ -69,13 +69,13 @@ returns-in-Ok-Serve-clause-ports g c =
 pub returns-in-Ok-clause-outcome : goal.returns-in-Ok-clause-outcome
 returns-in-Ok-clause-outcome g c =
     inl (subst (λ (s : Status). RunOutcome g.S.Source.left
-    (λ (asked : Words) (scenario : Scenario) (stop : headline.Stop). HasHeadlines g.K.Disk.is_honest g.K.Disk.content g.K.Disk.moment g.K.Disk.image g.E.Entropy.left g.Q.Device.told g.X.Wire.frames g.X.Wire.counted
+    (λ (asked : Words) (scenario : Scenario) (stop : headline.Stop). HasHeadlines g.K.Disk.moment g.K.Disk.image g.E.Entropy.left g.Q.Device.told g.X.Wire.frames
     g.K.Disk.faults g.K.Disk.armings g.E.Entropy.faults g.Q.Device.faults g.X.Wire.faults c.args.bench.now c.run_scenario.new.bench asked scenario (g.W.Sink.taken c.args.sink.now) (g.W.Sink.taken c.run_scenario.new.sink) stop
     × WroteLines g.W.Sink.taken g.W.Sink.pieces asked scenario c.args.sink.now c.run_scenario.new.sink stop)
     s c.args.words.now c.args.source.now c.scenario_in.new.source c.args.sink.now c.run_scenario.new.sink (outside c.args.bench.now c.args.ports.now) (outside c.run_scenario.new.bench c.args.ports.now))
     (sym c.of_run-in-Ok.ensures)
     (ran g.S.Source.left
-    (λ (asked : Words) (scenario : Scenario) (stop : headline.Stop). HasHeadlines g.K.Disk.is_honest g.K.Disk.content g.K.Disk.moment g.K.Disk.image g.E.Entropy.left g.Q.Device.told g.X.Wire.frames g.X.Wire.counted
+    (λ (asked : Words) (scenario : Scenario) (stop : headline.Stop). HasHeadlines g.K.Disk.moment g.K.Disk.image g.E.Entropy.left g.Q.Device.told g.X.Wire.frames
     g.K.Disk.faults g.K.Disk.armings g.E.Entropy.faults g.Q.Device.faults g.X.Wire.faults c.args.bench.now c.run_scenario.new.bench asked scenario (g.W.Sink.taken c.args.sink.now) (g.W.Sink.taken c.run_scenario.new.sink) stop
     × WroteLines g.W.Sink.taken g.W.Sink.pieces asked scenario c.args.sink.now c.run_scenario.new.sink stop)
     c.args.words.now c.in-Ok-Run.workers (c.in-Ok-Run.ensures.form ∙ ap (λ (f : Form). Ok (wanted_of f)) c.in-Ok-Run.field-0-is) c.args.source.now c.scenario_in.new.source
@@ -87,19 +87,19 @@ returns-in-Ok-clause-outcome g c =
 pub returns-in-Ok-Load-clause-outcome : goal.returns-in-Ok-Load-clause-outcome
 returns-in-Ok-Load-clause-outcome g c =
     inl (subst (λ (s : Status). RunOutcome g.S.Source.left
-    (λ (asked : Words) (scenario : Scenario) (stop : headline.Stop). HasHeadlines g.K.Disk.is_honest g.K.Disk.content g.K.Disk.moment g.K.Disk.image g.E.Entropy.left g.Q.Device.told g.X.Wire.frames g.X.Wire.counted
+    (λ (asked : Words) (scenario : Scenario) (stop : headline.Stop). HasHeadlines g.K.Disk.moment g.K.Disk.image g.E.Entropy.left g.Q.Device.told g.X.Wire.frames
     g.K.Disk.faults g.K.Disk.armings g.E.Entropy.faults g.Q.Device.faults g.X.Wire.faults c.args.bench.now c.run_load.new.bench asked scenario (g.W.Sink.taken c.args.sink.now) (g.W.Sink.taken c.run_load.new.sink) stop
     × WroteLines g.W.Sink.taken g.W.Sink.pieces asked scenario c.args.sink.now c.run_load.new.sink stop)
     s c.args.words.now c.args.source.now c.args.source.now c.args.sink.now c.run_load.new.sink (outside c.args.bench.now c.args.ports.now) (outside c.run_load.new.bench c.args.ports.now))
     (sym c.of_run.ensures)
     (loaded g.S.Source.left
-    (λ (asked : Words) (scenario : Scenario) (stop : headline.Stop). HasHeadlines g.K.Disk.is_honest g.K.Disk.content g.K.Disk.moment g.K.Disk.image g.E.Entropy.left g.Q.Device.told g.X.Wire.frames g.X.Wire.counted
+    (λ (asked : Words) (scenario : Scenario) (stop : headline.Stop). HasHeadlines g.K.Disk.moment g.K.Disk.image g.E.Entropy.left g.Q.Device.told g.X.Wire.frames
     g.K.Disk.faults g.K.Disk.armings g.E.Entropy.faults g.Q.Device.faults g.X.Wire.faults c.args.bench.now c.run_load.new.bench asked scenario (g.W.Sink.taken c.args.sink.now) (g.W.Sink.taken c.run_load.new.sink) stop
     × WroteLines g.W.Sink.taken g.W.Sink.pieces asked scenario c.args.sink.now c.run_load.new.sink stop)
     c.args.words.now c.in-Ok-Load.rounds (c.in-Ok-Load.ensures.form ∙ ap (λ (f : Form). Ok (wanted_of f)) c.in-Ok-Load.field-0-is) c.args.source.now
     c.args.sink.now c.run_load.new.sink (outside c.args.bench.now c.args.ports.now) (outside c.run_load.new.bench c.args.ports.now) c.run_load.result
     (subst (λ (r : ℕ). ((c.run_load.result ≡ Err stops.Memory) × (c.run_load.new.sink ≡ c.args.sink.now) × ((outside c.run_load.new.bench c.args.ports.now) ≡ (outside c.args.bench.now c.args.ports.now))) ⊎
-    (HasHeadlines g.K.Disk.is_honest g.K.Disk.content g.K.Disk.moment g.K.Disk.image g.E.Entropy.left g.Q.Device.told g.X.Wire.frames g.X.Wire.counted
+    (HasHeadlines g.K.Disk.moment g.K.Disk.image g.E.Entropy.left g.Q.Device.told g.X.Wire.frames
     g.K.Disk.faults g.K.Disk.armings g.E.Entropy.faults g.Q.Device.faults g.X.Wire.faults c.args.bench.now c.run_load.new.bench (Load r) (load_scenario r) (g.W.Sink.taken c.args.sink.now) (g.W.Sink.taken c.run_load.new.sink) (ended c.run_load.result)
     × WroteLines g.W.Sink.taken g.W.Sink.pieces (Load r) (load_scenario r) c.args.sink.now c.run_load.new.sink (ended c.run_load.result)))
     c.in-Ok-Load.rounds-is

@@ -14,7 +14,7 @@ pub returns-in-Err-clause-outcome : goal.returns-in-Err-clause-outcome
 returns-in-Err-clause-outcome g c =
     scenario_unread g.S.Source.left
     (λ (scenario : Scenario) (stop : headline.Stop). IsQuiet g.W.Sink.taken g.W.Sink.pieces
-    (λ (report : Option (List ℕ)) (stop : headline.Stop). HasHeadlines g.K.Disk.is_honest g.K.Disk.content g.K.Disk.moment g.K.Disk.image g.E.Entropy.left g.Q.Device.told g.X.Wire.frames g.X.Wire.counted
+    (λ (report : Option (List ℕ)) (stop : headline.Stop). HasHeadlines g.K.Disk.moment g.K.Disk.image g.E.Entropy.left g.Q.Device.told g.X.Wire.frames
     g.K.Disk.faults g.K.Disk.armings g.E.Entropy.faults g.Q.Device.faults g.X.Wire.faults c.args.bench.now c.args.bench.now (Run c.args.workers) scenario (Some []) report stop)
     scenario.site.nodes c.args.sink.now c.args.sink.now stop)
     c.args.source.now c.scenario_in.new.source c.in-Err.status c.args.sink.now c.args.bench.now c.in-Err.ensures.read
@@ -22,7 +22,7 @@ returns-in-Err-clause-outcome g c =
 pub returns-in-Ok-clause-outcome : goal.returns-in-Ok-clause-outcome
 returns-in-Ok-clause-outcome g c =
     let Quieted = (λ (scenario : Scenario) (stop : headline.Stop). IsQuiet g.W.Sink.taken g.W.Sink.pieces
-    (λ (report : Option (List ℕ)) (stop : headline.Stop). HasHeadlines g.K.Disk.is_honest g.K.Disk.content g.K.Disk.moment g.K.Disk.image g.E.Entropy.left g.Q.Device.told g.X.Wire.frames g.X.Wire.counted
+    (λ (report : Option (List ℕ)) (stop : headline.Stop). HasHeadlines g.K.Disk.moment g.K.Disk.image g.E.Entropy.left g.Q.Device.told g.X.Wire.frames
     g.K.Disk.faults g.K.Disk.armings g.E.Entropy.faults g.Q.Device.faults g.X.Wire.faults c.args.bench.now c.run_quietly.new.bench (Run c.args.workers) scenario (Some []) report stop)
     scenario.site.nodes c.args.sink.now c.run_quietly.new.sink stop) in
     subst (λ (s : Status). ScenarioOutcome g.S.Source.left Quieted s c.args.source.now c.scenario_in.new.source c.args.sink.now c.run_quietly.new.sink c.args.bench.now c.run_quietly.new.bench)

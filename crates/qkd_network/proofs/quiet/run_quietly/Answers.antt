@@ -12,7 +12,7 @@ returns-clause-quiet g c =
     let lined = c.run_scenario-ended.ensures.lined in
     let told = c.tell_asked.ensures.told in
     quietly c.args.bench.now c.run_scenario-ended.new.bench g.W.Sink.taken g.W.Sink.pieces
-    (λ (report : Option (List ℕ)) (stop : headline.Stop). HasHeadlines g.K.Disk.is_honest g.K.Disk.content g.K.Disk.moment g.K.Disk.image g.E.Entropy.left g.Q.Device.told g.X.Wire.frames g.X.Wire.counted
+    (λ (report : Option (List ℕ)) (stop : headline.Stop). HasHeadlines g.K.Disk.moment g.K.Disk.image g.E.Entropy.left g.Q.Device.told g.X.Wire.frames
     g.K.Disk.faults g.K.Disk.armings g.E.Entropy.faults g.Q.Device.faults g.X.Wire.faults c.args.bench.now c.run_scenario-ended.new.bench (Run c.args.workers) c.args.scenario (Some []) report stop)
     c.args.scenario.site.nodes c.run_scenario-ended.new.sink c.args.sink.now c.tell_asked.new.sink c.run_scenario-ended.result c.tell_asked.result
     (rw c.new-kept.ensures at whole) (rw c.new-kept.ensures at lined) c.tell_asked.ensures.none c.tell_asked.ensures.wanting (rw c.in_ok-nodes.ensures at told)

@@ -1,4 +1,5 @@
 use Rattle.std.proofs.Common.{[], arith, Err}
+use Rattle.std.proofs.lemmas.Result.{err_from_is_err_and}
 use Rattle.run_lines.proofs.Writing.{none_took, none_pieces, more_took, more_pieces, stopped_at}
 use Rattle.run_lines.specs.Reporting.{IsItemLine}
 use Rattle.run_lines.proofs.Lines.{none_lined, lined_on, in_lines_on}
@@ -12,14 +13,18 @@ loop-item-init g c = record {
   later = omega arith;
 }
 
-pub returns-in-Err-clause-wrote : goal.returns-in-Err-clause-wrote
-returns-in-Err-clause-wrote g c =
-    stopped_at c.args.site.now.nodes c.args.number c.loop-item.item-index c.args.items.now c.item-item.result _ _ _ _ c.in-Err.stop c.loop-item-test.true c.item-item.is
-    c.loop-item.invariant.took c.in-Err.ensures.wrote
+pub returns-in_err-write_item-clause-wrote : goal.returns-in_err-write_item-clause-wrote
+returns-in_err-write_item-clause-wrote g c =
+    let err = err_from_is_err_and c.from_residual.result c.from_residual.ensures.1 in
+    rw (err.1, err.2)
+    (stopped_at c.args.site.now.nodes c.args.number c.loop-item.item-index c.args.items.now c.item-item.result _ _ _ _ c.in_err-write_item.field-0.0 c.loop-item-test.true c.item-item.is
+    c.loop-item.invariant.took c.in_err-write_item.ensures.wrote)
 
-pub returns-in-Err-clause-lined : goal.returns-in-Err-clause-lined
-returns-in-Err-clause-lined g c =
-    in_lines_on g.W.Sink.taken g.W.Sink.pieces (IsItemLine c.args.site.now.nodes) {T = Unit {0}} _ _ _ (Err c.in-Err.stop) c.loop-item.invariant.lined c.in-Err.ensures.lined
+pub returns-in_err-write_item-clause-lined : goal.returns-in_err-write_item-clause-lined
+returns-in_err-write_item-clause-lined g c =
+    let err = err_from_is_err_and c.from_residual.result c.from_residual.ensures.1 in
+    rw err.1
+    (in_lines_on g.W.Sink.taken g.W.Sink.pieces (IsItemLine c.args.site.now.nodes) {T = Unit {0}} _ _ _ (Err c.in_err-write_item.field-0.0) c.loop-item.invariant.lined c.in_err-write_item.ensures.lined)
 
 pub loop-item-preserved : goal.loop-item-preserved
 loop-item-preserved g c =
@@ -27,8 +32,8 @@ loop-item-preserved g c =
     let i = c.loop-item.item-index in
     let items = c.args.items.now in
     record {
-      took = more_took nodes c.args.number i items c.item-item.result _ _ _ _ c.loop-item-test.true c.item-item.is c.loop-item.invariant.took c.in-Ok.ensures.wrote;
-      pieces = more_pieces nodes c.args.number i items c.item-item.result _ _ _ _ c.loop-item-test.true c.item-item.is c.loop-item.invariant.pieces c.in-Ok.ensures.piece;
-      lined = lined_on g.W.Sink.taken g.W.Sink.pieces (IsItemLine nodes) _ _ _ [] c.loop-item.invariant.lined c.in-Ok.ensures.lined;
-      later = omega (arith, c.loop-item.invariant.later, c.in-Ok.ensures.blame.later);
+      took = more_took nodes c.args.number i items c.item-item.result _ _ _ _ c.loop-item-test.true c.item-item.is c.loop-item.invariant.took c.in_ok-write_item.ensures.wrote;
+      pieces = more_pieces nodes c.args.number i items c.item-item.result _ _ _ _ c.loop-item-test.true c.item-item.is c.loop-item.invariant.pieces c.in_ok-write_item.ensures.piece;
+      lined = lined_on g.W.Sink.taken g.W.Sink.pieces (IsItemLine nodes) _ _ _ [] c.loop-item.invariant.lined c.in_ok-write_item.ensures.lined;
+      later = omega (arith, c.loop-item.invariant.later, c.in_ok-write_item.ensures.blame.later);
     }

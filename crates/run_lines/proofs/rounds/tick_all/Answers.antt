@@ -1,5 +1,6 @@
 use Rattle.std.proofs.Common.{◌≡◌, ◌∙◌, length, refl, ap, subst, arith, [], Err}
 use Rattle.std.proofs.lemmas.Grind.{common_steps}
+use Rattle.std.proofs.lemmas.Result.{err_from_is_err_and}
 use Rattle.declared_site.specs.declared.site.Site.{Site as SiteValue}
 use Rattle.declared_site.specs.SiteOf.{site_of}
 use Rattle.run_lines.proofs.Going.{Ways}
@@ -14,15 +15,17 @@ loop-place-init g c =
     let ways : Ways g.S.Acts.stands g.S.Acts.rests g.S.Acts.tallied = record { rest = g.met.S.Acts.comes_to_rest; none = g.met.S.Acts.none_tallied; more = g.met.S.Acts.more_tallied } in
     record { site = refl; armed = refl; lined = none_lined g.W.Sink.taken g.W.Sink.pieces (IsItemLine (g.S.Acts.site c.args.net.now).nodes) c.args.sink.now; later = omega arith; went = went_none _ _ _ ways _ c.args.number _ _ _ }
 
-pub returns-in-Err-clause-runs : goal.returns-in-Err-clause-runs
-returns-in-Err-clause-runs g c =
+pub returns-in_err-tick_if_up-clause-runs : goal.returns-in_err-tick_if_up-clause-runs
+returns-in_err-tick_if_up-clause-runs g c =
     let ways : Ways g.S.Acts.stands g.S.Acts.rests g.S.Acts.tallied = record { rest = g.met.S.Acts.comes_to_rest; none = g.met.S.Acts.none_tallied; more = g.met.S.Acts.more_tallied } in
     let site = site_of (g.S.Acts.site c.args.net.now) in
     let n : c.len-nodes.result ≡ site.nodes = c.len-nodes.ensures ∙ ap (λ (s : SiteValue). length s.nodes) c.declared.ensures in
     let node : c.unwrap-node.result ≡ c.loop-place.place = grind (arith, common_steps, c.new.ensures, c.unwrap-node.ensures) in
     let here = subst (Went _ _ _ _ _ _ _ c.args.number _) (one_tick site site.nodes c.loop-place.place (omega (arith, n, c.loop-place-test.true))) c.loop-place.invariant.went in
-    let runs = c.in-Err.ensures.runs in
-    went_runs_short _ _ _ ways _ c.args.number (Unit {0}) _ _ _ _ _ _ _ _ _ _ here (rw (c.loop-place.invariant.site, node) at runs)
+    let runs = c.in_err-tick_if_up.ensures.runs in
+    let err = err_from_is_err_and c.from_residual.result c.from_residual.ensures.1 in
+    rw (err.1, err.2)
+    (went_runs_short _ _ _ ways _ c.args.number (Unit {0}) _ _ _ _ _ _ _ _ _ _ here (rw (c.loop-place.invariant.site, node) at runs))
 
 pub loop-place-preserved : goal.loop-place-preserved
 loop-place-preserved g c =
@@ -31,12 +34,12 @@ loop-place-preserved g c =
     let n : c.len-nodes.result ≡ site.nodes = c.len-nodes.ensures ∙ ap (λ (s : SiteValue). length s.nodes) c.declared.ensures in
     let node : c.unwrap-node.result ≡ c.loop-place.place = grind (arith, common_steps, c.new.ensures, c.unwrap-node.ensures) in
     let here = subst (Went _ _ _ _ _ _ _ c.args.number _) (one_tick site site.nodes c.loop-place.place (omega (arith, n, c.loop-place-test.true))) c.loop-place.invariant.went in
-    let runs = c.in-Ok.ensures.runs in
+    let runs = c.in_ok-tick_if_up.ensures.runs in
     record {
-      site = c.in-Ok.ensures.site ∙ c.loop-place.invariant.site;
-      armed = c.in-Ok.ensures.armed ∙ c.loop-place.invariant.armed;
-      lined = lined_on g.W.Sink.taken g.W.Sink.pieces (IsItemLine (g.S.Acts.site c.args.net.now).nodes) _ _ _ [] (c.loop-place.invariant.lined) (let line = c.in-Ok.ensures.lined in rw (c.loop-place.invariant.site) at line);
-      later = omega (arith, c.loop-place.invariant.later, c.in-Ok.ensures.blame.later);
+      site = c.in_ok-tick_if_up.ensures.site ∙ c.loop-place.invariant.site;
+      armed = c.in_ok-tick_if_up.ensures.armed ∙ c.loop-place.invariant.armed;
+      lined = lined_on g.W.Sink.taken g.W.Sink.pieces (IsItemLine (g.S.Acts.site c.args.net.now).nodes) _ _ _ [] (c.loop-place.invariant.lined) (let line = c.in_ok-tick_if_up.ensures.lined in rw (c.loop-place.invariant.site) at line);
+      later = omega (arith, c.loop-place.invariant.later, c.in_ok-tick_if_up.ensures.blame.later);
       went = went_runs _ _ _ ways _ c.args.number (tt {0}) _ _ _ _ _ _ _ _ _ here (rw (c.loop-place.invariant.site, node) at runs);
     }
 
@@ -48,7 +51,9 @@ returns-clause-runs g c =
     let none = no_tick site site.nodes c.loop-place.place (omega (arith, n, c.loop-place-test.false)) in
     went_ends _ _ _ ways _ c.args.number (tt {0}) _ _ _ _ _ (subst (Went _ _ _ _ _ _ _ c.args.number _) none c.loop-place.invariant.went)
 
-pub returns-in-Err-clause-lined : goal.returns-in-Err-clause-lined
-returns-in-Err-clause-lined g c =
-    let line = c.in-Err.ensures.lined in
-    in_lines_on g.W.Sink.taken g.W.Sink.pieces (IsItemLine (g.S.Acts.site c.args.net.now).nodes) {T = Unit {0}} _ _ _ (Err c.in-Err.stop) (c.loop-place.invariant.lined) (rw (c.loop-place.invariant.site) at line)
+pub returns-in_err-tick_if_up-clause-lined : goal.returns-in_err-tick_if_up-clause-lined
+returns-in_err-tick_if_up-clause-lined g c =
+    let line = c.in_err-tick_if_up.ensures.lined in
+    let err = err_from_is_err_and c.from_residual.result c.from_residual.ensures.1 in
+    rw err.1
+    (in_lines_on g.W.Sink.taken g.W.Sink.pieces (IsItemLine (g.S.Acts.site c.args.net.now).nodes) {T = Unit {0}} _ _ _ (Err c.in_err-tick_if_up.field-0.0) (c.loop-place.invariant.lined) (rw (c.loop-place.invariant.site) at line))

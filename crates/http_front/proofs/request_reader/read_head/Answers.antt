@@ -1,0 +1,62 @@
+use Rattle.std.proofs.Common.{◌<◌, ◌≤◌, length, take, sym, ap, ◌∙◌, Ok, arith, rules, List, ℕ, subst}
+use Rattle.http_front.specs.Front.{IsRefused}
+use Rattle.http_front.specs.Reading.{no_more}
+use Rattle.http_front.specs.declared.refusal.FrontRefusal.{FrontRefusal}
+use Rattle.http_front.proofs.Meaning.{look-head, look-refused, look-open, open-too-long, open-ended, open-none, came-trans}
+use Rattle.http_front.proofs.request_reader.read_head.Goals as goal
+
+pub returns-in-Ok-Some-clause-head : goal.returns-in-Ok-Some-clause-head
+returns-in-Ok-Some-clause-head g c =
+    look-head c.look.octets.items c.front.result.now c.head_of.result c.in-Ok-Some.head (c.front.ensures.front ∙ ap (take 8193) c.deref.ensures.value)
+    (c.in-Ok-Some.is ∙ ap Ok c.in-Ok-Some.field-0-is) c.head_of.ensures
+
+pub returns-in-Err-clause-refused : goal.returns-in-Err-clause-refused
+returns-in-Err-clause-refused g c =
+    look-refused c.look.octets.items c.front.result.now c.head_of.result c.in-Err.refusal (c.front.ensures.front ∙ ap (take 8193) c.deref.ensures.value)
+    c.in-Err.is c.head_of.ensures
+
+pub returns-then-len-gt-HEAD_LIMIT-clause-refused :
+    goal.returns-then-len-gt-HEAD_LIMIT-clause-refused
+returns-then-len-gt-HEAD_LIMIT-clause-refused g c =
+    let seen = look-open c.look.octets.items c.front.result.now c.head_of.result (c.front.ensures.front ∙ ap (take 8193) c.deref.ensures.value)
+    (c.in-Ok-None.is ∙ ap Ok c.in-Ok-None.field-0-is) c.head_of.ensures in
+    let long : 8192 < length c.look.octets.items = search (rules, c.len.ensures, c.if-len-gt-HEAD_LIMIT.true) in
+    open-too-long c.look.octets.items long seen
+
+pub returns-in_err-came-clause-came : goal.returns-in_err-came-clause-came
+returns-in_err-came-clause-came g c = came-trans _ _ _ _ _ _ c.look.invariant.came c.fetch.ensures.came
+
+pub returns-then-not-came-clause-came : goal.returns-then-not-came-clause-came
+returns-then-not-came-clause-came g c = came-trans _ _ _ _ _ _ c.look.invariant.came c.fetch.ensures.came
+
+pub returns-then-not-came-clause-refused : goal.returns-then-not-came-clause-refused
+returns-then-not-came-clause-refused g c =
+    let seen = look-open c.look.octets.items c.front.result.now c.head_of.result (c.front.ensures.front ∙ ap (take 8193) c.deref.ensures.value)
+    (c.in-Ok-None.is ∙ ap Ok c.in-Ok-None.field-0-is) c.head_of.ensures in
+    let short : length c.look.octets.items ≤ 8192 = search (rules, c.len.ensures, c.if-len-gt-HEAD_LIMIT.false) in
+    let end = c.in_ok-came.ensures.end (ap Ok c.if-not-came.true) in
+    subst (λ (e : FrontRefusal). IsRefused c.fetch.new.octets.items e) (sym (c.ended.ensures ∙ ap no_more c.deref-then-not-came.ensures.value))
+    (subst (λ (t : List ℕ). IsRefused t (no_more t)) (sym end.0) (open-ended c.look.octets.items short seen))
+
+pub returns-in_err-came-clause-still : goal.returns-in_err-came-clause-still
+returns-in_err-came-clause-still g c = λ some.
+    let seen = look-open c.look.octets.items c.front.result.now c.head_of.result (c.front.ensures.front ∙ ap (take 8193) c.deref.ensures.value)
+    (c.in-Ok-None.is ∙ ap Ok c.in-Ok-None.field-0-is) c.head_of.ensures in
+    absurd (open-none _ _ _ c.look.octets.items c.look.invariant.came seen some)
+
+pub returns-then-not-came-clause-still : goal.returns-then-not-came-clause-still
+returns-then-not-came-clause-still g c = λ some.
+    let seen = look-open c.look.octets.items c.front.result.now c.head_of.result (c.front.ensures.front ∙ ap (take 8193) c.deref.ensures.value)
+    (c.in-Ok-None.is ∙ ap Ok c.in-Ok-None.field-0-is) c.head_of.ensures in
+    absurd (open-none _ _ _ c.look.octets.items c.look.invariant.came seen some)
+
+pub look-preserved : goal.look-preserved
+look-preserved g c = record {
+  came = came-trans _ _ _ _ _ _ c.look.invariant.came c.fetch.ensures.came;
+  limit = omega (arith, c.fetch.ensures.limit);
+  faults = c.in_ok-came.ensures.faults ∙ c.look.invariant.faults;
+  still = λ some.
+      let seen = look-open c.look.octets.items c.front.result.now c.head_of.result (c.front.ensures.front ∙ ap (take 8193) c.deref.ensures.value)
+      (c.in-Ok-None.is ∙ ap Ok c.in-Ok-None.field-0-is) c.head_of.ensures in
+      absurd (open-none _ _ _ c.look.octets.items c.look.invariant.came seen some);
+}

@@ -1,9 +1,0 @@
-use Rattle.kme_serve.proofs.Responding.{answers_turn, answers_refusal}
-use Rattle.kme_serve.proofs.answering.answer.Goals as goal
-
-pub returns-in-Ok-clause-answered : goal.returns-in-Ok-clause-answered
-returns-in-Ok-clause-answered g c =
-    answers_turn _ _ _ _ _ _ _ _ _ c.in-Ok.event c.ask-turn.result _ c.in-Ok.ensures c.ask-turn.ensures.event c.ask-turn.ensures.answers c.ask-turn.ensures.place c.response_of.ensures
-
-pub returns-in-Err-clause-answered : goal.returns-in-Err-clause-answered
-returns-in-Err-clause-answered g c = answers_refusal _ _ _ _ _ _ _ _ c.in-Err.refusal _ c.in-Err.ensures c.at_once.ensures

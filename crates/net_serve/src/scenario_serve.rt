@@ -1,0 +1,100 @@
+// A scenario over a bench, and its managers over ports.
+ghost use Rattle.std.specs.Prelude.{◌≡◌, ◌⊎◌, ◌≤◌, Err, IsSome};
+ghost use Rattle.std.specs.List.{All};
+ghost use Rattle.kme_serve.specs.Doors.{HasRoom, IsListenFault};
+ghost use Rattle.kme_serve.specs.Endless.{endless};
+ghost use Rattle.run_ops.specs.Runnable.{IsRunnable};
+ghost use Rattle.run_lines.specs.Reporting.{InLines};
+ghost use Rattle.net_world.specs.Laid.{IsWhole};
+ghost use Rattle.net_world.specs.New.{IsNew};
+ghost use Rattle.net_serve.specs.Lines.{IsServeLine};
+ghost use Rattle.net_serve.specs.BenchServing.{HasServedHeadlines, IsBlamed, WasLeft, ended};
+ghost use Rattle.net_serve.specs.declared.stop.ServeStop.TheVariants.{Listen};
+
+use crate::behind::serve_behind;
+use crate::{ServeStop, law_bench_serves};
+use disk_model::Disk;
+use edge_io::{Gate, Listener, Ports, Sink};
+use kme_serve::Connections;
+use law_run::law_tasks_are_run;
+use net_world::{Bench, Left, law_bench_begins, put_back, run_out};
+use run_lines::Stop;
+use run_types::Scenario;
+use source_devices::{Device, Entropy, Wire};
+use std::alloc::Global;
+use std::sync::Wait;
+use std::thread::Threads;
+
+/// Runs a scenario over a new bench, and reports it to the sink. The given number of workers do its blocks; the gate can hold each of them.
+/// If all lines are done, the managers of its nodes are then served over ports: node v has the port `port` + v. Each worker serves
+/// `connections` connections, in sequence, at a listener of its own, for the node whose number is the worker's modulo the number of nodes.
+/// All listeners are open before a worker accepts, and each port is opened once. In the end the sink takes the number of connections
+/// served. The bench has all its parts back, and the ports all listeners. If memory runs out before the first line, bench, sink and ports
+/// are as they were.
+pub fn run_serve<
+    R: Threads + Wait + Sync,
+    G: Gate,
+    K: Disk + Drop + Send,
+    Q: Device + Drop + Send,
+    E: Entropy + Drop + Send,
+    X: Wire + Drop + Send,
+    W: Sink,
+    P: Ports,
+>(
+    rt: &R,
+    alloc: Global,
+    gate: &G,
+    scenario: Scenario,
+    workers: u32,
+    connections: Connections,
+    port: u16,
+    sink: &mut W,
+    bench: &mut Bench<K, Q, E, X>,
+    ports: &mut P,
+) -> Result<(), ServeStop>
+where
+    P::Door: Drop + Send + Sync,
+    <P::Door as Listener>::In: Send,
+    <P::Door as Listener>::Out: Send,
+    requires runnable { IsRunnable scenario }
+    requires workers { (1 ≤ workers) × (workers ≤ 32) }
+    requires connections { connections ≤ endless }
+    requires port { port ≤ 65520 }
+    requires fresh { IsNew K.is_honest K.moment K.image E.left Q.told X.frames bench.old }
+    requires unarmed { All (λ k. (K.armings k).count ≡ 0) bench.old.disks.items }
+    requires asked { HasRoom P.asked ports.old workers }
+    requires back { HasRoom P.back ports.old workers }
+    ensures headline { WasLeft bench.old bench.new sink.old sink.new ports.old ports.new result
+        ⊎ HasServedHeadlines K.moment K.image E.left Q.told X.frames K.faults K.armings E.faults Q.faults X.faults
+        (λ d. record { port = P.Door.port d; accepted = P.Door.accepted d; finished = P.Door.finished d; waiting = P.Door.waiting d; done = P.Door.done d }) P.Door.faults (IsSome (P.asked ports.old))
+        bench.old bench.new (record { asked = P.asked ports.old; back = P.back ports.old }) (record { asked = P.asked ports.new; back = P.back ports.new })
+        workers connections port scenario (W.taken sink.old) (W.taken sink.new) (ended result) }
+    ensures whole { IsWhole bench.new }
+    ensures blame { IsBlamed (W.faults sink.old) (W.faults sink.new) result }
+    ensures lined { InLines W.taken W.pieces (IsServeLine scenario.site.nodes) sink.old sink.new result }
+    ensures listen { result ≡ Err Listen → IsListenFault P.Door.faults (P.faults ports.old) (P.faults ports.new)
+        (record { asked = P.asked ports.old; back = P.back ports.old }) (record { asked = P.asked ports.new; back = P.back ports.new }) }
+{
+    law_tasks_are_run();
+    law_bench_begins::<K, Q, E, X>();
+    law_bench_serves::<K, Q, E, X>();
+    match run_out(rt, alloc, gate, scenario, workers, sink, bench) {
+        Err(_) => Err(ServeStop::Stopped(Stop::Memory)),
+        Ok(left) => {
+            let Left { mut state, ended } = left;
+            let result = serve_behind(
+                rt,
+                alloc,
+                ended,
+                &mut state,
+                workers,
+                connections,
+                port,
+                sink,
+                ports,
+            );
+            put_back(state, bench);
+            result
+        }
+    }
+}

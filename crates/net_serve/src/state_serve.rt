@@ -1,0 +1,169 @@
+// Serving connections with the managers of a run's state.
+ghost use Rattle.std.specs.Prelude.{◌≡◌, ℕ, ◌+◌, ◌*◌, ◌<◌, ◌≤◌, ◌^◌, [], length, slice_get, Some, Err, is_ok, vec_len, vec_capacity};
+ghost use Rattle.declared_site.specs.SiteOf.{IsDeclared};
+ghost use Rattle.net_model.specs.World.{Network, World};
+ghost use Rattle.kme_serve.specs.declared.refusal.ServeRefusal.TheVariants as refusals;
+ghost use Rattle.kme_serve.specs.Endless.{endless};
+ghost use Rattle.world_state.specs.Armed.{most_armed};
+ghost use Rattle.world_state.specs.Stands.{Stands};
+ghost use Rattle.net_serve.specs.Asked.{DoorFailed};
+ghost use Rattle.net_serve.specs.Served.{Serves};
+
+use crate::door_workers::serve_doors;
+use crate::lent_managers::{put_back, take_out};
+use crate::room::Room;
+use crate::{ServedManagers, ServedPost};
+use declared_site::Site;
+use disk_model::Disk;
+use edge_io::Listener;
+use kme_serve::{Connections, ServeRefusal};
+use qkd014_api::Api;
+use shared_objects::{close_all, open_all};
+use source_devices::{Device, Entropy, Wire};
+use std::alloc::Global;
+use std::snapshot::Snapshot;
+use std::sync::Wait;
+use std::thread::Threads;
+use world_state::{Post, State};
+
+// Serves like `serve`, in memory that was allocated before.
+fn serve_in_room<
+    R: Threads + Wait + Sync,
+    K: Disk + Drop + Send,
+    Q: Device + Drop + Send,
+    E: Entropy + Drop + Send,
+    X: Wire + Drop + Send,
+    D: Listener + Drop + Send + Sync,
+>(
+    rt: &R,
+    alloc: Global,
+    opening: &Snapshot<State<K, Q, E, X>>,
+    site: &Site,
+    up: u32,
+    posts: &mut Vec<Post<K, E>>,
+    api: &Api,
+    doors: Vec<D>,
+    connections: Connections,
+    room: Room<ServedPost<K, E>, D>,
+) -> (Result<(), ServeRefusal>, Vec<D>)
+where
+    D::In: Send,
+    D::Out: Send,
+    requires sited { site.now ≡ opening.now.value.site }
+    requires up { up ≡ opening.now.value.up }
+    requires posts { posts.old.items ≡ opening.now.value.posts.items }
+    requires ready { (net : Network) × (w : World) × Stands K.is_honest K.moment K.image E.left Q.told X.frames X.counted opening.now.value net w }
+    requires declared { IsDeclared site.now }
+    requires node { 0 < length site.now.nodes }
+    requires api { (api.now.nodes ≡ site.now.nodes) × (api.now.entitlements ≡ site.now.entitlements) }
+    requires some { 0 < length doors.items }
+    requires few { length doors.items ≤ 32 }
+    requires connections { connections ≤ endless }
+    requires fresh { (k : ℕ) (d : D) → slice_get doors.items k ≡ Some d → (D.accepted d + connections ≤ 2 ^ 48) × (D.finished d ≤ D.accepted d) }
+    requires managers { (room.managers.items ≡ []) × (vec_len posts.old ≤ vec_capacity room.managers) }
+    requires turnstiles { (room.turnstiles.items ≡ []) × (vec_len posts.old ≤ vec_capacity room.turnstiles) }
+    requires kept { (room.kept.items ≡ []) × (vec_len posts.old ≤ vec_capacity room.kept) }
+    requires workers { (room.workers.items ≡ []) × (vec_len doors ≤ vec_capacity room.workers) }
+    requires back { (room.doors.items ≡ []) × (vec_len doors ≤ vec_capacity room.doors) }
+    ensures doors { length result.1.items ≡ length doors.items }
+    ensures armed { most_armed K.armings posts.new.items ≡ most_armed K.armings posts.old.items }
+    ensures memory { result.0 ≡ Err refusals.Memory → (posts.new ≡ posts.old) × (result.1.items ≡ doors.items) }
+    ensures served { ¬ (result.0 ≡ Err refusals.Memory) → (net : Network) (w : World) → Stands K.is_honest K.moment K.image E.left Q.told X.frames X.counted opening.now.value net w →
+        Serves K.is_honest K.moment K.image E.left Q.told X.frames X.counted K.faults K.armings E.faults Q.faults X.faults
+        (λ d. record { port = D.port d; accepted = D.accepted d; finished = D.finished d; waiting = D.waiting d; done = D.done d }) D.faults
+        opening.now.value (record opening.now.value { posts = posts.new }) net w connections doors.items result.1.items (is_ok result.0) }
+    ensures listen { result.0 ≡ Err refusals.Listen → DoorFailed D.faults doors.items result.1.items }
+{
+    let Room {
+        mut managers,
+        mut turnstiles,
+        mut kept,
+        workers,
+        doors: mut back,
+    } = room;
+    let calls = doors.len() as u64 * (1000 * connections.count());
+    take_out(opening, site, up, posts, &mut managers);
+    let Ok(()) = open_all(alloc, &mut managers, &mut turnstiles, &mut kept, calls) else {
+        close_all(turnstiles, kept, &mut managers);
+        put_back(managers, posts);
+        return (Err(ServeRefusal::Memory), doors);
+    };
+    let served = ServedManagers {
+        site,
+        turnstiles: &turnstiles,
+    };
+    let ended = serve_doors(
+        rt,
+        alloc,
+        &served,
+        api,
+        &mut kept,
+        doors,
+        connections,
+        workers,
+        &mut back,
+    );
+    close_all(turnstiles, kept, &mut managers);
+    put_back(managers, posts);
+    (ended, back)
+}
+
+/// Serves `connections` connections at each door with the managers of a run's state. The door at index k gets the manager of node k modulo
+/// the number of nodes. All doors are served at the same time if threads can be had, and each manager is asked one request at a time. The
+/// doors come back in their order. `Listen` says that a door failed: the connections before the failure are served, and so are those of the
+/// other doors. On `Memory` everything is as it was.
+pub fn serve<
+    R: Threads + Wait + Sync,
+    K: Disk + Drop + Send,
+    Q: Device + Drop + Send,
+    E: Entropy + Drop + Send,
+    X: Wire + Drop + Send,
+    D: Listener + Drop + Send + Sync,
+>(
+    rt: &R,
+    alloc: Global,
+    state: &mut State<K, Q, E, X>,
+    doors: Vec<D>,
+    connections: Connections,
+) -> (Result<(), ServeRefusal>, Vec<D>)
+where
+    D::In: Send,
+    D::Out: Send,
+    requires ready { (net : Network) × (w : World) × Stands K.is_honest K.moment K.image E.left Q.told X.frames X.counted state.old net w }
+    requires declared { IsDeclared state.old.site }
+    requires node { 0 < length state.old.site.nodes }
+    requires some { 0 < length doors.items }
+    requires few { length doors.items ≤ 32 }
+    requires connections { connections ≤ endless }
+    requires fresh { (k : ℕ) (d : D) → slice_get doors.items k ≡ Some d → (D.accepted d + connections ≤ 2 ^ 48) × (D.finished d ≤ D.accepted d) }
+    ensures doors { length result.1.items ≡ length doors.items }
+    ensures site { state.new.site ≡ state.old.site }
+    ensures armed { most_armed K.armings state.new.posts.items ≡ most_armed K.armings state.old.posts.items }
+    ensures memory { result.0 ≡ Err refusals.Memory → (state.new ≡ state.old) × (result.1.items ≡ doors.items) }
+    ensures served { ¬ (result.0 ≡ Err refusals.Memory) → (net : Network) (w : World) → Stands K.is_honest K.moment K.image E.left Q.told X.frames X.counted state.old net w →
+        Serves K.is_honest K.moment K.image E.left Q.told X.frames X.counted K.faults K.armings E.faults Q.faults X.faults
+        (λ d. record { port = D.port d; accepted = D.accepted d; finished = D.finished d; waiting = D.waiting d; done = D.done d }) D.faults
+        state.old state.new net w connections doors.items result.1.items (is_ok result.0) }
+    ensures listen { result.0 ≡ Err refusals.Listen → DoorFailed D.faults doors.items result.1.items }
+{
+    let opening = Snapshot::of(&*state);
+    let Ok(api) = Api::new(alloc, &state.site) else {
+        return (Err(ServeRefusal::Memory), doors);
+    };
+    let Ok(room) = Room::new(alloc, state.posts.len(), doors.len()) else {
+        return (Err(ServeRefusal::Memory), doors);
+    };
+    let up = state.up;
+    serve_in_room(
+        rt,
+        alloc,
+        &opening,
+        &state.site,
+        up,
+        &mut state.posts,
+        &api,
+        doors,
+        connections,
+        room,
+    )
+}

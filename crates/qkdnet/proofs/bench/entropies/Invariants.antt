@@ -1,7 +1,0 @@
-use Rattle.std.specs.Prelude.{Some}
-use Rattle.source_devices.specs.KeyStream.{entropy_told, told_from}
-use Rattle.qkdnet.specs.Fresh.{AreNumbered}
-use Rattle.qkdnet.proofs.bench.entropies.Given as goal
-
-abbrev pub invariant-loop-number : goal.invariant-loop-number
-invariant-loop-number l = record { made : AreNumbered (λ s. Some (told_from s)) entropy_told l.number l.entropies.items }

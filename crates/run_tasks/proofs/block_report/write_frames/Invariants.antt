@@ -1,0 +1,12 @@
+use Rattle.std.proofs.Common.{◌≤◌, drop, []}
+use Rattle.run_tasks.specs.Reported.{frames_told}
+use Rattle.run_tasks.proofs.Writes.{IsTold}
+use Rattle.run_lines.specs.Reporting.{IsItemLine, TookLines}
+use Rattle.run_tasks.proofs.block_report.write_frames.Given as goal
+
+abbrev pub invariant-loop-frame : goal.invariant-loop-frame
+invariant-loop-frame g l = record {
+  told : IsTold l.site.nodes (g.W.Sink.taken l.fn.sink) (g.W.Sink.taken l.sink) (frames_told l.places l.frames) (frames_told l.places (drop l.frame-index l.frames));
+  lined : TookLines g.W.Sink.taken g.W.Sink.pieces (IsItemLine l.site.nodes) l.fn.sink l.sink [];
+  later : g.W.Sink.faults l.fn.sink ≤ g.W.Sink.faults l.sink;
+}

@@ -1,0 +1,46 @@
+use Rattle.std.proofs.Common.{◌∙◌, List, length, sym, ap, arith, rules, [], Err}
+use Rattle.std.specs.Vec.Iter.{into_iter_items}
+use Rattle.run_ops.specs.declared.done_block.Turned.{Turned}
+use Rattle.run_tasks.specs.Reported.{turn_told, turns_told}
+use Rattle.run_tasks.proofs.Tasking.{is_none}
+use Rattle.run_tasks.proofs.Writes.{told_none, told_on, told_all, told_stop}
+use Rattle.run_lines.specs.Reporting.{IsItemLine}
+use Rattle.run_lines.proofs.Lines.{none_lined, lined_on, in_lines_on}
+use Rattle.run_tasks.proofs.block_report.write_turns.Goals as goal
+
+pub loop-turned-init : goal.loop-turned-init
+loop-turned-init g c = record {
+  long = search rules;
+  told = λ http speaks. told_none c.args.site.now.nodes (g.W.Sink.taken c.args.sink.now) (turns_told http c.args.jobs.now c.args.places.now (into_iter_items c.into_iter-turned-iterator.result));
+  lined = none_lined g.W.Sink.taken g.W.Sink.pieces (IsItemLine c.args.site.now.nodes) c.args.sink.now;
+  later = omega arith;
+}
+
+pub loop-turned-preserved : goal.loop-turned-preserved
+loop-turned-preserved g c = record {
+  long = (let gone = ap (λ (ts : List Turned). length ts) c.in-Some.ensures.steps.0 in omega (arith, gone, c.in-Some.ensures.steps.1, c.loop-turned.invariant.long));
+  told = λ http speaks.
+      let jobs = c.args.jobs.now in
+      let places = c.args.places.now in
+      told_on c.args.site.now.nodes _ _ _ _ _ (turn_told http jobs places c.in-Some.turned) (turns_told http jobs places (into_iter_items c.next.new.self))
+      (ap (λ (ts : List Turned). turns_told http jobs places ts) c.in-Some.ensures.steps.0) (c.loop-turned.invariant.told http speaks) (c.in-Ok.ensures.wrote http speaks);
+  lined = lined_on g.W.Sink.taken g.W.Sink.pieces (IsItemLine c.args.site.now.nodes) _ _ _ [] c.loop-turned.invariant.lined c.in-Ok.ensures.lined;
+  later = omega (arith, c.loop-turned.invariant.later, c.in-Ok.ensures.blame.later);
+}
+
+pub returns-in-Err-clause-wrote : goal.returns-in-Err-clause-wrote
+returns-in-Err-clause-wrote g c = λ http speaks.
+    let jobs = c.args.jobs.now in
+    let places = c.args.places.now in
+    rw (← c.into_iter-turned-iterator.ensures.into_iter_gives.0)
+    (told_stop c.args.site.now.nodes _ _ _ _ _ (turn_told http jobs places c.in-Some.turned) (turns_told http jobs places (into_iter_items c.next.new.self)) c.in-Err.stop
+    (ap (λ (ts : List Turned). turns_told http jobs places ts) c.in-Some.ensures.steps.0) (c.loop-turned.invariant.told http speaks) (c.in-Err.ensures.wrote http speaks))
+
+pub returns-clause-wrote : goal.returns-clause-wrote
+returns-clause-wrote g c = λ http speaks.
+    let none = is_none _ (sym c.loop-turned.invariant.long ∙ c.in-None.ensures.steps.0) in
+    rw (← c.into_iter-turned-iterator.ensures.into_iter_gives.0)
+    (told_all c.args.site.now.nodes _ _ _ _ (ap (λ (ts : List Turned). turns_told http c.args.jobs.now c.args.places.now ts) none) (c.loop-turned.invariant.told http speaks))
+
+pub returns-in-Err-clause-lined : goal.returns-in-Err-clause-lined
+returns-in-Err-clause-lined g c = in_lines_on g.W.Sink.taken g.W.Sink.pieces (IsItemLine c.args.site.now.nodes) {T = Unit {0}} _ _ _ (Err c.in-Err.stop) c.loop-turned.invariant.lined c.in-Err.ensures.lined
