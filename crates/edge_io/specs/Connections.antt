@@ -18,6 +18,12 @@ IsNext None new left taken = Unit {0}
 IsNext (Some []) new left taken = ⊥
 IsNext (Some (sent ∷ rest)) new left taken = (new ≡ Some rest) × (left ≡ Some sent) × (taken ≡ Some [])
 
+-- A new listener took the first of these queues of connections, and left the others.
+abbrev pub IsFirstQueue : Option (List (List (List ℕ))) → Option (List (List ℕ)) → Option (List (List (List ℕ))) → Type 0
+IsFirstQueue None waiting rest = Unit {0}
+IsFirstQueue (Some []) waiting rest = ⊥
+IsFirstQueue (Some (queue ∷ queues)) waiting rest = (waiting ≡ Some queue) × (rest ≡ Some queues)
+
 -- A new listener of this port. It has accepted and finished no connection, and has not failed. Contracts know its
 -- connections if they know those of the listener, or the ports, that it was made from.
 pub record IsNewDoor (told : Type 0) (port own accepted finished faults : ℕ) (waiting : Option (List (List ℕ))) (done : Option (List Finished)) : Type 0 where

@@ -53,6 +53,14 @@ listener_of s = door_of s.port s.first s.twins
 abbrev pub sent_of : List ConnectionForm → List (List ℕ)
 sent_of cs = map (λ (c : ConnectionForm). c.sent) cs
 
+-- the queues of a socket, each as what the peers of its connections send: that of its listener, and that of each twin
+abbrev pub queues_of : List QueueForm → List (List (List ℕ))
+queues_of qs = map (λ (q : QueueForm). sent_of q.waiting) qs
+
+abbrev pub queues_in : Option SocketForm → List (List (List ℕ))
+queues_in None = []
+queues_in (Some s) = sent_of s.first.waiting ∷ queues_of s.twins
+
 pub record PortsForm : Type 0 where
   -- the sockets that were not opened yet
   pub sockets : List SocketForm
@@ -72,3 +80,7 @@ socket_at port sockets = find (has_port port) sockets
 -- all but the first socket of this port
 abbrev pub sockets_without : ℕ → List SocketForm → List SocketForm
 sockets_without port sockets = remove sockets (position_or_len (has_port port) sockets)
+
+-- the queues of the first socket of this port
+abbrev pub queues_at : List SocketForm → ℕ → List (List (List ℕ))
+queues_at sockets port = queues_in (socket_at port sockets)

@@ -2,7 +2,7 @@
 ghost use Rattle.std.specs.Prelude.{◌≡◌, ◌+◌, ◌<◌, ◌^◌, ◌∷◌, [], List, ℕ, Option, OnOk, IfOk, MatchResult, IsSome};
 ghost use Rattle.qkd_base.specs.Faults.{HasCause};
 ghost use Rattle.edge_io.specs.Writes.{Adds};
-ghost use Rattle.edge_io.specs.Connections.{Finished, IsNext, IsNewDoor};
+ghost use Rattle.edge_io.specs.Connections.{Finished, IsNext, IsFirstQueue, IsNewDoor};
 
 use crate::{Ended, Failed, Sink, Source};
 
@@ -26,6 +26,10 @@ pub trait Listener {
     /// them.
     ghost waiting: { Self → Option (List (List ℕ)) };
 
+    /// The queues of the twins to come, in order: the connections that will wait for each. `None` where contracts don't
+    /// know them.
+    ghost twins: { Self → Option (List (List (List ℕ))) };
+
     /// The finished connections, in order. `None` where contracts don't know them.
     ghost done: { Self → Option (List Finished) };
 
@@ -42,7 +46,7 @@ pub trait Listener {
         ensures fresh { IfOk result (λ ends. (Self.In.faults ends.0 ≡ 0) × (Self.Out.faults ends.1 ≡ 0)) }
         ensures cause { HasCause (faults self.old) (faults self.new) result }
         ensures calm { OnOk result (faults self.new ≡ faults self.old) }
-        ensures same { (port self.new ≡ port self.old) × (finished self.new ≡ finished self.old) × (done self.new ≡ done self.old) };
+        ensures same { (port self.new ≡ port self.old) × (finished self.new ≡ finished self.old) × (twins self.new ≡ twins self.old) × (done self.new ≡ done self.old) };
 
     /// Takes the source and the sink of a connection back, with the way it ended, and closes the connection.
     fn finish(&mut self, source: Self::In, sink: Self::Out, ended: Ended)
@@ -55,13 +59,14 @@ pub trait Listener {
           write_faults = Self.Out.faults sink;
           ended = ended;
         } ∷ []) }
-        ensures same { (port self.new ≡ port self.old) × (accepted self.new ≡ accepted self.old) × (waiting self.new ≡ waiting self.old) × (faults self.new ≡ faults self.old) };
+        ensures same { (port self.new ≡ port self.old) × (accepted self.new ≡ accepted self.old) × (waiting self.new ≡ waiting self.old) × (twins self.new ≡ twins self.old) × (faults self.new ≡ faults self.old) };
 
     /// A second listener of the same port. The connections that wait for the first one stay with it.
     fn twin(&mut self) -> Result<Self, Failed>
     where
         Self: Sized,
         ensures twin { IfOk result (λ d. IsNewDoor (IsSome (waiting self.old) × IsSome (done self.old)) (port self.old) (port d) (accepted d) (finished d) (faults d) (waiting d) (done d)) }
+        ensures queue { MatchResult result (λ d. IsFirstQueue (twins self.old) (waiting d) (twins self.new)) (λ _. twins self.new ≡ twins self.old) }
         ensures cause { HasCause (faults self.old) (faults self.new) result }
         ensures calm { OnOk result (faults self.new ≡ faults self.old) }
         ensures same { (port self.new ≡ port self.old) × (accepted self.new ≡ accepted self.old) × (finished self.new ≡ finished self.old) × (waiting self.new ≡ waiting self.old) × (done self.new ≡ done self.old) };

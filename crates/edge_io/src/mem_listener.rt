@@ -3,8 +3,8 @@ ghost use Rattle.std.specs.Prelude.{◌≡◌, ◌+◌, ◌<◌, ◌^◌, ◌==�
 ghost use Rattle.qkd_base.specs.Faults.{HasCause, one_more};
 ghost use Rattle.edge_io.specs.Writes.{Adds};
 ghost use Rattle.edge_io.specs.Forms.{is_listed};
-ghost use Rattle.edge_io.specs.Connections.{Finished, IsNext, IsNewDoor};
-ghost use Rattle.edge_io.specs.Doors.{ConnectionForm, QueueForm, source_of, sink_of, door_of, listener_of, sent_of};
+ghost use Rattle.edge_io.specs.Connections.{Finished, IsNext, IsFirstQueue, IsNewDoor};
+ghost use Rattle.edge_io.specs.Doors.{ConnectionForm, QueueForm, source_of, sink_of, door_of, listener_of, sent_of, queues_of};
 
 use crate::{
     Ended, Failed, Listener, MemConnection, MemFinished, MemQueue, MemSink, MemSocket, MemSource,
@@ -95,6 +95,8 @@ impl Listener for MemListener {
 
     ghost waiting = { λ s. Some (sent_of s.waiting) };
 
+    ghost twins = { λ s. Some (queues_of s.twins) };
+
     ghost done = { λ s. Some s.done };
 
     ghost faults = { λ s. s.faults };
@@ -107,7 +109,7 @@ impl Listener for MemListener {
         ensures fresh { IfOk result (λ ends. (ends.0.faults ≡ 0) × (ends.1.faults ≡ 0)) }
         ensures cause { HasCause self.old.faults self.new.faults result }
         ensures calm { OnOk result (self.new.faults ≡ self.old.faults) }
-        ensures same { (self.new.port ≡ self.old.port) × (length self.new.done ≡ length self.old.done) × (Some self.new.done ≡ Some self.old.done) }
+        ensures same { (self.new.port ≡ self.old.port) × (length self.new.done ≡ length self.old.done) × (Some (queues_of self.new.twins) ≡ Some (queues_of self.old.twins)) × (Some self.new.done ≡ Some self.old.done) }
         ensures listed { is_err result ≡ (is_listed self.old.fails self.old.calls || (length self.old.waiting == 0)) }
         ensures kept { OnErr result (self.new ≡ record self.old { calls = one_more self.old.calls; faults = one_more self.old.faults }) }
         ensures came { IfOk result (λ ends. (c : ConnectionForm) × (self.old.waiting ≡ c ∷ self.new.waiting) × (ends ≡ (source_of c, sink_of c))
@@ -135,7 +137,7 @@ impl Listener for MemListener {
           write_faults = sink.faults;
           ended = ended;
         } ∷ []) }
-        ensures same { (self.new.port ≡ self.old.port) × (self.new.accepted ≡ self.old.accepted) × (Some (sent_of self.new.waiting) ≡ Some (sent_of self.old.waiting)) × (self.new.faults ≡ self.old.faults) }
+        ensures same { (self.new.port ≡ self.old.port) × (self.new.accepted ≡ self.old.accepted) × (Some (sent_of self.new.waiting) ≡ Some (sent_of self.old.waiting)) × (Some (queues_of self.new.twins) ≡ Some (queues_of self.old.twins)) × (self.new.faults ≡ self.old.faults) }
         ensures kept { self.new ≡ record self.old { done = self.new.done } }
     {
         self.done.push_reserved(MemFinished {
@@ -147,6 +149,7 @@ impl Listener for MemListener {
 
     fn twin(&mut self) -> Result<MemListener, Failed>
         ensures twin { IfOk result (λ d. IsNewDoor (IsSome (Some (sent_of self.old.waiting)) × IsSome (Some self.old.done)) self.old.port d.port d.accepted (length d.done) d.faults (Some (sent_of d.waiting)) (Some d.done)) }
+        ensures queue { MatchResult result (λ d. IsFirstQueue (Some (queues_of self.old.twins)) (Some (sent_of d.waiting)) (Some (queues_of self.new.twins))) (λ _. Some (queues_of self.new.twins) ≡ Some (queues_of self.old.twins)) }
         ensures cause { HasCause self.old.faults self.new.faults result }
         ensures calm { OnOk result (self.new.faults ≡ self.old.faults) }
         ensures same { (self.new.port ≡ self.old.port) × (self.new.accepted ≡ self.old.accepted) × (length self.new.done ≡ length self.old.done) × (Some (sent_of self.new.waiting) ≡ Some (sent_of self.old.waiting)) × (Some self.new.done ≡ Some self.old.done) }

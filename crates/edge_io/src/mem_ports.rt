@@ -1,10 +1,10 @@
 // The ports of a machine, in memory.
-ghost use Rattle.std.specs.Prelude.{◌≡◌, ◌<◌, ◌||◌, ◌++◌, ◌∷◌, [], Some, length, is_err, is_none, OnOk, OnErr, IfOk, IsSome, IsNone, IfSome, option_map, position};
+ghost use Rattle.std.specs.Prelude.{◌≡◌, ◌<◌, ◌||◌, ◌++◌, ◌∷◌, [], Some, length, is_err, is_none, OnOk, OnErr, IfOk, IsSome, IsNone, IfSome, ℕ, option_map, position};
 ghost use Rattle.qkd_base.specs.Faults.{HasCause, one_more};
 ghost use Rattle.edge_io.specs.Writes.{Adds};
 ghost use Rattle.edge_io.specs.Forms.{is_listed};
-ghost use Rattle.edge_io.specs.Connections.{IsNewDoor};
-ghost use Rattle.edge_io.specs.Doors.{listener_of, sent_of, has_port, socket_at, sockets_without};
+ghost use Rattle.edge_io.specs.Connections.{IsFirstQueue, IsNewDoor};
+ghost use Rattle.edge_io.specs.Doors.{listener_of, sent_of, has_port, socket_at, sockets_without, queues_of, queues_at};
 
 use crate::{Failed, MemListener, MemSocket, Ports};
 use qkd_base::Memory;
@@ -97,12 +97,17 @@ impl Ports for MemPorts {
 
     ghost back = { λ s. Some s.back };
 
+    ghost queues = { λ s port. Some (queues_at s.sockets port) };
+
     ghost faults = { λ s. s.faults };
 
     fn open(&mut self, port: u16) -> Result<MemListener, Failed>
         requires few { length self.old.asked < 65536 }
         ensures asked { Adds (Some self.old.asked) (Some self.new.asked) (port ∷ []) }
         ensures door { IfOk result (λ d. IsNewDoor (IsSome (Some self.old.asked)) port d.port d.accepted (length d.done) d.faults (Some (sent_of d.waiting)) (Some d.done)) }
+        ensures queue { IfOk result (λ d. IsFirstQueue (Some (queues_at self.old.sockets port)) (Some (sent_of d.waiting)) (Some (queues_of d.twins))) }
+        ensures refused { OnErr result ((λ port. Some (queues_at self.new.sockets port)) ≡ (λ port. Some (queues_at self.old.sockets port))) }
+        ensures others { (other : ℕ) → ¬ (other ≡ port) → Some (queues_at self.new.sockets other) ≡ Some (queues_at self.old.sockets other) }
         ensures cause { HasCause self.old.faults self.new.faults result }
         ensures calm { OnOk result (self.new.faults ≡ self.old.faults) }
         ensures same { Some self.new.back ≡ Some self.old.back }
@@ -126,7 +131,7 @@ impl Ports for MemPorts {
     fn shut(&mut self, door: MemListener)
         requires few { length self.old.back < 65536 }
         ensures back { Adds (Some self.old.back) (Some self.new.back) (door ∷ []) }
-        ensures same { (Some self.new.asked ≡ Some self.old.asked) × (self.new.faults ≡ self.old.faults) }
+        ensures same { (Some self.new.asked ≡ Some self.old.asked) × ((λ port. Some (queues_at self.new.sockets port)) ≡ (λ port. Some (queues_at self.old.sockets port))) × (self.new.faults ≡ self.old.faults) }
         ensures kept { self.new ≡ record self.old { back = self.old.back ++ door ∷ [] } }
     {
         self.back.push_reserved(door);
