@@ -1,7 +1,7 @@
 pub mod Allowance
 pub mod Calls
 pub mod Images
-pub mod FileForm
+pub mod Kept
 pub mod History
 pub mod Laws
 pub mod MemForm

@@ -1,7 +1,7 @@
-ghost use Rattle.std.specs.Prelude.{◌≡◌};
+ghost use Rattle.std.specs.Prelude.{◌≡◌, None};
 
 use crate::cases::holds;
-use disk_model::{Arm, Disk, DiskFailed, FileDisk, Image, MemDisk};
+use disk_model::{Arm, Disk, DiskFailed, Image, KeptDisk, MemDisk, OctetFile, SystemFile};
 use qkd_base::Memory;
 use std::alloc::Global;
 use std::fs;
@@ -179,14 +179,69 @@ fn a_later_cut_finds_what_an_earlier_one_left(rt: HostRuntime) {
     assert!(rt; cut_twice(&rt, rt.alloc()) == Ok(()));
 }
 
+// A file of which one call fails.
+struct FailingFile {
+    calls: u32,
+    fails: u32,
+}
+
+impl FailingFile {
+    fn call(&mut self) -> Result<(), DiskFailed> {
+        self.calls = self.calls.saturating_add(1);
+        if self.calls == self.fails {
+            Err(DiskFailed)
+        } else {
+            Ok(())
+        }
+    }
+}
+
+impl OctetFile for FailingFile {
+    ghost octets = { λ _. None };
+
+    ghost durable = { λ _. None };
+
+    fn write_at(&mut self, at: u64, bytes: &[u8]) -> Result<(), DiskFailed> {
+        let _ = (at, bytes);
+        self.call()
+    }
+
+    fn sync(&mut self) -> Result<(), DiskFailed> {
+        self.call()
+    }
+}
+
+// Which calls succeed of a disk over a file of which this call fails: a write, a sync, and behind a revival a sync and a
+// look at the length.
+fn kept(alloc: Global, fails: u32) -> Result<[bool; 4], Memory> {
+    let memory = MemDisk::new(alloc, b"ab", Vec::new(alloc))?;
+    let mut disk = KeptDisk::new(memory, FailingFile { calls: 0, fails });
+    disk.room(16)?;
+    let written = disk.write_at(2, b"cd").is_ok();
+    let synced = disk.sync().is_ok();
+    disk.revive();
+    let again = disk.sync().is_ok();
+    Ok([written, synced, again, disk.len() == Ok(4)])
+}
+
 #[test]
-fn a_file_is_a_disk(rt: HostRuntime) {
+fn a_failure_of_its_file_ends_a_disk(rt: HostRuntime) {
+    assert!(rt; kept(rt.alloc(), 0) == Ok([true, true, true, true]));
+    assert!(rt; kept(rt.alloc(), 1) == Ok([false, false, false, false]));
+    assert!(rt; kept(rt.alloc(), 2) == Ok([true, false, false, false]));
+}
+
+#[test]
+fn a_file_keeps_a_disk(rt: HostRuntime) {
     let path = "disk_model_test";
     assert!(rt; fs::write(&rt, path, b"abc".as_slice()).is_ok());
-    let Ok(file) = OpenOptions::new().read(true).write(true).open(&rt, path) else {
+    let Ok(file) = OpenOptions::new().write(true).open(&rt, path) else {
         panic!(rt; "not opened");
     };
-    let mut disk = FileDisk::new(file);
+    let Ok(memory) = MemDisk::new(rt.alloc(), b"abc", Vec::new(rt.alloc())) else {
+        panic!(rt; "no memory");
+    };
+    let mut disk = KeptDisk::new(memory, SystemFile::new(file));
     let Ok(()) = disk.room(10) else {
         panic!(rt; "no room");
     };
@@ -197,10 +252,6 @@ fn a_file_is_a_disk(rt: HostRuntime) {
         panic!(rt; "not synced");
     };
     assert!(rt; disk.len() == Ok(4));
-    let mut two = [0; 2];
-    assert!(rt; disk.read(2, &mut two) == Ok(()));
-    assert!(rt; two == *b"xy");
-    assert!(rt; disk.read(3, &mut two) == Err(DiskFailed));
     let Ok(held) = fs::read(&rt, path) else {
         panic!(rt; "not read");
     };
