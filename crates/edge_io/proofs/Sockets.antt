@@ -1,6 +1,7 @@
 -- The first item of a list that passes a test, and the list without it.
-use Rattle.std.proofs.Common.{◌≡◌, ℕ, suc, ◌+◌, ◌≤◌, ◌<◌, Bool, true, false, cond, not, nat_lt, List, [], ◌∷◌, zero, length, take, drop, remove, find, position, slice_get, slice_index_or, Some, None, Option, refl, sym, ap, ap₂, ◌++◌, ◌∙◌, arith, take_all, drop_of_length-le, append-nil}
+use Rattle.std.proofs.Common.{◌≡◌, ℕ, suc, ◌+◌, ◌≤◌, ◌<◌, Bool, true, false, cond, not, List, [], ◌∷◌, length, remove, find, position, slice_get, slice_index_or, Some, None, Option, refl, sym, subst, ap, ap₂, ◌++◌, ◌∙◌, arith, take_all, drop_of_length-le, append-nil}
 use Rattle.std.specs.List.{position_or_len}
+use Rattle.std.proofs.Math.Numerals.{one-add}
 use Rattle.std.proofs.lemmas.List.Folds.{find_at}
 use Rattle.std.proofs.lemmas.List.Quantifiers.{position-Some}
 use Rattle.std.proofs.lemmas.Option.{slice_get-get_or, slice_get_past}
@@ -38,10 +39,11 @@ module _ {X : Type 0} where
   pub found_passes : (p : X → Bool) (xs : List X) (i : ℕ) (x : X) → position p xs ≡ Some i → x ≡ slice_index_or xs i x → p x ≡ true
   found_passes p xs i x e at = ap p at ∙ (position-Some p xs i x e).1
 
+  without_more : (p q : X → Bool) (x : X) (xs : List X) → (p x ≡ true → q x ≡ false) → find q (remove xs (position_or_len p xs)) ≡ find q xs → (b : Bool) → p x ≡ b → find q (remove (x ∷ xs) (cond (not b) (1 + position_or_len p xs) 0)) ≡ find q (x ∷ xs)
+  without_more p q x xs apart same true e = subst (λ (b : Bool). find q xs ≡ cond b (Some x) (find q xs)) (sym (apart e)) refl
+  without_more p q x xs apart same false e = rw one-add (ap (λ (o : Option X). cond (q x) (Some x) o) same)
+
   -- What another test finds is found with or without the first item that passes this one, where no item passes both.
   pub found_without : (p q : X → Bool) (xs : List X) → ((x : X) → p x ≡ true → q x ≡ false) → find q (remove xs (position_or_len p xs)) ≡ find q xs
   found_without p q [] apart = refl
-  found_without p q (x ∷ xs) apart = by (p x) refl where
-    by : (b : Bool) → p x ≡ b → find q (remove (x ∷ xs) (cond (not b) (1 + position_or_len p xs) 0)) ≡ find q (x ∷ xs)
-    by true e = subst (λ (b : Bool). find q xs ≡ cond b (Some x) (find q xs)) (sym (apart x e)) refl
-    by false e = ap (λ (o : Option X). cond (q x) (Some x) o) (found_without p q xs apart)
+  found_without p q (x ∷ xs) apart = without_more p q x xs (apart x) (found_without p q xs apart) (p x) refl

@@ -1,9 +1,8 @@
 -- Listeners and ports in memory as values. Calls are numbered from 0, and those whose numbers are in the list `fails`
 -- fail.
-use Rattle.std.specs.Prelude.{◌≡◌, ℕ, Bool, List, [], ◌∷◌, map, Option, Some, None, is_none, find, remove, ◌==◌, ◌||◌, length, nat_eq}
+use Rattle.std.specs.Prelude.{ℕ, Bool, List, [], ◌∷◌, map, Option, Some, None, find, remove, ◌==◌}
 use Rattle.std.specs.List.{position_or_len}
-use Rattle.edge_io.specs.declared.ended.Ended.{Ended}
-use Rattle.edge_io.specs.Forms.{SourceForm, SinkForm, is_listed}
+use Rattle.edge_io.specs.Forms.{SourceForm, SinkForm}
 use Rattle.edge_io.specs.Connections.{Finished}
 
 -- a waiting connection: what its peer sends, how many bytes its sink has room for, and the calls that fail at its
@@ -81,6 +80,6 @@ socket_at port sockets = find (has_port port) sockets
 abbrev pub sockets_without : ℕ → List SocketForm → List SocketForm
 sockets_without port sockets = remove sockets (position_or_len (has_port port) sockets)
 
--- the queues of the first socket of this port
-abbrev pub queues_at : List SocketForm → ℕ → List (List (List ℕ))
-queues_at sockets port = queues_in (socket_at port sockets)
+-- what waits at each port: the queues of the first socket of that port
+abbrev pub queues_told : List SocketForm → ℕ → Option (List (List (List ℕ)))
+queues_told sockets port = Some (queues_in (socket_at port sockets))

@@ -4,7 +4,7 @@ ghost use Rattle.qkd_base.specs.Faults.{HasCause, one_more};
 ghost use Rattle.edge_io.specs.Writes.{Adds};
 ghost use Rattle.edge_io.specs.Forms.{is_listed};
 ghost use Rattle.edge_io.specs.Connections.{IsFirstQueue, IsNewDoor};
-ghost use Rattle.edge_io.specs.Doors.{listener_of, sent_of, has_port, socket_at, sockets_without, queues_of, queues_at};
+ghost use Rattle.edge_io.specs.Doors.{listener_of, sent_of, has_port, socket_at, sockets_without, queues_of, queues_told};
 
 use crate::{Failed, MemListener, MemSocket, Ports};
 use qkd_base::Memory;
@@ -97,7 +97,7 @@ impl Ports for MemPorts {
 
     ghost back = { λ s. Some s.back };
 
-    ghost queues = { λ s port. Some (queues_at s.sockets port) };
+    ghost queues = { λ s. queues_told s.sockets };
 
     ghost faults = { λ s. s.faults };
 
@@ -105,9 +105,9 @@ impl Ports for MemPorts {
         requires few { length self.old.asked < 65536 }
         ensures asked { Adds (Some self.old.asked) (Some self.new.asked) (port ∷ []) }
         ensures door { IfOk result (λ d. IsNewDoor (IsSome (Some self.old.asked)) port d.port d.accepted (length d.done) d.faults (Some (sent_of d.waiting)) (Some d.done)) }
-        ensures queue { IfOk result (λ d. IsFirstQueue (Some (queues_at self.old.sockets port)) (Some (sent_of d.waiting)) (Some (queues_of d.twins))) }
-        ensures refused { OnErr result ((λ port. Some (queues_at self.new.sockets port)) ≡ (λ port. Some (queues_at self.old.sockets port))) }
-        ensures others { (other : ℕ) → ¬ (other ≡ port) → Some (queues_at self.new.sockets other) ≡ Some (queues_at self.old.sockets other) }
+        ensures queue { IfOk result (λ d. IsFirstQueue (queues_told self.old.sockets port) (Some (sent_of d.waiting)) (Some (queues_of d.twins))) }
+        ensures refused { OnErr result (queues_told self.new.sockets ≡ queues_told self.old.sockets) }
+        ensures others { (other : ℕ) → ¬ (other ≡ port) → queues_told self.new.sockets other ≡ queues_told self.old.sockets other }
         ensures cause { HasCause self.old.faults self.new.faults result }
         ensures calm { OnOk result (self.new.faults ≡ self.old.faults) }
         ensures same { Some self.new.back ≡ Some self.old.back }
@@ -131,7 +131,7 @@ impl Ports for MemPorts {
     fn shut(&mut self, door: MemListener)
         requires few { length self.old.back < 65536 }
         ensures back { Adds (Some self.old.back) (Some self.new.back) (door ∷ []) }
-        ensures same { (Some self.new.asked ≡ Some self.old.asked) × ((λ port. Some (queues_at self.new.sockets port)) ≡ (λ port. Some (queues_at self.old.sockets port))) × (self.new.faults ≡ self.old.faults) }
+        ensures same { (Some self.new.asked ≡ Some self.old.asked) × (queues_told self.new.sockets ≡ queues_told self.old.sockets) × (self.new.faults ≡ self.old.faults) }
         ensures kept { self.new ≡ record self.old { back = self.old.back ++ door ∷ [] } }
     {
         self.back.push_reserved(door);
