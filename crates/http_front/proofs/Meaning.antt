@@ -1,12 +1,13 @@
 -- What was read of a connection's octets is what all of its octets mean.
 use Rattle.std.proofs.Common.{◌≡◌, ℕ, ◌+◌, ◌≤◌, ◌<◌, ◌⊎◌, List, [], ◌∷◌, ◌++◌, length, take, drop, min, Option, Some, None, Result, Ok, Err, refl, sym, ap, ◌∙◌, subst, arith, rules, append_assoc, append-nil, length-append, length-take, inl, inr}
+use Rattle.std.specs.Prelude.{IfErr}
 use Rattle.std.proofs.lemmas.List.{take-append-drop, take-append-le, take_all, drop_at}
 use Rattle.std.proofs.lemmas.Bool.{cases_lt}
 use Rattle.std.specs.Io.KnownBytes.{Consumes, IsAtEnd}
 use Rattle.httparse.specs.Grammar.{RequestHead, print_request, ReadsRequest}
 use Rattle.httparse.proofs.GrammarLemmas.{ReadsRequest-append}
-use Rattle.http_front.specs.Front.{HasHead, HasNoHead, MayBecomeHead, IsFront, HasNoFront, IsTooLong, EndsInHead, EndsInBody, IsFramedAs, IsRequest, IsRefused}
-use Rattle.http_front.specs.Reading.{IsHeadOf, IsNeverFor, IsOpen, IsLook, IsEnd, Came, HasSome, no_more}
+use Rattle.http_front.specs.Front.{HasHead, HasSome, HasNoHead, MayBecomeHead, IsFront, HasNoFront, IsTooLong, EndsInHead, EndsInBody, IsFramedAs, IsRequest, IsRefused, IsScarce}
+use Rattle.http_front.specs.Reading.{IsHeadOf, IsNeverFor, IsOpen, IsLook, IsEnd, Came, no_more}
 use Rattle.http_front.specs.declared.head.Head.{Head}
 use Rattle.http_front.specs.declared.refusal.FrontRefusal.{FrontRefusal}
 use Rattle.http_front.specs.declared.refusal.FrontRefusal.TheVariants as refusals
@@ -199,6 +200,68 @@ look-open octets text r same is look =
     let F : List ℕ → Type 0 = λ t. IsLook t (Ok None) in
     let G : Result (Option Head) FrontRefusal → Type 0 = λ s. IsLook text s in
     subst F same (subst G is look)
+
+-- Where the parser tells that memory ran out, a head is whole.
+never-scarce : (octets : List ℕ) (e : FrontRefusal) → IsNeverFor (take 8193 octets) e → IsScarce e octets
+never-scarce octets refusals.Memory some =
+    let whole : HasHead (take 8193 octets ++ drop 8193 octets) some.0 (some.1 ++ drop 8193 octets) =
+    head-append (take 8193 octets) some.0 some.1 (drop 8193 octets) some.2 in
+    inr (some.0, some.1 ++ drop 8193 octets, subst (λ (t : List ℕ). HasHead t some.0 (some.1 ++ drop 8193 octets)) (front-whole octets) whole)
+never-scarce octets refusals.BadHead never = tt
+never-scarce octets refusals.TooManyHeaders never = tt
+never-scarce octets refusals.NoRequest never = tt
+never-scarce octets refusals.HeadTooLong never = tt
+never-scarce octets refusals.Chunked never = tt
+never-scarce octets refusals.NoLength never = tt
+never-scarce octets refusals.BadLength never = tt
+never-scarce octets refusals.BodyTooLong never = tt
+never-scarce octets refusals.EndOfInput never = tt
+never-scarce octets refusals.ReadFault never = tt
+
+pub look-scarce : (octets text : List ℕ) (r : Result (Option Head) FrontRefusal) (e : FrontRefusal) → text ≡ take 8193 octets → r ≡ Err e
+    → IsLook text r → IsScarce e octets
+look-scarce octets text r e same is look =
+    let here : IsLook (take 8193 octets) (Err e) = subst (λ (t : List ℕ). IsLook t (Err e)) same (subst (λ (s : Result (Option Head) FrontRefusal). IsLook text s) is look) in
+    never-scarce octets e here
+
+-- While a head has only begun, memory may run out.
+pub open-scarce : (octets : List ℕ) (e : FrontRefusal) → length octets ≤ 8192 → IsOpen (take 8193 octets) → IsScarce e octets
+open-scarce octets refusals.Memory short seen =
+    let same : take 8193 octets ≡ octets = take_all 8193 octets (omega arith) in
+    inl (record { short = short; none = none-in-all octets seen.none; front = subst IsFront same seen.front })
+open-scarce octets refusals.BadHead short seen = tt
+open-scarce octets refusals.TooManyHeaders short seen = tt
+open-scarce octets refusals.NoRequest short seen = tt
+open-scarce octets refusals.HeadTooLong short seen = tt
+open-scarce octets refusals.Chunked short seen = tt
+open-scarce octets refusals.NoLength short seen = tt
+open-scarce octets refusals.BadLength short seen = tt
+open-scarce octets refusals.BodyTooLong short seen = tt
+open-scarce octets refusals.EndOfInput short seen = tt
+open-scarce octets refusals.ReadFault short seen = tt
+
+-- Once a head is whole, it stays so, and memory may run out.
+pub head-scarce : (l0 l1 : Option (List ℕ)) (before octets : List ℕ) (parts : Head) (e : FrontRefusal) → IsHeadOf before parts → Came l0 l1 before octets → IsScarce e octets
+head-scarce l0 l1 before octets parts refusals.Memory is came =
+    let more : HasHead (before ++ came.taken) is.head (drop parts.len before ++ came.taken) = head-append before is.head (drop parts.len before) came.taken is.has in
+    inr (is.head, drop parts.len before ++ came.taken, subst (λ (t : List ℕ). HasHead t is.head (drop parts.len before ++ came.taken)) (sym came.behind) more)
+head-scarce l0 l1 before octets parts refusals.BadHead is came = tt
+head-scarce l0 l1 before octets parts refusals.TooManyHeaders is came = tt
+head-scarce l0 l1 before octets parts refusals.NoRequest is came = tt
+head-scarce l0 l1 before octets parts refusals.HeadTooLong is came = tt
+head-scarce l0 l1 before octets parts refusals.Chunked is came = tt
+head-scarce l0 l1 before octets parts refusals.NoLength is came = tt
+head-scarce l0 l1 before octets parts refusals.BadLength is came = tt
+head-scarce l0 l1 before octets parts refusals.BodyTooLong is came = tt
+head-scarce l0 l1 before octets parts refusals.EndOfInput is came = tt
+head-scarce l0 l1 before octets parts refusals.ReadFault is came = tt
+
+pub found-scarce : (octets : List ℕ) (parts : Head) (e : FrontRefusal) → IsHeadOf octets parts → IsScarce e octets
+found-scarce octets parts e is = head-scarce None None octets octets parts e is (record { taken = []; consumed = tt; behind = sym (append-nil octets) })
+
+pub any-scarce : {T : Type 0} (r : Result T FrontRefusal) (octets : List ℕ) → ((e : FrontRefusal) → IsScarce e octets) → IfErr r (λ e. IsScarce e octets)
+any-scarce {T} (Ok value) octets all = tt
+any-scarce {T} (Err e) octets all = all e
 
 pub open-ended : (octets : List ℕ) → length octets ≤ 8192 → IsOpen (take 8193 octets) → IsRefused octets (no_more octets)
 open-ended [] short seen = refl

@@ -21,6 +21,10 @@ pub record HasHead (octets : List ℕ) (head : RequestHead) (rest : List ℕ) : 
 abbrev pub HasNoHead : List ℕ → Type 0
 HasNoHead octets = (head : RequestHead) (rest : List ℕ) → ¬ (HasHead octets head rest)
 
+-- The octets begin with a head.
+abbrev pub HasSome : List ℕ → Type 0
+HasSome octets = (head : RequestHead) × (rest : List ℕ) × HasHead octets head rest
+
 -- The text with these further octets is a head with at most 32 fields.
 pub record Becomes (text more : List ℕ) (head : RequestHead) : Type 0 where
   pub reads : ReadsRequest (text ++ more) head []
@@ -48,6 +52,12 @@ pub record IsTooLong (octets : List ℕ) : Type 0 where
 -- All octets together are only a part of a head.
 pub record EndsInHead (octets : List ℕ) : Type 0 where
   pub some : 0 < length octets
+  pub short : length octets ≤ 8192
+  pub none : HasNoHead octets
+  pub front : IsFront octets
+
+-- A head may begin with the octets, but none is whole yet.
+pub record IsBegun (octets : List ℕ) : Type 0 where
   pub short : length octets ≤ 8192
   pub none : HasNoHead octets
   pub front : IsFront octets
@@ -120,3 +130,12 @@ IsRefused octets BodyTooLong = IsFramedAs octets BodyTooLong
 IsRefused octets EndOfInput = EndsInHead octets ⊎ EndsInBody octets
 IsRefused octets ReadFault = Unit {0}
 IsRefused octets Memory = Unit {0}
+
+-- Memory is taken for more octets of a head that has begun, and for the parts of a head and its body; for a bad head none is.
+abbrev pub TakesMemory : List ℕ → Type 0
+TakesMemory octets = IsBegun octets ⊎ HasSome octets
+
+-- Memory ran out only where some is taken.
+abbrev pub IsScarce : FrontRefusal → List ℕ → Type 0
+IsScarce Memory octets = TakesMemory octets
+IsScarce _ octets = Unit {0}

@@ -3,3 +3,4 @@ pub mod Front
 pub mod Lines
 pub mod Reading
 pub mod Response
+pub mod Sayings

@@ -3,7 +3,7 @@ use Rattle.std.specs.Prelude.{◌≡◌, ℕ, ◌-◌, ◌≤◌, ◌<◌, ◌�
 use Rattle.std.specs.Io.KnownBytes.{Consumes, IsAtEnd}
 use Rattle.qkd_base.specs.Faults.{Rose}
 use Rattle.httparse.specs.Grammar.{RequestHead, print_request, EndsInTarget}
-use Rattle.http_front.specs.Front.{HasHead, HasNoHead, MayBecomeHead, IsFront, fields_of, framing_of, IsRequest, IsRefused}
+use Rattle.http_front.specs.Front.{HasHead, HasSome, HasNoHead, MayBecomeHead, IsFront, fields_of, framing_of, IsRequest, IsRefused}
 use Rattle.http_front.specs.declared.refusal.FrontRefusal.{FrontRefusal}
 use Rattle.http_front.specs.declared.refusal.FrontRefusal.TheVariants.{NoRequest, BadHead, TooManyHeaders, EndOfInput, ReadFault, Memory}
 use Rattle.http_front.specs.declared.request.HttpRequest.{HttpRequest}
@@ -29,7 +29,7 @@ pub record IsNever (text : List ℕ) : Type 0 where
 abbrev pub IsNeverFor : List ℕ → FrontRefusal → Type 0
 IsNeverFor text BadHead = IsNever text
 IsNeverFor text TooManyHeaders = IsNever text
-IsNeverFor text Memory = Unit {0}
+IsNeverFor text Memory = HasSome text
 IsNeverFor text _ = ⊥
 
 -- The text has no complete head yet.
@@ -48,10 +48,6 @@ IsLook text (Ok None) = IsOpen text
 IsLook text (Err e) = IsNeverFor text e
 
 -- ---- when no more octets are needed
-
--- The octets begin with a head.
-abbrev pub HasSome : List ℕ → Type 0
-HasSome octets = (head : RequestHead) × (rest : List ℕ) × HasHead octets head rest
 
 -- This number of octets after a head is enough: they contain the whole body, or the head is refused for its framing.
 abbrev pub Suffices : Result ℕ FrontRefusal → ℕ → Type 0

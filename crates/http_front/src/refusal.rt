@@ -53,21 +53,25 @@ impl From<AllocError> for FrontRefusal {
 }
 
 impl fmt::Display for FrontRefusal {
+    ghost use Rattle.std.specs.Prelude.{Some};
+    ghost use Rattle.http_front.specs.Sayings.{said_of};
+
+    ghost output = { λ r. Some (said_of r) };
+
     fn fmt<W: fmt::Write>(&self, f: &mut fmt::Formatter<W>) -> fmt::Result {
-        let text = match self {
-            FrontRefusal::NoRequest => "no request",
-            FrontRefusal::BadHead => "bad request head",
-            FrontRefusal::TooManyHeaders => "more than 32 header fields",
-            FrontRefusal::HeadTooLong => "head too long",
-            FrontRefusal::Chunked => "transfer encoding refused",
-            FrontRefusal::NoLength => "length missing",
-            FrontRefusal::BadLength => "bad length",
-            FrontRefusal::BodyTooLong => "body too long",
-            FrontRefusal::EndOfInput => "input ended",
-            FrontRefusal::ReadFault => "read fault",
-            FrontRefusal::Memory => "out of memory",
-        };
-        write!(f, "{text}")
+        match self {
+            FrontRefusal::NoRequest => write!(f, "no request"),
+            FrontRefusal::BadHead => write!(f, "bad request head"),
+            FrontRefusal::TooManyHeaders => write!(f, "more than 32 header fields"),
+            FrontRefusal::HeadTooLong => write!(f, "head too long"),
+            FrontRefusal::Chunked => write!(f, "transfer encoding refused"),
+            FrontRefusal::NoLength => write!(f, "length missing"),
+            FrontRefusal::BadLength => write!(f, "bad length"),
+            FrontRefusal::BodyTooLong => write!(f, "body too long"),
+            FrontRefusal::EndOfInput => write!(f, "input ended"),
+            FrontRefusal::ReadFault => write!(f, "read fault"),
+            FrontRefusal::Memory => write!(f, "out of memory"),
+        }
     }
 }
 

@@ -1,8 +1,8 @@
 // Reading requests from a source.
 ghost use Rattle.std.specs.Prelude.{◌≡◌, ◌≤◌, ◌<◌, max, length, take, drop, true, false, IfOk, IfErr, OnOk, OnErr};
 ghost use Rattle.std.specs.Io.KnownBytes.{IsAtEnd, prepend_known};
-ghost use Rattle.http_front.specs.Front.{IsRefused, closes};
-ghost use Rattle.http_front.specs.Reading.{Came, HasSome, IsEnough, IsEnd, IsShort, IsDisturbed, IsHeadOf, no_more, FaultsAre, IsRead, Reads, OneAnswer};
+ghost use Rattle.http_front.specs.Front.{HasSome, IsRefused, IsScarce, closes};
+ghost use Rattle.http_front.specs.Reading.{Came, IsEnough, IsEnd, IsShort, IsDisturbed, IsHeadOf, no_more, FaultsAre, IsRead, Reads, OneAnswer};
 
 use crate::framing::{closes, framing};
 use crate::head::{HEAD_LIMIT, Head, head_of};
@@ -28,6 +28,7 @@ pub fn read_request<S: Source>(
     ensures read { IsRead (S.left source.old) (S.left source.new) kept.old kept.new result }
     ensures meaning { Reads (prepend_known kept.old (S.left source.old)) (prepend_known kept.new (S.left source.new)) result }
     ensures one { OneAnswer (prepend_known kept.old (S.left source.old)) result }
+    ensures memory { IfErr result (λ e. IsScarce e kept.new) }
     ensures faults { FaultsAre result (S.faults source.old) (S.faults source.new) }
     ensures still { IsEnough kept.old → source.new ≡ source.old }
 {
@@ -44,6 +45,7 @@ fn read_from<S: Source>(
     octets: &mut Vec<u8>,
 ) -> Result<HttpRequest, FrontRefusal>
     ensures read { IsRead (S.left source.old) (S.left source.new) octets.old.items octets.new.items result }
+    ensures memory { IfErr result (λ e. IsScarce e octets.new.items) }
     ensures faults { FaultsAre result (S.faults source.old) (S.faults source.new) }
     ensures still { IsEnough octets.old.items → source.new ≡ source.old }
 {
@@ -70,6 +72,7 @@ fn read_head<S: Source>(
     ensures head { IfOk result (λ head. IsHeadOf octets.new.items head) }
     ensures refused { IfErr result (λ e. IsRefused octets.new.items e) }
     ensures end { IfErr result (λ e. IsEnd e (S.left source.new)) }
+    ensures memory { IfErr result (λ e. IsScarce e octets.new.items) }
     ensures faults { FaultsAre result (S.faults source.old) (S.faults source.new) }
     ensures still { HasSome octets.old.items → (octets.new.items ≡ octets.old.items) × (source.new ≡ source.old) }
 {
@@ -142,6 +145,7 @@ fn fetch<S: Source>(
     ensures some { result ≡ Ok true → length octets.old.items < length octets.new.items }
     ensures end { result ≡ Ok false → (octets.new.items ≡ octets.old.items) × IsAtEnd (S.left source.new) }
     ensures err { IfErr result IsDisturbed }
+    ensures kept { OnErr result (octets.new.items ≡ octets.old.items) }
     ensures faults { FaultsAre result (S.faults source.old) (S.faults source.new) }
 {
     let mut piece = [0u8; PIECE];

@@ -1,5 +1,7 @@
 use Rattle.std.proofs.Common.{◌∙◌, ap}
 use Rattle.std.proofs.lemmas.Result.{err_from_is_err_and}
+use Rattle.http_front.specs.declared.refusal.FrontRefusal.TheVariants.{Memory}
+use Rattle.http_front.proofs.Meaning.{head-scarce, found-scarce, any-scarce}
 use Rattle.http_front.proofs.Answering.{read-framed, read-short, read-memory, read-whole, enough-fits, framing-told, request-told}
 use Rattle.http_front.proofs.request_reader.read_from.Goals as goal
 
@@ -69,3 +71,16 @@ returns-in-Err-drop_front-clause-read g c =
     (λ enough. (c.read_head.ensures.still (enough.head, enough.rest, enough.has)).0) c.in_ok-head.ensures.head
     (framing-told _ _ _ _ _ _ c.as_slice.ensures c.as_slice-2.ensures c.framing.ensures c.in_ok-length.was)
     c.read_to.ensures.came c.read_to.ensures.limit (λ fits. (c.read_to.ensures.still fits).0))
+
+pub returns-in_err-length-clause-memory : goal.returns-in_err-length-clause-memory
+returns-in_err-length-clause-memory g c = any-scarce _ _ (λ e. found-scarce _ c.in_ok-head.head e c.in_ok-head.ensures.head)
+
+pub returns-in_err-read_to-clause-memory : goal.returns-in_err-read_to-clause-memory
+returns-in_err-read_to-clause-memory g c = any-scarce _ _ (λ e. head-scarce _ _ _ _ c.in_ok-head.head e c.in_ok-head.ensures.head c.read_to.ensures.came)
+
+pub returns-in-Err-clause-memory : goal.returns-in-Err-clause-memory
+returns-in-Err-clause-memory g c = head-scarce _ _ _ _ c.in_ok-head.head Memory c.in_ok-head.ensures.head c.read_to.ensures.came
+
+pub returns-in-Err-drop_front-clause-memory : goal.returns-in-Err-drop_front-clause-memory
+returns-in-Err-drop_front-clause-memory g c =
+    rw (ap (λ v. v.items) c.in-Err-drop_front.ensures.err) (head-scarce _ _ _ _ c.in_ok-head.head Memory c.in_ok-head.ensures.head c.read_to.ensures.came)

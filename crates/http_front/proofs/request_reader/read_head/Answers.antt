@@ -1,8 +1,8 @@
 use Rattle.std.proofs.Common.{◌<◌, ◌≤◌, length, take, sym, ap, ◌∙◌, Ok, arith, rules, List, ℕ, subst}
-use Rattle.http_front.specs.Front.{IsRefused}
+use Rattle.http_front.specs.Front.{IsRefused, IsScarce}
 use Rattle.http_front.specs.Reading.{no_more}
 use Rattle.http_front.specs.declared.refusal.FrontRefusal.{FrontRefusal}
-use Rattle.http_front.proofs.Meaning.{look-head, look-refused, look-open, open-too-long, open-ended, open-none, came-trans}
+use Rattle.http_front.proofs.Meaning.{look-head, look-refused, look-scarce, look-open, open-scarce, any-scarce, open-too-long, open-ended, open-none, came-trans}
 use Rattle.http_front.proofs.request_reader.read_head.Goals as goal
 
 pub returns-in-Ok-Some-clause-head : goal.returns-in-Ok-Some-clause-head
@@ -14,6 +14,19 @@ pub returns-in-Err-clause-refused : goal.returns-in-Err-clause-refused
 returns-in-Err-clause-refused g c =
     look-refused c.look.octets.items c.front.result.now c.head_of.result c.in-Err.refusal (c.front.ensures.front ∙ ap (take 8193) c.deref.ensures.value)
     c.in-Err.is c.head_of.ensures
+
+pub returns-in-Err-clause-memory : goal.returns-in-Err-clause-memory
+returns-in-Err-clause-memory g c =
+    look-scarce c.look.octets.items c.front.result.now c.head_of.result c.in-Err.refusal (c.front.ensures.front ∙ ap (take 8193) c.deref.ensures.value)
+    c.in-Err.is c.head_of.ensures
+
+pub returns-in_err-came-clause-memory : goal.returns-in_err-came-clause-memory
+returns-in_err-came-clause-memory g c =
+    let seen = look-open c.look.octets.items c.front.result.now c.head_of.result (c.front.ensures.front ∙ ap (take 8193) c.deref.ensures.value)
+    (c.in-Ok-None.is ∙ ap Ok c.in-Ok-None.field-0-is) c.head_of.ensures in
+    let short : length c.look.octets.items ≤ 8192 = search (rules, c.len.ensures, c.if-len-gt-HEAD_LIMIT.false) in
+    any-scarce _ c.fetch.new.octets.items
+    (λ e. subst (IsScarce e) (sym c.in_err-came.ensures.kept) (open-scarce c.look.octets.items e short seen))
 
 pub returns-then-len-gt-HEAD_LIMIT-clause-refused :
     goal.returns-then-len-gt-HEAD_LIMIT-clause-refused

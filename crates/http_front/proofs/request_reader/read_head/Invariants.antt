@@ -1,5 +1,6 @@
 use Rattle.std.proofs.Common.{◌≡◌, ◌≤◌, ◌-◌, max, length}
-use Rattle.http_front.specs.Reading.{Came, HasSome}
+use Rattle.http_front.specs.Front.{HasSome}
+use Rattle.http_front.specs.Reading.{Came}
 use Rattle.http_front.proofs.request_reader.read_head.Given as goal
 
 abbrev pub invariant-look : goal.invariant-look
