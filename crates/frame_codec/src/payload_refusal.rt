@@ -13,6 +13,11 @@ pub enum PayloadRefusal {
 }
 
 impl fmt::Display for PayloadRefusal {
+    ghost use Rattle.std.specs.Prelude.{Some};
+    ghost use Rattle.frame_codec.specs.Sayings.{said_of};
+
+    ghost output = { λ r. Some (said_of r) };
+
     fn fmt<W: fmt::Write>(&self, f: &mut fmt::Formatter<W>) -> fmt::Result {
         match self {
             PayloadRefusal::NotAPayload(place) => write!(f, "no payload, from octet {place} on"),

@@ -2,3 +2,4 @@ pub mod Telling
 pub mod Frames
 pub mod KeyStream
 pub mod Forms
+pub mod Sayings

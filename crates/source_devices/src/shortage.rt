@@ -12,6 +12,11 @@ pub enum Shortage {
 }
 
 impl fmt::Display for Shortage {
+    ghost use Rattle.std.specs.Prelude.{Some};
+    ghost use Rattle.source_devices.specs.Sayings.{shortage_said};
+
+    ghost output = { λ r. Some (shortage_said r) };
+
     fn fmt<W: fmt::Write>(&self, f: &mut fmt::Formatter<W>) -> fmt::Result {
         match self {
             Shortage::Failed => write!(f, "the call failed"),

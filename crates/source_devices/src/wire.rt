@@ -18,6 +18,11 @@ pub enum WireFailed {
 }
 
 impl fmt::Display for WireFailed {
+    ghost use Rattle.std.specs.Prelude.{Some};
+    ghost use Rattle.source_devices.specs.Sayings.{failure_said};
+
+    ghost output = { λ r. Some (failure_said r) };
+
     fn fmt<W: fmt::Write>(&self, f: &mut fmt::Formatter<W>) -> fmt::Result {
         match self {
             WireFailed::Fault => write!(f, "the call failed"),

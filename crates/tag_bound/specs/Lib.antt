@@ -5,3 +5,4 @@ pub mod Words
 pub mod KeyLines
 pub mod Counts
 pub mod TextLaws
+pub mod Sayings

@@ -28,6 +28,11 @@ impl From<Memory> for RootRefusal {
 }
 
 impl fmt::Display for RootRefusal {
+    ghost use Rattle.std.specs.Prelude.{Some};
+    ghost use Rattle.tag_bound.specs.Sayings.{said_of};
+
+    ghost output = { λ r. Some (said_of r) };
+
     fn fmt<W: fmt::Write>(&self, f: &mut fmt::Formatter<W>) -> fmt::Result {
         match self {
             RootRefusal::TooLong => write!(f, "a text has more than 600 octets"),
