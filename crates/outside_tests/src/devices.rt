@@ -168,11 +168,15 @@ struct Hesitant {
 impl io::Read for Hesitant {
     fn read(&mut self, into: &mut [u8]) -> io::Result<usize> {
         self.calls = self.calls.saturating_add(1);
-        if self.calls == 3 || into.is_empty() {
-            return Err(io::Error::from(io::ErrorKind::Interrupted));
+        match self.calls {
+            3 => Err(io::Error::from(io::ErrorKind::Interrupted)),
+            5 => Err(io::Error::from(io::ErrorKind::TimedOut)),
+            _ if into.is_empty() => Ok(0),
+            _ => {
+                into[0] = self.calls;
+                Ok(1)
+            }
         }
-        into[0] = self.calls;
-        Ok(1)
     }
 }
 
@@ -188,7 +192,7 @@ fn a_random_file_fails_at_its_end(rt: HostRuntime) {
 }
 
 #[test]
-fn a_random_file_fails_by_its_errors(rt: HostRuntime) {
+fn a_random_file_fails_by_its_errors_not_by_interruptions(rt: HostRuntime) {
     let mut three = [0u8; 3];
     let mut two = [0u8; 2];
     let mut hesitant = RandomFile::new(Hesitant { calls: 0 });
@@ -196,6 +200,6 @@ fn a_random_file_fails_by_its_errors(rt: HostRuntime) {
     assert!(rt; two == [1, 2]);
     assert!(rt; hesitant.draw(&mut two) == Err(Shortage::Failed));
     assert!(rt; hesitant.draw(&mut three) == Ok(()));
-    assert!(rt; three == [4, 5, 6]);
+    assert!(rt; three == [6, 7, 8]);
     assert!(rt; hesitant.faults() == 1);
 }

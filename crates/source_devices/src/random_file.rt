@@ -9,7 +9,7 @@ use std::io::Read;
 use std::marker::Model;
 
 /// An entropy over a file of random octets, or over any other reader. Its octets are unknown to the contracts. It counts
-/// each draw that failed, by an error or at the end of the file.
+/// each draw that failed, by an error or at the end of the file. A read that the system interrupts is made again.
 #[derive(Drop)]
 pub struct RandomFile<R> {
     file: R,
@@ -40,22 +40,6 @@ impl<R> RandomFile<R> {
     }
 }
 
-// Fills the buffer, and returns whether that worked to its end.
-fn read_whole<R: Read>(file: &mut R, into: &mut [u8]) -> bool {
-    let mut at = 0;
-    for _ in 0..u64::MAX {
-        if at == into.len() {
-            return true;
-        }
-        match file.read(&mut into[at..]) {
-            Ok(0) => return false,
-            Ok(count) => at += count,
-            Err(_) => return false,
-        }
-    }
-    false
-}
-
 impl<R: Read> Entropy for RandomFile<R> {
     ghost left = { λ _. None };
 
@@ -68,11 +52,12 @@ impl<R: Read> Entropy for RandomFile<R> {
         ensures calm { (IsErrOf result ShortageFailed → ⊥) → self.new ≡ self.old }
         ensures once { OnErr result (self.new ≡ one_more self.old) }
     {
-        if read_whole(&mut self.file, into) {
-            Ok(())
-        } else {
-            self.faults = self.faults.saturating_add(1);
-            Err(Shortage::Failed)
+        match self.file.read_exact(into) {
+            Ok(()) => Ok(()),
+            Err(_) => {
+                self.faults = self.faults.saturating_add(1);
+                Err(Shortage::Failed)
+            }
         }
     }
 }
