@@ -1,3 +1,4 @@
 pub mod Frame
 pub mod Opening
 pub mod Sealing
+pub mod Sayings

@@ -21,6 +21,11 @@ pub enum OpenRefusal {
 }
 
 impl fmt::Display for OpenRefusal {
+    ghost use Rattle.std.specs.Prelude.{Some};
+    ghost use Rattle.hop_frames.specs.Sayings.{said_of};
+
+    ghost output = { λ r. Some (said_of r) };
+
     fn fmt<W: fmt::Write>(&self, f: &mut fmt::Formatter<W>) -> fmt::Result {
         match self {
             OpenRefusal::NotAFrame(place) => write!(f, "no frame, from octet {place} on"),
