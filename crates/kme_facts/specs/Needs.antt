@@ -1,6 +1,7 @@
 -- The facts that a manager keeps, and which of their bytes are needed.
 use Rattle.std.specs.Prelude.{◌≡◌, ℕ, ◌==◌, ◌&&◌, not, is_some, Bool, true, false, List, [], Option, Some, None, if◌then◌else◌}
 use Rattle.net_model.specs.declared.fact.Fact.{Fact}
+use Rattle.net_model.specs.declared.fact.Fact.TheVariants.{Key, Chunk, Part}
 use Rattle.net_model.specs.Relay.{is_some_of}
 use Rattle.net_model.specs.Table.{part_of, origin, target, sae_at}
 use Rattle.net_model.specs.World.{no_volatile}
@@ -33,6 +34,17 @@ is_for me facts sae f =
 abbrev pub needs_at : View → Option Fact → Bool
 needs_at v None = false
 needs_at v (Some f) = is_needed v f
+
+-- the kinds of facts that have bytes
+abbrev pub has_bytes : Fact → Bool
+has_bytes (Key name master slave route bytes) = true
+has_bytes (Chunk name stream index route bytes) = true
+has_bytes (Part name key master slave route bytes) = true
+has_bytes f = false
+
+abbrev pub has_bytes_at : Option Fact → Bool
+has_bytes_at None = false
+has_bytes_at (Some f) = has_bytes f
 
 -- bytes that aren't needed are zeros
 pub record IsMasked (s : StreamEnds) : Type 0 where

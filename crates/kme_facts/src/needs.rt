@@ -6,7 +6,7 @@ ghost use Rattle.net_model.specs.Table.{fact_at, name_of, parts_of, part_of, sae
 ghost use Rattle.net_model.specs.Needed.{has_it, end_needs, is_needed};
 ghost use Rattle.relay_core.specs.Knowledge.{is_owed_by};
 ghost use Rattle.end_store.specs.Pooled.{ends_view};
-ghost use Rattle.kme_facts.specs.Needs.{is_needed_here, is_for, needs_at};
+ghost use Rattle.kme_facts.specs.Needs.{is_needed_here, is_for, needs_at, has_bytes_at};
 
 use end_store::EndStore;
 use net_model::Fact;
@@ -197,7 +197,8 @@ pub fn needs_given_at(ends: &EndStore, place: usize, sae: SaeNo) -> bool
 
 /// Whether the fact at a place is of a kind that has bytes.
 pub fn has_bytes_at(known: &Known, place: usize) -> bool
-    ensures { result ≡ false → IfSome (slice_get known.now.facts place) (λ f. without_bytes f ≡ f) }
+    ensures kind { result ≡ has_bytes_at (slice_get known.now.facts place) }
+    ensures zeros { result ≡ false → IfSome (slice_get known.now.facts place) (λ f. without_bytes f ≡ f) }
 {
     match known.at(place) {
         Some(Fact::Key { .. }) => true,
