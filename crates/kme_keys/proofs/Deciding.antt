@@ -1,6 +1,6 @@
 -- Decisions about ready keys and named keys.
 use Rattle.std.proofs.Common.{◌≡◌, ℕ, zero, suc, ◌+◌, ◌<◌, ◌≤◌, Bool, true, false, cond, not, ◌&&◌, List, [], ◌∷◌, ◌++◌, length, refl, sym, ◌∙◌, ap, subst, arith, take, min, Option, Some, None, Err, Result, length-append}
-use Rattle.std.specs.Prelude.{filter, find, nat_lt, is_some, if◌then◌else◌}
+use Rattle.std.specs.Prelude.{filter, find, nat_lt, is_some, OnErr, if◌then◌else◌}
 use Rattle.std.specs.List.{list_any}
 use Rattle.std.proofs.lemmas.Bool.Decides.{nat_tests}
 use Rattle.std.proofs.lemmas.List.{length-take, take_all}
@@ -24,6 +24,10 @@ use Rattle.kme_keys.specs.Holding.{held_keys, name_fault}
 
 pub same_step : (v : View) (d e : Decision) (r : Result Step Reply) → d ≡ e → IsStep v [] e r → IsStep v [] d r
 same_step v d e r path h = subst (λ (x : Decision). IsStep v [] x r) (sym path) h
+
+-- what a contract says of a call that gave an error
+pub at_err : {T E P : Type 0} (r : Result T E) (e : E) → r ≡ Err e → OnErr r P → P
+at_err {T} {E} {P} r e is h = let F : Result T E → Type 0 = λ x. OnErr x P in subst F is h
 
 -- the view and the store agree
 

@@ -1,12 +1,12 @@
 // Making new keys.
-ghost use Rattle.std.specs.Prelude.{◌<◌, ◌^◌, ◌≡◌, ◌/◌, ℕ, Bool, [], IfOk, take, drop, Some};
+ghost use Rattle.std.specs.Prelude.{◌<◌, ◌≤◌, ◌+◌, ◌^◌, ◌≡◌, ◌/◌, ℕ, Bool, [], IfOk, OnErr, take, drop, Some};
 ghost use Rattle.declared_site.specs.SiteOf.{IsDeclared, site_of};
 ghost use Rattle.net_model.specs.declared.reply.Reply.TheVariants.{MadeKeys};
 ghost use Rattle.net_model.specs.declared.record.Record.TheVariants.{Learned};
 ghost use Rattle.net_model.specs.declared.fact.Fact.TheVariants.{Key};
 ghost use Rattle.qkd_base.specs.declared.key_name.NameKind.TheVariants.{Key as KeyKind};
 ghost use Rattle.net_model.specs.View.{View};
-ghost use Rattle.net_model.specs.Decision.{fresh_name, makes};
+ghost use Rattle.net_model.specs.Decision.{next_count, fresh_name, makes};
 ghost use Rattle.net_model.specs.Pools.{fill, filled, new_keys};
 ghost use Rattle.end_store.specs.Pooled.{Sees, ends_view};
 ghost use Rattle.kme_base.specs.Up.{AreUp};
@@ -24,6 +24,7 @@ use std::alloc::Global;
 pub fn fresh_name(store: &EndStore, more: u64) -> Result<KeyName, Memory>
     ensures name { IfOk result (λ name. name ≡ fresh_name (ends_view store.now) KeyKind more) }
     ensures bound { IfOk result (λ name. more < 2 ^ 48) }
+    ensures none { OnErr result (2 ^ 48 ≤ next_count (ends_view store.now) + more) }
 {
     if more >= 1 << 48 {
         return Err(Memory);

@@ -1,11 +1,11 @@
 // Handing ready keys to their master, and counting them.
-ghost use Rattle.std.specs.Prelude.{◌≡◌, []};
+ghost use Rattle.std.specs.Prelude.{◌≡◌, ◌≤◌, ◌^◌, [], length, OnErr, IsErrOf};
 ghost use Rattle.declared_site.specs.SiteOf.{IsDeclared, site_of};
 ghost use Rattle.net_model.specs.View.{View};
-ghost use Rattle.net_model.specs.declared.reply.Reply.TheVariants.{ReadyCount};
+ghost use Rattle.net_model.specs.declared.reply.Reply.TheVariants.{ReadyCount, Memory};
 ghost use Rattle.net_model.specs.Decision.{answers};
-ghost use Rattle.net_model.specs.Pools.{enc, status};
-ghost use Rattle.end_store.specs.Pooled.{Sees};
+ghost use Rattle.net_model.specs.Pools.{enc, pool, status};
+ghost use Rattle.end_store.specs.Pooled.{Sees, ends_view};
 ghost use Rattle.kme_base.specs.Steps.{IsStep};
 
 use crate::{Holder, hand_out};
@@ -47,7 +47,8 @@ pub fn enc(
 
 // The step that reports the number of ready keys. An `Err` (out of memory) if the number doesn't fit in 32 bits.
 fn ready_count(alloc: Global, count: usize) -> Result<Step, Reply>
-    ensures { (v : View) → IsStep v [] (answers v (ReadyCount count)) result }
+    ensures step { (v : View) → IsStep v [] (answers v (ReadyCount count)) result }
+    ensures large { OnErr result (2 ^ 32 ≤ count) }
 {
     if count >= 1 << 32 {
         return Err(Reply::Memory);
@@ -71,7 +72,10 @@ pub fn status(
     slave: SaeNo,
 ) -> Result<Step, Reply>
     requires { IsDeclared site.now }
-    ensures { (v : View) → Sees v store.now → IsStep v [] (status (site_of site.now) v master slave) result }
+    ensures step { (v : View) → Sees v store.now → IsStep v [] (status (site_of site.now) v master slave) result }
+
+    // Counting takes no memory: the number is all that may be too large.
+    ensures large { IsErrOf result Memory → 2 ^ 32 ≤ length (pool (ends_view store.now) master slave 256) }
 {
     let known = store.known();
     if !is_entitled(site, known.me(), master, master, slave) {
