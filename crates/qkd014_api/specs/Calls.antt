@@ -1,5 +1,5 @@
 -- Which event a request asks for, or the first thing that is wrong with it (ETSI GS QKD 014 V1.1.1, section 5).
-use Rattle.std.specs.Prelude.{◌≡◌, ℕ, zero, suc, Bool, true, false, ◌==◌, ◌&&◌, nat_lt, if◌then◌else◌, List, [], ◌∷◌, ◌++◌, length, Option, Some, None, Result, Ok, Err, codes, ok_or}
+use Rattle.std.specs.Prelude.{◌≡◌, ◌⊎◌, ℕ, zero, suc, Bool, true, false, ◌==◌, ◌&&◌, nat_lt, if◌then◌else◌, List, [], ◌∷◌, ◌++◌, length, Option, Some, None, Result, Ok, Err, codes, ok_or}
 use Rattle.std.specs.Option.{option_and_then}
 use Rattle.std.specs.Str.{bytes_eq, is_utf8}
 use Rattle.net_model.specs.declared.event.Event.{Event}
@@ -112,6 +112,21 @@ asked g node q = do
   pair ← ok_or (pair_of g node resource caller (sae_part (path_in q.target) resource)) faults.NotAllowed
   event_for g resource (bytes_eq q.method (codes "POST")) q pair.0 pair.1
 
+-- ---- what takes memory
+
+-- Parameters are read into memory. A request for a pool's status has none, and those of a request that is refused for its
+-- resource, its caller or its pair aren't read.
+abbrev pub HasParameters : Result Event CallFault → Type 0
+HasParameters (Ok (events.Status master slave)) = ⊥
+HasParameters (Err faults.UnknownResource) = ⊥
+HasParameters (Err faults.MissingCaller) = ⊥
+HasParameters (Err faults.NotAllowed) = ⊥
+HasParameters _ = Unit {0}
+
+-- Memory is taken for parameters, or for the answer to a fault.
+abbrev pub TakesMemory : Result Event CallFault → Type 0
+TakesMemory means = HasParameters means ⊎ ((fault : CallFault) × (means ≡ Err fault))
+
 -- ---- what is answered
 
 abbrev pub fault_status : CallFault → ℕ
@@ -137,9 +152,10 @@ abbrev pub IsAnswered : CallFault → (close : Bool) → CallRefusal → Type 0
 IsAnswered fault close refusals.Memory = Unit {0}
 IsAnswered fault close (refusals.Answer response) = response ≡ error_response (fault_status fault) (fault_message fault) close
 
--- The result is the event that the request asks for, or the answer to the request's fault, unless memory ran out.
+-- The result is the event that the request asks for, or the answer to the request's fault. Memory runs out only where some is
+-- taken.
 abbrev pub IsCalled : Result Event CallFault → (close : Bool) → Result Event CallRefusal → Type 0
 IsCalled means close (Ok event) = means ≡ Ok event
-IsCalled means close (Err refusals.Memory) = Unit {0}
+IsCalled means close (Err refusals.Memory) = TakesMemory means
 IsCalled means close (Err (refusals.Answer response)) =
     (fault : CallFault) × (means ≡ Err fault) × IsAnswered fault close (refusals.Answer response)

@@ -1,5 +1,5 @@
 // Finding the event that a request asks for.
-ghost use Rattle.std.specs.Prelude.{◌≡◌, codes};
+ghost use Rattle.std.specs.Prelude.{◌≡◌, IsErrOf, codes};
 ghost use Rattle.std.specs.Option.{option_map};
 ghost use Rattle.std.specs.Str.{bytes_eq};
 ghost use Rattle.matchit.specs.Router.{RouteOf};
@@ -9,7 +9,7 @@ ghost use Rattle.qkd014_api.specs.declared.fault.CallFault.TheVariants as faults
 ghost use Rattle.qkd014_api.specs.declared.fault.CallRefusal.TheVariants as refusals;
 ghost use Rattle.qkd014_api.specs.Gives.{Gives};
 ghost use Rattle.qkd014_api.specs.Resources.{resource_at, route_of, routes};
-ghost use Rattle.qkd014_api.specs.Calls.{sae_of, pair_of, event_for, asked, IsCalled, IsAnswered};
+ghost use Rattle.qkd014_api.specs.Calls.{sae_of, pair_of, event_for, asked, HasParameters, IsCalled, IsAnswered};
 
 use crate::Api;
 use crate::dec_keys::{dec_by_body, dec_by_query};
@@ -42,7 +42,8 @@ impl Api {
     // The event that a request asks for, or what is wrong with the request.
     #[tactic(auto, unfolding(crate::specs::Calls::asked))]
     fn ask(&self, alloc: Global, node: NodeNo, request: &HttpRequest) -> Result<Event, CallFault>
-        ensures { Gives (asked self.now.entitlements node request.now) result }
+        ensures asked { Gives (asked self.now.entitlements node request.now) result }
+        ensures memory { IsErrOf result faults.Memory → HasParameters (asked self.now.entitlements node request.now) }
     {
         let path = path(request.target.as_slice());
         let method = request.method.as_slice();
@@ -70,7 +71,8 @@ impl Api {
         master: SaeNo,
         slave: SaeNo,
     ) -> Result<Event, CallFault>
-        ensures { Gives (event_for self.now.entitlements resource posts request.now master slave) result }
+        ensures event { Gives (event_for self.now.entitlements resource posts request.now master slave) result }
+        ensures memory { IsErrOf result faults.Memory → HasParameters (event_for self.now.entitlements resource posts request.now master slave) }
     {
         let body = request.body.as_slice();
         match (resource, posts) {
