@@ -1,9 +1,11 @@
 // The decision on each kind of event.
-ghost use Rattle.std.specs.Prelude.{◌≡◌, ◌≤◌, ℕ, List, Bool, [], length, Ok, IfOk};
+ghost use Rattle.std.specs.Prelude.{◌≡◌, ◌≤◌, ◌^◌, ℕ, List, Bool, [], length, Ok, IfOk, IsErrOf};
 ghost use Rattle.declared_site.specs.SiteOf.{site_of};
 ghost use Rattle.kme_base.specs.Up.{AreUp};
 ghost use Rattle.kme_base.specs.Steps.{IsStep};
 ghost use Rattle.net_model.specs.declared.event.Event.TheVariants as events;
+ghost use Rattle.net_model.specs.declared.reply.Reply.TheVariants as replies;
+ghost use Rattle.net_model.specs.Pools.{pool};
 ghost use Rattle.net_model.specs.Decide.{decide, random_need};
 ghost use Rattle.net_model.specs.Decision.{Does};
 ghost use Rattle.net_model.specs.Relay.{receive};
@@ -43,7 +45,8 @@ impl Node {
 
     // Decides on counting ready keys.
     pub(crate) fn status(&self, alloc: Global, master: SaeNo, slave: SaeNo) -> Result<Step, Reply>
-        ensures { (frames : Sealing) (is_up : ℕ → Bool) (random : List ℕ) → IsStep (view self.now) [] (decide (site_of self.now.site) frames is_up (view self.now) random (events.Status master slave)) result }
+        ensures step { (frames : Sealing) (is_up : ℕ → Bool) (random : List ℕ) → IsStep (view self.now) [] (decide (site_of self.now.site) frames is_up (view self.now) random (events.Status master slave)) result }
+        ensures large { IsErrOf result replies.Memory → 2 ^ 32 ≤ length (pool (view self.now) master slave 256) }
     {
         status(alloc, self.site(), self.ends(), master, slave)
     }

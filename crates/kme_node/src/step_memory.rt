@@ -1,5 +1,5 @@
 // The memory that a step needs, reserved before the step is applied.
-ghost use Rattle.std.specs.Prelude.{◌≡◌, length, IfOk, OnOk};
+ghost use Rattle.std.specs.Prelude.{◌≡◌, ◌≤◌, ◌^◌, length, IfOk, OnOk, OnErr};
 ghost use Rattle.kme_facts.specs.Needs.{kept_view};
 ghost use Rattle.kme_facts.specs.Taken.{HasRoom as HasFactsRoom};
 ghost use Rattle.kme_base.specs.declared.change.Change.TheVariants as changes;
@@ -14,7 +14,8 @@ use resend_window::Window;
 
 // A number of items as a `u32`. An `Err` if it doesn't fit.
 pub(crate) fn count_of(items: usize) -> Result<u32, Memory>
-    ensures { IfOk result (λ count. count ≡ items) }
+    ensures count { IfOk result (λ count. count ≡ items) }
+    ensures large { OnErr result (2 ^ 32 ≤ items) }
 {
     match u32::try_from(items) {
         Ok(count) => Ok(count),

@@ -74,7 +74,7 @@ returns-in-Dec-clause-fits c = answer_fits c.args.self.now c.args.up c.args.rand
 pub returns-in-Status-clause-step : goal.returns-in-Status-clause-step
 returns-in-Status-clause-step c = λ frames is_up up.
     subst (λ (e : Event). IsStep (view c.args.self.now) (placings_of e) (decide (site_of c.args.self.now.site) frames is_up (view c.args.self.now) c.args.random.now e) c.status.result) (sym c.in-Status.is)
-    (c.status.ensures frames is_up c.args.random.now)
+    (c.status.ensures.step frames is_up c.args.random.now)
 
 pub returns-in-Status-clause-fits : goal.returns-in-Status-clause-fits
 returns-in-Status-clause-fits c = answer_fits c.args.self.now c.args.up c.args.random.now c.args.event.now (subst IsCalm (sym c.in-Status.is) tt) c.requires.valid c.status.result (returns-in-Status-clause-step c)
