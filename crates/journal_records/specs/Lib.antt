@@ -1,3 +1,4 @@
 pub mod Grammar
 pub mod Layout
 pub mod Answers
+pub mod Sayings

@@ -12,6 +12,11 @@ pub enum RecordRefusal {
 }
 
 impl fmt::Display for RecordRefusal {
+    ghost use Rattle.std.specs.Prelude.{Some};
+    ghost use Rattle.journal_records.specs.Sayings.{said_of};
+
+    ghost output = { λ r. Some (said_of r) };
+
     fn fmt<W: fmt::Write>(&self, f: &mut fmt::Formatter<W>) -> fmt::Result {
         match self {
             RecordRefusal::NotARecord(place) => write!(f, "no records, from octet {place} on"),
