@@ -29,6 +29,11 @@ impl From<AllocError> for VeilRefusal {
 }
 
 impl fmt::Display for VeilRefusal {
+    ghost use Rattle.std.specs.Prelude.{Some};
+    ghost use Rattle.pad_veil.specs.Sayings.{said_of};
+
+    ghost output = { λ r. Some (said_of r) };
+
     fn fmt<W: fmt::Write>(&self, f: &mut fmt::Formatter<W>) -> fmt::Result {
         match self {
             VeilRefusal::Unequal(place) => write!(f, "frame {place} has payloads of two lengths"),
