@@ -7,3 +7,4 @@ pub mod Formed
 pub mod Putting
 pub mod Recovery
 pub mod Unread
+pub mod Sayings

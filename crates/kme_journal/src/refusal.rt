@@ -15,6 +15,11 @@ pub enum RecoverRefusal {
 }
 
 impl fmt::Display for RecoverRefusal {
+    ghost use Rattle.std.specs.Prelude.{Some};
+    ghost use Rattle.kme_journal.specs.Sayings.{said_of};
+
+    ghost output = { λ r. Some (said_of r) };
+
     fn fmt<W: fmt::Write>(&self, f: &mut fmt::Formatter<W>) -> fmt::Result {
         match self {
             RecoverRefusal::Stopped => write!(f, "the disk failed"),
