@@ -1,5 +1,4 @@
-use Rattle.std.proofs.Common.{ap, Err, Result}
-use Rattle.net_model.specs.declared.event.Event.{Event}
+use Rattle.std.proofs.Common.{ap, Err}
 use Rattle.qkd014_api.specs.declared.fault.CallFault.{CallFault}
 use Rattle.qkd014_api.proofs.Asking.{called-refused}
 use Rattle.qkd014_api.proofs.api.Api.call_of.Goals as goal

@@ -1,4 +1,4 @@
-use Rattle.std.proofs.Common.{ℕ, Bool, false, sym, subst}
+use Rattle.std.proofs.Common.{Bool, sym, subst}
 use Rattle.qkd014_api.specs.Resources.{query_in}
 use Rattle.qkd014_api.specs.Calls.{event_for, HasParameters}
 use Rattle.qkd014_api.specs.declared.resource.Resource.{Resource}
