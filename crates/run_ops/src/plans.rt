@@ -1,5 +1,5 @@
 // The items that report a tick's plan.
-ghost use Rattle.std.specs.Prelude.{◌≡◌, ◌++◌, IfOk, OnOk, map, length};
+ghost use Rattle.std.specs.Prelude.{◌≡◌, ◌≤◌, ◌^◌, ◌++◌, IfOk, OnOk, OnErr, map, length};
 ghost use Rattle.net_model.specs.Action.{Replies};
 ghost use Rattle.net_model.specs.declared.reply.Reply.TheVariants as replies;
 ghost use Rattle.run_types.specs.declared.item.Item.TheVariants as items;
@@ -14,7 +14,8 @@ use std::alloc::Global;
 
 // Converts a number of frames. An `Err` says that a report can't count that many; no memory holds them.
 fn count_of(frames: usize) -> Result<u32, Memory>
-    ensures { IfOk result (λ count. count ≡ frames) }
+    ensures count { IfOk result (λ count. count ≡ frames) }
+    ensures large { OnErr result (2 ^ 32 ≤ frames) }
 {
     match u32::try_from(frames) {
         Ok(count) => Ok(count),
