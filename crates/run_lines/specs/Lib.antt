@@ -4,3 +4,4 @@ pub mod Running
 pub mod Counting
 pub mod Answering
 pub mod Commands
+pub mod Sayings

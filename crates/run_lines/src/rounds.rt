@@ -1,5 +1,5 @@
 // The ticks and passes of a settle line's rounds.
-ghost use Rattle.std.specs.Prelude.{◌≡◌, ◌<◌, ◌-◌, true, length, IfOk, if◌then◌else◌};
+ghost use Rattle.std.specs.Prelude.{◌≡◌, ◌<◌, ◌≤◌, ◌-◌, ◌^◌, true, length, IfOk, OnErr, if◌then◌else◌};
 ghost use Rattle.declared_site.specs.SiteOf.{IsDeclared, site_of};
 ghost use Rattle.net_model.specs.Site.{count_up};
 ghost use Rattle.net_model.specs.Events.{is_lane};
@@ -64,7 +64,8 @@ pub fn tick_all<S: Acts, W: Sink>(
 
 // The number of a frame, for a report. An `Err` (out of memory) if it doesn't fit in 32 bits.
 fn reported_number(frame: u64) -> Result<u32, Memory>
-    ensures { IfOk result (λ number. number ≡ frame) }
+    ensures number { IfOk result (λ number. number ≡ frame) }
+    ensures large { OnErr result (2 ^ 32 ≤ frame) }
 {
     match u32::try_from(frame) {
         Ok(number) => Ok(number),

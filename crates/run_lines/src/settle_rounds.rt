@@ -1,5 +1,5 @@
 // Settle lines: rounds of ticks and passes.
-ghost use Rattle.std.specs.Prelude.{◌≡◌, ◌+◌, IfOk, MatchResult, map, nat_lt, if◌then◌else◌};
+ghost use Rattle.std.specs.Prelude.{◌≡◌, ◌+◌, ◌≤◌, ◌^◌, IfOk, OnErr, MatchResult, map, nat_lt, if◌then◌else◌};
 ghost use Rattle.declared_site.specs.SiteOf.{IsDeclared, site_of};
 ghost use Rattle.net_model.specs.World.{Network, World};
 ghost use Rattle.run_model.specs.Script.{Script, Ends};
@@ -42,7 +42,8 @@ fn count_frames<S: Acts>(alloc: Global, net: &S, lanes: &[Lane]) -> Result<Frame
 
 // The sum of two numbers of frames. An `Err` (out of memory) if it overflows.
 fn more_frames(frames: u64, more: u64) -> Result<u64, Memory>
-    ensures { IfOk result (λ sum. sum ≡ frames + more) }
+    ensures sum { IfOk result (λ sum. sum ≡ frames + more) }
+    ensures large { OnErr result (2 ^ 64 ≤ frames + more) }
 {
     match frames.checked_add(more) {
         Some(sum) => Ok(sum),

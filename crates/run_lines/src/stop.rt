@@ -26,6 +26,11 @@ impl From<Memory> for Stop {
 }
 
 impl fmt::Display for Stop {
+    ghost use Rattle.std.specs.Prelude.{Some};
+    ghost use Rattle.run_lines.specs.Sayings.{said_of};
+
+    ghost output = { λ r. Some (said_of r) };
+
     fn fmt<W: fmt::Write>(&self, f: &mut fmt::Formatter<W>) -> fmt::Result {
         match self {
             Stop::WriteFault => write!(f, "the report could not be written"),

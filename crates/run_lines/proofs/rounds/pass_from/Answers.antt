@@ -24,7 +24,7 @@ returns-in_err-pass-clause-runs g c =
     let runs = c.in_err-pass.ensures.runs in
     let err = err_from_is_err_and c.from_residual.result c.from_residual.ensures.1 in
     rw (err.1, err.2)
-    (went_runs_short _ _ _ ways _ c.args.number (Unit {0}) _ _ _ _ _ _ _ _ _ _ here (rw (c.loop-place.invariant.site, c.in-Ok.ensures) at runs))
+    (went_runs_short _ _ _ ways _ c.args.number (Unit {0}) _ _ _ _ _ _ _ _ _ _ here (rw (c.loop-place.invariant.site, c.in-Ok.ensures.number) at runs))
 
 pub loop-place-preserved : goal.loop-place-preserved
 loop-place-preserved g c =
@@ -36,7 +36,7 @@ loop-place-preserved g c =
       armed = c.in_ok-pass.ensures.armed ∙ c.loop-place.invariant.armed;
       lined = lined_on g.W.Sink.taken g.W.Sink.pieces (IsItemLine (g.S.Acts.site c.args.net.now).nodes) _ _ _ [] (c.loop-place.invariant.lined) (let line = c.in_ok-pass.ensures.lined in rw (c.loop-place.invariant.site) at line);
       later = omega (arith, c.loop-place.invariant.later, c.in_ok-pass.ensures.blame.later);
-      went = went_runs _ _ _ ways _ c.args.number (tt {0}) _ _ _ _ _ _ _ _ _ here (rw (c.loop-place.invariant.site, c.in-Ok.ensures) at runs);
+      went = went_runs _ _ _ ways _ c.args.number (tt {0}) _ _ _ _ _ _ _ _ _ here (rw (c.loop-place.invariant.site, c.in-Ok.ensures.number) at runs);
     }
 
 pub returns-clause-runs : goal.returns-clause-runs

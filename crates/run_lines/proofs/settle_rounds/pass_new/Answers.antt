@@ -83,7 +83,7 @@ loop-place-preserved g c =
           let runs_here = rw c.loop-place.invariant.site at runs in
           let counted = count_is _ _ _ ways _ c.args.number c.args.lanes.now n earlier w _ _ _ _ c.loop-place.place _ c.index-lanes-place.result _ _ _ c.loop-place-test.true c.index-lanes-place.is p from found in
           passed_more _ _ _ ways _ c.args.number c.args.lanes.now n earlier w _ _ _ _ c.loop-place.place _ c.index-lanes-place.result _ _ _ c.loop-place-test.true c.index-lanes-place.is p from found _ _ (runs_here n p.after p.reached.ready) _
-          (counts_more c.args.lanes.now w c.loop-place.each _ c.loop-place.all _ _ c.loop-place.place c.index-lanes-place.result _ c.loop-place-test.true c.index-lanes-place.is p.counted counted c.in-Ok-push.ensures.items c.in-Ok.ensures);
+          (counts_more c.args.lanes.now w c.loop-place.each _ c.loop-place.all _ _ c.loop-place.place c.index-lanes-place.result _ c.loop-place-test.true c.index-lanes-place.is p.counted counted c.in-Ok-push.ensures.items c.in-Ok.ensures.sum);
     }
 
 pub returns-clause-runs : goal.returns-clause-runs
