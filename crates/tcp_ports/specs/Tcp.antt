@@ -12,9 +12,18 @@ pub record TcpForm : Type 0 where
 abbrev pub untold_asked : Option (List ℕ)
 untold_asked = None
 
--- nor which connections wait, and which were finished
+-- nor which connections wait
 abbrev pub untold_waiting : Option (List (List ℕ))
 untold_waiting = None
 
+-- nor which wait for twins
+abbrev pub untold_twins : Option (List (List (List ℕ)))
+untold_twins = None
+
+-- nor which were finished
 abbrev pub untold_done : Option (List Finished)
 untold_done = None
+
+-- nor what waits at ports
+abbrev pub untold_queues : ℕ → Option (List (List (List ℕ)))
+untold_queues port = None

@@ -1,8 +1,8 @@
 // A listener over TCP.
 ghost use Rattle.std.specs.Prelude.{◌≡◌, ◌+◌, ◌<◌, ◌≤◌, ◌^◌, OnOk, OnErr, IfOk, IsSome, MatchResult, None};
 ghost use Rattle.qkd_base.specs.Faults.{HasCause, Rose, one_more};
-ghost use Rattle.edge_io.specs.Connections.{IsNext, IsNewDoor};
-ghost use Rattle.tcp_ports.specs.Tcp.{TcpForm, untold_waiting, untold_done};
+ghost use Rattle.edge_io.specs.Connections.{IsNext, IsFirstQueue, IsNewDoor};
+ghost use Rattle.tcp_ports.specs.Tcp.{TcpForm, untold_waiting, untold_twins, untold_done};
 
 use crate::hall::Hall;
 use crate::{Crew, PeerReader, PeerWriter, Service};
@@ -121,6 +121,8 @@ impl<'a, R: Clock + Wait + Eprint> Listener for TcpDoor<'a, R> {
 
     ghost waiting = { λ _. untold_waiting };
 
+    ghost twins = { λ _. untold_twins };
+
     ghost done = { λ _. untold_done };
 
     ghost faults = { λ s. s.faults };
@@ -134,7 +136,7 @@ impl<'a, R: Clock + Wait + Eprint> Listener for TcpDoor<'a, R> {
             (λ _. (self.new.accepted ≡ self.old.accepted) × (untold_waiting ≡ untold_waiting)) }
         ensures fresh { IfOk result (λ ends. (ends.0.1 ≡ 0) × (ends.1.1 ≡ 0)) }
         ensures calm { OnOk result (self.new.faults ≡ self.old.faults) }
-        ensures same { (self.new.port ≡ self.old.port) × (self.new.finished ≡ self.old.finished) × (untold_done ≡ untold_done) }
+        ensures same { (self.new.port ≡ self.old.port) × (self.new.finished ≡ self.old.finished) × (untold_twins ≡ untold_twins) × (untold_done ≡ untold_done) }
         ensures ok { IfOk result (λ ends. (self.new ≡ record self.old { accepted = self.old.accepted + 1 }) × (ends.0.1 ≡ 0) × (ends.1.1 ≡ 0)) }
         ensures err { OnErr result (self.new ≡ record self.old { faults = one_more self.old.faults }) }
         ensures cause { HasCause self.old.faults self.new.faults result }
@@ -157,7 +159,7 @@ impl<'a, R: Clock + Wait + Eprint> Listener for TcpDoor<'a, R> {
     )
         requires open { self.old.finished < self.old.accepted }
         ensures finished { self.new.finished ≡ self.old.finished + 1 }
-        ensures same { (self.new.port ≡ self.old.port) × (self.new.accepted ≡ self.old.accepted) × (untold_waiting ≡ untold_waiting) × (self.new.faults ≡ self.old.faults) }
+        ensures same { (self.new.port ≡ self.old.port) × (self.new.accepted ≡ self.old.accepted) × (untold_waiting ≡ untold_waiting) × (untold_twins ≡ untold_twins) × (self.new.faults ≡ self.old.faults) }
         ensures whole { self.new ≡ record self.old { finished = self.old.finished + 1 } }
     {
         let _ = (source, sink, ended);
@@ -169,6 +171,7 @@ impl<'a, R: Clock + Wait + Eprint> Listener for TcpDoor<'a, R> {
 
     fn twin(&mut self) -> Result<TcpDoor<'a, R>, Failed>
         ensures twin { IfOk result (λ d. IsNewDoor (IsSome untold_waiting × IsSome untold_done) self.old.port d.port d.accepted d.finished d.faults untold_waiting untold_done) }
+        ensures queue { MatchResult result (λ d. IsFirstQueue untold_twins untold_waiting untold_twins) (λ _. untold_twins ≡ untold_twins) }
         ensures calm { OnOk result (self.new.faults ≡ self.old.faults) }
         ensures same { (self.new.port ≡ self.old.port) × (self.new.accepted ≡ self.old.accepted) × (self.new.finished ≡ self.old.finished) × (untold_waiting ≡ untold_waiting) × (untold_done ≡ untold_done) }
         ensures ok { IfOk result (λ d. (d ≡ record { port = self.old.port; accepted = 0; finished = 0; faults = 0 }) × (self.new ≡ self.old)) }

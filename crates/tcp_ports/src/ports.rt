@@ -1,9 +1,9 @@
 // Ports over TCP.
-ghost use Rattle.std.specs.Prelude.{◌≡◌, ◌∷◌, [], IfOk, OnOk, OnErr, IsSome, None};
+ghost use Rattle.std.specs.Prelude.{◌≡◌, ◌∷◌, [], ℕ, IfOk, OnOk, OnErr, IsSome, None};
 ghost use Rattle.qkd_base.specs.Faults.{HasCause, one_more};
 ghost use Rattle.edge_io.specs.Writes.{Adds};
 ghost use Rattle.edge_io.specs.Connections.{IsNewDoor};
-ghost use Rattle.tcp_ports.specs.Tcp.{untold_asked};
+ghost use Rattle.tcp_ports.specs.Tcp.{untold_asked, untold_queues};
 
 use crate::entrance::Entrance;
 use crate::hall::Hall;
@@ -115,11 +115,15 @@ impl<'a, R: Net<Listener = TcpListener, Stream = TcpStream> + Files + Clock + Wa
 
     ghost back = { λ _. None };
 
+    ghost queues = { λ _. untold_queues };
+
     ghost faults = { λ s. s };
 
     fn open(&mut self, port: u16) -> Result<TcpDoor<'a, R>, Failed>
         ensures asked { Adds untold_asked untold_asked (port ∷ []) }
         ensures new_door { IfOk result (λ d. IsNewDoor (IsSome untold_asked) port d.port d.accepted d.finished d.faults None None) }
+        ensures refused { OnErr result (untold_queues ≡ untold_queues) }
+        ensures others { (other : ℕ) → ¬ (other ≡ port) → untold_queues other ≡ untold_queues other }
         ensures door { IfOk result (λ d. d ≡ record { port = port; accepted = 0; finished = 0; faults = 0 }) }
         ensures cause { HasCause self.old self.new result }
         ensures calm { OnOk result (self.new ≡ self.old) }
@@ -136,7 +140,7 @@ impl<'a, R: Net<Listener = TcpListener, Stream = TcpStream> + Files + Clock + Wa
 
     fn shut(&mut self, door: TcpDoor<'a, R>)
         ensures back { Adds None None (door ∷ []) }
-        ensures same { (untold_asked ≡ untold_asked) × (self.new ≡ self.old) }
+        ensures same { (untold_asked ≡ untold_asked) × (untold_queues ≡ untold_queues) × (self.new ≡ self.old) }
     {
         let _ = self.remove_socket(self.service.node(door.port()));
     }
