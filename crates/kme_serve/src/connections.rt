@@ -1,5 +1,5 @@
 // How many connections a worker serves.
-ghost use Rattle.std.specs.Prelude.{◌≡◌, ◌≤◌};
+ghost use Rattle.std.specs.Prelude.{◌≡◌, ◌≤◌, ◌<◌, true, false};
 ghost use Rattle.kme_serve.specs.Endless.{endless};
 
 use std::marker::Model;
@@ -52,12 +52,17 @@ impl Connections {
         self.most
     }
 
-    // Ends the service of a worker that has served its connections. Without an end it has to wait for ever.
-    pub(crate) fn end<R: Wait>(self, rt: &R)
-        ensures { ¬ (self ≡ endless) }
+    // Whether so many are all of them. Where there is no end to them, the answer is never yes.
+    pub(crate) fn are_served<R: Wait>(self, rt: &R, served: u64) -> bool
+        requires { served ≤ self }
+        ensures some { result ≡ false → served < self }
+        ensures all { result ≡ true → (served ≡ self) × ¬ (self ≡ endless) }
     {
+        if served < self.most {
+            return false;
+        }
         if self.most < ENDLESS {
-            return;
+            return true;
         }
         for _ in rt.forever() {}
         unreachable!()

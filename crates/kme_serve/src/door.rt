@@ -43,14 +43,17 @@ pub fn serve_door<R: Wait, M: Managers, D: Listener>(
     ensures calm { OnOk result (D.faults door.new ≡ D.faults door.old) }
     ensures lasts { OnOk result (¬ (connections ≡ endless)) }
 {
-    'visits: for served in 0..connections.count() {
+    let mut served = 0;
+    'visits: for _ in rt.forever() {
+        if connections.are_served(rt, served) {
+            return Ok(());
+        }
         match serve_next(rt, alloc, managers, api, pass, node, door) {
-            Ok(()) => {}
+            Ok(()) => served += 1,
             Err(failed) => return Err(failed),
         }
     }
-    connections.end(rt);
-    Ok(())
+    unreachable!()
 }
 
 // Accepts, serves and finishes the next connection.

@@ -7,6 +7,7 @@ visits-preserved g c =
     let before = c.visits.invariant in
     let came = c.in-Ok.ensures.served in
     record {
+      few = omega (arith, c.are_served.ensures.some);
       fits = c.in-Ok.ensures.fits;
       budget = omega (arith, c.in-Ok.ensures.budget, before.budget);
       accepted = omega (arith, came.accepted, came.count, before.accepted);

@@ -5,6 +5,7 @@ use Rattle.kme_serve.proofs.door.serve_door.Given as goal
 
 abbrev pub invariant-visits : goal.invariant-visits
 invariant-visits g l = record {
+  few : l.served ≤ l.connections;
   fits : g.M.Managers.fits l.managers l.pass;
   budget : g.M.Managers.budget l.managers l.node l.fn.pass ≤ g.M.Managers.budget l.managers l.node l.pass + 1000 * l.served;
   accepted : g.D.Listener.accepted l.door ≡ g.D.Listener.accepted l.fn.door + l.served;

@@ -28,7 +28,7 @@ loop-door-preserved g c =
             c.loop-door.invariant.back.1 c.shut.ensures.back refl,
         moved_on c.loop-door.invariant.back.0 c.loop-door.door-iterator.rest.items c.next.new.self.rest.items c.args.doors.items c.in-Some.door c.in-Some.ensures.steps.0 c.loop-door.invariant.back.2,
       );
-      same = (c.shut.ensures.same.0 ∙ c.loop-door.invariant.same.0, c.shut.ensures.same.1 ∙ c.loop-door.invariant.same.1);
+      same = (c.shut.ensures.same.0 ∙ c.loop-door.invariant.same.0, c.shut.ensures.same.2 ∙ c.loop-door.invariant.same.1);
     }
 
 pub shut-requires : goal.shut-requires
