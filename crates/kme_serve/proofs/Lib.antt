@@ -10,3 +10,4 @@ pub mod OneJob
 pub mod WorkerMapping
 pub mod Rooms
 pub mod Listeners
+pub mod Queues

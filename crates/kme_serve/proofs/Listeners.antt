@@ -6,7 +6,7 @@ use Rattle.std.proofs.lemmas.List.{length-set, take_at, append-nil}
 use Rattle.std.proofs.lemmas.Option.{slice_get_within}
 use Rattle.qkd_base.specs.Faults.{Rose}
 use Rattle.kme_serve.specs.Door.{Door}
-use Rattle.kme_serve.specs.Doors.{IsNew, IsUnused, AreNew, AreUnused, AreOpened, HasFailed}
+use Rattle.kme_serve.specs.Doors.{Queues, IsNew, IsUnused, AreNew, AreUnused, AreQueued, AreOpened, HasFailed}
 use Rattle.kme_serve.specs.Twins.{IsTwinned}
 
 some_is : {A : Type 0} {a b : A} → ◌≡◌ {A = Option A} (Some a) (Some b) → a ≡ b
@@ -94,8 +94,8 @@ module _ {D : Type 0} (tell : D → Door) (failed : D → ℕ) where
 
     -- making twins
 
-    module _ (nodes place : ℕ) (before after : List D) (new : AreNew tell failed told port nodes before) where
-      pub twin_came : {E : Type 0} (all : List D) (twin : D) → IsTwinned {E = E} tell failed (place % nodes) before after (Ok twin) → all ≡ after ++ twin ∷ [] → length before ≡ place → AreNew tell failed told port nodes all
+    module _ (twins : D → Queues) (nodes place : ℕ) (before after : List D) (new : AreNew tell failed told port nodes before) where
+      pub twin_came : {E : Type 0} (all : List D) (twin : D) → IsTwinned {E = E} tell failed twins (place % nodes) before after (Ok twin) → all ≡ after ++ twin ∷ [] → length before ≡ place → AreNew tell failed told port nodes all
       twin_came all twin t is long k d at = elim (last_cases after twin k d (subst (λ (ds : List D). slice_get ds k ≡ Some d) is at)) [
         | inl there ↦ elim (placed before (place % nodes) t.left k d (subst (λ (ds : List D). slice_get ds k ≡ Some d) t.after_is there)) [
           | inl asked ↦
@@ -120,7 +120,7 @@ module _ {D : Type 0} (tell : D → Door) (failed : D → ℕ) where
           tells = λ h. t.gives.0.tells ((asked_new.tells h).0, subst (λ (o : Option (List _)). IsSome o) (sym (asked_new.tells h).1) refl);
         }
 
-      pub twin_unused : {E : Type 0} (e : E) → IsTwinned tell failed (place % nodes) before after (Err e) → AreUnused tell failed port nodes after
+      pub twin_unused : {E : Type 0} (e : E) → IsTwinned tell failed twins (place % nodes) before after (Err e) → AreUnused tell failed port nodes after
       twin_unused e t k d at = elim (placed before (place % nodes) t.left k d (subst (λ (ds : List D). slice_get ds k ≡ Some d) t.after_is at)) [
         | inl asked ↦
             subst (λ (f : D). IsUnused tell failed (port + k % nodes) f) (sym asked.1)
@@ -129,7 +129,7 @@ module _ {D : Type 0} (tell : D → Door) (failed : D → ℕ) where
         | inr old ↦ unused_of told (port + k % nodes) d d refl (new k d old)
       ]
 
-      pub twin_failed : {E : Type 0} (e : E) → IsTwinned tell failed (place % nodes) before after (Err e) → HasFailed failed after
+      pub twin_failed : {E : Type 0} (e : E) → IsTwinned tell failed twins (place % nodes) before after (Err e) → HasFailed failed after
       twin_failed e t =
           let calm = (new (place % nodes) t.asked t.asked_is).no_fault in
           let rose = t.gives in (
@@ -148,10 +148,11 @@ either (Ok x) p q = p
 either (Err e) p q = q
 
 module _ {D T E : Type 0} (tell : D → Door) (failed : D → ℕ) (told : Type 0) (port workers nodes : ℕ) (doors : List D) where
-  pub came : (r : Result T E) → MatchResult r (λ _. AreNew tell failed told port nodes doors) (λ _. AreUnused tell failed port nodes doors × HasFailed failed doors) → IfOk r (λ _. length doors ≡ workers) →
-      length doors ≤ workers → MatchResult r (λ _. AreOpened tell failed told port workers nodes doors) (λ _. (length doors ≤ workers) × AreUnused tell failed port nodes doors)
-  came (Ok x) new all few = record { many = all; new = new }
-  came (Err e) unused all few = (few, unused.0)
+  pub came : (queues : ℕ → Queues) (r : Result T E) → MatchResult r (λ _. AreNew tell failed told port nodes doors) (λ _. AreUnused tell failed port nodes doors × HasFailed failed doors) →
+      IfOk r (λ _. AreQueued tell queues port nodes doors) → IfOk r (λ _. length doors ≡ workers) → length doors ≤ workers →
+      MatchResult r (λ _. AreOpened tell failed told queues port workers nodes doors) (λ _. (length doors ≤ workers) × AreUnused tell failed port nodes doors)
+  came queues (Ok x) new queued all few = record { many = all; new = new; queued = queued }
+  came queues (Err e) unused queued all few = (few, unused.0)
 
   pub blamed : (before after : ℕ) (r : Result T E) → MatchResult r (λ _. AreNew tell failed told port nodes doors) (λ _. AreUnused tell failed port nodes doors × HasFailed failed doors) → after ≡ before →
       MatchResult r (λ _. after ≡ before) (λ _. Rose before after ⊎ HasFailed failed doors)

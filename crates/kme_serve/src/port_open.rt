@@ -2,7 +2,7 @@
 ghost use Rattle.std.specs.Prelude.{◌≡◌, ◌⊎◌, ◌+◌, ◌<◌, ◌≤◌, ℕ, List, [], Option, Some, IsSome, IfOk, MatchResult, length, min, take, slice_get, vec_len, vec_capacity};
 ghost use Rattle.qkd_base.specs.Faults.{Rose};
 ghost use Rattle.edge_io.specs.Writes.{Adds};
-ghost use Rattle.kme_serve.specs.Doors.{HasRoom, IsNew, AreNew, AreUnused, AreOpened, HasFailed, ports_from, ports_of, telling};
+ghost use Rattle.kme_serve.specs.Doors.{Queues, HasRoom, IsNew, AreNew, AreUnused, AreQueued, AreOpened, HaveFirstQueues, HasFailed, ports_from, ports_of, telling};
 ghost use Rattle.kme_serve.specs.Twins.{IsTwinned};
 
 use edge_io::{Failed, Listener, Ports};
@@ -21,7 +21,7 @@ pub(crate) fn open_all<P: Ports>(
     requires ports { port + min workers nodes ≤ 65536 }
     requires asked { HasRoom P.asked ports.old workers }
     ensures came { MatchResult result
-        (λ _. AreOpened (telling P.Door.port P.Door.accepted P.Door.finished P.Door.waiting P.Door.done) P.Door.faults (IsSome (P.asked ports.old)) port workers nodes doors.new.items)
+        (λ _. AreOpened (telling P.Door.port P.Door.accepted P.Door.finished P.Door.waiting P.Door.done) P.Door.faults (IsSome (P.asked ports.old)) (P.queues ports.old) port workers nodes doors.new.items)
         (λ _. (length doors.new.items ≤ workers) × AreUnused (telling P.Door.port P.Door.accepted P.Door.finished P.Door.waiting P.Door.done) P.Door.faults port nodes doors.new.items) }
     ensures asked { MatchResult result
         (λ _. Adds (P.asked ports.old) (P.asked ports.new) (ports_of port workers nodes))
@@ -48,6 +48,7 @@ fn open_each<P: Ports>(
     requires asked { HasRoom P.asked ports.old many }
     ensures new { (k : ℕ) (d : _) → slice_get doors.new.items k ≡ Some d →
         IsNew (telling P.Door.port P.Door.accepted P.Door.finished P.Door.waiting P.Door.done) P.Door.faults (IsSome (P.asked ports.old)) (port + k) d }
+    ensures queued { HaveFirstQueues (telling P.Door.port P.Door.accepted P.Door.finished P.Door.waiting P.Door.done) P.Door.twins (P.queues ports.old) port doors.new.items }
     ensures asked { MatchResult result
         (λ _. (length doors.new.items ≡ many) × Adds (P.asked ports.old) (P.asked ports.new) (ports_from port many) × (P.faults ports.new ≡ P.faults ports.old))
         (λ _. (length doors.new.items < many) × Adds (P.asked ports.old) (P.asked ports.new) (ports_from port (length doors.new.items + 1)) × Rose (P.faults ports.old) (P.faults ports.new)) }
@@ -64,7 +65,7 @@ fn open_each<P: Ports>(
 // Makes a twin of the listener at an index.
 fn twin_at<D: Listener>(doors: &mut [D], place: usize) -> Result<D, Failed>
     requires { place < length doors.old }
-    ensures { IsTwinned (telling D.port D.accepted D.finished D.waiting D.done) D.faults place doors.old doors.new result }
+    ensures { IsTwinned (telling D.port D.accepted D.finished D.waiting D.done) D.faults D.twins place doors.old doors.new result }
 {
     let door = &mut doors[place];
     door.twin()
@@ -79,6 +80,8 @@ fn twin_rest<D: Listener>(doors: &mut Vec<D>, workers: u32, nodes: u32) -> Resul
         AreNew (telling D.port D.accepted D.finished D.waiting D.done) D.faults (IsSome asked) port nodes doors.old.items → MatchResult result
         (λ _. AreNew (telling D.port D.accepted D.finished D.waiting D.done) D.faults (IsSome asked) port nodes doors.new.items)
         (λ _. AreUnused (telling D.port D.accepted D.finished D.waiting D.done) D.faults port nodes doors.new.items × HasFailed D.faults doors.new.items) }
+    ensures queued { (queues : ℕ → Queues) (port : ℕ) → HaveFirstQueues (telling D.port D.accepted D.finished D.waiting D.done) D.twins queues port doors.old.items →
+        IfOk result (λ _. AreQueued (telling D.port D.accepted D.finished D.waiting D.done) queues port nodes doors.new.items) }
     ensures all { IfOk result (λ _. vec_len doors.new ≡ workers) }
     ensures some { (vec_len doors.old ≤ vec_len doors.new) × (vec_len doors.new ≤ workers) }
 {

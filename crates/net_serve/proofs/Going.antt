@@ -26,7 +26,7 @@ module _ {D : Type 0} (tell : D → Door) (failed : D → ℕ) (told_ports : Typ
   all_ports : take (workers + 1) (ports_of port workers nodes) ≡ ports_of port workers nodes
   all_ports = take_all (workers + 1) (ports_of port workers nodes) (omega (arith, length-ports port (min workers nodes)))
 
-  pub all_unused : (doors : List D) → AreOpened tell failed told_ports port workers nodes doors → Adds before.asked after.asked (ports_of port workers nodes) → Adds before.back after.back doors →
+  pub all_unused : (doors : List D) → AreOpened tell failed told_ports before.queues port workers nodes doors → Adds before.asked after.asked (ports_of port workers nodes) → Adds before.back after.back doors →
       WereOpened tell failed port workers nodes before after
   all_unused doors opened asked given = record {
     doors = doors;
@@ -55,7 +55,7 @@ module _ {K Q E X D : Type 0} (is_honest : K → Bool) (moment : K → ℕ) (ima
       })
 
   module _ (new : State K Q E X) (opened closed : List D) (all : Bool) (serves : Serves is_honest moment image left told frames counted disk_count armed entropy_count device_count wire_count tell failed old new net w connections opened closed all) where
-    pub were_served : 0 < length old.site.nodes → AreOpened tell failed told_ports port workers (length old.site.nodes) opened → Adds before.asked after.asked (ports_of port workers (length old.site.nodes)) →
+    pub were_served : 0 < length old.site.nodes → AreOpened tell failed told_ports before.queues port workers (length old.site.nodes) opened → Adds before.asked after.asked (ports_of port workers (length old.site.nodes)) →
         Adds before.back after.back closed → WereServed tell failed told_ports workers connections port old.site before after all net w serves.histories
     were_served some new asked given = record { nodes = some; opened = opened; new = new; asked = asked; closed = closed; given = given; connected = serves.connected }
 
@@ -69,7 +69,7 @@ module _ {K Q E X D : Type 0} (is_honest : K → Bool) (moment : K → ℕ) (ima
     }
 
   -- the state and the ports, by how the connections ended; if memory ran out the listeners came back as they were
-  pub served_over : {T : Type 0} → Stands is_honest moment image left told frames counted old net w → (new : State K Q E X) (opened closed : List D) → 0 < length old.site.nodes → AreOpened tell failed told_ports port workers (length old.site.nodes) opened →
+  pub served_over : {T : Type 0} → Stands is_honest moment image left told frames counted old net w → (new : State K Q E X) (opened closed : List D) → 0 < length old.site.nodes → AreOpened tell failed told_ports before.queues port workers (length old.site.nodes) opened →
       Adds before.asked after.asked (ports_of port workers (length old.site.nodes)) → Adds before.back after.back closed → (result : Result T ServeRefusal) →
       (result ≡ Err refusals.Memory → (new ≡ old) × (closed ≡ opened)) →
       ((result ≡ Err refusals.Memory → ⊥) → Serves is_honest moment image left told frames counted disk_count armed entropy_count device_count wire_count tell failed old new net w connections opened closed (is_ok result)) → Goes new (served_as result)

@@ -56,12 +56,12 @@ module _ {D : Type 0} (tell : D → Door) (failed : D → ℕ) (told : Type 0) (
     pub opened : WereOpened tell failed port workers (length site.nodes) before after
     pub none : served ≡ []
 
-  -- Each port was opened once, in increasing order. Each worker served its connections at its own listener, which it gave back. The run goes on with what these
-  -- connections asked of the managers.
+  -- Each port was opened once, in increasing order. Each worker served its connections at its own listener, which it gave back: those that waited for it at the ports. The
+  -- run goes on with what these connections asked of the managers.
   pub record WereServed (all : Bool) (net : Network) (w : World) (served : List (List Action)) : Type 0 where
     pub nodes : 0 < length site.nodes
     pub opened : List D
-    pub new : AreOpened tell failed told port workers (length site.nodes) opened
+    pub new : AreOpened tell failed told before.queues port workers (length site.nodes) opened
     pub asked : Adds before.asked after.asked (ports_of port workers (length site.nodes))
     pub closed : List D
     pub given : Adds before.back after.back closed

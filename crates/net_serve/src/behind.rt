@@ -2,7 +2,7 @@
 ghost use Rattle.std.specs.Prelude.{◌≡◌, ◌≤◌, Err, IsSome, Result, MatchResult, OnOk, length};
 ghost use Rattle.declared_site.specs.SiteOf.{IsDeclared};
 ghost use Rattle.net_model.specs.World.{Network, World};
-ghost use Rattle.kme_serve.specs.Doors.{HasRoom, IsListenFault};
+ghost use Rattle.kme_serve.specs.Doors.{HasRoom, IsListenFault, ports_told};
 ghost use Rattle.kme_serve.specs.Endless.{endless};
 ghost use Rattle.run_types.specs.Texts.{served_text};
 ghost use Rattle.run_model.specs.Course.{Serve, served_by};
@@ -66,12 +66,12 @@ where
     ensures ends { (net : Network) (w : World) → MatchResult lines (λ done. Stands K.is_honest K.moment K.image E.left Q.told X.frames X.counted state.old net w) (λ stop. Rests K.is_honest K.moment K.image E.left Q.told X.frames X.counted state.old net w) →
         Ends K.is_honest K.moment K.image E.left Q.told X.frames X.counted K.faults K.armings E.faults Q.faults X.faults
         (λ d. record { port = P.Door.port d; accepted = P.Door.accepted d; finished = P.Door.finished d; waiting = P.Door.waiting d; done = P.Door.done d }) P.Door.faults (IsSome (P.asked ports.old))
-        workers connections port state.old state.new net w (record { asked = P.asked ports.old; back = P.back ports.old }) (record { asked = P.asked ports.new; back = P.back ports.new })
+        workers connections port state.old state.new net w (ports_told P.asked P.back P.queues ports.old) (ports_told P.asked P.back P.queues ports.new)
         (W.taken sink.old) (W.taken sink.new) (served_text (served_by (Serve workers connections port) (length state.old.site.nodes))) lines result }
     ensures blame { MatchResult lines (λ done. IsBlamed (W.faults sink.old) (W.faults sink.new) result) (λ stop. (result ≡ Err (Stopped stop)) × (sink.new ≡ sink.old)) }
     ensures lined { MatchResult lines (λ done. InLines W.taken W.pieces IsServedLine sink.old sink.new result) (λ stop. (result ≡ Err (Stopped stop)) × (sink.new ≡ sink.old)) }
     ensures listen { result ≡ Err Listen → IsListenFault P.Door.faults (P.faults ports.old) (P.faults ports.new)
-        (record { asked = P.asked ports.old; back = P.back ports.old }) (record { asked = P.asked ports.new; back = P.back ports.new }) }
+        (ports_told P.asked P.back P.queues ports.old) (ports_told P.asked P.back P.queues ports.new) }
 {
     if let Err(stop) = lines {
         return Err(ServeStop::Stopped(stop));

@@ -2,7 +2,7 @@
 ghost use Rattle.std.specs.Prelude.{◌≡◌, ◌<◌, ◌≤◌, Err, IsSome, length};
 ghost use Rattle.declared_site.specs.SiteOf.{IsDeclared};
 ghost use Rattle.net_model.specs.World.{Network, World};
-ghost use Rattle.kme_serve.specs.Doors.{HasRoom, IsListenFault};
+ghost use Rattle.kme_serve.specs.Doors.{HasRoom, IsListenFault, ports_told};
 ghost use Rattle.kme_serve.specs.declared.refusal.ServeRefusal.TheVariants as refusals;
 ghost use Rattle.kme_serve.specs.Endless.{endless};
 ghost use Rattle.world_state.specs.Stands.{Stands};
@@ -51,10 +51,10 @@ where
     ensures served { (net : Network) (w : World) → Stands K.is_honest K.moment K.image E.left Q.told X.frames X.counted state.old net w →
         IsServed K.is_honest K.moment K.image E.left Q.told X.frames X.counted K.faults K.armings E.faults Q.faults X.faults
         (λ d. record { port = P.Door.port d; accepted = P.Door.accepted d; finished = P.Door.finished d; waiting = P.Door.waiting d; done = P.Door.done d }) P.Door.faults (IsSome (P.asked ports.old))
-        workers connections port state.old state.new net w (record { asked = P.asked ports.old; back = P.back ports.old }) (record { asked = P.asked ports.new; back = P.back ports.new })
+        workers connections port state.old state.new net w (ports_told P.asked P.back P.queues ports.old) (ports_told P.asked P.back P.queues ports.new)
         (served_as result) }
     ensures listen { result ≡ Err refusals.Listen → IsListenFault P.Door.faults (P.faults ports.old) (P.faults ports.new)
-        (record { asked = P.asked ports.old; back = P.back ports.old }) (record { asked = P.asked ports.new; back = P.back ports.new }) }
+        (ports_told P.asked P.back P.queues ports.old) (ports_told P.asked P.back P.queues ports.new) }
 {
     let nodes = state.site.nodes.len() as u32;
     let doors = match open_doors(alloc, ports, port, workers, nodes) {
@@ -100,10 +100,10 @@ where
     ensures served { (net : Network) (w : World) → Stands K.is_honest K.moment K.image E.left Q.told X.frames X.counted state.old net w →
         IsServed K.is_honest K.moment K.image E.left Q.told X.frames X.counted K.faults K.armings E.faults Q.faults X.faults
         (λ d. record { port = P.Door.port d; accepted = P.Door.accepted d; finished = P.Door.finished d; waiting = P.Door.waiting d; done = P.Door.done d }) P.Door.faults (IsSome (P.asked ports.old))
-        workers connections port state.old state.new net w (record { asked = P.asked ports.old; back = P.back ports.old }) (record { asked = P.asked ports.new; back = P.back ports.new })
+        workers connections port state.old state.new net w (ports_told P.asked P.back P.queues ports.old) (ports_told P.asked P.back P.queues ports.new)
         (served_as result) }
     ensures listen { result ≡ Err refusals.Listen → IsListenFault P.Door.faults (P.faults ports.old) (P.faults ports.new)
-        (record { asked = P.asked ports.old; back = P.back ports.old }) (record { asked = P.asked ports.new; back = P.back ports.new }) }
+        (ports_told P.asked P.back P.queues ports.old) (ports_told P.asked P.back P.queues ports.new) }
 {
     if state.site.nodes.len() == 0 {
         return Ok(());

@@ -6,7 +6,7 @@ use Rattle.run_types.specs.declared.scenario.Scenario.{Scenario}
 use Rattle.run_model.specs.Course.{Words, Run, Serve}
 use Rattle.run_model.specs.Headline as headline
 use Rattle.kme_serve.specs.Door.{Door}
-use Rattle.kme_serve.specs.Doors.{PortsTold}
+use Rattle.kme_serve.specs.Doors.{Queues, ports_told}
 use Rattle.net_world.specs.Running.{HasHeadlines}
 use Rattle.net_world.specs.Veiling.{HasVeiled}
 use Rattle.net_world.specs.declared.bench.Bench.{Bench}
@@ -16,16 +16,12 @@ use Rattle.qkd_network.specs.Quiet.{IsQuiet}
 use Rattle.qkd_network.specs.Outcome.{Outcome, outside}
 use Rattle.qkd_network.specs.declared.status.Status.{Status}
 
--- what ports tell
-abbrev pub told_of : {P D : Type 0} → (asked : P → Option (List ℕ)) → (back : P → Option (List D)) → P → PortsTold D
-told_of asked back ports = record { asked = asked ports; back = back ports }
-
 -- by the status, and by what the words ask for
 abbrev pub IsCalled : {S W K Q E X P D : Type 0} → (S → Option (List ℕ)) → (W → Option (List ℕ)) → (W → Option (List (List ℕ))) →
     (K → ℕ) → (K → ℕ → List ℕ → Type 0) → (E → Option OctetSequence) → (Q → Option OctetSequence) → (X → Option (List (List ℕ))) →
-    (K → ℕ) → (K → Armings) → (E → ℕ) → (Q → ℕ) → (X → ℕ) → (tell : D → Door) → (failed : D → ℕ) → (asked : P → Option (List ℕ)) → (back : P → Option (List D)) →
+    (K → ℕ) → (K → Armings) → (E → ℕ) → (Q → ℕ) → (X → ℕ) → (tell : D → Door) → (failed : D → ℕ) → (asked : P → Option (List ℕ)) → (back : P → Option (List D)) → (queues : P → ℕ → Queues) →
     Status → (words : List (List ℕ)) → (old new : S) → (before after : W) → (bench bench' : Bench K Q E X) → (ports ports' : P) → Type 0
-IsCalled left taken pieces moment image entropy told frames disk_count armed entropy_count device_count wire_count tell failed asked back status words old new before after bench bench' ports ports' =
+IsCalled left taken pieces moment image entropy told frames disk_count armed entropy_count device_count wire_count tell failed asked back queues status words old new before after bench bench' ports ports' =
     Outcome left taken
     (λ (form : Words) (scenario : Scenario) (stop : headline.Stop).
     HasHeadlines moment image entropy told frames disk_count armed entropy_count device_count wire_count bench bench' form scenario (taken before) (taken after) stop
@@ -34,7 +30,7 @@ IsCalled left taken pieces moment image entropy told frames disk_count armed ent
     HasVeiled moment image entropy told frames disk_count armed entropy_count device_count wire_count taken bench bench' scenario before after stop)
     (λ (workers connections port : ℕ) (scenario : Scenario) (stop : headline.Stop).
     HasServedHeadlines moment image entropy told frames disk_count armed entropy_count device_count wire_count tell failed (IsSome (asked ports)) bench bench'
-    (told_of asked back ports) (told_of asked back ports') workers connections port scenario (taken before) (taken after) stop
+    (ports_told asked back queues ports) (ports_told asked back queues ports') workers connections port scenario (taken before) (taken after) stop
     × WroteLines taken pieces (Serve workers connections port) scenario before after stop)
     (λ (workers : ℕ) (scenario : Scenario) (stop : headline.Stop).
     IsQuiet taken pieces (λ (report : Option (List ℕ)) (end : headline.Stop).

@@ -2,10 +2,10 @@
 ghost use Rattle.std.specs.Prelude.{◌≡◌, ◌⊎◌};
 ghost use Rattle.std.specs.List.{All};
 ghost use Rattle.qkd_base.specs.Faults.{Rose};
-ghost use Rattle.kme_serve.specs.Doors.{AreFresh, IsListenFault, telling};
+ghost use Rattle.kme_serve.specs.Doors.{AreFresh, IsListenFault, ports_told, telling};
 ghost use Rattle.net_world.specs.Laid.{IsWhole};
 ghost use Rattle.net_world.specs.New.{IsNew};
-ghost use Rattle.qkd_network.specs.Call.{IsCalled, told_of};
+ghost use Rattle.qkd_network.specs.Call.{IsCalled};
 ghost use Rattle.qkd_network.specs.Outcome.{AsksServe};
 ghost use Rattle.qkd_network.specs.declared.status.Status.TheVariants.{ReadFault, WriteFault, ListenFault};
 
@@ -92,7 +92,7 @@ where
     requires unarmed { All (λ k. (K.armings k).count ≡ 0) bench.old.disks.items }
     requires ports { AreFresh P.asked P.back ports.old }
     ensures outcome { IsCalled (λ s. S.left s) (λ k. W.taken k) W.pieces K.moment K.image E.left Q.told X.frames K.faults K.armings E.faults Q.faults X.faults
-        (telling P.Door.port P.Door.accepted P.Door.finished P.Door.waiting P.Door.done) P.Door.faults P.asked P.back
+        (telling P.Door.port P.Door.accepted P.Door.finished P.Door.waiting P.Door.done) P.Door.faults P.asked P.back P.queues
         result words.now source.old source.new sink.old sink.new bench.old bench.new ports.old ports.new }
     ensures ports { AsksServe words.now ⊎ (ports.new ≡ ports.old) }
     ensures whole { IsWhole bench.new }
@@ -100,7 +100,7 @@ where
     ensures source_calm { (result ≡ ReadFault) ⊎ (S.faults source.new ≡ S.faults source.old) }
     ensures write_fault { result ≡ WriteFault → Rose (W.faults sink.old) (W.faults sink.new) }
     ensures listen_fault { result ≡ ListenFault →
-        IsListenFault P.Door.faults (P.faults ports.old) (P.faults ports.new) (told_of P.asked P.back ports.old) (told_of P.asked P.back ports.new) }
+        IsListenFault P.Door.faults (P.faults ports.old) (P.faults ports.new) (ports_told P.asked P.back P.queues ports.old) (ports_told P.asked P.back P.queues ports.new) }
 {
     let workers = match read_form(words) {
         Err(place) => return Status::Usage(place),

@@ -1,8 +1,7 @@
 // The call of the program.
 ghost use Rattle.std.specs.Prelude.{◌≡◌, ◌⊎◌};
 ghost use Rattle.qkd_base.specs.Faults.{Rose};
-ghost use Rattle.kme_serve.specs.Doors.{AreFresh, IsListenFault, telling};
-ghost use Rattle.qkd_network.specs.Call.{told_of};
+ghost use Rattle.kme_serve.specs.Doors.{AreFresh, IsListenFault, ports_told, telling};
 ghost use Rattle.qkd_network.specs.Outcome.{AsksServe};
 ghost use Rattle.qkd_network.specs.declared.status.Status.TheVariants.{ReadFault, WriteFault, ListenFault};
 ghost use Rattle.qkd_network.specs.Program.{IsProgram};
@@ -32,14 +31,14 @@ where
     <P::Door as Listener>::Out: Send,
     requires ports { AreFresh P.asked P.back ports.old }
     ensures outcome { IsProgram (λ s. S.left s) (λ k. W.taken k) W.pieces
-        (telling P.Door.port P.Door.accepted P.Door.finished P.Door.waiting P.Door.done) P.Door.faults P.asked P.back
+        (telling P.Door.port P.Door.accepted P.Door.finished P.Door.waiting P.Door.done) P.Door.faults P.asked P.back P.queues
         result words.now source.old source.new sink.old sink.new ports.old ports.new }
     ensures ports { AsksServe words.now ⊎ (ports.new ≡ ports.old) }
     ensures read_fault { result ≡ ReadFault → Rose (S.faults source.old) (S.faults source.new) }
     ensures source_calm { (result ≡ ReadFault) ⊎ (S.faults source.new ≡ S.faults source.old) }
     ensures write_fault { result ≡ WriteFault → Rose (W.faults sink.old) (W.faults sink.new) }
     ensures listen_fault { result ≡ ListenFault →
-        IsListenFault P.Door.faults (P.faults ports.old) (P.faults ports.new) (told_of P.asked P.back ports.old) (told_of P.asked P.back ports.new) }
+        IsListenFault P.Door.faults (P.faults ports.old) (P.faults ports.new) (ports_told P.asked P.back P.queues ports.old) (ports_told P.asked P.back P.queues ports.new) }
 {
     match new_bench(alloc) {
         Ok(mut bench) => network(rt, alloc, words, source, sink, &mut bench, ports, gate),

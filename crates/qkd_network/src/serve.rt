@@ -2,7 +2,7 @@
 ghost use Rattle.std.specs.Prelude.{◌≡◌, ◌⊎◌, ◌≤◌, IsSome};
 ghost use Rattle.std.specs.List.{All};
 ghost use Rattle.qkd_base.specs.Faults.{Rose};
-ghost use Rattle.kme_serve.specs.Doors.{AreFresh, IsListenFault, PortsTold, telling};
+ghost use Rattle.kme_serve.specs.Doors.{AreFresh, IsListenFault, ports_told, telling};
 ghost use Rattle.kme_serve.specs.Endless.{endless};
 ghost use Rattle.net_world.specs.Laid.{IsWhole};
 ghost use Rattle.net_world.specs.New.{IsNew};
@@ -60,7 +60,7 @@ where
     ensures outcome { ScenarioOutcome (λ s. S.left s) (λ scenario stop.
         HasServedHeadlines K.moment K.image E.left Q.told X.frames K.faults K.armings E.faults Q.faults X.faults
         (telling P.Door.port P.Door.accepted P.Door.finished P.Door.waiting P.Door.done) P.Door.faults (IsSome (P.asked ports.old)) bench.old bench.new
-        (record { asked = P.asked ports.old; back = P.back ports.old }) (record { asked = P.asked ports.new; back = P.back ports.new })
+        (ports_told P.asked P.back P.queues ports.old) (ports_told P.asked P.back P.queues ports.new)
         workers connections port scenario (W.taken sink.old) (W.taken sink.new) stop
         × WroteLines W.taken W.pieces (Serve workers connections port) scenario sink.old sink.new stop)
         result source.old source.new sink.old sink.new (outside bench.old ports.old) (outside bench.new ports.new) }
@@ -69,7 +69,7 @@ where
     ensures source_calm { (result ≡ ReadFault) ⊎ (S.faults source.new ≡ S.faults source.old) }
     ensures write_fault { result ≡ WriteFault → Rose (W.faults sink.old) (W.faults sink.new) }
     ensures listen_fault { result ≡ ListenFault → IsListenFault P.Door.faults (P.faults ports.old) (P.faults ports.new)
-        (record { asked = P.asked ports.old; back = P.back ports.old }) (record { asked = P.asked ports.new; back = P.back ports.new }) }
+        (ports_told P.asked P.back P.queues ports.old) (ports_told P.asked P.back P.queues ports.new) }
 {
     match scenario_in(alloc, source) {
         Err(status) => status,

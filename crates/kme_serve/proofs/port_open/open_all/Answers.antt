@@ -15,9 +15,10 @@ twin_rest-requires-clause-first g c = c.open_each.new.doors.ok.0 ∙ c.in-Ok.ens
 
 pub returns-in-Ok-clause-came : goal.returns-in-Ok-clause-came
 returns-in-Ok-clause-came g c =
-    came (telling g.P.Door.Listener.port g.P.Door.Listener.accepted g.P.Door.Listener.finished g.P.Door.Listener.waiting g.P.Door.Listener.done) g.P.Door.Listener.faults (IsSome (g.P.Ports.asked c.args.ports.now)) c.args.port c.args.workers c.args.nodes c.twin_rest.new.doors.items c.twin_rest.result
+    came (telling g.P.Door.Listener.port g.P.Door.Listener.accepted g.P.Door.Listener.finished g.P.Door.Listener.waiting g.P.Door.Listener.done) g.P.Door.Listener.faults (IsSome (g.P.Ports.asked c.args.ports.now)) c.args.port c.args.workers c.args.nodes c.twin_rest.new.doors.items (g.P.Ports.queues c.args.ports.now) c.twin_rest.result
     (c.twin_rest.ensures.came (g.P.Ports.asked c.args.ports.now) c.args.port
     (of_nodes (telling g.P.Door.Listener.port g.P.Door.Listener.accepted g.P.Door.Listener.finished g.P.Door.Listener.waiting g.P.Door.Listener.done) g.P.Door.Listener.faults (IsSome (g.P.Ports.asked c.args.ports.now)) c.args.port c.args.nodes c.open_each.new.doors.items (omega (arith, c.in-Ok.ensures.asked.0, c.min.ensures)) c.open_each.ensures.new))
+    (c.twin_rest.ensures.queued (g.P.Ports.queues c.args.ports.now) c.args.port c.open_each.ensures.queued)
     (subst (λ (n : ℕ). IfOk c.twin_rest.result (λ _. n ≡ c.args.workers)) c.twin_rest.new.doors.ok.0 c.twin_rest.ensures.all) (omega (arith, c.twin_rest.ensures.some, c.twin_rest.new.doors.ok.0))
 
 pub returns-in-Ok-clause-asked : goal.returns-in-Ok-clause-asked

@@ -1,6 +1,7 @@
 use Rattle.std.proofs.Common.{◌≡◌, ◌≤◌, ℕ, List, vec_len, vec_capacity}
 use Rattle.std.specs.Prelude.{IsSome, Option}
-use Rattle.kme_serve.specs.Doors.{AreNew, telling}
+use Rattle.kme_serve.specs.Doors.{Queues, AreNew, AreQueued, HaveFirstQueues, telling}
+use Rattle.kme_serve.proofs.Queues.{AreLeft}
 use Rattle.kme_serve.proofs.port_open.twin_rest.Given as goal
 
 abbrev pub invariant-loop-place : goal.invariant-loop-place
@@ -10,5 +11,7 @@ invariant-loop-place g l = record {
   new : (asked : Option (List ℕ)) (port : ℕ) →
       AreNew (telling g.D.Listener.port g.D.Listener.accepted g.D.Listener.finished g.D.Listener.waiting g.D.Listener.done) g.D.Listener.faults (IsSome asked) port l.nodes l.fn.doors.items →
       AreNew (telling g.D.Listener.port g.D.Listener.accepted g.D.Listener.finished g.D.Listener.waiting g.D.Listener.done) g.D.Listener.faults (IsSome asked) port l.nodes l.doors.items;
+  queued : (queues : ℕ → Queues) (port : ℕ) → HaveFirstQueues (telling g.D.Listener.port g.D.Listener.accepted g.D.Listener.finished g.D.Listener.waiting g.D.Listener.done) g.D.Listener.twins queues port l.fn.doors.items →
+      AreQueued (telling g.D.Listener.port g.D.Listener.accepted g.D.Listener.finished g.D.Listener.waiting g.D.Listener.done) queues port l.nodes l.doors.items × AreLeft (telling g.D.Listener.port g.D.Listener.accepted g.D.Listener.finished g.D.Listener.waiting g.D.Listener.done) g.D.Listener.twins queues port l.nodes l.place l.doors.items;
   space : vec_capacity l.doors ≡ vec_capacity l.fn.doors;
 }

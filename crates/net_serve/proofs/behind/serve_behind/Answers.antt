@@ -5,7 +5,7 @@ use Rattle.run_types.specs.Texts.{served_text}
 use Rattle.run_lines.specs.declared.stop.Stop.TheVariants as stops
 use Rattle.run_lines.proofs.Taking.{first_none}
 use Rattle.kme_serve.specs.Door.{Door}
-use Rattle.kme_serve.specs.Doors.{PortsTold}
+use Rattle.kme_serve.specs.Doors.{PortsTold, ports_told}
 use Rattle.kme_serve.specs.declared.refusal.ServeRefusal.{ServeRefusal}
 use Rattle.kme_serve.specs.declared.refusal.ServeRefusal.TheVariants as refusals
 use Rattle.net_serve.specs.Behind.{IsLineTold, IsServed, served_as}
@@ -22,7 +22,7 @@ returns-in-Err-clause-ends g c net w left =
     record { port = g.P.Door.Listener.port d; accepted = g.P.Door.Listener.accepted d; finished = g.P.Door.Listener.finished d; waiting = g.P.Door.Listener.waiting d; done = g.P.Door.Listener.done d } in
     let failed = g.P.Door.Listener.faults in
     let tells = IsSome (g.P.Ports.asked c.args.ports.now) in
-    let before : PortsTold g.row.P-Door.Denot = record { asked = g.P.Ports.asked c.args.ports.now; back = g.P.Ports.back c.args.ports.now } in
+    let before : PortsTold g.row.P-Door.Denot = ports_told g.P.Ports.asked g.P.Ports.back g.P.Ports.queues c.args.ports.now in
     let text = served_text (served_by (Serve c.args.workers c.args.connections c.args.port) (length c.args.state.now.site.nodes)) in
     ends_with_lines g.K.Disk.is_honest g.K.Disk.moment g.K.Disk.image g.E.Entropy.left g.Q.Device.told g.X.Wire.frames g.X.Wire.counted g.K.Disk.faults g.K.Disk.armings g.E.Entropy.faults g.Q.Device.faults g.X.Wire.faults tell failed tells c.args.workers c.args.connections c.args.port
     c.args.state.now c.args.state.now net w before before (g.W.Sink.taken c.args.sink.now) (g.W.Sink.taken c.args.sink.now) text
@@ -34,8 +34,8 @@ returns-in-Err-Listen-clause-ends g c net w left =
     record { port = g.P.Door.Listener.port d; accepted = g.P.Door.Listener.accepted d; finished = g.P.Door.Listener.finished d; waiting = g.P.Door.Listener.waiting d; done = g.P.Door.Listener.done d } in
     let failed = g.P.Door.Listener.faults in
     let tells = IsSome (g.P.Ports.asked c.args.ports.now) in
-    let before : PortsTold g.row.P-Door.Denot = record { asked = g.P.Ports.asked c.args.ports.now; back = g.P.Ports.back c.args.ports.now } in
-    let after : PortsTold g.row.P-Door.Denot = record { asked = g.P.Ports.asked c.serve_nodes.new.ports; back = g.P.Ports.back c.serve_nodes.new.ports } in
+    let before : PortsTold g.row.P-Door.Denot = ports_told g.P.Ports.asked g.P.Ports.back g.P.Ports.queues c.args.ports.now in
+    let after : PortsTold g.row.P-Door.Denot = ports_told g.P.Ports.asked g.P.Ports.back g.P.Ports.queues c.serve_nodes.new.ports in
     let text = served_text (served_by (Serve c.args.workers c.args.connections c.args.port) (length c.args.state.now.site.nodes)) in
     let result : Result (Unit {0}) ServeStop = Err Listen in
     let is : c.serve_nodes.result ≡ Err refusals.Listen = let e = c.in-Err-Listen.is in let f = c.in-Err-Listen.field-0-is in cc in
@@ -54,8 +54,8 @@ returns-in-Err-Memory-clause-ends g c net w left =
     record { port = g.P.Door.Listener.port d; accepted = g.P.Door.Listener.accepted d; finished = g.P.Door.Listener.finished d; waiting = g.P.Door.Listener.waiting d; done = g.P.Door.Listener.done d } in
     let failed = g.P.Door.Listener.faults in
     let tells = IsSome (g.P.Ports.asked c.args.ports.now) in
-    let before : PortsTold g.row.P-Door.Denot = record { asked = g.P.Ports.asked c.args.ports.now; back = g.P.Ports.back c.args.ports.now } in
-    let after : PortsTold g.row.P-Door.Denot = record { asked = g.P.Ports.asked c.serve_nodes.new.ports; back = g.P.Ports.back c.serve_nodes.new.ports } in
+    let before : PortsTold g.row.P-Door.Denot = ports_told g.P.Ports.asked g.P.Ports.back g.P.Ports.queues c.args.ports.now in
+    let after : PortsTold g.row.P-Door.Denot = ports_told g.P.Ports.asked g.P.Ports.back g.P.Ports.queues c.serve_nodes.new.ports in
     let text = served_text (served_by (Serve c.args.workers c.args.connections c.args.port) (length c.args.state.now.site.nodes)) in
     let result : Result (Unit {0}) ServeStop = Err (Stopped stops.Memory) in
     let is : c.serve_nodes.result ≡ Err refusals.Memory = let e = c.in-Err-Memory.is in let f = c.in-Err-Memory.field-0-is in cc in
@@ -71,8 +71,8 @@ returns-clause-ends g c net w left =
     record { port = g.P.Door.Listener.port d; accepted = g.P.Door.Listener.accepted d; finished = g.P.Door.Listener.finished d; waiting = g.P.Door.Listener.waiting d; done = g.P.Door.Listener.done d } in
     let failed = g.P.Door.Listener.faults in
     let tells = IsSome (g.P.Ports.asked c.args.ports.now) in
-    let before : PortsTold g.row.P-Door.Denot = record { asked = g.P.Ports.asked c.args.ports.now; back = g.P.Ports.back c.args.ports.now } in
-    let after : PortsTold g.row.P-Door.Denot = record { asked = g.P.Ports.asked c.serve_nodes.new.ports; back = g.P.Ports.back c.serve_nodes.new.ports } in
+    let before : PortsTold g.row.P-Door.Denot = ports_told g.P.Ports.asked g.P.Ports.back g.P.Ports.queues c.args.ports.now in
+    let after : PortsTold g.row.P-Door.Denot = ports_told g.P.Ports.asked g.P.Ports.back g.P.Ports.queues c.serve_nodes.new.ports in
     let text = served_text (served_by (Serve c.args.workers c.args.connections c.args.port) (length c.args.state.now.site.nodes)) in
     let is : c.serve_nodes.result ≡ Ok c.in-Ok.field-0 = c.in-Ok.is in
     let served = c.serve_nodes.ensures.served net w (of_all _ _ c.args.lines c.in_default.field-0 c.in_default.is left) in

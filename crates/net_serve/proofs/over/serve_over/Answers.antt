@@ -3,7 +3,7 @@ use Rattle.std.specs.Prelude.{IsSome}
 use Rattle.edge_io.specs.Writes.{Adds}
 use Rattle.run_model.specs.Headline.{ListenFault, Memory}
 use Rattle.kme_serve.specs.Door.{Door}
-use Rattle.kme_serve.specs.Doors.{PortsTold, ports_of, AreOpened, WereOpened}
+use Rattle.kme_serve.specs.Doors.{PortsTold, ports_of, ports_told, AreOpened, WereOpened}
 use Rattle.kme_serve.proofs.Rooms.{adds_same, adds_to}
 use Rattle.net_serve.proofs.Going.{nothing_served, served_over}
 use Rattle.net_serve.proofs.over.serve_over.Goals as goal
@@ -14,8 +14,8 @@ returns-in-Err-Listen-clause-served g c net w stands =
     record { port = g.P.Door.Listener.port d; accepted = g.P.Door.Listener.accepted d; finished = g.P.Door.Listener.finished d; waiting = g.P.Door.Listener.waiting d; done = g.P.Door.Listener.done d } in
     let failed = g.P.Door.Listener.faults in
     let tells = IsSome (g.P.Ports.asked c.args.ports.now) in
-    let before : PortsTold g.row.P-Door.Denot = record { asked = g.P.Ports.asked c.args.ports.now; back = g.P.Ports.back c.args.ports.now } in
-    let after : PortsTold g.row.P-Door.Denot = record { asked = g.P.Ports.asked c.open_doors.new.ports; back = g.P.Ports.back c.open_doors.new.ports } in
+    let before : PortsTold g.row.P-Door.Denot = ports_told g.P.Ports.asked g.P.Ports.back g.P.Ports.queues c.args.ports.now in
+    let after : PortsTold g.row.P-Door.Denot = ports_told g.P.Ports.asked g.P.Ports.back g.P.Ports.queues c.open_doors.new.ports in
     let is = c.in-Err-Listen.field-0-is in
     let opened : WereOpened tell failed c.args.port c.args.workers (length c.args.state.now.site.nodes) before after =
     subst (λ (n : ℕ). WereOpened tell failed c.args.port c.args.workers n before after) c.len-nodes.ensures (c.in-Err-Listen.ensures.listen cc) in
@@ -28,13 +28,13 @@ returns-in-Err-Memory-clause-served g c net w stands =
     record { port = g.P.Door.Listener.port d; accepted = g.P.Door.Listener.accepted d; finished = g.P.Door.Listener.finished d; waiting = g.P.Door.Listener.waiting d; done = g.P.Door.Listener.done d } in
     let failed = g.P.Door.Listener.faults in
     let tells = IsSome (g.P.Ports.asked c.args.ports.now) in
-    let before : PortsTold g.row.P-Door.Denot = record { asked = g.P.Ports.asked c.args.ports.now; back = g.P.Ports.back c.args.ports.now } in
-    let after : PortsTold g.row.P-Door.Denot = record { asked = g.P.Ports.asked c.open_doors.new.ports; back = g.P.Ports.back c.open_doors.new.ports } in
+    let before : PortsTold g.row.P-Door.Denot = ports_told g.P.Ports.asked g.P.Ports.back g.P.Ports.queues c.args.ports.now in
+    let after : PortsTold g.row.P-Door.Denot = ports_told g.P.Ports.asked g.P.Ports.back g.P.Ports.queues c.open_doors.new.ports in
     let is = c.in-Err-Memory.field-0-is in
     let same : c.open_doors.new.ports ≡ c.args.ports.now = c.in-Err-Memory.ensures.memory cc in
     nothing_served g.K.Disk.is_honest g.K.Disk.moment g.K.Disk.image g.E.Entropy.left g.Q.Device.told g.X.Wire.frames g.X.Wire.counted g.K.Disk.faults g.K.Disk.armings g.E.Entropy.faults g.Q.Device.faults g.X.Wire.faults tell failed tells c.args.workers c.args.connections c.args.port
     c.args.state.now net w before after stands c.args.state.now refl Memory
-    (inl (record { same = ap (λ (p : g.row.P.Denot). record { asked = g.P.Ports.asked p; back = g.P.Ports.back p }) same; none = refl }))
+    (inl (record { same = ap (λ (p : g.row.P.Denot). ports_told g.P.Ports.asked g.P.Ports.back g.P.Ports.queues p) same; none = refl }))
 
 pub serve-result-requires-clause-fresh : goal.serve-result-requires-clause-fresh
 serve-result-requires-clause-fresh g c κs within = λ k d at.
@@ -50,11 +50,11 @@ returns-clause-served g c net w stands =
     record { port = g.P.Door.Listener.port d; accepted = g.P.Door.Listener.accepted d; finished = g.P.Door.Listener.finished d; waiting = g.P.Door.Listener.waiting d; done = g.P.Door.Listener.done d } in
     let failed = g.P.Door.Listener.faults in
     let tells = IsSome (g.P.Ports.asked c.args.ports.now) in
-    let before : PortsTold g.row.P-Door.Denot = record { asked = g.P.Ports.asked c.args.ports.now; back = g.P.Ports.back c.args.ports.now } in
-    let after : PortsTold g.row.P-Door.Denot = record { asked = g.P.Ports.asked c.shut_doors.new.ports; back = g.P.Ports.back c.shut_doors.new.ports } in
+    let before : PortsTold g.row.P-Door.Denot = ports_told g.P.Ports.asked g.P.Ports.back g.P.Ports.queues c.args.ports.now in
+    let after : PortsTold g.row.P-Door.Denot = ports_told g.P.Ports.asked g.P.Ports.back g.P.Ports.queues c.shut_doors.new.ports in
     let nodes = length c.args.state.now.site.nodes in
-    let opened : AreOpened tell failed tells c.args.port c.args.workers nodes c.in-Ok.doors.items =
-    subst (λ (n : ℕ). AreOpened tell failed tells c.args.port c.args.workers n c.in-Ok.doors.items) c.len-nodes.ensures c.in-Ok.ensures.opened in
+    let opened : AreOpened tell failed tells before.queues c.args.port c.args.workers nodes c.in-Ok.doors.items =
+    subst (λ (n : ℕ). AreOpened tell failed tells before.queues c.args.port c.args.workers n c.in-Ok.doors.items) c.len-nodes.ensures c.in-Ok.ensures.opened in
     let asked : Adds before.asked after.asked (ports_of c.args.port c.args.workers nodes) =
     adds_to before.asked (g.P.Ports.asked c.open_doors.new.ports) after.asked (ports_of c.args.port c.args.workers nodes)
     (subst (λ (n : ℕ). Adds before.asked (g.P.Ports.asked c.open_doors.new.ports) (ports_of c.args.port c.args.workers n)) c.len-nodes.ensures c.in-Ok.ensures.asked) c.shut_doors.ensures.same.0 in

@@ -2,7 +2,7 @@
 use Rattle.std.proofs.Common.{◌≡◌, ◌∙◌, inr, ap}
 use Rattle.std.specs.Prelude.{IsSome}
 use Rattle.kme_serve.specs.Door.{Door}
-use Rattle.kme_serve.specs.Doors.{PortsTold}
+use Rattle.kme_serve.specs.Doors.{PortsTold, ports_told}
 use Rattle.net_world.proofs.Rooms.{whole_again}
 use Rattle.net_serve.proofs.Headlines.{headlines}
 use Rattle.net_serve.proofs.Blaming.{blamed}
@@ -15,8 +15,8 @@ returns-in-Ok-clause-headline g c =
     record { port = g.P.Door.Listener.port d; accepted = g.P.Door.Listener.accepted d; finished = g.P.Door.Listener.finished d; waiting = g.P.Door.Listener.waiting d; done = g.P.Door.Listener.done d } in
     let failed = g.P.Door.Listener.faults in
     let tells = IsSome (g.P.Ports.asked c.args.ports.now) in
-    let before : PortsTold g.row.P-Door.Denot = record { asked = g.P.Ports.asked c.args.ports.now; back = g.P.Ports.back c.args.ports.now } in
-    let after : PortsTold g.row.P-Door.Denot = record { asked = g.P.Ports.asked c.serve_behind-result.new.ports; back = g.P.Ports.back c.serve_behind-result.new.ports } in
+    let before : PortsTold g.row.P-Door.Denot = ports_told g.P.Ports.asked g.P.Ports.back g.P.Ports.queues c.args.ports.now in
+    let after : PortsTold g.row.P-Door.Denot = ports_told g.P.Ports.asked g.P.Ports.back g.P.Ports.queues c.serve_behind-result.new.ports in
     let r = c.in-Ok.ensures.ran in
     inr (headlines g.K.Disk.is_honest g.K.Disk.content g.K.Disk.moment g.K.Disk.image g.E.Entropy.left g.Q.Device.told g.X.Wire.frames g.X.Wire.counted g.K.Disk.faults g.K.Disk.armings g.E.Entropy.faults g.Q.Device.faults g.X.Wire.faults tell failed tells
     c.args.bench.now c.run_out.new.bench c.put_back.new.bench c.in-Ok.left.state c.serve_behind-result.new.state c.args.scenario c.args.workers c.args.connections c.args.port
