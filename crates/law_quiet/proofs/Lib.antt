@@ -41,3 +41,6 @@ pub mod ChainedSteps
 pub mod FullPools
 pub mod Giving
 pub mod RaisedTasks
+pub mod Changes
+pub mod LifeWalks
+pub mod Naming

@@ -8,3 +8,5 @@ pub mod Settled
 pub mod Chains
 pub mod Raised
 pub mod Flying
+pub mod Named
+pub mod Passes

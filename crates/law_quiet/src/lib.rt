@@ -6,6 +6,7 @@ mod chain_laws;
 mod delivery_laws;
 mod noted_laws;
 mod quiet_laws;
+mod rest_laws;
 mod settled_laws;
 mod still_laws;
 
@@ -17,6 +18,7 @@ pub use quiet_laws::{
     law_group_keys_are_ready, law_group_pools_are_full, law_keys_are_ready, law_pools_are_full,
     law_quiet_is_delivered,
 };
+pub use rest_laws::law_acknowledgements_name_frames;
 pub use settled_laws::{
     law_lines_leave_quiet, law_lines_raise_all, law_raised_and_settled_is_delivered,
     law_settled_is_delivered, law_settled_keys_are_given, law_silent_settle_is_a_round,
