@@ -42,7 +42,7 @@ count_found p j (y ∷ os) o h =
           omega (arith, all, rest, left)
     ] h
 
-any_found : (p : Outgoing → Bool) (j : ℕ) (os : List Outgoing) (o : Outgoing) → outgoing_of j os ≡ Some o → list_any p os ≡ true → (p o ≡ true) ⊎ (list_any p (without_frame j os) ≡ true)
+pub any_found : (p : Outgoing → Bool) (j : ℕ) (os : List Outgoing) (o : Outgoing) → outgoing_of j os ≡ Some o → list_any p os ≡ true → (p o ≡ true) ⊎ (list_any p (without_frame j os) ≡ true)
 any_found p j [] o h on = cc
 any_found p j (y ∷ os) o h on =
     elim (y.frame == j) as (λ t. (if t then Some y else outgoing_of j os) ≡ Some o → (p o ≡ true) ⊎ (list_any p (if t then os else y ∷ without_frame j os) ≡ true)) [

@@ -1,5 +1,5 @@
 -- After four silent rounds all facts whose routes are open are delivered, and their notes too.
-use Rattle.std.proofs.Common.{◌≡◌, ℕ, zero, suc, ◌<◌, ◌≤◌, true, List, [], ◌∷◌, refl, sym, ◌∙◌, ap, subst, arith, Some}
+use Rattle.std.proofs.Common.{◌≡◌, ℕ, zero, suc, ◌<◌, ◌≤◌, Bool, true, List, [], ◌∷◌, refl, sym, ◌∙◌, ap, subst, arith, Some}
 use Rattle.std.specs.Prelude.{◌==◌, nat_lt, reverse}
 use Rattle.std.specs.List.{list_any, AllByRecursion}
 use Rattle.std.proofs.lemmas.Bool.{lt-ltb, ltb-true}
@@ -13,6 +13,7 @@ use Rattle.net_model.specs.declared.fact.Fact.{Fact}
 use Rattle.net_model.specs.declared.fact.Fact.TheVariants.{Stored}
 use Rattle.net_model.specs.Table.{route_of, fact_at, is_secret}
 use Rattle.net_model.specs.Premises.{IsNetwork}
+use Rattle.net_model.specs.Events.{is_lane}
 use Rattle.net_model.specs.Site.{of_way, sender, receiver, count_up}
 use Rattle.net_model.specs.World.{Network, World, first}
 use Rattle.net_model.specs.Invariant.{Conserved}
@@ -22,12 +23,16 @@ use Rattle.law_locality.specs.Quiet.{IsQuiet}
 use Rattle.law_safety.proofs.Before.{route_differs}
 use Rattle.law_quiet.specs.Delivered.{IsDelivered, IsBack}
 use Rattle.law_quiet.specs.Noted.{AreNoted}
+use Rattle.law_quiet.specs.Still.{in_flight_for, IsStill}
 use Rattle.law_quiet.specs.Silent.{after_ticks, AreSilent, NoneAwaits, IsJoined, IsOpen}
 use Rattle.law_quiet.proofs.Routes.{next_reverse}
 use Rattle.law_quiet.proofs.Delivering.{arrived}
 use Rattle.law_quiet.proofs.Returning.{back}
 use Rattle.law_quiet.proofs.LeavingLanes.{counted}
-use Rattle.law_quiet.proofs.Rounds.{IsCalm, at_first, AreNodes, calm_round, ages, pays}
+use Rattle.law_quiet.proofs.Windows.{none_flies}
+use Rattle.law_quiet.proofs.Rounds.{IsCalm, at_first, AreNodes, calm_round, IsPaid, ages, pays}
+use Rattle.law_quiet.proofs.IdleLanes.{idles}
+use Rattle.law_quiet.proofs.StillRounds.{idle_still, still_round}
 
 -- In the first world nothing waits.
 pub first_quiet : IsQuiet first × NoneAwaits first
@@ -44,10 +49,10 @@ pub end_below : (d : Way) (a b n : ℕ) → a < b → b < n → of_way d a b < n
 end_below Up a b n h k = omega (arith, h, k)
 end_below Down a b n h k = k
 
-receiver_back : (net : Network) (l : Lane) → receiver net.site (reverse_lane l) ≡ sender net.site l
+pub receiver_back : (net : Network) (l : Lane) → receiver net.site (reverse_lane l) ≡ sender net.site l
 receiver_back net l = sym (sender_back net.site (reverse_lane l)) ∙ ap (sender net.site) (reverse_twice l)
 
-joined_back : (net : Network) (w : World) (u v : ℕ) → IsJoined net w u v → IsJoined net w v u
+pub joined_back : (net : Network) (w : World) (u v : ℕ) → IsJoined net w u v → IsJoined net w v u
 joined_back net w u v j = record {
   lane = reverse_lane j.lane;
   site = j.site;
@@ -89,20 +94,46 @@ module _ (net : Network) (network : IsNetwork net) (w after : World) (c : Conser
   pub calm4 : IsCalm net w after
   calm4 = subst (IsCalm net w) silent.1.1.1.1 (calm_round net network w all nodes three calm3 silent.1.1.1.0)
 
-  -- Who knows a fact has the acknowledgement of the next node, if a link to it is up.
+  -- A lane over a link that is up, whose sender is up.
+
+  module _ (l : Lane) (site : is_lane net.site l ≡ true) (joined : w.link_up l.link ≡ true) (alive : w.up (sender net.site l) ≡ true) where
+    listed : list_any (λ x. x == sender net.site l) all ≡ true
+    listed =
+        let link = network.site.ends l.link (ltb-true l.link net.site.links site) in
+        counted net.site.nodes (sender net.site l) (end_below l.way (net.site.low l.link) (net.site.high l.link) net.site.nodes link.order link.within)
+
+    -- Before the fourth round, what is in flight there has seen three plans.
+    old : in_flight_for 3 l (three.volatile (sender net.site l)) ≡ true
+    old =
+        let old1 = ages net network w l site joined alive 0 all nodes listed w calm0 silent.0 (at_first l (w.volatile (sender net.site l)).window) in
+        let old2 = ages net network w l site joined alive 1 all nodes listed one calm1 silent.1.0 old1 in
+        ages net network w l site joined alive 2 all nodes listed two calm2 silent.1.1.0 old2
+
+    -- Who knows a fact that goes this way has the acknowledgement of the next node.
+    paid : IsPaid net network w l site joined alive w.durable
+    paid = pays net network w l site joined alive all nodes listed three calm3 silent.1.1.1.0 old
+
+    -- After the fourth round the lane is still.
+    pub stills : IsStill net after l
+    stills =
+        let calm : IsCalm net three three = record {
+          conserved = calm3.conserved;
+          quiet = calm3.quiet;
+          table = record { facts = refl; known = refl; acked = refl };
+          up = refl;
+          links = refl;
+          awaits = calm3.awaits;
+        } in
+        let idle = idles net network three l site (ap (λ (f : ℕ → Bool). f l.link) calm3.links ∙ joined) (ap (λ (f : ℕ → Bool). f (sender net.site l)) calm3.up ∙ alive) all nodes listed three calm silent.1.1.1.0 refl in
+        let flies = none_flies l (three.volatile (sender net.site l)).window idle.due old in
+        subst (λ (x : World). IsStill net x l) silent.1.1.1.1 (still_round net network three l all nodes calm silent.1.1.1.0 (idle_still net three l calm3.conserved idle flies))
+
   answered : (n : Name) (f : Fact) → fact_at w.durable.facts n ≡ Some f → (u v : ℕ) → next_after (route_of f) u ≡ Some v → IsJoined net w u v → w.up u ≡ true →
       has (w.durable.known u) n ≡ true → has (w.durable.acked u) n ≡ true
   answered n f there u v next j alive knows =
-      let l : Lane = j.lane in
-      let link = network.site.ends l.link (ltb-true l.link net.site.links j.site) in
-      let listed : list_any (λ x. x == sender net.site l) all ≡ true = counted net.site.nodes (sender net.site l) (end_below l.way (net.site.low l.link) (net.site.high l.link) net.site.nodes link.order link.within) in
-      let up : w.up (sender net.site l) ≡ true = ap w.up j.from ∙ alive in
-      let old1 = ages net network w l j.site j.up up 0 all nodes listed w calm0 silent.0 (at_first l (w.volatile (sender net.site l)).window) in
-      let old2 = ages net network w l j.site j.up up 1 all nodes listed one calm1 silent.1.0 old1 in
-      let old3 = ages net network w l j.site j.up up 2 all nodes listed two calm2 silent.1.1.0 old2 in
-      let paid = pays net network w l j.site j.up up all nodes listed three calm3 silent.1.1.1.0 old3 in
-      let here : next_after (route_of f) (sender net.site l) ≡ Some (receiver net.site l) = ap (next_after (route_of f)) j.from ∙ next ∙ ap Some (sym j.to) in
-      subst (λ (x : ℕ). has (w.durable.acked x) n ≡ true) j.from (paid n f there here (subst (λ (x : ℕ). has (w.durable.known x) n ≡ true) (sym j.from) knows))
+      let here : next_after (route_of f) (sender net.site j.lane) ≡ Some (receiver net.site j.lane) = ap (next_after (route_of f)) j.from ∙ next ∙ ap Some (sym j.to) in
+      subst (λ (x : ℕ). has (w.durable.acked x) n ≡ true) j.from
+      (paid j.lane j.site j.up (ap w.up j.from ∙ alive) n f there here (subst (λ (x : ℕ). has (w.durable.known x) n ≡ true) (sym j.from) knows))
 
   pub there_after : (n : Name) (f : Fact) → fact_at w.durable.facts n ≡ Some f → fact_at after.durable.facts n ≡ Some f
   there_after n f there = ap (λ (facts : List Fact). fact_at facts n) calm4.table.facts ∙ there

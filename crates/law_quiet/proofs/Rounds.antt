@@ -76,7 +76,7 @@ module _ (net : Network) (network : IsNetwork net) (w : World) where
         ];
       }
 
-  calm_turn : (x : World) → IsCalm net w x → (v : ℕ) → is_node net v ≡ true → (x.up v ≡ true → IsIdle net x v) → IsCalm net w (if x.up v then ticked net x v else x)
+  pub calm_turn : (x : World) → IsCalm net w x → (v : ℕ) → is_node net v ≡ true → (x.up v ≡ true → IsIdle net x v) → IsCalm net w (if x.up v then ticked net x v else x)
   calm_turn x calm v node idle = by_test (IsCalm net w) (x.up v) _ _ (λ up. calm_tick x calm v node (idle up)) (λ down. calm)
 
   pub calm_round : (vs : List ℕ) → AreNodes vs → (x : World) → IsCalm net w x → AreIdle net x vs → IsCalm net w (after_ticks net x vs)
@@ -92,7 +92,7 @@ module _ (net : Network) (network : IsNetwork net) (w : World) where
     abbrev pub IsOld : ℕ → World → Type 0
     IsOld k x = in_flight_for k l (x.volatile from) ≡ true
 
-    puts : (x : World) → IsCalm net w x → is_node net from ≡ true → IsIdle net x from → PutsNothing net x l
+    pub puts : (x : World) → IsCalm net w x → is_node net from ≡ true → IsIdle net x from → PutsNothing net x l
     puts x calm node idle =
         puts_nothing net x from (planned net x network calm.conserved calm.quiet from node idle).said network l site refl (ap (λ (f : ℕ → Bool). f l.link) calm.links ∙ joined)
 
@@ -117,7 +117,7 @@ module _ (net : Network) (network : IsNetwork net) (w : World) where
     any_round k (v ∷ vs) nodes x calm idle old =
         any_round k vs nodes.1 (if x.up v then ticked net x v else x) (calm_turn x calm v nodes.0 idle.0) idle.1 (any_turn k x calm v nodes.0 idle.0 old)
 
-    alive_still : (x : World) → IsCalm net w x → x.up from ≡ true
+    pub alive_still : (x : World) → IsCalm net w x → x.up from ≡ true
     alive_still x calm = ap (λ (f : ℕ → Bool). f from) calm.up ∙ alive
 
     own_turn : (k : ℕ) (x : World) → IsCalm net w x → (v : ℕ) → v ≡ from → is_node net v ≡ true → (x.up v ≡ true → IsIdle net x v) → IsOld k x →
@@ -144,12 +144,12 @@ module _ (net : Network) (network : IsNetwork net) (w : World) where
     IsPaid d = (n : Name) (f : Fact) → fact_at d.facts n ≡ Some f → next_after (route_of f) from ≡ Some (receiver net.site l) → has (d.known from) n ≡ true →
         has (d.acked from) n ≡ true
 
-    paid_before : (a b : Durable) → IsSameTable a b → IsPaid b → IsPaid a
+    pub paid_before : (a b : Durable) → IsSameTable a b → IsPaid b → IsPaid a
     paid_before a b same paid n f there next knows =
         sym (ap (λ (acked : ℕ → List Name). has (acked from) n) same.acked) ∙
         paid n f (ap (λ (facts : List Fact). fact_at facts n) same.facts ∙ there) next (ap (λ (known : ℕ → List Name). has (known from) n) same.known ∙ knows)
 
-    none_awaited : (x : World) → IsCalm net w x → not (list_any (λ (t : Transmission). lane_eq t.lane l) (x.volatile from).awaiting) ≡ true
+    pub none_awaited : (x : World) → IsCalm net w x → not (list_any (λ (t : Transmission). lane_eq t.lane l) (x.volatile from).awaiting) ≡ true
     none_awaited x calm = ap (λ (ts : List Transmission). not (list_any (λ (t : Transmission). lane_eq t.lane l) ts)) (calm.awaits from)
 
     paid_here : (x : World) → IsCalm net w x → is_node net from ≡ true → IsIdle net x from → IsOld 3 x → IsPaid w.durable

@@ -88,10 +88,7 @@ module _ (net : Network) (w : World) (l : Lane) (puts : PutsNothing net w l) whe
   unfolding plan view_of masked
   older k h = all_older l _ (none_again l (map age vol.window) puts.due _) k vol.window h
 
-  module _ (c : Conserved net w) (awaits : none_awaits l vol ≡ true) (old : in_flight_for 3 l vol ≡ true) where
-    flies_none : list_any (flies_on l) vol.window ≡ false
-    flies_none = none_flies l vol.window (none_due (map age vol.window) l puts.due) old
-
+  module _ (c : Conserved net w) (awaits : none_awaits l vol ≡ true) where
     abbrev ack : PendingAck → Transmission
     ack a = record { lane = l; item = AckItem a.name; received_offset = Some a.offset }
 
@@ -118,12 +115,19 @@ module _ (net : Network) (w : World) (l : Lane) (puts : PutsNothing net w l) whe
     shaped : AllByRecursion (λ (e : Entry). IsShaped e.transmission) vol.window
     shaped = all_from (λ (e : Entry). IsShaped e.transmission) vol.window (λ i e at. ((c.volatile v).entries i e at).shaped)
 
-    pub still : IsStill net w l
-    still =
-        let both = none_joined (map ack (filter answers_here vol.pending_acks)) (map tell (filter is_new due)) nothing in
-        record {
-          owes = none_kept is_new due (all_so (λ (n : Name). is_new n ≡ true) due (λ n. ap not (none_in_window l n vol.window shaped flies_none)))
-              (none_mapped tell (filter is_new due) both.1);
-          flies = flies_none;
-          answers = filter_none answers_here vol.pending_acks (none_mapped ack (filter answers_here vol.pending_acks) both.0);
-        }
+    both : (map ack (filter answers_here vol.pending_acks) ≡ []) × (map tell (filter is_new due) ≡ [])
+    both = none_joined (map ack (filter answers_here vol.pending_acks)) (map tell (filter is_new due)) nothing
+
+    -- No acknowledgement is to be sent there. And nothing is owed there where nothing is in flight.
+
+    pub none_pend : list_any answers_here vol.pending_acks ≡ false
+    none_pend = filter_none answers_here vol.pending_acks (none_mapped ack (filter answers_here vol.pending_acks) both.0)
+
+    pub none_owed : list_any (flies_on l) vol.window ≡ false → due ≡ []
+    none_owed flies =
+        none_kept is_new due (all_so (λ (n : Name). is_new n ≡ true) due (λ n. ap not (none_in_window l n vol.window shaped flies))) (none_mapped tell (filter is_new due) both.1)
+
+    pub still : in_flight_for 3 l vol ≡ true → IsStill net w l
+    still old =
+        let flies = none_flies l vol.window (none_due (map age vol.window) l puts.due) old in
+        record { owes = none_owed flies; flies = flies; answers = none_pend }

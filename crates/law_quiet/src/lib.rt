@@ -18,7 +18,9 @@ pub use quiet_laws::{
     law_group_keys_are_ready, law_group_pools_are_full, law_keys_are_ready, law_pools_are_full,
     law_quiet_is_delivered,
 };
-pub use rest_laws::law_acknowledgements_name_frames;
+pub use rest_laws::{
+    law_acknowledgements_name_frames, law_four_rounds_are_a_rest, law_one_round_is_enough,
+};
 pub use settled_laws::{
     law_lines_leave_quiet, law_lines_raise_all, law_raised_and_settled_is_delivered,
     law_settled_is_delivered, law_settled_keys_are_given, law_silent_settle_is_a_round,

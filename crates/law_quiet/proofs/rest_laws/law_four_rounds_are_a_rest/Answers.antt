@@ -1,0 +1,9 @@
+use Rattle.law_quiet.proofs.Quieting.{stills}
+use Rattle.law_quiet.proofs.StillRounds.{first_still}
+use Rattle.law_quiet.proofs.rest_laws.law_four_rounds_are_a_rest.Goals as goal
+
+pub returns-clause-first : goal.returns-clause-first
+returns-clause-first c = first_still
+
+pub returns-clause-rounds : goal.returns-clause-rounds
+returns-clause-rounds c = λ net w after l network conserved quiet awaits silent site joined alive. stills net network w after conserved quiet awaits silent l site joined alive
