@@ -19,6 +19,24 @@ pub any_told : (items : List NumberedItem) → are_told (λ item. true) items �
 any_told [] = refl
 any_told (i ∷ items) = any_told items
 
+-- Of items that were told one after another.
+
+pub told_first : (good : Item → Bool) (xs ys : List NumberedItem) → are_told good (xs ++ ys) ≡ true → are_told good xs ≡ true
+told_first good [] ys h = refl
+told_first good (x ∷ xs) ys h =
+    and_both (good x.item) (are_told good xs) (and_left (good x.item) (are_told good (xs ++ ys)) h) (told_first good xs ys (and_right (good x.item) (are_told good (xs ++ ys)) h))
+
+pub told_later : (good : Item → Bool) (xs ys : List NumberedItem) → are_told good (xs ++ ys) ≡ true → are_told good ys ≡ true
+told_later good [] ys h = h
+told_later good (x ∷ xs) ys h = told_later good xs ys (and_right (good x.item) (are_told good (xs ++ ys)) h)
+
+pub same_told : (xs ys zs : List NumberedItem) → xs ++ ys ≡ xs ++ zs → ys ≡ zs
+same_told [] ys zs h = h
+same_told (x ∷ xs) ys zs h = same_told xs ys zs (tail h)
+  where
+    tail : {a b : NumberedItem} {us vs : List NumberedItem} → a ∷ us ≡ b ∷ vs → us ≡ vs
+    tail h = cc
+
 first_told : (good : Item → Bool) (number : ℕ) (items : List Item) (rest : List NumberedItem) → are_told good (numbered number items ++ rest) ≡ true → list_all good items ≡ true
 first_told good number [] rest h = refl
 first_told good number (i ∷ items) rest h =

@@ -60,3 +60,10 @@ pub mod StillRounds
 pub mod LastFlights
 pub mod RestingLanes
 pub mod LastRounds
+pub mod Wires
+pub mod Coverage
+pub mod PassAnswers
+pub mod RestSettles
+pub mod RestLines
+pub mod RestedScenarios
+pub mod Beginnings

@@ -1,5 +1,5 @@
 -- After starts of all nodes and `link-up` lines of all links that went well, all is up.
-use Rattle.std.proofs.Common.{◌≡◌, ℕ, Bool, true, false, ◌&&◌, List, [], ◌∷◌, ◌++◌, refl, sym, ◌∙◌, ap, subst, inl, inr}
+use Rattle.std.proofs.Common.{◌≡◌, ℕ, Bool, true, false, List, [], ◌∷◌, ◌++◌, refl, sym, ◌∙◌, ap, subst, inl, inr}
 use Rattle.std.specs.List.{list_any, list_all, AllByRecursion}
 use Rattle.net_model.specs.World.{Network, World, first}
 use Rattle.net_model.specs.Action.{Action, Recovery, Recovers, Start, SetLink}
@@ -7,19 +7,18 @@ use Rattle.net_model.specs.Step.{step}
 use Rattle.run_types.specs.declared.command.Command.{Command}
 use Rattle.run_types.specs.declared.command.Command.TheVariants as commands
 use Rattle.run_types.specs.declared.entry.Entry.TheVariants.{Line, Block}
-use Rattle.run_types.specs.declared.item.NumberedItem.{NumberedItem}
 use Rattle.run_model.specs.Turn.{HttpTexts, turn_of}
 use Rattle.run_model.specs.Outcomes.{start_items}
 use Rattle.run_model.specs.Lines.{script_of, settle}
 use Rattle.run_model.specs.Play.{Ending, Whole, CutShort, ForgedAt, NoMemory, Played, plain, play, IsPlay}
 use Rattle.run_model.specs.Report.{Task, Begins, Does, Performed, Acts, Together, perform, IsPerformed, with_rest, report, IsRunOf}
-use Rattle.law_base.proofs.Base.{and_left, and_right, or_cases, eq_from}
+use Rattle.law_base.proofs.Base.{or_cases, eq_from}
 use Rattle.law_quiet.specs.Chains.{IsAllUp}
 use Rattle.law_quiet.specs.Raised.{is_well, is_raising, IsRaising, starts_node, raises_link, has_line, EndsRaised}
-use Rattle.law_quiet.proofs.Leading.{are_told, leads_play}
+use Rattle.law_quiet.proofs.Leading.{are_told, told_first, told_later, same_told, leads_play}
 use Rattle.law_quiet.proofs.Raising.{IsHigher, higher_same, higher_then, IsUpAt, starts_well, IsUpLink, raises, settle_higher}
 use Rattle.law_quiet.proofs.Settles.{split, later_of}
-use Rattle.law_quiet.proofs.TaskRests.{whole_first}
+use Rattle.law_quiet.proofs.TaskRests.{whole_first, with_parts}
 
 asked_start : (a : Action) (v : ℕ) → plain a ≡ Start v (Recovers false) → (recovery : Recovery) × (a ≡ Start v recovery)
 asked_start (Start u recovery) v h = (recovery, cc)
@@ -78,15 +77,6 @@ module _ (http : HttpTexts) (net : Network) where
     one_task (Does (Block lines)) d w kind plays whole told = absurd kind
     one_task (Begins number v) d w kind plays whole told = absurd kind
 
-    told_first : (xs ys : List NumberedItem) → are_told is_well (xs ++ ys) ≡ true → are_told is_well xs ≡ true
-    told_first [] ys h = refl
-    told_first (x ∷ xs) ys h = let both = and_left (is_well x.item) (are_told is_well (xs ++ ys)) h in
-        ap (λ (b : Bool). b && are_told is_well xs) both ∙ told_first xs ys (and_right (is_well x.item) (are_told is_well (xs ++ ys)) h)
-
-    told_later : (xs ys : List NumberedItem) → are_told is_well (xs ++ ys) ≡ true → are_told is_well ys ≡ true
-    told_later [] ys h = h
-    told_later (x ∷ xs) ys h = told_later xs ys (and_right (is_well x.item) (are_told is_well (xs ++ ys)) h)
-
     then_raised : (w : World) (t : Task) (ts : List Task) (e : Ending) (p rest : Played) → p.ending ≡ e → IsRaised w p.world (λ q. has_line q t) → e ≡ Whole →
         IsRaised p.world rest.world (λ q. list_any (has_line q) ts) → IsRaised w (with_rest e p rest).world (λ q. list_any (has_line q) (t ∷ ts))
     then_raised w t ts Whole p rest is one whole more = record {
@@ -98,12 +88,6 @@ module _ (http : HttpTexts) (net : Network) where
     then_raised w t ts (ForgedAt number) p rest is one whole more = cc
     then_raised w t ts NoMemory p rest is one whole more = cc
 
-    parts : (e : Ending) (p rest : Played) → e ≡ Whole → ((with_rest e p rest).items ≡ p.items ++ rest.items) × ((with_rest e p rest).ending ≡ rest.ending)
-    parts Whole p rest is = (refl, refl)
-    parts CutShort p rest is = cc
-    parts (ForgedAt number) p rest is = cc
-    parts NoMemory p rest is = cc
-
     all_raised : (ts : List Task) (ds : List Performed) (w : World) → AllByRecursion IsRaising ts → IsRunOf http net workers w ts ds → (report http net w ts ds).ending ≡ Whole →
         are_told is_well (report http net w ts ds).items ≡ true → IsRaised w (report http net w ts ds).world (λ q. list_any (has_line q) ts)
     unfolding report
@@ -114,19 +98,12 @@ module _ (http : HttpTexts) (net : Network) where
         let p : Played = perform http net w t d in
         let rest : Played = report http net p.world ts ds in
         let end = whole_first p.ending p rest refl whole in
-        let both = parts p.ending p rest end in
+        let both = with_parts p.ending p rest end in
         let all = ap (are_told is_well) (sym both.0) ∙ told in
-        let one = one_task t d w each.0 plays.0 end (told_first p.items rest.items all) in
+        let one = one_task t d w each.0 plays.0 end (told_first is_well p.items rest.items all) in
         let more = all_raised ts ds p.world each.1 (later_of http net workers p.ending (IsRunOf http net workers p.world ts ds) (ds ≡ []) end plays.1) (sym both.1 ∙ whole)
-        (told_later p.items rest.items all) in
+        (told_later is_well p.items rest.items all) in
         then_raised w t ts p.ending p rest refl one end more
-
-    same_told : (xs ys zs : List NumberedItem) → xs ++ ys ≡ xs ++ zs → ys ≡ zs
-    same_told [] ys zs h = h
-    same_told (x ∷ xs) ys zs h = same_told xs ys zs (tail h)
-      where
-        tail : {a b : NumberedItem} {us vs : List NumberedItem} → a ∷ us ≡ b ∷ vs → us ≡ vs
-        tail h = cc
 
     pub all_up : (earlier raising : List Task) (done more : List Performed) → EndsRaised http net workers earlier raising done more →
         IsAllUp net (report http net first (earlier ++ raising) (done ++ more)).world

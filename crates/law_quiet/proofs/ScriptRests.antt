@@ -44,7 +44,7 @@ module _ (net : Network) (network : IsNetwork net) where
   any item = true
 
   -- Whether an action sends anything doesn't depend on what the outside answers.
-  plain_sends : (a : Action) → sends_nothing a ≡ sends_nothing (plain a)
+  pub plain_sends : (a : Action) → sends_nothing a ≡ sends_nothing (plain a)
   plain_sends (Start v recovery) = refl
   plain_sends (Crash v) = refl
   plain_sends (Arm v fault) = refl

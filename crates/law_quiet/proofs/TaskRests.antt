@@ -1,5 +1,5 @@
 -- After each task of a run that came to its end, the network is quiet.
-use Rattle.std.proofs.Common.{◌≡◌, ℕ, true, false, List, [], ◌∷◌, refl, sym, subst, Option, Some, None}
+use Rattle.std.proofs.Common.{◌≡◌, ℕ, true, false, List, [], ◌∷◌, ◌++◌, refl, sym, subst, Option, Some, None}
 use Rattle.net_model.specs.declared.event.Event.{Event}
 use Rattle.net_model.specs.declared.event.Event.TheVariants as events
 use Rattle.net_model.specs.declared.reply.Reply.{Reply}
@@ -29,7 +29,7 @@ use Rattle.law_quiet.proofs.Leading.{any_told, Leads, leads_play}
 use Rattle.law_quiet.proofs.ScriptRests.{Rests, rests_on, ticks_once, settles, takes_blocks, starts_once}
 
 -- The turn orders no frame.
-abbrev IsMute : Turn → Type 0
+abbrev pub IsMute : Turn → Type 0
 IsMute (Unasked items) = Unit {0}
 IsMute (Asked action items) = sends_nothing action ≡ true
 
@@ -40,11 +40,11 @@ request_mute (events.Status m s) h = refl
 request_mute (events.EncGroup m slaves n bits) h = refl
 request_mute _ h = cc
 
-http_mute : (v : ℕ) (response : Event → Reply → ℕ × List ℕ) (r : Request) → ((event : Event) → r ≡ Calls event → is_request event ≡ true) → IsMute (http_turn v response r)
+pub http_mute : (v : ℕ) (response : Event → Reply → ℕ × List ℕ) (r : Request) → ((event : Event) → r ≡ Calls event → is_request event ≡ true) → IsMute (http_turn v response r)
 http_mute v response (AnswersAtOnce status body) h = tt
 http_mute v response (Calls event) h = request_mute event (h event refl)
 
-stream_mute : (v : ℕ) (call : StreamCall) → sends_nothing (Ask v (event_of call) Ok) ≡ true
+pub stream_mute : (v : ℕ) (call : StreamCall) → sends_nothing (Ask v (event_of call) Ok) ≡ true
 stream_mute v (calls.Open source peer bits) = refl
 stream_mute v (calls.Join caller source stream bits) = refl
 stream_mute v (calls.Get caller stream index) = refl
@@ -56,6 +56,13 @@ whole_first Whole p rest is whole = is
 whole_first CutShort p rest is whole = whole
 whole_first (ForgedAt number) p rest is whole = whole
 whole_first NoMemory p rest is whole = whole
+
+-- What a task and those after it report together.
+pub with_parts : (e : Ending) (p rest : Played) → e ≡ Whole → ((with_rest e p rest).items ≡ p.items ++ rest.items) × ((with_rest e p rest).ending ≡ rest.ending) × ((with_rest e p rest).world ≡ rest.world)
+with_parts Whole p rest is = (refl, refl, refl)
+with_parts CutShort p rest is = cc
+with_parts (ForgedAt number) p rest is = cc
+with_parts NoMemory p rest is = cc
 
 module _ (http : HttpTexts) (net : Network) (network : IsNetwork net) where
   turn_rests : (w : World) → Rests net network w → (t : Turn) → IsMute t → Leads net (λ item. true) (Rests net network) w (script_of_turn t)

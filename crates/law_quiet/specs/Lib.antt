@@ -10,3 +10,4 @@ pub mod Raised
 pub mod Flying
 pub mod Named
 pub mod Passes
+pub mod Rested

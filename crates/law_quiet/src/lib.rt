@@ -20,6 +20,7 @@ pub use quiet_laws::{
 };
 pub use rest_laws::{
     law_acknowledgements_name_frames, law_four_rounds_are_a_rest, law_one_round_is_enough,
+    law_one_settle_is_enough,
 };
 pub use settled_laws::{
     law_lines_leave_quiet, law_lines_raise_all, law_raised_and_settled_is_delivered,

@@ -1,5 +1,5 @@
-// Laws of clean rests: after one of them a single silent round is enough.
-ghost use Rattle.std.specs.Prelude.{◌≡◌, List, true, Some};
+// Laws of clean rests: after one of them a single silent round, or a single `settle` line that reports nothing, is enough.
+ghost use Rattle.std.specs.Prelude.{◌≡◌, ◌++◌, ℕ, List, true, Some};
 ghost use Rattle.qkd_base.specs.Name.{Name};
 ghost use Rattle.qkd_base.specs.declared.lane.Lane.{Lane as LaneValue};
 ghost use Rattle.net_model.specs.declared.fact.Fact.{Fact as FactValue};
@@ -11,10 +11,16 @@ ghost use Rattle.net_model.specs.Premises.{IsNetwork};
 ghost use Rattle.net_model.specs.Action.{Action};
 ghost use Rattle.net_model.specs.Step.{step, is_enabled, run, IsRun};
 ghost use Rattle.net_model.specs.Invariant.{Conserved};
+ghost use Rattle.run_model.specs.Turn.{HttpTexts};
+ghost use Rattle.run_model.specs.Play.{Whole};
+ghost use Rattle.run_model.specs.Report.{Task, starts_from, Performed, report, IsRunOf};
 ghost use Rattle.law_locality.specs.Quiet.{IsQuiet};
+ghost use Rattle.law_quiet.specs.Between.{AskRequests};
 ghost use Rattle.law_quiet.specs.Delivered.{IsDelivered, IsBack};
 ghost use Rattle.law_quiet.specs.Named.{AreNaming};
 ghost use Rattle.law_quiet.specs.Passes.{IsStillAlong, IsRested, world_since};
+ghost use Rattle.law_quiet.specs.Rested.{KeepRest};
+ghost use Rattle.law_quiet.specs.Settled.{EndsSilent, world_before, world_after};
 ghost use Rattle.law_quiet.specs.Silent.{AreSilent, NoneAwaits, IsOpen};
 ghost use Rattle.law_quiet.specs.Still.{IsStill};
 
@@ -46,4 +52,31 @@ pub fn law_one_round_is_enough()
     ensures rests { (net : Network) (earlier later : List Action) (after : World) (f : FactValue) → IsNetwork net → IsRested net earlier later f →
         IsQuiet (world_since net earlier later) → AreSilent 1 net (world_since net earlier later) after → IsOpen net (world_since net earlier later) f →
         IsQuiet after × IsStillAlong net after f }
+{}
+
+/// A scenario's form of this. The lanes of a fact's route are still after the starts of all declared nodes, and after four
+/// `settle` lines that report nothing if the route was open before them. Then come lines other than `tick`, `start` and blocks, and none of their passes is refused. Then the
+/// first `settle` line that reports nothing is enough. Premises: the route is open before this line, and `http` lines ask only
+/// for what GS QKD 014 has.
+pub fn law_one_settle_is_enough()
+    ensures begun { (http : HttpTexts) (net : Network) (workers : ℕ) (node_lines : List ℕ) (done : List Performed) (f : FactValue) → IsNetwork net →
+        IsRunOf http net workers first (starts_from 0 node_lines) done → (report http net first (starts_from 0 node_lines) done).ending ≡ Whole →
+        IsStillAlong net (world_before http net (starts_from 0 node_lines) done) f }
+    ensures still { (http : HttpTexts) (net : Network) (workers : ℕ) (earlier settles : List Task) (done rest : List Performed) (f : FactValue) → IsNetwork net →
+        AskRequests http earlier → EndsSilent http net workers 4 earlier settles done rest → IsOpen net (world_before http net earlier done) f →
+        IsStillAlong net (world_after http net earlier settles done rest) f }
+    ensures arrives { (http : HttpTexts) (net : Network) (workers : ℕ) (earlier later settles : List Task) (done more rest : List Performed) (n : Name) (f : FactValue) → IsNetwork net →
+        AskRequests http (earlier ++ later) → KeepRest http net workers earlier later done more →
+        EndsSilent http net workers 1 (earlier ++ later) settles (done ++ more) rest → IsStillAlong net (world_before http net earlier done) f →
+        fact_at (world_before http net (earlier ++ later) (done ++ more)).durable.facts n ≡ Some f → IsOpen net (world_before http net (earlier ++ later) (done ++ more)) f →
+        IsDelivered (world_after http net (earlier ++ later) settles (done ++ more) rest) n f }
+    ensures returns { (http : HttpTexts) (net : Network) (workers : ℕ) (earlier later settles : List Task) (done more rest : List Performed) (n : Name) (f : FactValue) → IsNetwork net →
+        AskRequests http (earlier ++ later) → KeepRest http net workers earlier later done more →
+        EndsSilent http net workers 1 (earlier ++ later) settles (done ++ more) rest → IsStillAlong net (world_before http net earlier done) f →
+        fact_at (world_before http net (earlier ++ later) (done ++ more)).durable.facts n ≡ Some f → is_secret f ≡ true →
+        IsOpen net (world_before http net (earlier ++ later) (done ++ more)) f → IsBack net (world_after http net (earlier ++ later) settles (done ++ more) rest) n f }
+    ensures rests { (http : HttpTexts) (net : Network) (workers : ℕ) (earlier later settles : List Task) (done more rest : List Performed) (f : FactValue) → IsNetwork net →
+        AskRequests http (earlier ++ later) → KeepRest http net workers earlier later done more →
+        EndsSilent http net workers 1 (earlier ++ later) settles (done ++ more) rest → IsStillAlong net (world_before http net earlier done) f →
+        IsOpen net (world_before http net (earlier ++ later) (done ++ more)) f → IsStillAlong net (world_after http net (earlier ++ later) settles (done ++ more) rest) f }
 {}
