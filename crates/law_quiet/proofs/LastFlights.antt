@@ -1,5 +1,5 @@
 -- In a quiet network where a lane is idle both ways and all that was put there was passed, nothing is in flight there.
-use Rattle.std.proofs.Common.{◌≡◌, ℕ, ◌<◌, Bool, true, false, ◌&&◌, List, [], ◌∷◌, map, refl, sym, ◌∙◌, ap, subst, Option, Some, None, inl, inr}
+use Rattle.std.proofs.Common.{◌≡◌, ℕ, ◌<◌, Bool, true, false, not, ◌&&◌, List, [], ◌∷◌, map, refl, sym, ◌∙◌, ap, subst, arith, Option, Some, None, inl, inr}
 use Rattle.std.specs.Prelude.{◌==◌, zero, suc, length, slice_get, is_none}
 use Rattle.std.specs.List.{list_any}
 use Rattle.std.proofs.lemmas.Option.{slice_get_within}
@@ -12,7 +12,7 @@ use Rattle.net_model.specs.World.{Network, World, Allocation, Transmission, Entr
 use Rattle.net_model.specs.Window.{offset_eq, is_data_entry, age, is_acked_item}
 use Rattle.net_model.specs.Windows.{IsShaped, IsEntry}
 use Rattle.net_model.specs.Invariant.{Conserved}
-use Rattle.law_base.proofs.Base.{by_test, and_left, and_right, and_both, or_cases, or_left, or_right, or_both, not_false, not_both, lane_eq_from}
+use Rattle.law_base.proofs.Base.{by_test, and_left, and_right, and_both, or_cases, or_left, or_right, or_both, not_false, not_both, eq_from, lane_eq_from}
 use Rattle.law_base.proofs.Lists.{all_at, any_at, any_of, offset_from, reverse_twice}
 use Rattle.law_base.proofs.Owners.{same_frame}
 use Rattle.law_invariant.proofs.Outgoing.{sender_back}
@@ -22,7 +22,8 @@ use Rattle.law_quiet.specs.Named.{HasFrameOf, AnswersFrameOf, NamesItsFrame, Are
 use Rattle.law_quiet.specs.Still.{flies_on}
 use Rattle.law_quiet.proofs.Hearing.{is_sent_for, pends_for, is_answered}
 use Rattle.law_quiet.proofs.IdleLanes.{IsIdleOn}
-use Rattle.law_quiet.proofs.Passing.{is_fact, is_ack, fact_done, ack_done, IsPassing}
+use Rattle.law_quiet.proofs.FreshFrames.{IsNewEntry}
+use Rattle.law_quiet.proofs.Passing.{is_fact, is_ack, is_at, is_new_ack, sends_fact, fact_done, ack_done, IsPassing}
 use Rattle.law_quiet.proofs.Tracks.{puts_again, tells_again, again_in, IsFollowed, Due, Again, Waits, Done, IsEntryKept, on_wire}
 
 -- An entry that is due stays so in the next plan.
@@ -76,7 +77,7 @@ module _ (net : Network) (w : World) (c : Conserved net w) (quiet : IsQuiet w) (
     abbrev to : ℕ
     to = sender net.site (reverse_lane l)
 
-    module _ (i : ℕ) (e : Entry) (at : slice_get (w.volatile from).window i ≡ Some e) (on : lane_eq e.transmission.lane l ≡ true) (item : e.transmission.item ≡ DataItem (item_name e.transmission.item)) where
+    module _ (i : ℕ) (e : Entry) (at : slice_get (w.volatile from).window i ≡ Some e) (flies : flies_on l e ≡ true) (on : lane_eq e.transmission.lane l ≡ true) (item : e.transmission.item ≡ DataItem (item_name e.transmission.item)) where
       entry : IsEntry net w from e
       entry = (c.volatile from).entries i e at
 
@@ -91,10 +92,21 @@ module _ (net : Network) (w : World) (c : Conserved net w) (quiet : IsQuiet w) (
         heard : a.transmission.received_offset ≡ Some e.offset
         heard = offset_from a.transmission.received_offset (Some e.offset) (and_right (lane_eq a.transmission.lane (reverse_lane l)) (offset_eq a.transmission.received_offset (Some e.offset)) answers)
 
+        -- It answers none of the older frames, of which this isn't one.
+        not_older : list_any (λ (b : Allocation). b.offset == e.offset) h.older ≡ false
+        not_older = not_false (list_any (λ (b : Allocation). b.offset == e.offset) h.older) (λ was.
+            let x = any_at (λ (b : Allocation). b.offset == e.offset) h.older was in
+            let mine = all_at (IsNewEntry l (length h.older) (w.frames l)) (w.volatile from).window i e h.fresh.entries at flies in
+            let same : x.0 ≡ mine.number =
+            same_frame w.durable.facts (w.durable.own l) (w.frames l) _ (c.now.owned l) x.0 mine.number x.1 mine.frame (h.stay x.0 x.1 x.2) mine.there (eq_from x.1.offset e.offset x.3 ∙ sym mine.place) in
+            let within = slice_get_within h.older x.0 x.1 x.2 in
+            let new = mine.new in
+            omega (arith, same, within, new))
+
         kept : IsFollowed (again_in net (reverse_lane l) w) (passed (reverse_lane l)) (ack_done net l w) a
         kept =
-            all_at (IsEntryKept (reverse_lane l) is_ack (again_in net (reverse_lane l) w) (passed (reverse_lane l)) (ack_done net l w)) (w.volatile to).window j a h.acks.entries there lane
-            (ap is_ack (ack_of a.transmission e.offset answer.shaped heard))
+            all_at (IsEntryKept (reverse_lane l) (is_new_ack h.older) (again_in net (reverse_lane l) w) (passed (reverse_lane l)) (ack_done net l w)) (w.volatile to).window j a h.acks.entries there lane
+            (and_both (is_ack a.transmission.item) _ (ap is_ack (ack_of a.transmission e.offset answer.shaped heard)) (ap not (ap (is_at h.older) heard ∙ not_older)))
 
         -- The acknowledgement names the fact.
         named : e.transmission.item ≡ DataItem (item_name a.transmission.item)
@@ -145,5 +157,5 @@ module _ (net : Network) (w : World) (c : Conserved net w) (quiet : IsQuiet w) (
         let e : Entry = x.1 in
         let on = and_left (lane_eq e.transmission.lane l) (is_data_entry e) x.3 in
         let item = fact_of e.transmission ((c.volatile from).entries x.0 e x.2).shaped (and_right (lane_eq e.transmission.lane l) (is_data_entry e) x.3) in
-        not_followed x.0 e x.2 on item
-        (all_at (IsEntryKept l is_fact (again_in net l w) (passed l) (fact_done net l w)) (w.volatile from).window x.0 e h.facts.entries x.2 on (ap is_fact item)))
+        not_followed x.0 e x.2 x.3 on item
+        (all_at (IsEntryKept l sends_fact (again_in net l w) (passed l) (fact_done net l w)) (w.volatile from).window x.0 e h.facts.entries x.2 on (ap is_fact item)))

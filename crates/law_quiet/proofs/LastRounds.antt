@@ -27,7 +27,7 @@ use Rattle.law_quiet.specs.Delivered.{IsDelivered, IsBack}
 use Rattle.law_quiet.specs.Flying.{AreUnanswered}
 use Rattle.law_quiet.specs.Named.{AreNaming}
 use Rattle.law_quiet.specs.Noted.{AreNoted, IsNoted}
-use Rattle.law_quiet.specs.Passes.{IsStillAlong, IsRested, world_since}
+use Rattle.law_quiet.specs.Passes.{IsClearAlong, IsStillAlong, IsRested, world_since}
 use Rattle.law_quiet.specs.Silent.{AreSilent, NoneAwaits, IsJoined, IsOpen}
 use Rattle.law_quiet.specs.Still.{flies_on, IsStill}
 use Rattle.law_quiet.proofs.AwaitedRuns.{run_awaited, quiet_awaits}
@@ -58,7 +58,7 @@ along net network w f way P holds u v next l site from to =
     let there : w.up (receiver net.site l) ≡ true = ap w.up to ∙ (way.nodes u v next).1 in
     (holds l site up alive there, holds (reverse_lane l) site up (ap w.up (sender_back net.site l) ∙ there) (ap w.up (receiver_back net l) ∙ alive))
 
--- What is known of a world w after a run, and of lanes that were still in a world before it.
+-- What is known of a world w after a run, and of lanes on which nothing was in flight in a world before it.
 pub record IsSince (net : Network) (begin w : World) : Type 0 where
   pub kept : Conserved net w
   pub unanswered : AreUnanswered w
@@ -66,7 +66,7 @@ pub record IsSince (net : Network) (begin w : World) : Type 0 where
   pub noted : IsNoted w
   pub quiet : IsQuiet w
   pub awaits : NoneAwaits w
-  pub passes : (l : Lane) → IsStill net begin l → w.up (sender net.site l) ≡ true → w.up (receiver net.site l) ≡ true → IsAllPassed net w l
+  pub passes : (l : Lane) → list_any (flies_on l) (begin.volatile (sender net.site l)).window ≡ false → w.up (sender net.site l) ≡ true → w.up (receiver net.site l) ≡ true → IsAllPassed net w l
 
 module _ (net : Network) (network : IsNetwork net) (begin w : World) (s : IsSince net begin w) (after : World) (silent : AreSilent 1 net w after) where
   abbrev all : List ℕ
@@ -89,10 +89,10 @@ module _ (net : Network) (network : IsNetwork net) (begin w : World) (s : IsSinc
       idles net network w l site joined alive all nodes listed w calm0 silent.0 refl
 
   module _ (l : Lane) (site : is_lane net.site l ≡ true) (joined : w.link_up l.link ≡ true) (alive : w.up (sender net.site l) ≡ true) (there : w.up (receiver net.site l) ≡ true)
-      (still : IsStill net begin l) where
+      (clear : list_any (flies_on l) (begin.volatile (sender net.site l)).window ≡ false) where
     nothing_flies : list_any (flies_on l) (w.volatile (sender net.site l)).window ≡ false
     nothing_flies =
-        let p = s.passes l still alive there in
+        let p = s.passes l clear alive there in
         none_flies net w s.kept s.quiet s.unanswered s.naming l p.passed p.passing (idle l site joined alive) (idle (reverse_lane l) site joined (ap w.up (sender_back net.site l) ∙ there))
         (λ k less. p.all l k site less) (λ k less. p.all (reverse_lane l) k site less)
 
@@ -105,7 +105,7 @@ module _ (net : Network) (network : IsNetwork net) (begin w : World) (s : IsSinc
         has (w.durable.acked (sender net.site l)) n ≡ true
     paid = (idle l site joined alive).paid nothing_flies
 
-  answered : (f : Fact) → IsStillAlong net begin f → (n : Name) → fact_at w.durable.facts n ≡ Some f → (u v : ℕ) → next_after (route_of f) u ≡ Some v → IsJoined net w u v → w.up u ≡ true → w.up v ≡ true →
+  answered : (f : Fact) → IsClearAlong net begin f → (n : Name) → fact_at w.durable.facts n ≡ Some f → (u v : ℕ) → next_after (route_of f) u ≡ Some v → IsJoined net w u v → w.up u ≡ true → w.up v ≡ true →
       has (w.durable.known u) n ≡ true → has (w.durable.acked u) n ≡ true
   answered f still n there u v next j alive alive' knows =
       let l : Lane = j.lane in
@@ -116,7 +116,7 @@ module _ (net : Network) (network : IsNetwork net) (begin w : World) (s : IsSinc
   pub there_after : (n : Name) (f : Fact) → fact_at w.durable.facts n ≡ Some f → fact_at after.durable.facts n ≡ Some f
   there_after n f there = ap (λ (facts : List Fact). fact_at facts n) calm1.table.facts ∙ there
 
-  pub arrives : (n : Name) (f : Fact) → IsStillAlong net begin f → fact_at w.durable.facts n ≡ Some f → IsOpen net w f → IsDelivered after n f
+  pub arrives : (n : Name) (f : Fact) → IsClearAlong net begin f → fact_at w.durable.facts n ≡ Some f → IsOpen net w f → IsDelivered after n f
   arrives n f still there way =
       arrived net after calm1.conserved n f (there_after n f there)
       (λ u v next knows. ap (λ (acked : ℕ → List Name). has (acked u) n) calm1.table.acked ∙
@@ -132,20 +132,20 @@ module _ (net : Network) (network : IsNetwork net) (begin w : World) (s : IsSinc
         links = λ u v next. joined_back net w v u (way.links v u (next_reverse (route_of f) differ u v next));
       }
 
-  still_back : (n note : Name) (f : Fact) → fact_at w.durable.facts n ≡ Some f → IsStillAlong net begin f → IsStillAlong net begin (Stored note n (reverse (route_of f)))
+  still_back : (n note : Name) (f : Fact) → fact_at w.durable.facts n ≡ Some f → IsClearAlong net begin f → IsClearAlong net begin (Stored note n (reverse (route_of f)))
   still_back n note f there still u v next l site from to =
       let differ = route_differs f (s.kept.now.table n f there).ranged in
       let x = still v u (next_reverse (route_of f) differ u v next) (reverse_lane l) site (sender_back net.site l ∙ to) (receiver_back net l ∙ from) in
-      (subst (IsStill net begin) (reverse_twice l) x.1, x.0)
+      (subst (λ (m : Lane). list_any (flies_on m) (begin.volatile (sender net.site m)).window ≡ false) (reverse_twice l) x.1, x.0)
 
   -- The lanes of the route are still again.
-  pub rests : (f : Fact) → IsStillAlong net begin f → IsOpen net w f → IsStillAlong net after f
+  pub rests : (f : Fact) → IsClearAlong net begin f → IsOpen net w f → IsStillAlong net after f
   rests f still way u v next l site from to =
-      let again = along net network w f way (λ l. IsStill net begin l → IsStill net after l) (λ l site up alive there was. still_again l site up alive there was) u v next l site from to in
+      let again = along net network w f way (λ l. list_any (flies_on l) (begin.volatile (sender net.site l)).window ≡ false → IsStill net after l) (λ l site up alive there was. still_again l site up alive there was) u v next l site from to in
       let was = still u v next l site from to in
       (again.0 was.0, again.1 was.1)
 
-  pub returns : (n : Name) (f : Fact) → IsStillAlong net begin f → fact_at w.durable.facts n ≡ Some f → is_secret f ≡ true → IsOpen net w f → IsBack net after n f
+  pub returns : (n : Name) (f : Fact) → IsClearAlong net begin f → fact_at w.durable.facts n ≡ Some f → is_secret f ≡ true → IsOpen net w f → IsBack net after n f
   returns n f still there secret way =
       let noted' : AreNoted after.durable.facts after.durable.known =
       subst (λ (facts : List Fact). AreNoted facts after.durable.known) (sym calm1.table.facts)
@@ -169,6 +169,6 @@ module _ (net : Network) (earlier later : List Action) (f : Fact) (network : IsN
     noted = from_whole IsNoted (run_noted net (earlier ++ later) network whole);
     quiet = quiet;
     awaits = from_whole (λ (x : World). IsQuiet x → NoneAwaits x) (quiet_awaits net (run net first (earlier ++ later)) (run_awaited net (earlier ++ later) network whole)) quiet;
-    passes = λ l still alive there.
-        run_passes net network l later (run net first earlier) (run_keeps net earlier network rested.before) rested.quiet still rested.since rested.passes alive there;
+    passes = λ l clear alive there.
+        run_passes net network l later (run net first earlier) (run_keeps net earlier network rested.before) rested.quiet (run_names net earlier network rested.before) clear rested.since rested.passes alive there;
   }

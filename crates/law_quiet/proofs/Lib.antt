@@ -52,6 +52,7 @@ pub mod TrackSteps
 pub mod Hearing
 pub mod HearingSteps
 pub mod HeardFrames
+pub mod FreshFrames
 pub mod Passing
 pub mod PassingRuns
 pub mod IdleLanes

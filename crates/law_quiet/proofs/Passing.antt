@@ -1,6 +1,6 @@
 -- While both ends of a lane stay up, each fact that flies on it waits to be passed, or was heard, or was acknowledged; and so does
 -- each acknowledgement that goes back.
-use Rattle.std.proofs.Common.{◌≡◌, ℕ, Bool, true, false, ◌&&◌, ◌||◌, List, [], ◌∷◌, ◌++◌, refl, sym, ◌∙◌, ap, subst, Some, None, inl, inr}
+use Rattle.std.proofs.Common.{◌≡◌, ℕ, Bool, true, false, not, ◌&&◌, ◌||◌, List, [], ◌∷◌, ◌++◌, length, refl, sym, ◌∙◌, ap, subst, Option, Some, None, inl, inr}
 use Rattle.std.specs.Prelude.{◌==◌, slice_get, if◌then◌else◌}
 use Rattle.std.specs.List.{list_any}
 use Rattle.qkd_base.specs.Name.{Name, has}
@@ -15,7 +15,7 @@ use Rattle.net_model.specs.Premises.{IsNetwork}
 use Rattle.net_model.specs.Item.{Item, DataItem, AckItem, item_name, data_payload, payload}
 use Rattle.net_model.specs.Table.{name_of, route_of, fact_at}
 use Rattle.net_model.specs.Site.{sender, receiver}
-use Rattle.net_model.specs.World.{Network, World, Allocation}
+use Rattle.net_model.specs.World.{Network, World, Allocation, Transmission}
 use Rattle.net_model.specs.Needed.{masked, view_of}
 use Rattle.net_model.specs.Records.{apply_record, replay}
 use Rattle.net_model.specs.Knowledge.{IsAdjacent, MayCarry}
@@ -38,6 +38,7 @@ use Rattle.law_quiet.proofs.Delivering.{has_answer}
 use Rattle.law_quiet.proofs.Hearing.{is_answered, heard_here}
 use Rattle.law_quiet.proofs.HearingSteps.{step_acked, step_answered}
 use Rattle.law_quiet.proofs.HeardFrames.{IsHeardFrame, delivered}
+use Rattle.law_quiet.proofs.FreshFrames.{IsFresh, step_fresh}
 use Rattle.law_quiet.proofs.Tracks.{IsTracked, done_more, now_passed}
 use Rattle.law_quiet.proofs.TrackSteps.{step_kept}
 
@@ -58,9 +59,25 @@ fact_done net l w i x = has (w.durable.acked (sender net.site l)) (item_name i) 
 abbrev pub ack_done : Network → Lane → World → Item → ℕ → Bool
 ack_done net l w i x = has (w.durable.acked (sender net.site l)) (item_name i)
 
+-- The transmission acknowledges a frame that is none of these.
+
+abbrev pub is_at : List Allocation → Option ℕ → Bool
+is_at frames None = false
+is_at frames (Some x) = list_any (λ (a : Allocation). a.offset == x) frames
+
+abbrev pub is_new_ack : List Allocation → Transmission → Bool
+is_new_ack older t = is_ack t.item && not (is_at older t.received_offset)
+
+abbrev pub sends_fact : Transmission → Bool
+sends_fact t = is_fact t.item
+
+-- Of the lane's frames, the older ones don't fly.
 pub record IsPassing (net : Network) (l : Lane) (passed : Lane → ℕ → Bool) (w : World) : Type 0 where
-  pub facts : IsTracked net l is_fact (passed l) (fact_done net l w) w
-  pub acks : IsTracked net (reverse_lane l) is_ack (passed (reverse_lane l)) (ack_done net l w) w
+  pub older : List Allocation
+  pub stay : (j : ℕ) (a : Allocation) → slice_get older j ≡ Some a → slice_get (w.frames l) j ≡ Some a
+  pub fresh : IsFresh net l (length older) w
+  pub facts : IsTracked net l sends_fact is_fact (passed l) (fact_done net l w) w
+  pub acks : IsTracked net (reverse_lane l) (is_new_ack older) is_ack (passed (reverse_lane l)) (ack_done net l w) w
 
 -- The numbers that were passed, with those of one more action.
 abbrev pub with_pass : Network → World → Action → (Lane → ℕ → Bool) → Lane → ℕ → Bool
@@ -142,25 +159,25 @@ module _ (net : Network) (w : World) (network : IsNetwork net) (c : Conserved ne
 
   -- The action passes a frame, or none.
 
-  module _ (m : Lane) (class : Item → Bool) (passed : Lane → ℕ → Bool) (done : Item → ℕ → Bool) where
-    relabel : (x : World) (f g : ℕ → Bool) → ((k : ℕ) → f k ≡ g k) → IsTracked net m class f done x → IsTracked net m class g done x
-    relabel x f g same h = subst (λ (p : ℕ → Bool). IsTracked net m class p done x) (λ i. λ k. same k i) h
+  module _ (m : Lane) (class : Transmission → Bool) (kind : Item → Bool) (of_kind : (t : Transmission) → class t ≡ true → kind t.item ≡ true) (passed : Lane → ℕ → Bool) (done : Item → ℕ → Bool) where
+    relabel : (x : World) (f g : ℕ → Bool) → ((k : ℕ) → f k ≡ g k) → IsTracked net m class kind f done x → IsTracked net m class kind g done x
+    relabel x f g same h = subst (λ (p : ℕ → Bool). IsTracked net m class kind p done x) (λ i. λ k. same k i) h
 
-    delivers : (l : Lane) (number : ℕ) (environment : Environment) → IsStep net w (Deliver l number environment) → IsTracked net m class (passed m) done (step net w (Deliver l number environment)).0 →
-        ((k : ℕ) (h : IsHeardFrame net w m k (step net w (Deliver l number environment)).0) → class h.frame.item ≡ true → done h.frame.item h.frame.offset ≡ true) →
-        IsTracked net m class (with_pass net w (Deliver l number environment) passed m) done (step net w (Deliver l number environment)).0
+    delivers : (l : Lane) (number : ℕ) (environment : Environment) → IsStep net w (Deliver l number environment) → IsTracked net m class kind (passed m) done (step net w (Deliver l number environment)).0 →
+        ((k : ℕ) (h : IsHeardFrame net w m k (step net w (Deliver l number environment)).0) → kind h.frame.item ≡ true → done h.frame.item h.frame.offset ≡ true) →
+        IsTracked net m class kind (with_pass net w (Deliver l number environment) passed m) done (step net w (Deliver l number environment)).0
     unfolding step
     delivers l number environment may h settles =
         let a : Action = Deliver l number environment in
         let new : World = (step net w a).0 in
-        elim (is_heard (step net w a).1) as (λ t. is_heard (step net w a).1 ≡ t → IsTracked net m class (λ k. passed m k || ((lane_eq l m && (k == number)) && t)) done new) [
+        elim (is_heard (step net w a).1) as (λ t. is_heard (step net w a).1 ≡ t → IsTracked net m class kind (λ k. passed m k || ((lane_eq l m && (k == number)) && t)) done new) [
           | false ↦ λ deaf. relabel new (passed m) (λ k. passed m k || ((lane_eq l m && (k == number)) && false)) (λ k. sym (or_same (passed m k) _ (never (lane_eq l m && (k == number))))) h
-          | true ↦ λ heard. elim (lane_eq l m) as (λ t. lane_eq l m ≡ t → IsTracked net m class (λ k. passed m k || ((t && (k == number)) && true)) done new) [
+          | true ↦ λ heard. elim (lane_eq l m) as (λ t. lane_eq l m ≡ t → IsTracked net m class kind (λ k. passed m k || ((t && (k == number)) && true)) done new) [
             | false ↦ λ apart. relabel new (passed m) (λ k. passed m k || false) (λ k. sym (or_same (passed m k) false refl)) h
             | true ↦ λ on.
                 let frame : IsHeardFrame net w m number new = subst (λ (x : Lane). IsHeardFrame net w x number new) (lane_eq_from l m on) (delivered net w l environment number heard) in
                 relabel new (λ k. passed m k || (k == number)) (λ k. passed m k || ((k == number) && true)) (λ k. ap (λ (b : Bool). passed m k || b) (sym (still (k == number))))
-                (now_passed net m class (passed m) done new (step_keeps net w a network may c) number frame.j frame.frame
+                (now_passed net m class kind of_kind (passed m) done new (step_keeps net w a network may c) number frame.j frame.frame
                 ((step_more net w a).wire m number frame.j frame.put) ((step_more net w a).frames m frame.j frame.frame frame.framed) (settles number frame) h)
           ] refl
         ] refl
@@ -173,9 +190,9 @@ module _ (net : Network) (w : World) (network : IsNetwork net) (c : Conserved ne
         still true = refl
         still false = refl
 
-    pub passes : (a : Action) → IsStep net w a → IsTracked net m class (passed m) done (step net w a).0 →
-        ((k : ℕ) (h : IsHeardFrame net w m k (step net w a).0) → class h.frame.item ≡ true → done h.frame.item h.frame.offset ≡ true) →
-        IsTracked net m class (with_pass net w a passed m) done (step net w a).0
+    pub passes : (a : Action) → IsStep net w a → IsTracked net m class kind (passed m) done (step net w a).0 →
+        ((k : ℕ) (h : IsHeardFrame net w m k (step net w a).0) → kind h.frame.item ≡ true → done h.frame.item h.frame.offset ≡ true) →
+        IsTracked net m class kind (with_pass net w a passed m) done (step net w a).0
     passes (Deliver l number environment) may h settles = delivers l number environment may h settles
     passes a may h settles = relabel (step net w a).0 (passed m) (with_pass net w a passed m) (λ k. sym (or_same (passed m k) _ refl)) h
 
@@ -190,6 +207,9 @@ module _ (net : Network) (w : World) (network : IsNetwork net) (c : Conserved ne
     back : receiver net.site (reverse_lane l) ≡ sender net.site l
     back = sym (sender_back net.site (reverse_lane l)) ∙ ap (sender net.site) (reverse_twice l)
 
+    new_ack : (t : Transmission) → is_new_ack h.older t ≡ true → is_ack t.item ≡ true
+    new_ack t of = and_left (is_ack t.item) _ of
+
     module _ (alive : new.up (sender net.site l) ≡ true) (there : new.up (receiver net.site l) ≡ true) where
       more_done : (i : Item) (x : ℕ) → fact_done net l w i x ≡ true → fact_done net l new i x ≡ true
       more_done i x is = elim (or_cases (has (w.durable.acked (sender net.site l)) (item_name i)) _ is) [
@@ -197,19 +217,25 @@ module _ (net : Network) (w : World) (network : IsNetwork net) (c : Conserved ne
         | inr heard ↦ or_right (has (new.durable.acked (sender net.site l)) (item_name i)) _ (step_answered net w network c (receiver net.site l) l x heard a other enabled there)
       ]
 
-      facts_pass : IsTracked net l is_fact (with_pass net w a passed l) (fact_done net l new) new
+      facts_pass : IsTracked net l sends_fact is_fact (with_pass net w a passed l) (fact_done net l new) new
       facts_pass =
-          passes l is_fact passed (fact_done net l new) a may
-          (step_kept net w c l is_fact (passed l) (fact_done net l new) (done_more net l is_fact (passed l) (fact_done net l w) (fact_done net l new) w more_done h.facts) network a other enabled alive)
+          passes l sends_fact is_fact (λ t of. of) passed (fact_done net l new) a may
+          (step_kept net w c l sends_fact is_fact (λ t of. of) (passed l) (fact_done net l new) (done_more net l sends_fact is_fact (passed l) (fact_done net l w) (fact_done net l new) w more_done h.facts) network a other enabled alive)
           (λ k frame of. or_right (has (new.durable.acked (sender net.site l)) (item_name frame.frame.item)) _ (fact_settles l k new frame of))
 
-      acks_pass : IsTracked net (reverse_lane l) is_ack (with_pass net w a passed (reverse_lane l)) (ack_done net l new) new
+      acks_pass : IsTracked net (reverse_lane l) (is_new_ack h.older) is_ack (with_pass net w a passed (reverse_lane l)) (ack_done net l new) new
       acks_pass =
-          passes (reverse_lane l) is_ack passed (ack_done net l new) a may
-          (step_kept net w c (reverse_lane l) is_ack (passed (reverse_lane l)) (ack_done net l new)
-          (done_more net (reverse_lane l) is_ack (passed (reverse_lane l)) (ack_done net l w) (ack_done net l new) w
+          passes (reverse_lane l) (is_new_ack h.older) is_ack new_ack passed (ack_done net l new) a may
+          (step_kept net w c (reverse_lane l) (is_new_ack h.older) is_ack new_ack (passed (reverse_lane l)) (ack_done net l new)
+          (done_more net (reverse_lane l) (is_new_ack h.older) is_ack (passed (reverse_lane l)) (ack_done net l w) (ack_done net l new) w
           (λ i x is. step_acked net w network c (sender net.site l) (item_name i) is a other enabled) h.acks) network a other enabled (ap new.up (sender_back net.site l) ∙ there))
           (λ k frame of. ap (λ (u : ℕ). has (new.durable.acked u) (item_name frame.frame.item)) (sym back) ∙ ack_settles (reverse_lane l) k new frame of)
 
       pub step_passing : IsPassing net l (with_pass net w a passed) new
-      step_passing = record { facts = facts_pass; acks = acks_pass }
+      step_passing = record {
+        older = h.older;
+        stay = λ j x at. (step_more net w a).frames l j x (h.stay j x at);
+        fresh = step_fresh net w network c l (length h.older) h.fresh a other enabled;
+        facts = facts_pass;
+        acks = acks_pass;
+      }

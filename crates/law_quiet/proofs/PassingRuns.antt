@@ -15,7 +15,8 @@ use Rattle.law_base.proofs.Base.{split, or_left, or_right, and_left, and_right, 
 use Rattle.law_invariant.proofs.Steps.{step_keeps}
 use Rattle.law_locality.specs.Quiet.{IsQuiet}
 use Rattle.law_quiet.specs.Passes.{is_start, is_pass_of, is_heard, was_passed, PassesAll}
-use Rattle.law_quiet.specs.Still.{IsStill}
+use Rattle.law_quiet.specs.Named.{AreNaming}
+use Rattle.law_quiet.specs.Still.{flies_on}
 use Rattle.law_quiet.proofs.HearingSteps.{step_up}
 use Rattle.law_quiet.proofs.Passing.{IsPassing, with_pass, step_passing}
 use Rattle.law_quiet.proofs.RestingLanes.{rest_passing}
@@ -64,11 +65,11 @@ module _ (net : Network) (network : IsNetwork net) where
       (run_passing l actions new (with_pass net w a passed) c' (step_passing net w network c l passed h a (or_first (is_start a) _ none) here alive' there') later rest alive there)
 
   -- If all frames that were put in the run were passed, all frames on wires count as passed.
-  pub run_passes : (l : Lane) (actions : List Action) (w : World) → Conserved net w → IsQuiet w → IsStill net w l → IsRun net w actions → PassesAll net w actions →
+  pub run_passes : (l : Lane) (actions : List Action) (w : World) → Conserved net w → IsQuiet w → AreNaming w → list_any (flies_on l) (w.volatile (sender net.site l)).window ≡ false → IsRun net w actions → PassesAll net w actions →
       (run net w actions).up (sender net.site l) ≡ true → (run net w actions).up (receiver net.site l) ≡ true → IsAllPassed net (run net w actions) l
-  run_passes l actions w c quiet still r passes alive there = record {
+  run_passes l actions w c quiet naming clear r passes alive there = record {
     passed = λ m k. nat_lt k (length (w.wire m)) || was_passed net w actions m k;
-    passing = run_passing l actions w (λ m k. nat_lt k (length (w.wire m))) c (rest_passing net w network c quiet l still) passes.starts r alive there;
+    passing = run_passing l actions w (λ m k. nat_lt k (length (w.wire m))) c (rest_passing net w c quiet naming l clear) passes.starts r alive there;
     all = λ m k site less. elim (split k (length (w.wire m))) [
       | inl old ↦ or_left (nat_lt k (length (w.wire m))) _ (lt-ltb k (length (w.wire m)) old)
       | inr (more, is) ↦ or_right (nat_lt k (length (w.wire m))) _ (passes.passed m k site (omega (arith, is)) less)

@@ -1,5 +1,6 @@
 -- A scenario after a rest: lines that the rest outlasts, and then one silent settle.
-use Rattle.std.proofs.Common.{◌≡◌, ℕ, true, List, [], ◌∷◌, ◌++◌, sym, ◌∙◌, ap, subst}
+use Rattle.std.proofs.Common.{◌≡◌, ℕ, true, false, List, [], ◌∷◌, ◌++◌, sym, ◌∙◌, ap, subst}
+use Rattle.std.specs.List.{list_any}
 use Rattle.std.proofs.lemmas.Bool.{lt-ltb}
 use Rattle.qkd_base.specs.declared.lane.Lane.{Lane}
 use Rattle.net_model.specs.Premises.{IsNetwork}
@@ -16,7 +17,7 @@ use Rattle.law_quiet.specs.Named.{AreNaming}
 use Rattle.law_quiet.specs.Rested.{is_taken, KeepRest}
 use Rattle.law_quiet.specs.Settled.{EndsSilent}
 use Rattle.law_quiet.specs.Silent.{AreSilent}
-use Rattle.law_quiet.specs.Still.{IsStill}
+use Rattle.law_quiet.specs.Still.{flies_on}
 use Rattle.law_quiet.proofs.Coverage.{AllCovered, all_passed}
 use Rattle.law_quiet.proofs.LastRounds.{IsSince}
 use Rattle.law_quiet.proofs.Leading.{are_told, same_told}
@@ -52,14 +53,20 @@ module _ (http : HttpTexts) (net : Network) (workers : ℕ) (network : IsNetwork
   pub silent : AreSilent 1 net w after
   silent = ended.rounds
 
-  -- A lane that was still before the lines is passing after them.
-  passes : (l : Lane) → IsStill net begin l → w.up (sender net.site l) ≡ true → w.up (receiver net.site l) ≡ true → IsAllPassed net w l
-  passes l still alive there =
+  -- A lane on which nothing was in flight before the lines is passing after them.
+  passes : (l : Lane) → list_any (flies_on l) (begin.volatile (sender net.site l)).window ≡ false → w.up (sender net.site l) ≡ true → w.up (receiver net.site l) ≡ true → IsAllPassed net w l
+  passes l clear alive there =
       let s = split http net workers later more first earlier done keeps.apart keeps.run keeps.whole in
       let begun = between http net workers network earlier (asks_first http earlier later asks) done s.earlier s.whole in
+      let runs = tasks_are_run http net network workers first (first_keeps net) earlier done s.earlier in
+      let naming : AreNaming begin = subst AreNaming (sym runs.1) (run_names net (actions_of net done) network runs.0) in
       let h : AllCovered net network l begin = (
         begun.conserved,
-        λ up up'. record { passed = older net begin network begun.conserved begun.quiet l still; passing = rest_passing net begin network begun.conserved begun.quiet l still; all = λ m k site less. lt-ltb k _ less },
+        λ up up'. record {
+          passed = older net begin begun.conserved begun.quiet naming l clear;
+          passing = rest_passing net begin begun.conserved begun.quiet naming l clear;
+          all = λ m k site less. lt-ltb k _ less;
+        },
       ) in
       let early : Played = report http net first earlier done in
       let last : Played = report http net early.world later more in

@@ -8,7 +8,7 @@ use Rattle.qkd_base.specs.declared.lane.Lane.{Lane}
 use Rattle.net_model.specs.declared.placing.Placing.{Placing}
 use Rattle.net_model.specs.Item.{Item}
 use Rattle.net_model.specs.Site.{sender}
-use Rattle.net_model.specs.World.{Network, World, Allocation, Entry, Volatile}
+use Rattle.net_model.specs.World.{Network, World, Allocation, Entry, Volatile, Transmission}
 use Rattle.net_model.specs.Window.{transmission_eq, stands_at, record_retransmission, transmission_of, entry_of, is_acked_item, complete_one}
 use Rattle.net_model.specs.Windows.{IsEntry, IsPlaced}
 use Rattle.net_model.specs.Invariant.{Conserved}
@@ -17,7 +17,7 @@ use Rattle.law_base.proofs.Lists.{all_both}
 use Rattle.law_base.proofs.Owners.{same_frame}
 use Rattle.law_quiet.proofs.Tracks.{tells_again, again_at, IsFollowed, Due, Again, Waits, Done, IsEntryKept, IsPlacingKept, all_more}
 
-module _ (net : Network) (w : World) (c : Conserved net w) (l : Lane) (class : Item → Bool) (passed : ℕ → Bool) (done : Item → ℕ → Bool) where
+module _ (net : Network) (w : World) (c : Conserved net w) (l : Lane) (class : Transmission → Bool) (kind : Item → Bool) (of_kind : (t : Transmission) → class t ≡ true → kind t.item ≡ true) (passed : ℕ → Bool) (done : Item → ℕ → Bool) where
   abbrev again : List Placing → ℕ → Bool
   again ps x = again_at l (w.frames l) (w.outgoing l) ps x
 
@@ -55,19 +55,19 @@ module _ (net : Network) (w : World) (c : Conserved net w) (l : Lane) (class : I
 
   -- It is a repeat.
 
-  put_again : (p : Placing) (ps : List Placing) (e : Entry) → IsPlaced net w (sender net.site l) p → IsEntry net w (sender net.site l) e → IsPlacingKept l class passed done p → stands_at p e ≡ true →
+  put_again : (p : Placing) (ps : List Placing) (e : Entry) → IsPlaced net w (sender net.site l) p → IsEntry net w (sender net.site l) e → IsPlacingKept l kind passed done p → stands_at p e ≡ true →
       (o : Option ℕ) → p.number ≡ o → Kept ps (if is_some o then record e { number = o } else record e { due = true })
   put_again p ps e placed entry told at None is lane of = Due refl
   put_again p ps e placed entry told at (Some k) is lane of =
       let on : e.transmission.lane ≡ p.lane = lane_eq_from e.transmission.lane p.lane (and_left (lane_eq e.transmission.lane p.lane) (e.offset == p.offset) at) in
       let offset : e.offset ≡ p.offset = eq_from e.offset p.offset (and_right (lane_eq e.transmission.lane p.lane) (e.offset == p.offset) at) in
       let item = one_item p e placed entry at in
-      elim (told (ap (λ (m : Lane). lane_eq m l) (sym on) ∙ lane) (ap class item ∙ of) k is) [
+      elim (told (ap (λ (m : Lane). lane_eq m l) (sym on) ∙ lane) (ap kind item ∙ of_kind e.transmission of) k is) [
         | inl waits ↦ Waits k refl waits
         | inr so ↦ Done (ap (λ (i : Item). done i e.offset) (sym item) ∙ ap (done (transmission_of p).item) offset ∙ so)
       ]
 
-  repeat_kept : (p : Placing) (ps : List Placing) (e : Entry) → IsPlaced net w (sender net.site l) p → IsEntry net w (sender net.site l) e → IsPlacingKept l class passed done p →
+  repeat_kept : (p : Placing) (ps : List Placing) (e : Entry) → IsPlaced net w (sender net.site l) p → IsEntry net w (sender net.site l) e → IsPlacingKept l kind passed done p →
       Kept (p ∷ ps) e → Kept ps (record_retransmission p e)
   repeat_kept p ps e placed entry told kept =
       by_test (Kept ps) (stands_at p e) (if is_some p.number then record e { number = p.number } else record e { due = true }) e
@@ -81,22 +81,22 @@ module _ (net : Network) (w : World) (c : Conserved net w) (l : Lane) (class : I
           let same : p.offset ≡ e.offset = eq_from p.offset e.offset (and_right (lane_eq p.lane l) (p.offset == e.offset) place) in
           and_both (lane_eq e.transmission.lane p.lane) (e.offset == p.offset) (ap (lane_eq e.transmission.lane) there ∙ lane) (ap (λ (x : ℕ). e.offset == x) same ∙ eq_same e.offset)
 
-  repeats_kept : (p : Placing) (ps : List Placing) → IsPlaced net w (sender net.site l) p → IsPlacingKept l class passed done p → (es : List Entry) →
+  repeats_kept : (p : Placing) (ps : List Placing) → IsPlaced net w (sender net.site l) p → IsPlacingKept l kind passed done p → (es : List Entry) →
       ((i : ℕ) (e : Entry) → slice_get es i ≡ Some e → IsEntry net w (sender net.site l) e) → AllByRecursion (Kept (p ∷ ps)) es → AllByRecursion (Kept ps) (map (record_retransmission p) es)
   repeats_kept p ps placed told [] each h = tt
   repeats_kept p ps placed told (e ∷ es) each h = (repeat_kept p ps e placed (each zero e refl) told h.0, repeats_kept p ps placed told es (λ i x at. each (suc i) x at) h.1)
 
   -- It is a new frame.
 
-  new_kept : (p : Placing) (ps : List Placing) → IsPlacingKept l class passed done p → (o : Option ℕ) → p.number ≡ o → IsEntryKept l class (again ps) passed done (entry_of p)
+  new_kept : (p : Placing) (ps : List Placing) → IsPlacingKept l kind passed done p → (o : Option ℕ) → p.number ≡ o → IsEntryKept l class (again ps) passed done (entry_of p)
   new_kept p ps told None is lane of = Due (ap is_none is)
-  new_kept p ps told (Some k) is lane of = elim (told lane of k is) [ inl waits ↦ Waits k is waits | inr so ↦ Done so ]
+  new_kept p ps told (Some k) is lane of = elim (told lane (of_kind (transmission_of p) of) k is) [ inl waits ↦ Waits k is waits | inr so ↦ Done so ]
 
   fresh_kept : (p : Placing) (ps : List Placing) → p.fresh ≡ true → (es : List Entry) → AllByRecursion (Kept (p ∷ ps)) es → AllByRecursion (Kept ps) es
   fresh_kept p ps fresh es h = all_more (Kept (p ∷ ps)) (Kept ps) es
       (λ i e at kept lane of. not_by_it p ps e (λ it. not_both (not p.fresh) (and_left (not p.fresh) _ it) (ap not fresh)) (kept lane of)) h
 
-  pub one_noted : (acked : List Name) (vol : Volatile) (p : Placing) (ps : List Placing) → IsPlaced net w (sender net.site l) p → IsPlacingKept l class passed done p →
+  pub one_noted : (acked : List Name) (vol : Volatile) (p : Placing) (ps : List Placing) → IsPlaced net w (sender net.site l) p → IsPlacingKept l kind passed done p →
       ((i : ℕ) (e : Entry) → slice_get vol.window i ≡ Some e → IsEntry net w (sender net.site l) e) → AllByRecursion (IsEntryKept l class (again (p ∷ ps)) passed done) vol.window →
       AllByRecursion (IsEntryKept l class (again ps) passed done) (complete_one acked vol p).window
   unfolding complete_one

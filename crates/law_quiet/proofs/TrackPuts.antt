@@ -22,7 +22,7 @@ use Rattle.law_quiet.proofs.AwaitedPuts.{found_number, any_found}
 longer : {A : Type 0} (q : A → Bool) (xs ys : List A) → list_any q xs ≡ true → list_any q (xs ++ ys) ≡ true
 longer q xs ys on = list_any-append q xs ys ∙ or_left (list_any q xs) (list_any q ys) on
 
-module _ (net : Network) (w : World) (c : Conserved net w) (l : Lane) (class : Item → Bool) (passed : ℕ → Bool) (done : Item → ℕ → Bool) (h : IsTracked net l class passed done w) where
+module _ (net : Network) (w : World) (c : Conserved net w) (l : Lane) (class : Transmission → Bool) (kind : Item → Bool) (passed : ℕ → Bool) (done : Item → ℕ → Bool) (h : IsTracked net l class kind passed done w) where
   abbrev from : ℕ
   from = sender net.site l
 
@@ -50,7 +50,7 @@ module _ (net : Network) (w : World) (c : Conserved net w) (l : Lane) (class : I
       more q k on = by_lane (λ m b. list_any q (w.outgoing m) ≡ true → list_any q (if b then w.outgoing t.lane ++ record { frame = length (w.frames t.lane); transmission = t; fresh = true } ∷ [] else w.outgoing m) ≡ true) t.lane
           (λ old. longer q (w.outgoing t.lane) _ old) (λ m old. old) k on
 
-  pub claimed : (t : Transmission) → IsTracked net l class passed done (allocate w t).0
+  pub claimed : (t : Transmission) → IsTracked net l class kind passed done (allocate w t).0
   unfolding allocate
   claimed t = record {
     entries = more_again l class passed done (again_in net l w) (again_in net l (allocate w t).0) (claim_again t) (w.volatile from).window h.entries;
@@ -101,7 +101,7 @@ module _ (net : Network) (w : World) (c : Conserved net w) (l : Lane) (class : I
     ]
 
     -- A new number wasn't passed yet.
-    told_kept : IsPlacingKept l class passed done told
+    told_kept : IsPlacingKept l kind passed done told
     told_kept lane of k at =
         let on : m ≡ l = lane_eq_from m l lane in
         inl (not_false (passed k) (λ was.
@@ -110,12 +110,12 @@ module _ (net : Network) (w : World) (c : Conserved net w) (l : Lane) (class : I
         let same : length (w.wire m) ≡ length (w.wire l) = ap (λ (x : Lane). length (w.wire x)) on in
         omega (arith, within, last, same)))
 
-    pub put_kept : IsTracked net l class passed done after
+    pub put_kept : IsTracked net l class kind passed done after
     put_kept = record {
       entries = more_again l class passed done (again_in net l w) (again_in net l after) put_again (w.volatile from).window h.entries;
-      placings = by_number (λ u b. from ≡ u → AllByRecursion (IsPlacingKept l class passed done) (if b then w.placings (sender net.site m) ++ told ∷ [] else w.placings u)) (sender net.site m)
-          (λ mine. all_both (IsPlacingKept l class passed done) (w.placings (sender net.site m)) (told ∷ [])
-          (subst (λ (u : ℕ). AllByRecursion (IsPlacingKept l class passed done) (w.placings u)) mine h.placings) (told_kept, tt))
-          (λ u ne mine. subst (λ (x : ℕ). AllByRecursion (IsPlacingKept l class passed done) (w.placings x)) mine h.placings) from refl;
+      placings = by_number (λ u b. from ≡ u → AllByRecursion (IsPlacingKept l kind passed done) (if b then w.placings (sender net.site m) ++ told ∷ [] else w.placings u)) (sender net.site m)
+          (λ mine. all_both (IsPlacingKept l kind passed done) (w.placings (sender net.site m)) (told ∷ [])
+          (subst (λ (u : ℕ). AllByRecursion (IsPlacingKept l kind passed done) (w.placings u)) mine h.placings) (told_kept, tt))
+          (λ u ne mine. subst (λ (x : ℕ). AllByRecursion (IsPlacingKept l kind passed done) (w.placings x)) mine h.placings) from refl;
       within = λ k was. by_lane (λ x b. k < length (w.wire x) → k < length (if b then wire else w.wire x)) m (λ old. omega (arith, old, grows)) (λ x old. old) l (h.within k was);
     }

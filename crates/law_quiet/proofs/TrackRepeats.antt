@@ -7,7 +7,7 @@ use Rattle.qkd_base.specs.Lane.{lane_eq}
 use Rattle.qkd_base.specs.declared.lane.Lane.{Lane}
 use Rattle.net_model.specs.Item.{Item}
 use Rattle.net_model.specs.Site.{sender}
-use Rattle.net_model.specs.World.{Network, World, Allocation, Entry, Outgoing}
+use Rattle.net_model.specs.World.{Network, World, Allocation, Entry, Outgoing, Transmission}
 use Rattle.net_model.specs.Needed.{masked, view_of}
 use Rattle.net_model.specs.Handle.{frame_at, outgoing_repeat, with_repeats}
 use Rattle.net_model.specs.Window.{is_data_entry, age, sent_again}
@@ -63,7 +63,7 @@ module _ (net : Network) (w : World) (c : Conserved net w) (l : Lane) where
     | inr told ↦ or_right (list_any (puts_again (w.frames l) x) (with_repeats out w.frames w.outgoing l)) _ told
   ]
 
-  module _ (class : Item → Bool) (passed : ℕ → Bool) (done : Item → ℕ → Bool) where
+  module _ (class : Transmission → Bool) (passed : ℕ → Bool) (done : Item → ℕ → Bool) where
     aged_kept : (again : ℕ → Bool) (e : Entry) → IsEntryKept l class again passed done e → IsEntryKept l class again passed done (age e)
     aged_kept again e kept =
         by_test (IsEntryKept l class again passed done) (is_data_entry e) _ e

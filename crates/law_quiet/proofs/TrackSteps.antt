@@ -11,7 +11,7 @@ use Rattle.net_model.specs.Premises.{IsNetwork}
 use Rattle.net_model.specs.Item.{Item}
 use Rattle.net_model.specs.Table.{name_of}
 use Rattle.net_model.specs.Site.{sender, receiver}
-use Rattle.net_model.specs.World.{Network, World, Entry, Outgoing, Volatile, no_volatile}
+use Rattle.net_model.specs.World.{Network, World, Entry, Outgoing, Volatile, no_volatile, Transmission}
 use Rattle.net_model.specs.Needed.{masked, view_of}
 use Rattle.net_model.specs.Window.{complete_one, complete}
 use Rattle.net_model.specs.Windows.{IsPlaced, IsVolatile}
@@ -31,7 +31,7 @@ use Rattle.law_quiet.proofs.TrackRepeats.{committed_again, plan_kept}
 use Rattle.law_quiet.proofs.TrackNotes.{one_noted}
 use Rattle.law_quiet.proofs.TrackPuts.{claimed, put_kept}
 
-module _ (net : Network) (w : World) (c : Conserved net w) (l : Lane) (class : Item → Bool) (passed : ℕ → Bool) (done : Item → ℕ → Bool) (h : IsTracked net l class passed done w) where
+module _ (net : Network) (w : World) (c : Conserved net w) (l : Lane) (class : Transmission → Bool) (kind : Item → Bool) (of_kind : (t : Transmission) → class t ≡ true → kind t.item ≡ true) (passed : ℕ → Bool) (done : Item → ℕ → Bool) (h : IsTracked net l class kind passed done w) where
   abbrev from : ℕ
   from = sender net.site l
 
@@ -39,11 +39,11 @@ module _ (net : Network) (w : World) (c : Conserved net w) (l : Lane) (class : I
   AllKept again es = AllByRecursion (IsEntryKept l class again passed done) es
 
   abbrev AllTold : List Placing → Type 0
-  AllTold ps = AllByRecursion (IsPlacingKept l class passed done) ps
+  AllTold ps = AllByRecursion (IsPlacingKept l kind passed done) ps
 
   -- It is so while the sender is up.
   abbrev Kept : World → Type 0
-  Kept x = x.up from ≡ true → IsTracked net l class passed done x
+  Kept x = x.up from ≡ true → IsTracked net l class kind passed done x
 
   mine : (v : ℕ) → from ≡ v → AllKept (again_in net l w) (w.volatile v).window
   mine v is = subst (λ (u : ℕ). AllKept (again_in net l w) (w.volatile u).window) is h.entries
@@ -54,7 +54,7 @@ module _ (net : Network) (w : World) (c : Conserved net w) (l : Lane) (class : I
   abbrev after : List Entry → ℕ → Bool
   after out x = again_at l (w.frames l) (with_repeats out w.frames w.outgoing l) (w.placings from) x
 
-  commits : (v octets : ℕ) (e : Effect) → (from ≡ v → AllKept (after e.repeats) e.volatile.window) → IsTracked net l class passed done (commit net.site w v octets e)
+  commits : (v octets : ℕ) (e : Effect) → (from ≡ v → AllKept (after e.repeats) e.volatile.window) → IsTracked net l class kind passed done (commit net.site w v octets e)
   unfolding commit
   commits v octets e new = record {
     entries = by_number (λ u b. from ≡ u → AllKept (after e.repeats) (if b then e.volatile else w.volatile u).window) v new
@@ -98,7 +98,7 @@ module _ (net : Network) (w : World) (c : Conserved net w) (l : Lane) (class : I
   all_noted v is acked [] vol placed good kept all = all
   all_noted v is acked (p ∷ ps) vol placed good kept all =
       all_noted v is acked ps (complete_one acked vol p) (λ n q at. placed (suc n) q at) (placings_keep net w v c acked vol (p ∷ []) (one p (placed zero p refl)) good) kept.1
-      (one_noted net w c l class passed done acked vol p ps (subst (λ (u : ℕ). IsPlaced net w u p) (sym is) (placed zero p refl)) kept.0
+      (one_noted net w c l class kind of_kind passed done acked vol p ps (subst (λ (u : ℕ). IsPlaced net w u p) (sym is) (placed zero p refl)) kept.0
       (λ i e at. (subst (λ (u : ℕ). IsVolatile net w u vol) (sym is) good).entries i e at) all)
     where
       one : (p : Placing) → IsPlaced net w v p → (n : ℕ) (q : Placing) → slice_get (p ∷ []) n ≡ Some q → IsPlaced net w v q
@@ -138,12 +138,12 @@ module _ (net : Network) (w : World) (c : Conserved net w) (l : Lane) (class : I
     answers = λ m n up. commits (receiver net.site m) 0 _ (ack_kept (receiver net.site m) m (sender net.site m) n);
     notes = noted;
     unheard = unheard;
-    allocates = λ t up. claimed net w c l class passed done h t;
-    refuses = λ m j o is up. put_kept net w c l class passed done h m j o is (w.wire m) None (omega arith) (λ k none. cc);
-    puts = λ m j o is up. put_kept net w c l class passed done h m j o is (w.wire m ++ o.frame ∷ []) (Some (length (w.wire m))) (let more = longer m o in omega (arith, more)) (λ k at. cc);
+    allocates = λ t up. claimed net w c l class kind passed done h t;
+    refuses = λ m j o is up. put_kept net w c l class kind passed done h m j o is (w.wire m) None (omega arith) (λ k none. cc);
+    puts = λ m j o is up. put_kept net w c l class kind passed done h m j o is (w.wire m ++ o.frame ∷ []) (Some (length (w.wire m))) (let more = longer m o in omega (arith, more)) (λ k at. cc);
     crashes = λ v up. record { entries = left_up v up; placings = h.placings; within = h.within };
     links = λ link b up. record { entries = h.entries; placings = h.placings; within = h.within };
   }
 
-  pub step_kept : IsNetwork net → (a : Action) → is_start a ≡ false → is_enabled net w a ≡ true → (step net w a).0.up (sender net.site l) ≡ true → IsTracked net l class passed done (step net w a).0
+  pub step_kept : IsNetwork net → (a : Action) → is_start a ≡ false → is_enabled net w a ≡ true → (step net w a).0.up (sender net.site l) ≡ true → IsTracked net l class kind passed done (step net w a).0
   step_kept network a other may = life_walk net w network c Kept life a other may

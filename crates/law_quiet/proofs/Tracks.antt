@@ -10,7 +10,7 @@ use Rattle.qkd_base.specs.declared.lane.Lane.{Lane}
 use Rattle.net_model.specs.declared.placing.Placing.{Placing}
 use Rattle.net_model.specs.Item.{Item}
 use Rattle.net_model.specs.Site.{sender}
-use Rattle.net_model.specs.World.{Network, World, Allocation, Entry, Outgoing, Volatile}
+use Rattle.net_model.specs.World.{Network, World, Allocation, Entry, Outgoing, Volatile, Transmission}
 use Rattle.net_model.specs.Window.{answers_frame, mark_due, acknowledge, transmission_of}
 use Rattle.net_model.specs.Frames.{offset_or_zero}
 use Rattle.net_model.specs.Windows.{IsOnWire, IsEntry, IsPlaced}
@@ -36,19 +36,19 @@ pub data IsFollowed (again passed : ℕ → Bool) (done : Item → ℕ → Bool)
 
 -- It is so of the entry, and the like of the placing, if it is one of the lane and its item is of this class.
 
-abbrev pub IsEntryKept : Lane → (Item → Bool) → (again passed : ℕ → Bool) → (done : Item → ℕ → Bool) → Entry → Type 0
-IsEntryKept l class again passed done e = lane_eq e.transmission.lane l ≡ true → class e.transmission.item ≡ true → IsFollowed again passed done e
+abbrev pub IsEntryKept : Lane → (Transmission → Bool) → (again passed : ℕ → Bool) → (done : Item → ℕ → Bool) → Entry → Type 0
+IsEntryKept l class again passed done e = lane_eq e.transmission.lane l ≡ true → class e.transmission ≡ true → IsFollowed again passed done e
 
 abbrev pub IsPlacingKept : Lane → (Item → Bool) → (passed : ℕ → Bool) → (done : Item → ℕ → Bool) → Placing → Type 0
-IsPlacingKept l class passed done p = lane_eq p.lane l ≡ true → class (transmission_of p).item ≡ true → (k : ℕ) → p.number ≡ Some k →
+IsPlacingKept l kind passed done p = lane_eq p.lane l ≡ true → kind (transmission_of p).item ≡ true → (k : ℕ) → p.number ≡ Some k →
     (passed k ≡ false) ⊎ (done (transmission_of p).item p.offset ≡ true)
 
 abbrev pub again_in : Network → Lane → World → ℕ → Bool
 again_in net l w x = again_at l (w.frames l) (w.outgoing l) (w.placings (sender net.site l)) x
 
-pub record IsTracked (net : Network) (l : Lane) (class : Item → Bool) (passed : ℕ → Bool) (done : Item → ℕ → Bool) (w : World) : Type 0 where
+pub record IsTracked (net : Network) (l : Lane) (class : Transmission → Bool) (kind : Item → Bool) (passed : ℕ → Bool) (done : Item → ℕ → Bool) (w : World) : Type 0 where
   pub entries : AllByRecursion (IsEntryKept l class (again_in net l w) passed done) (w.volatile (sender net.site l)).window
-  pub placings : AllByRecursion (IsPlacingKept l class passed done) (w.placings (sender net.site l))
+  pub placings : AllByRecursion (IsPlacingKept l kind passed done) (w.placings (sender net.site l))
   pub within : (k : ℕ) → passed k ≡ true → k < length (w.wire l)
 
 pub all_more : {A : Type 0} (P Q : A → Type 0) (xs : List A) → ((i : ℕ) (a : A) → slice_get xs i ≡ Some a → P a → Q a) → AllByRecursion P xs → AllByRecursion Q xs
@@ -64,7 +64,7 @@ still_followed again again' passed done done' e more further (Again at) = Again 
 still_followed again again' passed done done' e more further (Waits number put waits) = Waits number put waits
 still_followed again again' passed done done' e more further (Done is) = Done (further is)
 
-module _ (l : Lane) (class : Item → Bool) (passed : ℕ → Bool) (done : Item → ℕ → Bool) where
+module _ (l : Lane) (class : Transmission → Bool) (passed : ℕ → Bool) (done : Item → ℕ → Bool) where
   pub more_again : (again again' : ℕ → Bool) → ((x : ℕ) → again x ≡ true → again' x ≡ true) → (es : List Entry) → AllByRecursion (IsEntryKept l class again passed done) es →
       AllByRecursion (IsEntryKept l class again' passed done) es
   more_again again again' more es h =
@@ -89,9 +89,9 @@ module _ (l : Lane) (class : Item → Bool) (passed : ℕ → Bool) (done : Item
       (λ t. by_test (λ (y : Volatile). AllByRecursion (IsEntryKept l class again passed done) y.window) (list_any _ vol.pending_acks) _ _ (λ k. h) (λ k. h))
 
 -- More is done.
-pub done_more : (net : Network) (l : Lane) (class : Item → Bool) (passed : ℕ → Bool) (done done' : Item → ℕ → Bool) (w : World) → ((i : Item) (x : ℕ) → done i x ≡ true → done' i x ≡ true) →
-    IsTracked net l class passed done w → IsTracked net l class passed done' w
-done_more net l class passed done done' w more h = record {
+pub done_more : (net : Network) (l : Lane) (class : Transmission → Bool) (kind : Item → Bool) (passed : ℕ → Bool) (done done' : Item → ℕ → Bool) (w : World) → ((i : Item) (x : ℕ) → done i x ≡ true → done' i x ≡ true) →
+    IsTracked net l class kind passed done w → IsTracked net l class kind passed done' w
+done_more net l class kind passed done done' w more h = record {
   entries = all_more _ _ (w.volatile (sender net.site l)).window
       (λ i e at kept lane of. still_followed (again_in net l w) (again_in net l w) passed done done' e (λ x. x) (more e.transmission.item e.offset) (kept lane of)) h.entries;
   placings = all_more _ _ (w.placings (sender net.site l)) (λ i p at kept lane of k put. elim (kept lane of k put) [ inl waits ↦ inl waits | inr is ↦ inr (more (transmission_of p).item p.offset is) ]) h.placings;
@@ -103,20 +103,20 @@ on_wire wire j None k e h = cc
 on_wire wire j (Some n) k e h = let is : n ≡ k = cc in ap (slice_get wire) (sym is) ∙ h
 
 -- What a frame's passing does is done, so its number is passed.
-module _ (net : Network) (l : Lane) (class : Item → Bool) (passed : ℕ → Bool) (done : Item → ℕ → Bool) (w : World) (c : Conserved net w) (number j : ℕ) (a : Allocation)
-    (put : slice_get (w.wire l) number ≡ Some j) (framed : slice_get (w.frames l) j ≡ Some a) (settles : class a.item ≡ true → done a.item a.offset ≡ true) where
+module _ (net : Network) (l : Lane) (class : Transmission → Bool) (kind : Item → Bool) (of_kind : (t : Transmission) → class t ≡ true → kind t.item ≡ true) (passed : ℕ → Bool) (done : Item → ℕ → Bool) (w : World) (c : Conserved net w) (number j : ℕ) (a : Allocation)
+    (put : slice_get (w.wire l) number ≡ Some j) (framed : slice_get (w.frames l) j ≡ Some a) (settles : kind a.item ≡ true → done a.item a.offset ≡ true) where
   abbrev further : ℕ → Bool
   further k = passed k || (k == number)
 
   is_settled : (k f : ℕ) (x : ℕ) (i : Item) → (k == number) ≡ true → slice_get (w.wire l) k ≡ Some f → slice_get (w.frames l) f ≡ Some (record { offset = x; item = i }) →
-      class i ≡ true → done i x ≡ true
+      kind i ≡ true → done i x ≡ true
   is_settled k f x i same there at of =
       let is : slice_get (w.wire l) number ≡ Some f = ap (slice_get (w.wire l)) (sym (eq_from k number same)) ∙ there in
       let frame : Some j ≡ Some f = sym put ∙ is in
       let frame' : j ≡ f = cc in
       let all : ◌≡◌ {A = Option Allocation} (Some a) (Some (record { offset = x; item = i })) = sym framed ∙ ap (slice_get (w.frames l)) frame' ∙ at in
       let alike : a ≡ record { offset = x; item = i } = some_in a (record { offset = x; item = i }) all in
-      ap (λ (y : Allocation). done y.item y.offset) (sym alike) ∙ settles (ap (λ (y : Allocation). class y.item) alike ∙ of)
+      ap (λ (y : Allocation). done y.item y.offset) (sym alike) ∙ settles (ap (λ (y : Allocation). kind y.item) alike ∙ of)
     where
       some_in : (b d : Allocation) → Some b ≡ Some d → b ≡ d
       some_in b d h = cc
@@ -127,7 +127,7 @@ module _ (net : Network) (l : Lane) (class : Item → Bool) (passed : ℕ → Bo
     | false ↦ λ e. inl (rw waits refl)
   ] refl
 
-  entry_passed : (e : Entry) → IsEntry net w (sender net.site l) e → lane_eq e.transmission.lane l ≡ true → class e.transmission.item ≡ true → IsFollowed (again_in net l w) passed done e →
+  entry_passed : (e : Entry) → IsEntry net w (sender net.site l) e → lane_eq e.transmission.lane l ≡ true → class e.transmission ≡ true → IsFollowed (again_in net l w) passed done e →
       IsFollowed (again_in net l w) further done e
   entry_passed e is lane of (Due due) = Due due
   entry_passed e is lane of (Again at) = Again at
@@ -138,10 +138,10 @@ module _ (net : Network) (l : Lane) (class : Item → Bool) (passed : ℕ → Bo
         let on : e.transmission.lane ≡ l = lane_eq_from e.transmission.lane l lane in
         let wired : slice_get (w.wire e.transmission.lane) k ≡ Some is.number = on_wire (w.wire e.transmission.lane) is.number e.number k at is.wire in
         Done (is_settled k is.number e.offset e.transmission.item same (ap (λ (m : Lane). slice_get (w.wire m) k) (sym on) ∙ wired)
-        (ap (λ (m : Lane). slice_get (w.frames m) is.number) (sym on) ∙ is.frame) of)
+        (ap (λ (m : Lane). slice_get (w.frames m) is.number) (sym on) ∙ is.frame) (of_kind e.transmission of))
   ]
 
-  placing_passed : (p : Placing) → IsPlaced net w (sender net.site l) p → IsPlacingKept l class passed done p → IsPlacingKept l class further done p
+  placing_passed : (p : Placing) → IsPlaced net w (sender net.site l) p → IsPlacingKept l kind passed done p → IsPlacingKept l kind further done p
   placing_passed p is kept lane of k at = elim (kept lane of k at) [
     | inr x ↦ inr x
     | inl waits ↦ elim (one_passed k waits) [
@@ -154,7 +154,7 @@ module _ (net : Network) (l : Lane) (class : Item → Bool) (passed : ℕ → Bo
     ]
   ]
 
-  pub now_passed : IsTracked net l class passed done w → IsTracked net l class further done w
+  pub now_passed : IsTracked net l class kind passed done w → IsTracked net l class kind further done w
   now_passed h = record {
     entries = all_more _ _ (w.volatile (sender net.site l)).window
         (λ i e at kept lane of. entry_passed e ((c.volatile (sender net.site l)).entries i e at) lane of (kept lane of)) h.entries;

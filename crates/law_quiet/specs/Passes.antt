@@ -13,7 +13,7 @@ use Rattle.net_model.specs.World.{Network, World, first}
 use Rattle.net_model.specs.Action.{Action, Start, Deliver, Outcome, Replies}
 use Rattle.net_model.specs.Step.{step, run, IsRun}
 use Rattle.law_locality.specs.Quiet.{IsQuiet}
-use Rattle.law_quiet.specs.Still.{IsStill}
+use Rattle.law_quiet.specs.Still.{flies_on, IsStill}
 
 -- A start brings a manager up without what its last life kept in memory.
 abbrev pub is_start : Action → Bool
@@ -45,12 +45,17 @@ abbrev pub IsStillAlong : Network → World → Fact → Type 0
 IsStillAlong net w f = (u v : ℕ) → next_after (route_of f) u ≡ Some v → (l : Lane) → is_lane net.site l ≡ true → sender net.site l ≡ u → receiver net.site l ≡ v →
     IsStill net w l × IsStill net w (reverse_lane l)
 
--- At the end of the first run the lanes of the fact's route were at rest. In the run after it no manager starts, and all frames
--- are passed and heard. The fact may be made in either run.
+-- No fact is in flight on these lanes.
+abbrev pub IsClearAlong : Network → World → Fact → Type 0
+IsClearAlong net w f = (u v : ℕ) → next_after (route_of f) u ≡ Some v → (l : Lane) → is_lane net.site l ≡ true → sender net.site l ≡ u → receiver net.site l ≡ v →
+    (list_any (flies_on l) (w.volatile (sender net.site l)).window ≡ false) × (list_any (flies_on (reverse_lane l)) (w.volatile (sender net.site (reverse_lane l))).window ≡ false)
+
+-- At the end of the first run nothing was in flight on the lanes of the fact's route. In the run after it no manager starts, and
+-- all frames are passed and heard. The fact may be made in either run.
 pub record IsRested (net : Network) (earlier later : List Action) (f : Fact) : Type 0 where
   pub before : IsRun net first earlier
   pub quiet : IsQuiet (run net first earlier)
-  pub still : IsStillAlong net (run net first earlier) f
+  pub clear : IsClearAlong net (run net first earlier) f
   pub since : IsRun net (run net first earlier) later
   pub passes : PassesAll net (run net first earlier) later
 
