@@ -1,0 +1,5 @@
+pub mod Choices
+pub mod Doubts
+pub mod Owners
+pub mod Views
+pub mod Worlds

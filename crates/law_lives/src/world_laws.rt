@@ -1,0 +1,17 @@
+// The law that all disks have one world behind them: what one life leaves is where the next may begin.
+ghost use Rattle.std.specs.Prelude.{◌≡◌, ℕ, Bool, List};
+ghost use Rattle.net_model.specs.declared.record.Record.{Record};
+ghost use Rattle.net_model.specs.World.{Network, World, Journal};
+ghost use Rattle.net_model.specs.Invariant.{Conserved, IsJournal};
+ghost use Rattle.law_recovery.specs.Saved.{DoubtsFit};
+ghost use Rattle.law_lives.specs.Images.{AreImages};
+ghost use Rattle.law_lives.specs.OneWorld.{IsOneWorld};
+
+/// If one image of each disk is read, there is one world at rest that gives all nodes back as their images do. Each
+/// batch in doubt is made there or not, as its node's image has it. Premises: the conserved properties hold, and each
+/// batch in doubt fits its manager's view. Both hold in every run. What is asked of journals is that their sizes are
+/// those of journals.
+pub fn law_images_give_one_world()
+    ensures { (net : Network) (w : World) (images : ℕ → List (List Record)) (journals : ℕ → Journal) → Conserved net w → DoubtsFit net w →
+        AreImages net w images → ((v : ℕ) → IsJournal (journals v)) → (made : ℕ → Bool) × IsOneWorld net w images journals made }
+{}
