@@ -40,7 +40,7 @@ restart_same a b h =
     let ports = ap (map at_lease) h.ports in
     λ i. record { me = me i; facts = facts i; acked = acked i; handed = handed i; closed = closed i; ports = ports i; volatile = no_volatile }
 
-made_then : (s : Site) (w : World) (made : ℕ → Bool) (xs ys : List ℕ) (d : Durable) → with_doubts s w made (xs ++ ys) d ≡ with_doubts s w made ys (with_doubts s w made xs d)
+pub made_then : (s : Site) (w : World) (made : ℕ → Bool) (xs ys : List ℕ) (d : Durable) → with_doubts s w made (xs ++ ys) d ≡ with_doubts s w made ys (with_doubts s w made xs d)
 made_then s w made [] ys d = refl
 made_then s w made (x ∷ xs) ys d = made_then s w made xs ys (if made x then replay s x (w.in_doubt x).batch d else d)
 

@@ -1,3 +1,4 @@
 pub mod Images
 pub mod AtRest
 pub mod OneWorld
+pub mod Lasting

@@ -3,4 +3,4 @@
 
 mod world_laws;
 
-pub use world_laws::law_images_give_one_world;
+pub use world_laws::{law_images_give_one_world, law_rest_lasts};

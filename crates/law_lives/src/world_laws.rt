@@ -1,11 +1,13 @@
 // The law that all disks have one world behind them: what one life leaves is where the next may begin.
-ghost use Rattle.std.specs.Prelude.{◌≡◌, ℕ, Bool, List};
+ghost use Rattle.std.specs.Prelude.{ℕ, Bool, List};
 ghost use Rattle.net_model.specs.declared.record.Record.{Record};
 ghost use Rattle.net_model.specs.World.{Network, World, Journal};
 ghost use Rattle.net_model.specs.Invariant.{Conserved, IsJournal};
 ghost use Rattle.law_recovery.specs.Saved.{DoubtsFit};
 ghost use Rattle.law_lives.specs.Images.{AreImages};
+ghost use Rattle.law_lives.specs.AtRest.{at_rest};
 ghost use Rattle.law_lives.specs.OneWorld.{IsOneWorld};
+ghost use Rattle.law_lives.specs.Lasting.{Lasts, FramesAreBelow};
 
 /// If one image of each disk is read, there is one world at rest that gives all nodes back as their images do. Each
 /// batch in doubt is made there or not, as its node's image has it. Premises: the conserved properties hold, and each
@@ -14,4 +16,13 @@ ghost use Rattle.law_lives.specs.OneWorld.{IsOneWorld};
 pub fn law_images_give_one_world()
     ensures { (net : Network) (w : World) (images : ℕ → List (List Record)) (journals : ℕ → Journal) → Conserved net w → DoubtsFit net w →
         AreImages net w images → ((v : ℕ) → IsJournal (journals v)) → (made : ℕ → Bool) × IsOneWorld net w images journals made }
+{}
+
+/// Whichever doubts are made, the world at rest has all that disks had: facts, marks and blocks. No byte of a frame is
+/// used again, since each lane goes on behind its frames.
+pub fn law_rest_lasts()
+    ensures lasts { (net : Network) (w : World) (made : ℕ → Bool) (journals : ℕ → Journal) → Conserved net w → DoubtsFit net w →
+        Lasts w.durable (at_rest net.site made journals w).durable }
+    ensures below { (net : Network) (w : World) (made : ℕ → Bool) (journals : ℕ → Journal) → Conserved net w → DoubtsFit net w →
+        FramesAreBelow w (at_rest net.site made journals w) }
 {}
