@@ -1,5 +1,8 @@
 pub mod Choices
+pub mod Beginnings
+pub mod Courses
 pub mod Doubts
+pub mod Unstarted
 pub mod Lastings
 pub mod Owners
 pub mod Views

@@ -1,5 +1,5 @@
 -- The world at rest: it is conserved, and gives all views back.
-use Rattle.std.proofs.Common.{◌≡◌, ℕ, Bool, List, [], length, refl, sym, ◌∙◌, arith, inl, inr}
+use Rattle.std.proofs.Common.{◌≡◌, ℕ, Bool, false, List, [], length, refl, sym, ◌∙◌, arith, inl, inr}
 use Rattle.std.specs.Prelude.{◌<◌}
 use Rattle.qkd_base.specs.declared.lane.Lane.{Lane}
 use Rattle.net_model.specs.declared.record.Record.{Record}
@@ -99,4 +99,4 @@ pub images_have_one_world : (net : Network) (w : World) (images : ℕ → List (
     AreImages net w images → ((v : ℕ) → IsJournal (journals v)) → (made : ℕ → Bool) × IsOneWorld net w images journals made
 images_have_one_world net w images journals c fits read sized =
     let P : ℕ → Bool → Type 0 = λ v made. IsImage net w v made (images v) in
-    (choice net.site.nodes P read, one_world net w c fits (choice net.site.nodes P read) journals images sized (choice_holds net.site.nodes P read))
+    (choice net.site.nodes P false read, one_world net w c fits (choice net.site.nodes P false read) journals images sized (choice_holds net.site.nodes P false read))

@@ -2,3 +2,4 @@ pub mod Images
 pub mod AtRest
 pub mod OneWorld
 pub mod Lasting
+pub mod Left

@@ -1,6 +1,8 @@
 //! Laws of lives: what one process leaves on its disks is one world, in which the next process may begin.
 #![tactic(auto)]
 
+mod course_laws;
 mod world_laws;
 
+pub use course_laws::{law_headline_has_one_world, law_run_leaves_one_world};
 pub use world_laws::{law_images_give_one_world, law_rest_lasts};

@@ -1,0 +1,25 @@
+-- The images that a course may leave on disks.
+use Rattle.std.specs.Prelude.{◌≡◌, ℕ, ◌<◌, Bool, true, false, List, [], Some}
+use Rattle.net_model.specs.declared.record.Record.{Record}
+use Rattle.net_model.specs.World.{Network, Journal, first}
+use Rattle.net_model.specs.Journal.{is_blank}
+use Rattle.net_model.specs.Action.{Action}
+use Rattle.net_model.specs.Step.{run}
+use Rattle.run_model.specs.Left.{IsFoldOf}
+use Rattle.run_model.specs.Bench.{DiskBatches, Seen}
+use Rattle.run_model.specs.Course.{Course, last_world}
+use Rattle.law_lives.specs.OneWorld.{IsOneWorld}
+
+-- The batches of one image of each disk. Those of a node that was started have the fold of the batches of its events,
+-- with its batch in doubt or without it. A disk of a node that was never started has no batches.
+pub record AreLeft (net : Network) (actions : List Action) (images : ℕ → List (List Record)) : Type 0 where
+  pub started : (v : ℕ) → v < net.site.nodes → is_blank ((run net first actions).journal v) ≡ false → IsFoldOf net actions (run net first actions) v (images v)
+  pub unstarted : (v : ℕ) → v < net.site.nodes → is_blank ((run net first actions).journal v) ≡ true → images v ≡ []
+
+-- The disks that are seen after a course encode images that have one world.
+pub record HasOneWorld (reading : DiskBatches) (seen : Seen) (c : Course) (journals : ℕ → Journal) : Type 0 where
+  pub images : ℕ → List (List Record)
+  pub read : (v : ℕ) → v < c.net.site.nodes → is_blank ((last_world c).journal v) ≡ false → reading (seen.disk v) ≡ Some (images v)
+  pub unstarted : (v : ℕ) → v < c.net.site.nodes → is_blank ((last_world c).journal v) ≡ true → images v ≡ []
+  pub made : ℕ → Bool
+  pub world : IsOneWorld c.net (last_world c) images journals made
