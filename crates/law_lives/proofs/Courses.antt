@@ -14,6 +14,7 @@ use Rattle.run_model.specs.Turn.{HttpTexts}
 use Rattle.run_model.specs.Bench.{DiskBatches, Seen}
 use Rattle.run_model.specs.Course.{Words, Course, whole_run, last_world}
 use Rattle.run_model.specs.Headline.{Stop, Headline}
+use Rattle.net_model.specs.Start.{may_resolve}
 use Rattle.law_recovery.specs.GivesBack.{GivesBack}
 use Rattle.law_recovery.specs.Starting.{resolved_view}
 use Rattle.law_recovery.proofs.Runs.{run_held}
@@ -26,12 +27,9 @@ use Rattle.law_lives.proofs.Choices.{choice, choice_holds}
 use Rattle.law_lives.proofs.Unstarted.{unstarted_given, unstarted_may}
 use Rattle.law_lives.proofs.Worlds.{images_have_one_world}
 
-module _ (net : Network) (actions : List Action) (network : IsNetwork net) (r : IsRun net first actions) (images : ℕ → List (List Record)) (left : AreLeft net actions images) where
+module _ (net : Network) (actions : List Action) (network : IsNetwork net) (r : IsRun net first actions) where
   abbrev last : World
   last = run net first actions
-
-  Read : ℕ → Type 0
-  Read v = (made : Bool) × IsImage net last v made (images v)
 
   -- The batches that a node made, with the one in doubt or without it, give it back.
   doubt_gives_back : (v : ℕ) (committed : Bool) →
@@ -40,30 +38,42 @@ module _ (net : Network) (actions : List Action) (network : IsNetwork net) (r : 
   doubt_gives_back v true =
       doubt_given net.site v (batches_made net v first actions) (view_of net last v) (last.in_doubt v).batch (made_gives_back net actions v network r)
 
-  fold_read : (v : ℕ) → IsFoldOf net actions last v (images v) → Read v
-  unfolding Read
-  fold_read v f = (f.committed, record { may = f.may; back = f.fold ∙ doubt_gives_back v f.committed })
-
-  none_read : (v : ℕ) → is_blank (last.journal v) ≡ true → images v ≡ [] → Read v
-  unfolding Read
-  none_read v blank none = (
-    false,
-    record {
-      may = unstarted_may net actions v blank;
-      back = subst (λ (bs : List (List Record)). GivesBack net.site v bs (view_of net last v)) (sym none) (unstarted_given net actions v network r blank);
-    },
+  -- Whichever doubts are chosen, there are batches that have just these.
+  pub any_choice : (made : ℕ → Bool) → ((v : ℕ) → v < net.site.nodes → may_resolve (last.in_doubt v) (made v) ≡ true) →
+      (images : ℕ → List (List Record)) × ((v : ℕ) → v < net.site.nodes → IsImage net last v (made v) (images v))
+  any_choice made may = (
+    λ v. with_doubt (made v) (last.in_doubt v) (batches_made net v first actions),
+    λ v less. record { may = may v less; back = doubt_gives_back v (made v) },
   )
 
-  read : AreImages net last images
-  unfolding Read
-  read v less = elim (is_blank (last.journal v)) as (λ t. is_blank (last.journal v) ≡ t → Read v) [
-    | true ↦ λ e. none_read v e (left.unstarted v less e)
-    | false ↦ λ e. fold_read v (left.started v less e)
-  ] refl
+  module _ (images : ℕ → List (List Record)) (left : AreLeft net actions images) where
+    Read : ℕ → Type 0
+    Read v = (made : Bool) × IsImage net last v made (images v)
 
-  pub left_have_one_world : (journals : ℕ → Journal) → ((v : ℕ) → IsJournal (journals v)) → (made : ℕ → Bool) × IsOneWorld net last images journals made
-  left_have_one_world journals sized =
-      let h = run_held net actions network r in images_have_one_world net last images journals h.conserved h.fits read sized
+    fold_read : (v : ℕ) → IsFoldOf net actions last v (images v) → Read v
+    unfolding Read
+    fold_read v f = (f.committed, record { may = f.may; back = f.fold ∙ doubt_gives_back v f.committed })
+
+    none_read : (v : ℕ) → is_blank (last.journal v) ≡ true → images v ≡ [] → Read v
+    unfolding Read
+    none_read v blank none = (
+      false,
+      record {
+        may = unstarted_may net actions v blank;
+        back = subst (λ (bs : List (List Record)). GivesBack net.site v bs (view_of net last v)) (sym none) (unstarted_given net actions v network r blank);
+      },
+    )
+
+    read : AreImages net last images
+    unfolding Read
+    read v less = elim (is_blank (last.journal v)) as (λ t. is_blank (last.journal v) ≡ t → Read v) [
+      | true ↦ λ e. none_read v e (left.unstarted v less e)
+      | false ↦ λ e. fold_read v (left.started v less e)
+    ] refl
+
+    pub left_have_one_world : (journals : ℕ → Journal) → ((v : ℕ) → IsJournal (journals v)) → (made : ℕ → Bool) × IsOneWorld net last images journals made
+    left_have_one_world journals sized =
+        let h = run_held net actions network r in images_have_one_world net last images journals h.conserved h.fits read sized
 
 module _ (words : Words) (stop : Stop) (http : HttpTexts) (reading : DiskBatches) (scenario : Scenario) (seen : Seen) (old new : Option (List ℕ)) (c : Course)
     (h : Headline words stop http reading scenario seen old new c) where

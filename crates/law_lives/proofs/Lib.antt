@@ -3,7 +3,9 @@ pub mod Beginnings
 pub mod Courses
 pub mod Doubts
 pub mod Unstarted
+pub mod NextNetworks
 pub mod Lastings
 pub mod Owners
+pub mod Repeats
 pub mod Views
 pub mod Worlds

@@ -3,3 +3,4 @@ pub mod AtRest
 pub mod OneWorld
 pub mod Lasting
 pub mod Left
+pub mod NextNetwork

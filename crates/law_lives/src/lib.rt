@@ -5,4 +5,4 @@ mod course_laws;
 mod world_laws;
 
 pub use course_laws::{law_headline_has_one_world, law_run_leaves_one_world};
-pub use world_laws::{law_images_give_one_world, law_rest_lasts};
+pub use world_laws::{law_images_give_one_world, law_rest_goes_on, law_rest_lasts};

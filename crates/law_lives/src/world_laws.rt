@@ -1,13 +1,17 @@
 // The law that all disks have one world behind them: what one life leaves is where the next may begin.
 ghost use Rattle.std.specs.Prelude.{ℕ, Bool, List};
 ghost use Rattle.net_model.specs.declared.record.Record.{Record};
+ghost use Rattle.net_model.specs.Premises.{IsNetwork};
 ghost use Rattle.net_model.specs.World.{Network, World, Journal};
+ghost use Rattle.net_model.specs.Action.{Action};
+ghost use Rattle.net_model.specs.Step.{run, IsRun};
 ghost use Rattle.net_model.specs.Invariant.{Conserved, IsJournal};
 ghost use Rattle.law_recovery.specs.Saved.{DoubtsFit};
 ghost use Rattle.law_lives.specs.Images.{AreImages};
-ghost use Rattle.law_lives.specs.AtRest.{at_rest};
+ghost use Rattle.law_lives.specs.AtRest.{IsAtRest, at_rest};
 ghost use Rattle.law_lives.specs.OneWorld.{IsOneWorld};
 ghost use Rattle.law_lives.specs.Lasting.{Lasts, FramesAreBelow};
+ghost use Rattle.law_lives.specs.NextNetwork.{IsNextNetwork, GoesOnIn};
 
 /// If one image of each disk is read, there is one world at rest that gives all nodes back as their images do. Each
 /// batch in doubt is made there or not, as its node's image has it. Premises: the conserved properties hold, and each
@@ -25,4 +29,14 @@ pub fn law_rest_lasts()
         Lasts w.durable (at_rest net.site made journals w).durable }
     ensures below { (net : Network) (w : World) (made : ℕ → Bool) (journals : ℕ → Journal) → Conserved net w → DoubtsFit net w →
         FramesAreBelow w (at_rest net.site made journals w) }
+{}
+
+/// A world at rest is also one of the next life's network: its devices have told more, and its entropies begin anew. A
+/// run from there keeps what is conserved, so what is said of images holds at its end again.
+pub fn law_rest_goes_on()
+    ensures network { (earlier later : Network) (counts : ℕ → ℕ) (w : World) → IsAtRest w → Conserved earlier w → IsNextNetwork earlier later counts w →
+        GoesOnIn earlier later counts w }
+    ensures begin { (net : Network) (w : World) → IsAtRest w → DoubtsFit net w }
+    ensures run { (net : Network) (w : World) (actions : List Action) → IsNetwork net → Conserved net w → DoubtsFit net w → IsRun net w actions →
+        Conserved net (run net w actions) × DoubtsFit net (run net w actions) }
 {}

@@ -1,0 +1,12 @@
+use Rattle.law_lives.proofs.NextNetworks.{goes_on}
+use Rattle.law_lives.proofs.Repeats.{rest_fits, run_goes_on}
+use Rattle.law_lives.proofs.world_laws.law_rest_goes_on.Goals as goal
+
+pub returns-clause-network : goal.returns-clause-network
+returns-clause-network c = λ earlier later counts w rest conserved next. goes_on earlier later counts w next rest conserved
+
+pub returns-clause-begin : goal.returns-clause-begin
+returns-clause-begin c = λ net w rest. rest_fits net w rest
+
+pub returns-clause-run : goal.returns-clause-run
+returns-clause-run c = λ net w actions network conserved fits r. run_goes_on net network actions w conserved fits r
