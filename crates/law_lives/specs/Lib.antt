@@ -4,3 +4,4 @@ pub mod OneWorld
 pub mod Lasting
 pub mod Left
 pub mod NextNetwork
+pub mod Lives

@@ -10,7 +10,7 @@ ghost use Rattle.law_recovery.specs.Saved.{DoubtsFit};
 ghost use Rattle.law_lives.specs.Images.{AreImages};
 ghost use Rattle.law_lives.specs.AtRest.{IsAtRest, at_rest};
 ghost use Rattle.law_lives.specs.OneWorld.{IsOneWorld};
-ghost use Rattle.law_lives.specs.Lasting.{Lasts, FramesAreBelow};
+ghost use Rattle.law_lives.specs.Lasting.{Lasts, LeasesLast, FramesAreBelow};
 ghost use Rattle.law_lives.specs.NextNetwork.{IsNextNetwork, GoesOnIn};
 
 /// If one image of each disk is read, there is one world at rest that gives all nodes back as their images do. Each
@@ -27,6 +27,8 @@ pub fn law_images_give_one_world()
 pub fn law_rest_lasts()
     ensures lasts { (net : Network) (w : World) (made : ℕ → Bool) (journals : ℕ → Journal) → Conserved net w → DoubtsFit net w →
         Lasts w.durable (at_rest net.site made journals w).durable }
+    ensures leases { (net : Network) (w : World) (made : ℕ → Bool) (journals : ℕ → Journal) → Conserved net w → DoubtsFit net w →
+        LeasesLast w.durable (at_rest net.site made journals w).durable }
     ensures below { (net : Network) (w : World) (made : ℕ → Bool) (journals : ℕ → Journal) → Conserved net w → DoubtsFit net w →
         FramesAreBelow w (at_rest net.site made journals w) }
 {}
