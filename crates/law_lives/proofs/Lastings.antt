@@ -166,20 +166,26 @@ replay_leases s v frames unclaimed (r ∷ rs) d inv m l =
     let rest = replay_leases s v frames unclaimed rs (apply_record s v r d) (apply_keeps s d frames unclaimed inv v r m.0) m.1 l in
     omega (arith, one, rest)
 
-module _ (net : Network) (w : World) (c : Conserved net w) (fits : DoubtsFit net w) (made : ℕ → Bool) where
+module _ (net : Network) (w : World) (made : ℕ → Bool) where
   one_lasts : (n : ℕ) (d : Durable) (t : Bool) → Lasts d (if t then replay net.site n (w.in_doubt n).batch d else d)
   one_lasts n d true = replay_lasts net.site n (w.in_doubt n).batch d
   one_lasts n d false = lasts_same d
-
-  one_leases : (n : ℕ) (d : Durable) → AreSettled net w c fits made n d → (t : Bool) → LeasesLast d (if t then replay net.site n (w.in_doubt n).batch d else d)
-  one_leases n d h true l = replay_leases net.site n w.frames w.unclaimed (w.in_doubt n).batch d h.now (h.doubts n (omega arith)) l
-  one_leases n d h false l = omega arith
 
   all_last : (n : ℕ) → Lasts w.durable (with_doubts net.site w made (count_up n) w.durable)
   all_last zero = lasts_same w.durable
   all_last (suc n) =
       let d : Durable = with_doubts net.site w made (count_up n) w.durable in
       subst (Lasts w.durable) (sym (made_then net.site w made (count_up n) (n ∷ []) w.durable)) (lasts_then w.durable d _ (all_last n) (one_lasts n d (made n)))
+
+  pub rest_lasts : (journals : ℕ → Journal) → Lasts w.durable (at_rest net.site made journals w).durable
+  unfolding at_rest
+  rest_lasts journals =
+      let h = all_last net.site.nodes in record { facts = h.facts; known = h.known; acked = h.acked; handed = h.handed; closed = h.closed; blocks = h.blocks }
+
+module _ (net : Network) (w : World) (c : Conserved net w) (fits : DoubtsFit net w) (made : ℕ → Bool) where
+  one_leases : (n : ℕ) (d : Durable) → AreSettled net w c fits made n d → (t : Bool) → LeasesLast d (if t then replay net.site n (w.in_doubt n).batch d else d)
+  one_leases n d h true l = replay_leases net.site n w.frames w.unclaimed (w.in_doubt n).batch d h.now (h.doubts n (omega arith)) l
+  one_leases n d h false l = omega arith
 
   all_leases : (n : ℕ) → LeasesLast w.durable (with_doubts net.site w made (count_up n) w.durable)
   all_leases zero l = omega arith
@@ -188,11 +194,6 @@ module _ (net : Network) (w : World) (c : Conserved net w) (fits : DoubtsFit net
       let earlier = all_leases n l in
       let one = one_leases n d (all_settled net w c fits made n) (made n) l in
       subst (λ (x : Durable). w.durable.lease l ≤ x.lease l) (sym (made_then net.site w made (count_up n) (n ∷ []) w.durable)) (omega (arith, earlier, one))
-
-  pub rest_lasts : (journals : ℕ → Journal) → Lasts w.durable (at_rest net.site made journals w).durable
-  unfolding at_rest
-  rest_lasts journals = let h = all_last net.site.nodes in
-      record { facts = h.facts; known = h.known; acked = h.acked; handed = h.handed; closed = h.closed; blocks = h.blocks }
 
   pub rest_leases : (journals : ℕ → Journal) → LeasesLast w.durable (at_rest net.site made journals w).durable
   unfolding at_rest

@@ -10,6 +10,7 @@ pub mod Owns
 pub mod Runs
 pub mod Lives
 pub mod Firsts
+pub mod Fronts
 pub mod Handings
 pub mod Repeats
 pub mod Views

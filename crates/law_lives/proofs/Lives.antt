@@ -68,7 +68,7 @@ module _ (l : Life) (b : Begins l) (h : IsLife l) where
   -- The life's end itself is before what it left.
   rest_after : IsBefore l (rest_of l)
   rest_after = record {
-    lasts = rest_lasts l.net (end_of l) kept.0 kept.1 l.made l.journals;
+    lasts = rest_lasts l.net (end_of l) l.made l.journals;
     below = λ k j x covered.
         let low = frames_below l.net (end_of l) kept.0 kept.1 l.made l.journals k j x covered in
         let owned = rests.0.owned k in

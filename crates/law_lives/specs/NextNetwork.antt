@@ -1,5 +1,5 @@
 -- The network of a later life.
-use Rattle.std.specs.Prelude.{◌≡◌, ℕ}
+use Rattle.std.specs.Prelude.{◌≡◌, ℕ, ◌*◌, ◌<◌}
 use Rattle.qkd_base.specs.declared.lane.Lane.{Lane}
 use Rattle.net_model.specs.OctetSequence.{first_blocks}
 use Rattle.net_model.specs.World.{Network, World}
@@ -22,3 +22,10 @@ pub record IsNextNetwork (earlier later : Network) (counts : ℕ → ℕ) (w : W
 pub record GoesOnIn (earlier later : Network) (counts : ℕ → ℕ) (w : World) : Type 0 where
   pub conserved : Conserved later (with_drawn counts w)
   pub sees : (v : ℕ) → view_of later (with_drawn counts w) v ≡ view_of earlier w v
+
+-- The sites are the same. The later devices give the blocks that were taken, and the later entropies the octets that were
+-- drawn, as the earlier ones did.
+pub record BeginsAs (earlier later : Network) (w : World) : Type 0 where
+  pub site : later.site ≡ earlier.site
+  pub devices : (l : Lane) (i : ℕ) → i < 1024 * w.durable.blocks l → (later.device l.link).octet i ≡ (earlier.device l.link).octet i
+  pub entropies : (v i : ℕ) → i < w.drawn v → (later.entropy v).octet i ≡ (earlier.entropy v).octet i

@@ -1,4 +1,8 @@
 //! Laws of lives: what one process leaves on its disks is one world, in which the next process may begin.
+//!
+//! When a process ends, each disk leaves an image by itself: with its node's last batch or without it. These laws say that
+//! the images of all disks belong together. Some world at rest gives every node what its image does, and nothing that was
+//! promised is lost on the way there. So what is promised of keys and lane bytes holds from one life to the next.
 #![tactic(auto)]
 
 mod course_laws;

@@ -11,7 +11,7 @@ ghost use Rattle.law_lives.specs.Images.{AreImages};
 ghost use Rattle.law_lives.specs.AtRest.{IsAtRest, at_rest};
 ghost use Rattle.law_lives.specs.OneWorld.{IsOneWorld};
 ghost use Rattle.law_lives.specs.Lasting.{Lasts, LeasesLast, FramesAreBelow};
-ghost use Rattle.law_lives.specs.NextNetwork.{IsNextNetwork, GoesOnIn};
+ghost use Rattle.law_lives.specs.NextNetwork.{IsNextNetwork, GoesOnIn, BeginsAs};
 
 /// If one image of each disk is read, there is one world at rest that gives all nodes back as their images do. Each
 /// batch in doubt is made there or not, as its node's image has it. Premises: the conserved properties hold, and each
@@ -25,19 +25,19 @@ pub fn law_images_give_one_world()
 /// Whichever doubts are made, the world at rest has all that disks had: facts, marks and blocks. No byte of a frame is
 /// used again, since each lane goes on behind its frames.
 pub fn law_rest_lasts()
-    ensures lasts { (net : Network) (w : World) (made : ℕ → Bool) (journals : ℕ → Journal) → Conserved net w → DoubtsFit net w →
-        Lasts w.durable (at_rest net.site made journals w).durable }
+    ensures lasts { (net : Network) (w : World) (made : ℕ → Bool) (journals : ℕ → Journal) → Lasts w.durable (at_rest net.site made journals w).durable }
     ensures leases { (net : Network) (w : World) (made : ℕ → Bool) (journals : ℕ → Journal) → Conserved net w → DoubtsFit net w →
         LeasesLast w.durable (at_rest net.site made journals w).durable }
     ensures below { (net : Network) (w : World) (made : ℕ → Bool) (journals : ℕ → Journal) → Conserved net w → DoubtsFit net w →
         FramesAreBelow w (at_rest net.site made journals w) }
 {}
 
-/// A world at rest is also one of the next life's network: its devices have told more, and its entropies begin anew. A
-/// run from there keeps what is conserved, so what is said of images holds at its end again.
+/// A world at rest is also one of the next life's network: its devices have told more, and its entropies begin anew, or
+/// go on. A run from there keeps what is conserved, so what is said of images holds at its end again.
 pub fn law_rest_goes_on()
     ensures network { (earlier later : Network) (counts : ℕ → ℕ) (w : World) → IsAtRest w → Conserved earlier w → IsNextNetwork earlier later counts w →
         GoesOnIn earlier later counts w }
+    ensures front { (earlier later : Network) (w : World) → Conserved earlier w → BeginsAs earlier later w → IsNextNetwork earlier later w.drawn w }
     ensures begin { (net : Network) (w : World) → IsAtRest w → DoubtsFit net w }
     ensures run { (net : Network) (w : World) (actions : List Action) → IsNetwork net → Conserved net w → DoubtsFit net w → IsRun net w actions →
         Conserved net (run net w actions) × DoubtsFit net (run net w actions) }

@@ -1,9 +1,13 @@
+use Rattle.law_lives.proofs.Fronts.{front_is_next}
 use Rattle.law_lives.proofs.NextNetworks.{goes_on}
 use Rattle.law_lives.proofs.Repeats.{rest_fits, run_goes_on}
 use Rattle.law_lives.proofs.world_laws.law_rest_goes_on.Goals as goal
 
 pub returns-clause-network : goal.returns-clause-network
 returns-clause-network c = λ earlier later counts w rest conserved next. goes_on earlier later counts w next rest conserved
+
+pub returns-clause-front : goal.returns-clause-front
+returns-clause-front c = λ earlier later w conserved begins. front_is_next earlier later w conserved begins
 
 pub returns-clause-begin : goal.returns-clause-begin
 returns-clause-begin c = λ net w rest. rest_fits net w rest
