@@ -1,15 +1,18 @@
 -- What holds of one life's end holds of all later lives, and their frames take later bytes.
-use Rattle.std.proofs.Common.{◌≡◌, ℕ, zero, suc, ◌<◌, ◌≤◌, Bool, true, false, List, [], ◌∷◌, ◌++◌, length, refl, sym, ◌∙◌, ap, subst, arith, Some, length-append}
+use Rattle.std.proofs.Common.{◌≡◌, ℕ, zero, suc, ◌<◌, ◌≤◌, Bool, true, false, List, [], ◌∷◌, ◌++◌, length, refl, sym, ◌∙◌, ap, subst, arith, Some, length-append, inl, inr}
 use Rattle.std.specs.Prelude.{slice_get, nat_lt}
 use Rattle.std.proofs.lemmas.Bool.{ltb-true, ltb-false}
 use Rattle.qkd_base.specs.Name.{Name}
 use Rattle.qkd_base.specs.declared.lane.Lane.{Lane}
 use Rattle.net_model.specs.Table.{was_handed}
-use Rattle.net_model.specs.World.{Network, World, Owner, Allocation}
+use Rattle.net_model.specs.Site.{Site}
+use Rattle.net_model.specs.Handings.{MayHaveOne}
+use Rattle.net_model.specs.World.{Network, World, Durable, Owner, Allocation}
 use Rattle.net_model.specs.Ownership.{is_frame, covers}
 use Rattle.net_model.specs.Invariant.{Conserved}
 use Rattle.net_model.specs.Deliveries.{Delivery, is_of_name, IsTrueDelivery}
 use Rattle.law_base.proofs.Base.{not_both, slice_get-append_left}
+use Rattle.law_base.proofs.Grow.{sae_grows, stored_grows}
 use Rattle.law_recovery.specs.Saved.{DoubtsFit}
 use Rattle.law_lives.specs.AtRest.{IsAtRest}
 use Rattle.law_lives.specs.Lasting.{Lasts}
@@ -21,6 +24,22 @@ use Rattle.law_lives.proofs.NextNetworks.{goes_on}
 use Rattle.law_lives.proofs.Repeats.{rest_fits, run_goes_on}
 use Rattle.law_lives.proofs.Runs.{GoesOn, run_goes}
 use Rattle.law_lives.proofs.Worlds.{one_world}
+
+-- An application that may have a key or chunk may have it as long as nothing is lost.
+still_ready : (a b : Durable) → Lasts a b → (s : Site) (n : Name) (sae : ℕ) → MayHaveOne s a.facts a.known n sae → MayHaveOne s b.facts b.known n sae
+still_ready a b h s n sae k = record {
+  fact = k.fact;
+  there = h.facts n k.fact k.there;
+  single = k.single;
+  knows = h.known (s.home sae) n k.knows;
+  is_end = elim k.is_end [
+    | inl (e, stored) ↦ inl (
+      sae_grows a.facts b.facts a.known b.known h.facts h.known true k.fact sae e,
+      stored_grows a.facts b.facts a.known b.known h.facts h.known (s.home sae) n stored,
+    )
+    | inr e ↦ inr (sae_grows a.facts b.facts a.known b.known h.facts h.known false k.fact sae e)
+  ];
+}
 
 -- The frames of a run from a world at rest take bytes behind those owned there.
 frames_above : (net : Network) (b u : World) → IsAtRest b → Conserved net b → Conserved net u → GoesOn b.durable u.durable → (l : Lane) (j x : ℕ) →
@@ -105,9 +124,13 @@ module _ (l : Life) (b : Begins l) (h : IsLife l) where
         let is : is_of_name e.name first.fact ≡ true = ap (λ (n : Name). is_of_name n first.fact) (sym name) ∙ first.is in
         first.bytes first.name first.fact first.there first.is ∙ sym (second.bytes first.name first.fact there is)
 
+    all_lasts : Lasts (end_of a).durable (end_of l).durable
+    all_lasts = lasts_then (end_of a).durable l.begin.durable (end_of l).durable before.lasts grown.lasts
+
     is_earlier : IsEarlier a l
     is_earlier = record {
-      lasts = lasts_then (end_of a).durable l.begin.durable (end_of l).durable before.lasts grown.lasts;
+      lasts = all_lasts;
+      ready = still_ready (end_of a).durable (end_of l).durable all_lasts;
       apart = λ k i j x early late.
           let low = before.below k i x early in
           let high = frames_above l.net l.begin (end_of l) b.rest b.conserved kept.0 grown k j x late in

@@ -1,7 +1,10 @@
 -- Lives: processes that follow one another over the same disks.
 use Rattle.std.specs.Prelude.{◌≡◌, ℕ, ◌<◌, Bool, true, List, [], ◌∷◌, Some, slice_get}
+use Rattle.qkd_base.specs.Name.{Name}
 use Rattle.qkd_base.specs.declared.lane.Lane.{Lane}
 use Rattle.net_model.specs.declared.record.Record.{Record}
+use Rattle.net_model.specs.Site.{Site}
+use Rattle.net_model.specs.Handings.{MayHaveOne}
 use Rattle.net_model.specs.Premises.{IsNetwork}
 use Rattle.net_model.specs.World.{Network, World, Journal}
 use Rattle.net_model.specs.Ownership.{covers}
@@ -59,6 +62,9 @@ AreLives (l ∷ ls) = IsLife l × Follow l ls
 pub record IsEarlier (a b : Life) : Type 0 where
   -- nothing that was on disks is lost
   pub lasts : Lasts (end_of a).durable (end_of b).durable
+  -- a key or chunk that an application may have stays so: its home knows it, and for a master or source it is confirmed
+  pub ready : (s : Site) (n : Name) (sae : ℕ) → MayHaveOne s (end_of a).durable.facts (end_of a).durable.known n sae →
+      MayHaveOne s (end_of b).durable.facts (end_of b).durable.known n sae
   -- no byte of a lane masks a frame of each
   pub apart : (l : Lane) (i j x : ℕ) → covers (end_of a).durable.facts (slice_get ((end_of a).frames l) i) x ≡ true →
       covers (end_of b).durable.facts (slice_get ((end_of b).frames l) j) x ≡ true → ⊥
