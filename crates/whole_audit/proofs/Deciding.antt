@@ -1,37 +1,20 @@
 -- The loop over the items of a report: which items were judged so far, and the least rule that one breaks.
-use Rattle.std.proofs.Common.{◌≡◌, ℕ, zero, suc, ◌+◌, ◌<◌, ◌≤◌, Bool, true, false, cond, List, [], ◌∷◌, length, get_or, drop, Option, Some, None, refl, sym, ap, ◌∙◌, arith}
+use Rattle.std.proofs.Common.{◌≡◌, ℕ, zero, suc, ◌+◌, ◌<◌, ◌≤◌, Bool, true, false, not, cond, List, [], ◌∷◌, length, get_or, drop, Option, Some, None, refl, sym, ap, ◌∙◌, arith}
 use Rattle.std.proofs.lemmas.List.{at_drop_more}
 use Rattle.run_types.specs.declared.scenario.Scenario.{Scenario}
 use Rattle.run_types.specs.declared.item.NumberedItem.{NumberedItem}
 use Rattle.whole_audit.specs.declared.judge.Judge.{Judge}
-use Rattle.whole_audit.specs.Order.{rule_7, may_end}
-use Rattle.whole_audit.specs.Blocks.{rule_9}
-use Rattle.whole_audit.specs.Claims.{rule_10}
-use Rattle.whole_audit.specs.Sums.{rule_11}
-use Rattle.whole_audit.specs.Shorts.{rule_17}
-use Rattle.whole_audit.specs.Whole.{broken, first_of, break_from, break_of}
+use Rattle.whole_audit.specs.Order.{may_end}
+use Rattle.whole_audit.specs.declared.findings.Findings.{Findings}
+use Rattle.whole_audit.specs.Whole.{least_of, broken, first_of, break_from, break_of}
 use Rattle.whole_audit.specs.Kept.{IsJudgeOf}
 
--- ---- the first rule whose test fails is the one that is broken
-
-module _ (s : Scenario) (before : List NumberedItem) (t : NumberedItem) where
-  pub breaks_7 : rule_7 s before t ≡ false → Some 7 ≡ broken s before t
-  breaks_7 a = rw a refl
-
-  pub breaks_9 : rule_7 s before t ≡ true → rule_9 before t ≡ false → Some 9 ≡ broken s before t
-  breaks_9 a b = rw (a, b) refl
-
-  pub breaks_10 : rule_7 s before t ≡ true → rule_9 before t ≡ true → rule_10 before t.item ≡ false → Some 10 ≡ broken s before t
-  breaks_10 a b d = rw (a, b, d) refl
-
-  pub breaks_11 : rule_7 s before t ≡ true → rule_9 before t ≡ true → rule_10 before t.item ≡ true → rule_11 before t.item ≡ false → Some 11 ≡ broken s before t
-  breaks_11 a b d e = rw (a, b, d, e) refl
-
-  pub breaks_17 : rule_7 s before t ≡ true → rule_9 before t ≡ true → rule_10 before t.item ≡ true → rule_11 before t.item ≡ true → rule_17 before t.item ≡ false → Some 17 ≡ broken s before t
-  breaks_17 a b d e f = rw (a, b, d, e, f) refl
-
-  pub breaks_none : rule_7 s before t ≡ true → rule_9 before t ≡ true → rule_10 before t.item ≡ true → rule_11 before t.item ≡ true → rule_17 before t.item ≡ true → None ≡ broken s before t
-  breaks_none a b d e f = rw (a, b, d, e, f) refl
+pub none_stands : (f : Findings) → least_of f ≡ None → f.order ≡ true
+none_stands f none = by f.order refl
+  where
+    by : (b : Bool) → f.order ≡ b → f.order ≡ true
+    by true e = e
+    by false e = absurd (let broken : Some 7 ≡ None = sym (ap (λ (c : Bool). cond (not c) (Some 7) (least_of (record f { order = true }))) e) ∙ none in cc)
 
 -- ---- the loop
 

@@ -1,4 +1,6 @@
 pub mod Walking
+pub mod Lining
 pub mod Counting
 pub mod Linking
+pub mod HandedNames
 pub mod Deciding

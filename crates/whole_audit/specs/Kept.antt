@@ -1,11 +1,21 @@
 -- What the audit's tables stand for: the items so far.
-use Rattle.std.specs.Prelude.{◌≡◌, ℕ, nat_le, Bool, not, List, [], ◌∷◌, drop, Some, unwrap_or}
+use Rattle.std.specs.Prelude.{◌≡◌, ℕ, ◌==◌, nat_le, Bool, not, if◌then◌else◌, List, [], ◌∷◌, drop, slice_get, Option, Some, None, unwrap_or}
+use Rattle.std.specs.List.{flat_map}
+use Rattle.std.specs.Ordering.{nat_cmp}
+use Rattle.std.specs.BTreeMap.{BTreeMap, get}
 use Rattle.ordered_set.specs.Entries.{has_entry}
 use Rattle.qkd_base.specs.declared.lane.Lane.{Lane}
 use Rattle.qkd_base.specs.Lane.{lane_place}
+use Rattle.run_types.specs.declared.line.Line.{Line}
+use Rattle.run_types.specs.declared.entry.Entry.{Entry}
+use Rattle.run_types.specs.declared.entry.Entry.TheVariants as entries
 use Rattle.run_types.specs.declared.scenario.Scenario.{Scenario}
 use Rattle.run_types.specs.declared.item.NumberedItem.{NumberedItem}
 use Rattle.whole_audit.specs.declared.order.Walk.{Walk}
+use Rattle.whole_audit.specs.declared.lines.Spot.{Spot}
+use Rattle.whole_audit.specs.declared.lines.Spots.{Spots}
+use Rattle.whole_audit.specs.Lines.{lines_in, line_with}
+use Rattle.whole_audit.specs.declared.tables.Tables.{Tables}
 use Rattle.whole_audit.specs.declared.judge.Judge.{Judge}
 use Rattle.whole_audit.specs.declared.blocks.Count.{Count}
 use Rattle.whole_audit.specs.declared.blocks.Counts.{Counts}
@@ -26,6 +36,33 @@ pub record IsWalkOf (s : Scenario) (w : Walk) (before : List NumberedItem) : Typ
   pub left : left s before ≡ Some (drop w.place s.entries)
   pub came : (number : ℕ) → has_number w.came number ≡ has_come before number
   pub next : (number : ℕ) → nat_le w.next number ≡ is_above number before
+
+-- ---- lines
+
+abbrev pub line_in : Entry → (place : ℕ) → Option Line
+line_in (entries.Line l) place = if place == 0 then Some l else None
+line_in (entries.Block ls) place = slice_get ls place
+
+abbrev pub line_in_any : Option Entry → (place : ℕ) → Option Line
+line_in_any None place = None
+line_in_any (Some e) place = line_in e place
+
+-- the line at a spot
+abbrev pub line_at : List Entry → Spot → Option Line
+line_at es spot = line_in_any (slice_get es spot.entry) spot.line
+
+-- the line at the spot that was found for a number, or else the first of these lines with this number
+abbrev pub found_or : List Entry → Option Spot → (number : ℕ) → List Line → Option Line
+found_or es None number lines = line_with number lines
+found_or es (Some spot) number lines = line_at es spot
+
+-- The new table is the old one with lines added. An earlier line of the same number stays in force.
+abbrev pub Adds : List Entry → BTreeMap ℕ Spot → BTreeMap ℕ Spot → (List Line → List Line) → Type 0
+Adds es old new put = (number : ℕ) (behind : List Line) → found_or es (get nat_cmp new number) number behind ≡ found_or es (get nat_cmp old number) number (put behind)
+
+-- The table has the spots of the scenario's lines.
+abbrev pub AreSpots : Scenario → Spots → Type 0
+AreSpots s spots = (number : ℕ) → found_or s.entries (get nat_cmp spots.by_number number) number [] ≡ line_with number (flat_map lines_in s.entries)
 
 -- ---- blocks
 
@@ -49,7 +86,11 @@ AreDown down before = (link : ℕ) → has_number down link ≡ not (is_up link 
 
 -- ---- all together
 
+pub record AreTablesOf (s : Scenario) (t : Tables) (before : List NumberedItem) : Type 0 where
+  pub spots : AreSpots s t.spots
+  pub counts : AreCounted t.counts before
+  pub down : AreDown t.down before
+
 pub record IsJudgeOf (s : Scenario) (j : Judge) (before : List NumberedItem) : Type 0 where
   pub walk : IsWalkOf s j.walk before
-  pub counts : AreCounted j.counts before
-  pub down : AreDown j.down before
+  pub tables : AreTablesOf s j.tables before

@@ -1,3 +1,11 @@
+pub mod Lines
+pub mod Entitled
+pub mod Making
+pub mod Handing
+pub mod Passing
+pub mod Streaming
+pub mod Naming
+pub mod Asked
 pub mod Order
 pub mod Blocks
 pub mod Claims

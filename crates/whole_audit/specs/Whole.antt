@@ -1,5 +1,5 @@
 -- The verdict of all rules: the first item that breaks one of them together with those before it, and the least rule that it breaks.
-use Rattle.std.specs.Prelude.{◌≡◌, ℕ, ◌+◌, not, nat_lt, if◌then◌else◌, List, [], ◌∷◌, Option, Some, None}
+use Rattle.std.specs.Prelude.{◌≡◌, ℕ, ◌+◌, not, ◌&&◌, nat_lt, if◌then◌else◌, List, [], ◌∷◌, Option, Some, None}
 use Rattle.run_types.specs.declared.scenario.Scenario.{Scenario}
 use Rattle.run_types.specs.declared.item.NumberedItem.{NumberedItem}
 use Rattle.run_audit.specs.declared.verdict.Verdict.{Verdict}
@@ -7,21 +7,45 @@ use Rattle.run_audit.specs.declared.verdict.Verdict.TheVariants as verdicts
 use Rattle.run_audit.specs.Rules.{verdict_of}
 use Rattle.audit_text.specs.declared.input.Input.{Input}
 use Rattle.audit_text.specs.Input.{IsInput}
+use Rattle.whole_audit.specs.declared.findings.Findings.{Findings}
 use Rattle.whole_audit.specs.Order.{rule_7, may_end}
 use Rattle.whole_audit.specs.Blocks.{rule_9}
 use Rattle.whole_audit.specs.Claims.{rule_10}
 use Rattle.whole_audit.specs.Sums.{rule_11}
+use Rattle.whole_audit.specs.Lines.{command_at}
+use Rattle.whole_audit.specs.Asked.{asked_at}
 use Rattle.whole_audit.specs.Shorts.{rule_17}
 
--- The least rule from 7 on that the item breaks, given the items before it, of which the last one stands first.
-abbrev pub broken : Scenario → List NumberedItem → NumberedItem → Option ℕ
-broken s before t =
-    if not (rule_7 s before t) then Some 7
-    else if not (rule_9 before t) then Some 9
-    else if not (rule_10 before t.item) then Some 10
-    else if not (rule_11 before t.item) then Some 11
-    else if not (rule_17 before t.item) then Some 17
+-- Which rules from 7 on the item keeps, given the items before it, of which the last one stands first.
+abbrev pub findings : Scenario → List NumberedItem → NumberedItem → Findings
+findings s before t = record {
+  order = rule_7 s before t;
+  blocks = rule_9 before t;
+  claims = rule_10 before t.item;
+  sums = rule_11 before t.item;
+  asked = asked_at s.site.entitlements (command_at s t.number) t.item;
+  shorts = rule_17 before t.item;
+}
+
+-- the least rule that is broken
+abbrev pub least_of : Findings → Option ℕ
+least_of f =
+    if not f.order then Some 7
+    else if not f.blocks then Some 9
+    else if not f.claims then Some 10
+    else if not f.sums then Some 11
+    else if not f.asked.making then Some 12
+    else if not f.asked.handing then Some 13
+    else if not f.asked.passing then Some 14
+    else if not f.asked.streaming then Some 15
+    else if not f.asked.responding then Some 16
+    else if not (f.shorts && f.asked.ticking) then Some 17
+    else if not f.asked.showing then Some 18
+    else if not f.asked.naming then Some 20
     else None
+
+abbrev pub broken : Scenario → List NumberedItem → NumberedItem → Option ℕ
+broken s before t = least_of (findings s before t)
 
 -- what is broken at this place, if anything, or else behind it
 abbrev pub first_of : (place : ℕ) → Option ℕ → Option (ℕ × ℕ) → Option (ℕ × ℕ)

@@ -13,12 +13,33 @@
 //!    stopped at a block, the next number tells whether it had taken it.
 //! 10. A frame leaves over a link that is up, and uses bytes that its sender has received.
 //! 11. The received bytes of a ledger are what its sender's blocks brought, also where the sender stopped at one.
-//! 17. A short item tells what was received, over a link that is up, and its need passes that.
+//! 12. As many keys or chunks are made as the line asks for, at its node. A pair that isn't allowed is refused as such, and no
+//!     other.
+//! 13. As many keys are handed out as the line asks for, of its size, named by its node and in order of their names, or those
+//!     that it names, none twice. Who may not ask is refused as such, and nobody else. Other refusals fit what was asked for.
+//! 14. A frame that comes to its receiver is the line's. If one bit was changed, or anybody made the octets, the answer is one
+//!     that this bit, or the number of octets, allows.
+//! 15. A call on streams is answered by a status that it can have, for the stream and the index that it names.
+//! 16. A response is that of the line's node, and has a status of GS QKD 014.
+//! 17. A tick is that of the line's node. A short item tells what was received, over a link that is up, and its need passes
+//!     that.
+//! 18. A key is shown as the line asks for. It has bytes exactly if the node needs them, as far as its state tells that.
+//! 20. A ledger names the line's lane, and a set link the line's link and state.
 #![tactic(auto)]
 
+mod asked;
 mod blocks;
+mod entitled;
+mod findings;
+mod handing;
 mod judge;
+mod lines;
+mod making;
+mod naming;
 mod order;
+mod passing;
+mod streaming;
+mod tables;
 mod text;
 mod whole_verdict;
 

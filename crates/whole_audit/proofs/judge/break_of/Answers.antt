@@ -3,7 +3,7 @@ use Rattle.whole_audit.proofs.Deciding.{none_judged, breaks, goes_on, ends_well,
 use Rattle.whole_audit.proofs.judge.break_of.Goals as goal
 
 pub loop-place-init : goal.loop-place-init
-loop-place-init c = none_judged c.args.scenario.now c.new-judge.result c.args.items.now (c.new-judge.ensures c.args.scenario.now)
+loop-place-init c = none_judged c.args.scenario.now c.in_ok-judge.judge c.args.items.now (c.in_ok-judge.ensures {u = tt})
 
 pub loop-place-preserved : goal.loop-place-preserved
 loop-place-preserved c =

@@ -1,7 +1,7 @@
 use Rattle.std.proofs.Common.{◌≡◌, Bool, true, false, not, refl, ap, ◌∙◌}
 use Rattle.ordered_set.specs.Entries.{has_entry}
 use Rattle.whole_audit.specs.Claims.{is_up}
-use Rattle.whole_audit.proofs.judge.is_up.Goals as goal
+use Rattle.whole_audit.proofs.tables.is_up.Goals as goal
 
 not_not : (b : Bool) → not (not b) ≡ b
 not_not true = refl

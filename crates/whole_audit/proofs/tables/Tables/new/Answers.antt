@@ -1,0 +1,6 @@
+use Rattle.std.proofs.Common.{List, ℕ, ap}
+use Rattle.whole_audit.specs.Kept.{has_number}
+use Rattle.whole_audit.proofs.tables.Tables.new.Goals as goal
+
+pub returns : goal.returns
+returns c = record { spots = c.in_ok-new.ensures {u = tt}; counts = c.new-2.ensures; down = λ link. ap (λ (es : List (List ℕ)). has_number es link) c.new-3.ensures }

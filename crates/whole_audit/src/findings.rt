@@ -1,0 +1,65 @@
+// Which rules an item keeps.
+ghost use Rattle.std.specs.Prelude.{◌≡◌};
+ghost use Rattle.whole_audit.specs.Whole.{least_of};
+
+use crate::asked::Asked;
+
+/// Which of the rules from 7 on an item keeps.
+#[derive(Clone, Copy)]
+pub struct Findings {
+    /// Rule 7.
+    pub order: bool,
+    /// Rule 9.
+    pub blocks: bool,
+    /// Rule 10.
+    pub claims: bool,
+    /// Rule 11.
+    pub sums: bool,
+    /// Rule 17, of lanes that are short.
+    pub shorts: bool,
+    /// Rules 12 to 18, and 20.
+    pub asked: Asked,
+}
+
+/// The least rule that an item breaks, if it breaks any.
+pub fn least(findings: &Findings) -> Option<u8>
+    ensures { result ≡ least_of findings.now }
+{
+    if !findings.order {
+        return Some(7);
+    }
+    if !findings.blocks {
+        return Some(9);
+    }
+    if !findings.claims {
+        return Some(10);
+    }
+    if !findings.sums {
+        return Some(11);
+    }
+    if !findings.asked.making {
+        return Some(12);
+    }
+    if !findings.asked.handing {
+        return Some(13);
+    }
+    if !findings.asked.passing {
+        return Some(14);
+    }
+    if !findings.asked.streaming {
+        return Some(15);
+    }
+    if !findings.asked.responding {
+        return Some(16);
+    }
+    if !(findings.shorts && findings.asked.ticking) {
+        return Some(17);
+    }
+    if !findings.asked.showing {
+        return Some(18);
+    }
+    if !findings.asked.naming {
+        return Some(20);
+    }
+    None
+}

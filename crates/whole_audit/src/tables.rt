@@ -1,0 +1,159 @@
+// What the items so far said, as tables, and the rules that look at these.
+ghost use Rattle.std.specs.Prelude.{◌≡◌, List, [], ◌∷◌, IfOk, OnOk};
+ghost use Rattle.run_types.specs.declared.scenario.Scenario.{Scenario as Lines};
+ghost use Rattle.run_types.specs.declared.item.NumberedItem.{NumberedItem as Told};
+ghost use Rattle.whole_audit.specs.Order.{rule_7};
+ghost use Rattle.whole_audit.specs.Claims.{is_up, link_set, may_use, rule_10};
+ghost use Rattle.whole_audit.specs.Sums.{rule_11};
+ghost use Rattle.whole_audit.specs.Shorts.{rule_17};
+ghost use Rattle.whole_audit.specs.Whole.{findings};
+ghost use Rattle.whole_audit.specs.Kept.{number_entry, AreSpots, AreCounted, AreDown, AreTablesOf};
+
+use crate::asked::asked_at;
+use crate::blocks::Counts;
+use crate::findings::Findings;
+use crate::lines::Spots;
+use crate::order::number_entry;
+use ordered_set::{Entries, Entry as Numbers};
+use qkd_base::{Lane, LinkNo, Memory};
+use run_types::{Item, NumberedItem, Scenario};
+use std::alloc::Global;
+
+/// What the items so far said.
+#[derive(Drop)]
+pub struct Tables {
+    spots: Spots,
+    counts: Counts,
+    // The links that are down.
+    down: Entries,
+}
+
+// The entry of a link in a set.
+fn link_entry(link: LinkNo) -> Numbers
+    ensures { result ≡ number_entry link }
+{
+    number_entry(u32::from(link.get()))
+}
+
+// Whether a link is up.
+fn is_up(down: &Entries, link: LinkNo) -> bool
+    ensures { (before : List Told) → AreDown down.now before → result ≡ is_up link before }
+{
+    !down.has(link_entry(link))
+}
+
+// The link that an item sets up or down, and whether it is up behind it.
+fn link_set(item: &Item) -> Option<(LinkNo, bool)>
+    ensures { result ≡ link_set item.now }
+{
+    match item {
+        Item::LinkSet { link, up } => Some((*link, *up)),
+        _ => None,
+    }
+}
+
+// Adds what an item says of a link.
+fn learn_link(down: &mut Entries, item: &Item) -> Result<(), Memory>
+    ensures { (told : Told) (before : List Told) → told.item ≡ item.now → AreDown down.old before → OnOk result (AreDown down.new (told ∷ before)) }
+{
+    match link_set(item) {
+        Some((link, true)) => {
+            down.remove(link_entry(link));
+            Ok(())
+        }
+        Some((link, false)) => down.insert(link_entry(link)),
+        None => Ok(()),
+    }
+}
+
+impl Tables {
+    /// Before the first item. The only error is that memory runs out.
+    pub fn new(alloc: Global, scenario: &Scenario) -> Result<Self, Memory>
+        ensures { IfOk result (λ tables. AreTablesOf scenario.now tables []) }
+    {
+        Ok(Tables {
+            spots: Spots::new(alloc, scenario)?,
+            counts: Counts::new(alloc),
+            down: Entries::new(alloc),
+        })
+    }
+
+    // Whether the first `to` bytes of a lane may be used.
+    fn may_use(&self, lane: &Lane, to: u128) -> bool
+        ensures { (before : List Told) → AreCounted self.now.counts before → AreDown self.now.down before → result ≡ may_use lane.now to before }
+    {
+        is_up(&self.down, lane.link) && self.counts.may_reach(lane, to)
+    }
+
+    // Whether a frame leaves over a link that is up, and uses received bytes.
+    fn claims(&self, item: &Item) -> bool
+        ensures { (before : List Told) → AreCounted self.now.counts before → AreDown self.now.down before → result ≡ rule_10 before item.now }
+    {
+        match item {
+            Item::Sent {
+                lane,
+                offset,
+                length,
+                ..
+            } => self.may_use(lane, u128::from(*offset) + u128::from(*length) + 8),
+            Item::Unsent { lane, offset, .. } => self.may_use(lane, u128::from(*offset) + 25),
+            _ => true,
+        }
+    }
+
+    // Whether a ledger's received bytes are what blocks brought.
+    fn sums(&self, item: &Item) -> bool
+        ensures { (before : List Told) → AreCounted self.now.counts before → AreDown self.now.down before → result ≡ rule_11 before item.now }
+    {
+        match item {
+            Item::Counted { lane, counts } => self.counts.may_have_received(lane, counts.received),
+            _ => true,
+        }
+    }
+
+    // Whether what a lane is said to lack passes what it has.
+    fn falls_short(&self, item: &Item) -> bool
+        ensures { (before : List Told) → AreCounted self.now.counts before → AreDown self.now.down before → result ≡ rule_17 before item.now }
+    {
+        match item {
+            Item::Short {
+                lane,
+                used,
+                need,
+                received,
+            } => {
+                is_up(&self.down, lane.link)
+                    && self.counts.may_have_received(lane, *received)
+                    && u128::from(*received) < u128::from(*used) + u128::from(*need)
+                    && 25 <= *need
+                    && *need <= 569
+            }
+            _ => true,
+        }
+    }
+
+    /// Which rules an item keeps. `stands` says whether it keeps rule 7.
+    pub fn findings(&self, scenario: &Scenario, told: &NumberedItem, stands: bool) -> Findings
+        ensures { (before : List Told) → AreTablesOf scenario.now self.now before → stands ≡ rule_7 scenario.now before told.now → result ≡ findings scenario.now before told.now }
+    {
+        let item = &told.item;
+        let grants = &scenario.site.entitlements;
+        let command = self.spots.command(scenario, told.number);
+        Findings {
+            order: stands,
+            blocks: self.counts.fits(item),
+            claims: self.claims(item),
+            sums: self.sums(item),
+            shorts: self.falls_short(item),
+            asked: asked_at(grants, &command, item),
+        }
+    }
+
+    /// Adds an item. The only error is that memory runs out.
+    pub fn learn(&mut self, told: &NumberedItem) -> Result<(), Memory>
+        ensures { (s : Lines) (before : List Told) → AreTablesOf s self.old before → OnOk result (AreTablesOf s self.new (told.now ∷ before)) }
+    {
+        self.counts.learn(&told.item)?;
+        learn_link(&mut self.down, &told.item)
+    }
+}
