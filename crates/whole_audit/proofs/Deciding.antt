@@ -1,5 +1,5 @@
 -- The loop over the items of a report: which items were judged so far, and the least rule that one breaks.
-use Rattle.std.proofs.Common.{◌≡◌, ℕ, zero, suc, ◌+◌, ◌<◌, ◌≤◌, Bool, true, false, not, cond, List, [], ◌∷◌, length, get_or, drop, Option, Some, None, refl, sym, ap, ◌∙◌, arith}
+use Rattle.std.proofs.Common.{◌≡◌, ℕ, zero, suc, ◌+◌, ◌<◌, ◌≤◌, Bool, true, false, not, ◌&&◌, cond, List, [], ◌∷◌, length, get_or, drop, Option, Some, None, refl, sym, ap, ◌∙◌, arith}
 use Rattle.std.proofs.lemmas.List.{at_drop_more}
 use Rattle.run_types.specs.declared.scenario.Scenario.{Scenario}
 use Rattle.run_types.specs.declared.item.NumberedItem.{NumberedItem}
@@ -14,7 +14,7 @@ none_stands f none = by f.order refl
   where
     by : (b : Bool) → f.order ≡ b → f.order ≡ true
     by true e = e
-    by false e = absurd (let broken : Some 7 ≡ None = sym (ap (λ (c : Bool). cond (not c) (Some 7) (least_of (record f { order = true }))) e) ∙ none in cc)
+    by false e = absurd (let broken : Some 7 ≡ None = sym (ap (λ (c : Bool). cond (not (c && f.asked.parts)) (Some 7) (least_of (record f { order = true; asked = record (f.asked) { parts = true } }))) e) ∙ none in cc)
 
 -- ---- the loop
 

@@ -22,6 +22,9 @@ use Rattle.whole_audit.specs.declared.blocks.Counts.{Counts}
 use Rattle.run_audit.specs.Table.{at}
 use Rattle.whole_audit.specs.Blocks.{count_of}
 use Rattle.whole_audit.specs.Claims.{is_up}
+use Rattle.whole_audit.specs.declared.names.Names.{Names}
+use Rattle.whole_audit.specs.Managers.{is_node_up, was_started}
+use Rattle.whole_audit.specs.Names.{names_of}
 use Rattle.whole_audit.specs.Order.{left, has_come, is_above}
 
 abbrev pub number_entry : ℕ → List ℕ
@@ -84,12 +87,33 @@ AreCounted c before = (l : Lane) → count_at c l ≡ count_of l before
 abbrev pub AreDown : List (List ℕ) → List NumberedItem → Type 0
 AreDown down before = (link : ℕ) → has_number down link ≡ not (is_up link before)
 
+-- ---- managers
+
+-- The set has the nodes whose managers are down.
+abbrev pub AreDownNodes : Scenario → List (List ℕ) → List NumberedItem → Type 0
+AreDownNodes s down before = (node : ℕ) → has_number down node ≡ not (is_node_up s node before)
+
+-- The set has the nodes whose managers were started.
+abbrev pub AreStarted : Scenario → List (List ℕ) → List NumberedItem → Type 0
+AreStarted s started before = (node : ℕ) → has_number started node ≡ was_started s node before
+
+-- ---- names
+
+abbrev pub named_at : Names → (node : ℕ) → Count
+named_at n node = unwrap_or (at n.nodes (node ∷ [])) no_count
+
+abbrev pub AreNamed : Scenario → Names → List NumberedItem → Type 0
+AreNamed s n before = (node : ℕ) → named_at n node ≡ names_of s node before
+
 -- ---- all together
 
 pub record AreTablesOf (s : Scenario) (t : Tables) (before : List NumberedItem) : Type 0 where
   pub spots : AreSpots s t.spots
   pub counts : AreCounted t.counts before
   pub down : AreDown t.down before
+  pub managers : AreDownNodes s t.down_nodes before
+  pub started : AreStarted s t.started before
+  pub names : AreNamed s t.names before
 
 pub record IsJudgeOf (s : Scenario) (j : Judge) (before : List NumberedItem) : Type 0 where
   pub walk : IsWalkOf s j.walk before

@@ -6,6 +6,9 @@ pub mod Passing
 pub mod Streaming
 pub mod Naming
 pub mod Asked
+pub mod Managers
+pub mod Names
+pub mod Parts
 pub mod Order
 pub mod Blocks
 pub mod Claims

@@ -9,7 +9,9 @@ use Rattle.audit_text.specs.declared.input.Input.{Input}
 use Rattle.audit_text.specs.Input.{IsInput}
 use Rattle.whole_audit.specs.declared.findings.Findings.{Findings}
 use Rattle.whole_audit.specs.Order.{rule_7, may_end}
+use Rattle.whole_audit.specs.Managers.{rule_8, burns}
 use Rattle.whole_audit.specs.Blocks.{rule_9}
+use Rattle.whole_audit.specs.Names.{given, names_of, names_follow, keys_were_given, frame_was_given, shown_was_given}
 use Rattle.whole_audit.specs.Claims.{rule_10}
 use Rattle.whole_audit.specs.Sums.{rule_11}
 use Rattle.whole_audit.specs.Lines.{command_at}
@@ -20,27 +22,34 @@ use Rattle.whole_audit.specs.Shorts.{rule_17}
 abbrev pub findings : Scenario → List NumberedItem → NumberedItem → Findings
 findings s before t = record {
   order = rule_7 s before t;
+  managers = rule_8 s before t;
   blocks = rule_9 before t;
   claims = rule_10 before t.item;
   sums = rule_11 before t.item;
-  asked = asked_at s.site.entitlements (command_at s t.number) t.item;
+  asked = asked_at s.site (command_at s t.number) t.item;
+  burns = burns s before t.item;
+  names = names_follow (given s t) (λ v. names_of s v before);
+  handed = keys_were_given (λ v. names_of s v before) t.item;
+  heard = frame_was_given (λ v. names_of s v before) t.item;
+  shown = shown_was_given (λ v. names_of s v before) t.item;
   shorts = rule_17 before t.item;
 }
 
 -- the least rule that is broken
 abbrev pub least_of : Findings → Option ℕ
 least_of f =
-    if not f.order then Some 7
+    if not (f.order && f.asked.parts) then Some 7
+    else if not f.managers then Some 8
     else if not f.blocks then Some 9
     else if not f.claims then Some 10
-    else if not f.sums then Some 11
-    else if not f.asked.making then Some 12
-    else if not f.asked.handing then Some 13
-    else if not f.asked.passing then Some 14
+    else if not (f.sums && f.burns) then Some 11
+    else if not (f.names && f.asked.making) then Some 12
+    else if not (f.handed && f.asked.handing) then Some 13
+    else if not (f.heard && f.asked.passing) then Some 14
     else if not f.asked.streaming then Some 15
     else if not f.asked.responding then Some 16
     else if not (f.shorts && f.asked.ticking) then Some 17
-    else if not f.asked.showing then Some 18
+    else if not (f.shown && f.asked.showing) then Some 18
     else if not f.asked.naming then Some 20
     else None
 

@@ -6,14 +6,17 @@ ghost use Rattle.whole_audit.specs.Asked.{nothing_asked, asks, asked_at};
 use crate::handing::hands;
 use crate::making::makes;
 use crate::naming::{names_lane, responds, shows, ticks};
+use crate::parts::is_part;
 use crate::passing::hears;
 use crate::streaming::streams;
+use declared_site::Site;
 use run_types::{Command, Item};
-use sae_entitlements::Entitlements;
 
 /// Which rules an item keeps, as far as they look at what its line asks for.
 #[derive(Clone, Copy)]
 pub struct Asked {
+    /// Rule 7, of ends of links and lanes.
+    pub parts: bool,
     /// Rule 12.
     pub making: bool,
     /// Rule 13.
@@ -37,6 +40,7 @@ fn nothing_asked() -> Asked
     ensures { result ≡ nothing_asked }
 {
     Asked {
+        parts: true,
         making: true,
         handing: true,
         passing: true,
@@ -49,14 +53,15 @@ fn nothing_asked() -> Asked
 }
 
 // Which rules an item of a line keeps.
-fn asks(grants: &Entitlements, command: &Command, item: &Item) -> Asked
-    ensures { result ≡ asks grants.now command.now item.now }
+fn asks(site: &Site, command: &Command, item: &Item) -> Asked
+    ensures { result ≡ asks site.now command.now item.now }
 {
     Asked {
-        making: makes(grants, command, item),
-        handing: hands(grants, command, item),
+        parts: is_part(site, command, item),
+        making: makes(&site.entitlements, command, item),
+        handing: hands(&site.entitlements, command, item),
         passing: hears(command, item),
-        streaming: streams(grants, command, item),
+        streaming: streams(&site.entitlements, command, item),
         responding: responds(command, item),
         ticking: ticks(command, item),
         showing: shows(command, item),
@@ -65,11 +70,11 @@ fn asks(grants: &Entitlements, command: &Command, item: &Item) -> Asked
 }
 
 /// Which rules an item keeps, given what its line asks for, if there is one.
-pub fn asked_at(grants: &Entitlements, command: &Option<&Command>, item: &Item) -> Asked
-    ensures { result ≡ asked_at grants.now (option_copied command.now) item.now }
+pub fn asked_at(site: &Site, command: &Option<&Command>, item: &Item) -> Asked
+    ensures { result ≡ asked_at site.now (option_copied command.now) item.now }
 {
     match command {
-        Some(command) => asks(grants, command, item),
+        Some(command) => asks(site, command, item),
         None => nothing_asked(),
     }
 }

@@ -14,7 +14,7 @@ use run_types::{End, Item, Refusal};
 use std::alloc::Global;
 use std::collections::BTreeMap;
 
-/// How many blocks an end may have taken.
+/// How many blocks an end may have taken, or how many names a node may have given.
 #[derive(Clone, Copy)]
 pub struct Count {
     pub least: u64,
@@ -28,8 +28,8 @@ pub struct Counts {
     ends: BTreeMap<[u64; 1], Count>,
 }
 
-// The lane of a link whose sender is at this end.
-fn lane_from(link: LinkNo, end: End) -> Lane
+/// The lane of a link whose sender is at this end.
+pub fn lane_from(link: LinkNo, end: End) -> Lane
     ensures { result ≡ lane_from link end }
 {
     let way = match end {
@@ -60,8 +60,8 @@ fn received_in(way: Way, blocks: u64) -> u128
     }
 }
 
-// The count of an end of which no item told.
-fn no_count() -> Count
+/// The count of an end, or of a node, of which no item told.
+pub fn no_count() -> Count
     ensures { result ≡ no_count }
 {
     Count { least: 0, most: 0 }

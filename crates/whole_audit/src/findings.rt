@@ -9,15 +9,27 @@ use crate::asked::Asked;
 pub struct Findings {
     /// Rule 7.
     pub order: bool,
+    /// Rule 8.
+    pub managers: bool,
     /// Rule 9.
     pub blocks: bool,
     /// Rule 10.
     pub claims: bool,
     /// Rule 11.
     pub sums: bool,
+    /// Rule 11, of burnt bytes.
+    pub burns: bool,
+    /// Rule 12, of names that follow each other.
+    pub names: bool,
+    /// Rule 13, of names.
+    pub handed: bool,
+    /// Rule 14, of names.
+    pub heard: bool,
+    /// Rule 18, of names.
+    pub shown: bool,
     /// Rule 17, of lanes that are short.
     pub shorts: bool,
-    /// Rules 12 to 18, and 20.
+    /// Rules 7, 12 to 18, and 20.
     pub asked: Asked,
 }
 
@@ -25,8 +37,11 @@ pub struct Findings {
 pub fn least(findings: &Findings) -> Option<u8>
     ensures { result ≡ least_of findings.now }
 {
-    if !findings.order {
+    if !(findings.order && findings.asked.parts) {
         return Some(7);
+    }
+    if !findings.managers {
+        return Some(8);
     }
     if !findings.blocks {
         return Some(9);
@@ -34,16 +49,16 @@ pub fn least(findings: &Findings) -> Option<u8>
     if !findings.claims {
         return Some(10);
     }
-    if !findings.sums {
+    if !(findings.sums && findings.burns) {
         return Some(11);
     }
-    if !findings.asked.making {
+    if !(findings.names && findings.asked.making) {
         return Some(12);
     }
-    if !findings.asked.handing {
+    if !(findings.handed && findings.asked.handing) {
         return Some(13);
     }
-    if !findings.asked.passing {
+    if !(findings.heard && findings.asked.passing) {
         return Some(14);
     }
     if !findings.asked.streaming {
@@ -55,7 +70,7 @@ pub fn least(findings: &Findings) -> Option<u8>
     if !(findings.shorts && findings.asked.ticking) {
         return Some(17);
     }
-    if !findings.asked.showing {
+    if !(findings.shown && findings.asked.showing) {
         return Some(18);
     }
     if !findings.asked.naming {

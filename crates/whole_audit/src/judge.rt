@@ -38,7 +38,7 @@ impl Judge {
         let findings = self.tables.findings(scenario, told, stands);
         let rule = least(&findings);
         if rule.is_none() {
-            self.tables.learn(told)?;
+            self.tables.learn(scenario, told)?;
         }
         Ok(rule)
     }

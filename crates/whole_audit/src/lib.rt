@@ -8,13 +8,17 @@
 //! 1. to 6. are those of `run_audit`.
 //! 7. The items stand in order of their lines, those of a block in any order. Each line gives an item, but a settle may give
 //!    none. No line gives two, but a tick, a settle and a line of blocks. A report that lacks an item at its end breaks this
-//!    rule on the line behind its last one.
+//!    rule on the line behind its last one. Blocks are of ends that their line names, and a tick's frames of lanes that leave
+//!    its node.
+//! 8. A manager says that it is down exactly if it is: behind a crash, behind an event in which it stopped, and if its start
+//!    at the beginning failed, until it is started. Only of one that is up is it said that it was up.
 //! 9. The blocks of an end are 0, 1, 2 and so on, and it refuses one for being full exactly if it has 1,024. If an end
 //!    stopped at a block, the next number tells whether it had taken it.
 //! 10. A frame leaves over a link that is up, and uses bytes that its sender has received.
-//! 11. The received bytes of a ledger are what its sender's blocks brought, also where the sender stopped at one.
-//! 12. As many keys or chunks are made as the line asks for, at its node. A pair that isn't allowed is refused as such, and no
-//!     other.
+//! 11. The received bytes of a ledger are what its sender's blocks brought, also where the sender stopped at one. Only a
+//!     sender that was started has burnt bytes.
+//! 12. As many keys or chunks are made as the line asks for, at its node. Their names follow those that the node gave before,
+//!     as far as the report tells how many these were. A pair that isn't allowed is refused as such, and no other.
 //! 13. As many keys are handed out as the line asks for, of its size, named by its node and in order of their names, or those
 //!     that it names, none twice. Who may not ask is refused as such, and nobody else. Other refusals fit what was asked for.
 //! 14. A frame that comes to its receiver is the line's. If one bit was changed, or anybody made the octets, the answer is one
@@ -24,6 +28,7 @@
 //! 17. A tick is that of the line's node. A short item tells what was received, over a link that is up, and its need passes
 //!     that.
 //! 18. A key is shown as the line asks for. It has bytes exactly if the node needs them, as far as its state tells that.
+//!     In 13, 14 and 18, a name that is told of is one that its node can have given.
 //! 20. A ledger names the line's lane, and a set link the line's link and state.
 #![tactic(auto)]
 
@@ -35,8 +40,11 @@ mod handing;
 mod judge;
 mod lines;
 mod making;
+mod managers;
+mod names;
 mod naming;
 mod order;
+mod parts;
 mod passing;
 mod streaming;
 mod tables;

@@ -1,6 +1,5 @@
 // What the items so far said, as tables, and the rules that look at these.
 ghost use Rattle.std.specs.Prelude.{◌≡◌, List, [], ◌∷◌, IfOk, OnOk};
-ghost use Rattle.run_types.specs.declared.scenario.Scenario.{Scenario as Lines};
 ghost use Rattle.run_types.specs.declared.item.NumberedItem.{NumberedItem as Told};
 ghost use Rattle.whole_audit.specs.Order.{rule_7};
 ghost use Rattle.whole_audit.specs.Claims.{is_up, link_set, may_use, rule_10};
@@ -13,6 +12,8 @@ use crate::asked::asked_at;
 use crate::blocks::Counts;
 use crate::findings::Findings;
 use crate::lines::Spots;
+use crate::managers::{burns, is_so, learn_manager, learn_start, said_in};
+use crate::names::{Names, given_if};
 use crate::order::number_entry;
 use ordered_set::{Entries, Entry as Numbers};
 use qkd_base::{Lane, LinkNo, Memory};
@@ -26,6 +27,11 @@ pub struct Tables {
     counts: Counts,
     // The links that are down.
     down: Entries,
+    // The nodes whose managers are down.
+    down_nodes: Entries,
+    // The nodes whose managers were started.
+    started: Entries,
+    names: Names,
 }
 
 // The entry of a link in a set.
@@ -75,6 +81,9 @@ impl Tables {
             spots: Spots::new(alloc, scenario)?,
             counts: Counts::new(alloc),
             down: Entries::new(alloc),
+            down_nodes: Entries::new(alloc),
+            started: Entries::new(alloc),
+            names: Names::new(alloc),
         })
     }
 
@@ -137,23 +146,38 @@ impl Tables {
         ensures { (before : List Told) → AreTablesOf scenario.now self.now before → stands ≡ rule_7 scenario.now before told.now → result ≡ findings scenario.now before told.now }
     {
         let item = &told.item;
-        let grants = &scenario.site.entitlements;
         let command = self.spots.command(scenario, told.number);
         Findings {
             order: stands,
+            managers: is_so(
+                &self.down_nodes,
+                &said_in(scenario, &command, told.number, item),
+            ),
             blocks: self.counts.fits(item),
             claims: self.claims(item),
             sums: self.sums(item),
+            burns: burns(&self.started, &scenario.site, item),
+            names: self.names.follow(&given_if(&scenario.site, &command, item)),
+            handed: self.names.gave_keys(item),
+            heard: self.names.gave_frame(item),
+            shown: self.names.gave_shown(item),
             shorts: self.falls_short(item),
-            asked: asked_at(grants, &command, item),
+            asked: asked_at(&scenario.site, &command, item),
         }
     }
 
     /// Adds an item. The only error is that memory runs out.
-    pub fn learn(&mut self, told: &NumberedItem) -> Result<(), Memory>
-        ensures { (s : Lines) (before : List Told) → AreTablesOf s self.old before → OnOk result (AreTablesOf s self.new (told.now ∷ before)) }
+    pub fn learn(&mut self, scenario: &Scenario, told: &NumberedItem) -> Result<(), Memory>
+        ensures { (before : List Told) → AreTablesOf scenario.now self.old before → OnOk result (AreTablesOf scenario.now self.new (told.now ∷ before)) }
     {
-        self.counts.learn(&told.item)?;
-        learn_link(&mut self.down, &told.item)
+        let item = &told.item;
+        let command = self.spots.command(scenario, told.number);
+        let said = said_in(scenario, &command, told.number, item);
+        let given = given_if(&scenario.site, &command, item);
+        self.counts.learn(item)?;
+        learn_link(&mut self.down, item)?;
+        learn_manager(&mut self.down_nodes, &said)?;
+        learn_start(&mut self.started, &said)?;
+        self.names.learn(&given)
     }
 }

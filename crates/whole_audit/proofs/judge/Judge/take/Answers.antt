@@ -1,6 +1,4 @@
-use Rattle.std.proofs.Common.{◌≡◌, ℕ, Bool, true, false, Option, Some, None, refl, sym, ap, ◌∙◌}
-use Rattle.run_types.specs.declared.scenario.Scenario.{Scenario}
-use Rattle.run_types.specs.declared.item.NumberedItem.{NumberedItem}
+use Rattle.std.proofs.Common.{◌≡◌, sym, ap, ◌∙◌}
 use Rattle.whole_audit.specs.declared.findings.Findings.{Findings}
 use Rattle.whole_audit.specs.Whole.{least_of, broken}
 use Rattle.whole_audit.proofs.Deciding.{none_stands}
@@ -14,6 +12,6 @@ returns-in_ok-learn c before rec =
       least,
       λ none. record {
         walk = stood.1 (stood.0 ∙ sym (ap (λ (f : Findings). f.order) found) ∙ none_stands c.findings-findings.result (sym c.least-rule.ensures ∙ none));
-        tables = c.in_ok-learn.ensures {u = tt} c.args.scenario.now before rec.tables;
+        tables = c.in_ok-learn.ensures {u = tt} before rec.tables;
       },
     )

@@ -1,8 +1,14 @@
-use Rattle.std.proofs.Common.{◌≡◌, Option, ap, ◌∙◌}
+use Rattle.std.proofs.Common.{◌≡◌, ℕ, eqb, Option, refl, ap, ◌∙◌}
+use Rattle.std.specs.List.{position_from}
 use Rattle.run_types.specs.declared.command.Command.{Command}
-use Rattle.whole_audit.specs.declared.asked.Asked.{Asked}
 use Rattle.whole_audit.specs.Lines.{command_at}
 use Rattle.whole_audit.specs.Asked.{asked_at}
+use Rattle.whole_audit.specs.declared.managers.Said.{Said}
+use Rattle.whole_audit.specs.declared.names.Given.{Given}
+use Rattle.whole_audit.specs.Managers.{said_at, said_of_node, said, is_node_up, is_so, rule_8, burns}
+use Rattle.whole_audit.specs.Names.{given_if, given, names_of, names_follow, keys_were_given, frame_was_given, shown_was_given}
+use Rattle.whole_audit.specs.declared.blocks.Count.{Count}
+use Rattle.whole_audit.specs.Kept.{named_at}
 use Rattle.whole_audit.specs.Blocks.{rule_9}
 use Rattle.whole_audit.specs.Claims.{rule_10}
 use Rattle.whole_audit.specs.Sums.{rule_11}
@@ -15,6 +21,22 @@ returns c before kept stands =
     let claims : c.claims.result ≡ rule_10 before c.args.told.now.item = c.claims.ensures before kept.counts kept.down in
     let sums : c.sums.result ≡ rule_11 before c.args.told.now.item = c.sums.ensures before kept.counts kept.down in
     let shorts : c.falls_short.result ≡ rule_17 before c.args.told.now.item = c.falls_short.ensures before kept.counts kept.down in
-    let asked : c.asked_at.result ≡ asked_at c.args.scenario.now.site.entitlements (command_at c.args.scenario.now c.args.told.now.number) c.args.told.now.item =
-    c.asked_at.ensures ∙ ap (λ (o : Option Command). asked_at c.args.scenario.now.site.entitlements o c.args.told.now.item) (c.command-command.ensures kept.spots) in
-    λ i. record { order = stands i; blocks = blocks i; claims = claims i; sums = sums i; shorts = shorts i; asked = asked i }
+    let asked : c.asked_at.result ≡ asked_at c.args.scenario.now.site (command_at c.args.scenario.now c.args.told.now.number) c.args.told.now.item =
+    c.asked_at.ensures ∙ ap (λ (o : Option Command). asked_at c.args.scenario.now.site o c.args.told.now.item) (c.command-command.ensures kept.spots) in
+    let said_so : c.said_in.result ≡ said c.args.scenario.now c.args.told.now =
+    c.said_in.ensures ∙ ap (λ (o : Option Command). said_of_node (position_from (λ n. eqb n c.args.told.now.number) 0 c.args.scenario.now.node_lines) (said_at c.args.scenario.now.site o c.args.told.now.item)) (c.command-command.ensures kept.spots) in
+    let managers : c.is_so.result ≡ rule_8 c.args.scenario.now before c.args.told.now =
+    c.is_so.ensures c.args.scenario.now before kept.managers ∙ ap (λ (o : Option Said). is_so o (λ v. is_node_up c.args.scenario.now v before)) said_so in
+    let given_so : c.given_if.result ≡ given c.args.scenario.now c.args.told.now =
+    c.given_if.ensures ∙ ap (λ (o : Option Command). given_if c.args.scenario.now.site o c.args.told.now.item) (c.command-command.ensures kept.spots) in
+    let names : c.follow.result ≡ names_follow (given c.args.scenario.now c.args.told.now) (λ v. names_of c.args.scenario.now v before) =
+    c.follow.ensures c.args.scenario.now before kept.names ∙ ap (λ (o : Option Given). names_follow o (λ v. names_of c.args.scenario.now v before)) given_so in
+    let burnt : c.burns.result ≡ burns c.args.scenario.now before c.args.told.now.item = c.burns.ensures c.args.scenario.now before refl kept.started in
+    let same : named_at c.args.self.now.names ≡ (λ v. names_of c.args.scenario.now v before) = λ i v. kept.names v i in
+    let handed : c.gave_keys.result ≡ keys_were_given (λ v. names_of c.args.scenario.now v before) c.args.told.now.item =
+    c.gave_keys.ensures ∙ ap (λ (names : ℕ → Count). keys_were_given names c.args.told.now.item) same in
+    let heard : c.gave_frame.result ≡ frame_was_given (λ v. names_of c.args.scenario.now v before) c.args.told.now.item =
+    c.gave_frame.ensures ∙ ap (λ (names : ℕ → Count). frame_was_given names c.args.told.now.item) same in
+    let shown : c.gave_shown.result ≡ shown_was_given (λ v. names_of c.args.scenario.now v before) c.args.told.now.item =
+    c.gave_shown.ensures ∙ ap (λ (names : ℕ → Count). shown_was_given names c.args.told.now.item) same in
+    λ i. record { order = stands i; managers = managers i; blocks = blocks i; claims = claims i; sums = sums i; burns = burnt i; names = names i; handed = handed i; heard = heard i; shown = shown i; shorts = shorts i; asked = asked i }

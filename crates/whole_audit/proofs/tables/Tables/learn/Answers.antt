@@ -1,9 +1,24 @@
-use Rattle.std.proofs.Common.{refl}
+use Rattle.std.proofs.Common.{◌≡◌, eqb, Option, refl, ap, ◌∙◌}
+use Rattle.std.specs.List.{position_from}
 use Rattle.run_audit.proofs.Recording.{on_ok_map}
+use Rattle.run_types.specs.declared.command.Command.{Command}
+use Rattle.whole_audit.specs.Managers.{said_at, said_of_node, said}
+use Rattle.whole_audit.specs.Names.{given_if, given}
 use Rattle.whole_audit.proofs.tables.Tables.learn.Goals as goal
 
 pub returns : goal.returns
-returns c s before kept =
-    on_ok_map c.learn_link.result
-    (λ down. record { spots = kept.spots; counts = c.in_ok-learn.ensures {u = tt} c.args.told.now before refl kept.counts; down = down })
-    (c.learn_link.ensures c.args.told.now before refl kept.down)
+returns c before kept =
+    let said_so : c.said_in-said.result ≡ said c.args.scenario.now c.args.told.now =
+    c.said_in-said.ensures ∙ ap (λ (o : Option Command). said_of_node (position_from (λ n. eqb n c.args.told.now.number) 0 c.args.scenario.now.node_lines) (said_at c.args.scenario.now.site o c.args.told.now.item)) (c.command-command.ensures kept.spots) in
+    let given_so : c.given_if-given.result ≡ given c.args.scenario.now c.args.told.now =
+    c.given_if-given.ensures ∙ ap (λ (o : Option Command). given_if c.args.scenario.now.site o c.args.told.now.item) (c.command-command.ensures kept.spots) in
+    on_ok_map c.learn-2.result
+    (λ names. record {
+      spots = kept.spots;
+      counts = c.in_ok-learn.ensures {u = tt} c.args.told.now before refl kept.counts;
+      down = c.in_ok-learn_link.ensures {u = tt} c.args.told.now before refl kept.down;
+      managers = c.in_ok-learn_manager.ensures {u = tt} c.args.scenario.now c.args.told.now before said_so kept.managers;
+      started = c.in_ok-learn_start.ensures {u = tt} c.args.scenario.now c.args.told.now before said_so kept.started;
+      names = names;
+    })
+    (c.learn-2.ensures c.args.scenario.now c.args.told.now before given_so kept.names)
