@@ -26,48 +26,65 @@ use Rattle.kme_store.specs.declared.post.Post.TheVariants.{On}
 use Rattle.world_nodes.specs.LaneStands.{IsRunning}
 use Rattle.world_nodes.specs.Stands.{StandingStands, PostStands}
 use Rattle.world_nodes.specs.Handled.{MayHandle, Handled}
-use Rattle.world_nodes.specs.Tampering.{put_as, MayTamper, tampered_outcome, HasTampered, MayForge, MayFlip, HasForged, HasFlipped}
+use Rattle.world_nodes.specs.Tampering.{put_as, would_match, ReceiverStands, MayTamper, tampered_outcome, HasTampered, MayForge, MayFlip, HasForged, HasFlipped}
 use Rattle.world_nodes.proofs.Counted.{post_disk, unchanged}
 use Rattle.world_nodes.proofs.Delivered.{hearing_valid}
 use Rattle.world_nodes.proofs.Hears.{received}
 use Rattle.world_nodes.proofs.Tampers.{IsHeard, put_heard, wrong_heard, match_found, tampered_down}
 
-pub if_ok : {E : Type 0} (r : Result Bool E) (a b : Bool) → a ≡ b → IfOk r (λ d. d ≡ a) → IfOk r (λ d. d ≡ b)
-if_ok (Ok d) a b same h = h ∙ same
-if_ok (Err e) a b same h = tt
+module _ {K E : Type 0} (is_honest : K → Bool) (moment : K → ℕ) (image : K → ℕ → List ℕ → Type 0) (told : E → Option OctetSequence) (net : Network) (w : World) (l : Lane) (post : Post K E)
+    (m : ReceiverStands is_honest moment image told net w l post) (octets : List ℕ) where
+  -- the tag, as the manager checks it
+  match_by : (site : Declared) (view : View) (s : Standing K) → StandingStands is_honest moment image net w (receiver net.site l) site view s →
+      (is_up s && is_match (open_of l (incoming_octets l (port_of view l.link)) octets)) ≡ would_match net w l octets
+  match_by site view (Up journal) u =
+      ap (λ (bytes : List ℕ). is_match (open_of l bytes octets)) (ap (λ (a : View). incoming_octets l (port_of a l.link)) u.sees ∙ received net w m.running l m.at)
+      ∙ ap (λ (t : Bool). t && is_match (open_of l (octets_received net w l) octets)) (sym u.up)
+  match_by site view (Down disk) h = ap (λ (t : Bool). t && is_match (open_of l (octets_received net w l) octets)) (sym h.down)
+  match_by site view Between h = absurd h
 
-module _ {K E : Type 0} (is_honest : K → Bool) (moment : K → ℕ) (image : K → ℕ → List ℕ → Type 0) (told : E → Option OctetSequence) (net : Network) (w : World) (l : Lane) (old : Post K E) (octets : List ℕ) (on_wire : Bool) (up : ℕ)
-    (m : MayTamper is_honest moment image told net w l old octets on_wire up) where
+  pub match_here : (manager : ManagerForm K E) → post ≡ On manager →
+      (is_up manager.standing && is_match (open_of l (incoming_octets l (port_of manager.view l.link)) octets)) ≡ would_match net w l octets
+  match_here manager is =
+      let h = subst (λ (p : Post K E). PostStands is_honest moment image told net w (receiver net.site l) p) is m.stands in match_by manager.site manager.view manager.standing h.standing
+
+  matched_by : {T : Type 0} (r : Result Bool T) (a : Bool) → a ≡ would_match net w l octets → IfOk r (λ d. d ≡ a) → IfOk r (λ d. d ≡ would_match net w l octets)
+  matched_by (Ok d) a same h = h ∙ same
+  matched_by (Err e) a same h = tt
+
+  pub would_match_here : {T : Type 0} (r : Result Bool T) (manager : ManagerForm K E) → post ≡ On manager →
+      IfOk r (λ d. d ≡ (is_up manager.standing && is_match (open_of l (incoming_octets l (port_of manager.view l.link)) octets))) → IfOk r (λ d. d ≡ would_match net w l octets)
+  would_match_here r manager is h = matched_by r _ (match_here manager is) h
+
+module _ {K E : Type 0} (is_honest : K → Bool) (moment : K → ℕ) (image : K → ℕ → List ℕ → Type 0) (told : E → Option OctetSequence) (net : Network) (w : World) (l : Lane) (old : Post K E) (octets : List ℕ) (forged : Bool) (up : ℕ)
+    (m : MayTamper is_honest moment image told net w l old octets forged up) where
   abbrev v : ℕ
   v = receiver net.site l
 
   abbrev right : Bool
   right = is_match (open_of l (octets_received net w l) octets)
 
-  -- the tag, as the manager checks it
-  match_by : (site : Declared) (view : View) (s : Standing K) → StandingStands is_honest moment image net w v site view s →
-      (is_up s && is_match (open_of l (incoming_octets l (port_of view l.link)) octets)) ≡ (w.up v && right)
-  match_by site view (Up journal) u =
-      ap (λ (bytes : List ℕ). is_match (open_of l bytes octets)) (ap (λ (a : View). incoming_octets l (port_of a l.link)) u.sees ∙ received net w m.running l m.at) ∙ ap (λ (t : Bool). t && right) (sym u.up)
-  match_by site view (Down disk) h = ap (λ (t : Bool). t && right) (sym h.down)
-  match_by site view Between h = absurd h
-
-  pub match_here : (manager : ManagerForm K E) → old ≡ On manager →
-      (is_up manager.standing && is_match (open_of l (incoming_octets l (port_of manager.view l.link)) octets)) ≡ (w.up v && right)
-  match_here manager is =
-      let h = subst (λ (p : Post K E). PostStands is_honest moment image told net w v p) is m.stands in match_by manager.site manager.view manager.standing h.standing
+  abbrev on_wire : Bool
+  on_wire = is_some (put_as net w l octets)
 
   -- octets that may be heard
-  is_heard_by : (t wrong : Bool) → on_wire ≡ t → w.up v ≡ true → right ≡ wrong → (not t && (true && wrong)) ≡ false → IsHeard net w m.running l m.at octets
-  is_heard_by true wrong put at is h = put_heard net w m.running l m.at octets (sym m.put ∙ put)
+  is_heard_by : (t wrong : Bool) → on_wire ≡ t → w.up v ≡ true → right ≡ wrong → (not t && (true && wrong)) ≡ false → IsHeard net w m.there.running l m.there.at octets
+  is_heard_by true wrong put at is h = put_heard net w m.there.running l m.there.at octets put
   is_heard_by false true put at is h = absurd (cc h)
-  is_heard_by false false put at is h = wrong_heard net w m.running l m.at octets (sym m.put ∙ put) at is
+  is_heard_by false false put at is h = wrong_heard net w m.there.running l m.there.at octets put at is
 
-  pub is_heard : w.up v ≡ true → (not on_wire && (w.up v && right)) ≡ false → IsHeard net w m.running l m.at octets
-  is_heard at h = is_heard_by on_wire right refl at refl (ap (λ (t : Bool). not on_wire && (t && right)) (sym at) ∙ h)
+  pub is_heard : w.up v ≡ true → forged ≡ false → IsHeard net w m.there.running l m.there.at octets
+  is_heard at h = is_heard_by on_wire right refl at refl (ap (λ (t : Bool). not on_wire && (t && right)) (sym at) ∙ sym m.is ∙ h)
 
-  pub may_handle : w.up v ≡ true → (not on_wire && (w.up v && right)) ≡ false → MayHandle is_honest moment image told net w v old (Heard l octets) up
-  may_handle at h = record { running = m.running; stands = m.stands; valid = hearing_valid net l octets m.at; goes = (is_heard at h).goes; fits = (is_heard at h).fits; links = m.links }
+  pub may_handle : w.up v ≡ true → forged ≡ false → MayHandle is_honest moment image told net w v old (Heard l octets) up
+  may_handle at h = record {
+    running = m.there.running;
+    stands = m.there.stands;
+    valid = hearing_valid net l octets m.there.at;
+    goes = (is_heard at h).goes;
+    fits = (is_heard at h).fits;
+    links = m.links;
+  }
 
   module _ (disk_faults : K → ℕ) (armings : K → Armings) (entropy_faults : E → ℕ) where
     abbrev Tampered : Post K E → Option Reply → Type 0
@@ -78,23 +95,23 @@ module _ {K E : Type 0} (is_honest : K → Bool) (moment : K → ℕ) (image : K
       environment = Fine;
       shown = refl;
       said = ap (λ (x : World × Outcome). x.1) (is Fine);
-      stands = subst (λ (x : World × Outcome). PostStands is_honest moment image told net x.0 v old) (sym (is Fine)) m.stands;
-      counts = let d = post_disk is_honest moment image net w v told old m.stands in unchanged disk_faults armings entropy_faults old d.0 d.1;
+      stands = subst (λ (x : World × Outcome). PostStands is_honest moment image told net x.0 v old) (sym (is Fine)) m.there.stands;
+      counts = let d = post_disk is_honest moment image net w v told old m.there.stands in unchanged disk_faults armings entropy_faults old d.0 d.1;
     }
 
     pub says_down : w.up v ≡ false → Tampered old (Some replies.Down)
-    says_down down = stays (Some replies.Down) (tampered_down net w m.running l m.at octets down)
+    says_down down = stays (Some replies.Down) (tampered_down net w m.there.running l m.there.at octets down)
 
     found_by : (t at wrong : Bool) → on_wire ≡ t → w.up v ≡ at → right ≡ wrong → (not t && (at && wrong)) ≡ true → Tampered old None
     found_by true at wrong put here is h = absurd (cc h)
     found_by false false wrong put here is h = absurd (cc h)
     found_by false true false put here is h = absurd (cc h)
-    found_by false true true put here is h = stays None (match_found net w m.running l m.at octets (sym m.put ∙ put) here is)
+    found_by false true true put here is h = stays None (match_found net w m.there.running l m.there.at octets put here is)
 
-    pub says_match : (not on_wire && (w.up v && right)) ≡ true → Tampered old None
-    says_match h = found_by on_wire (w.up v) right refl refl refl h
+    pub says_match : forged ≡ true → Tampered old None
+    says_match h = found_by on_wire (w.up v) right refl refl refl (sym m.is ∙ h)
 
-    pub says_heard : w.up v ≡ true → (not on_wire && (w.up v && right)) ≡ false → (new : Post K E) (reply : Reply) →
+    pub says_heard : w.up v ≡ true → forged ≡ false → (new : Post K E) (reply : Reply) →
         Handled is_honest moment image disk_faults armings told entropy_faults net w v (Heard l octets) old new reply → Tampered new (Some reply)
     says_heard at none new reply h =
         let same = (is_heard at none).heard h.environment in
@@ -131,9 +148,9 @@ module _ (net : Network) (w : World) (l : Lane) where
       ∙ ap (λ (bs : List ℕ). tampered net w l bs environment) (sym are)
 
 module _ {K E : Type 0} (is_honest : K → Bool) (moment : K → ℕ) (image : K → ℕ → List ℕ → Type 0) (disk_faults : K → ℕ) (armings : K → Armings) (told : E → Option OctetSequence) (entropy_faults : E → ℕ) (net : Network) (w : World) (l : Lane) (old new : Post K E) (octets : List ℕ)
-    (on_wire : Bool) (up : ℕ) (reply : Option Reply) (h : HasTampered is_honest moment image disk_faults armings told entropy_faults net w l octets old new reply) where
-  pub forged : MayForge is_honest moment image told net w l old octets on_wire up → HasForged is_honest moment image disk_faults armings told entropy_faults net w l octets old new reply
-  forged m =
+    (forged : Bool) (up : ℕ) (reply : Option Reply) (h : HasTampered is_honest moment image disk_faults armings told entropy_faults net w l octets old new reply) where
+  pub has_forged : MayForge is_honest moment image told net w l old octets forged up → HasForged is_honest moment image disk_faults armings told entropy_faults net w l octets old new reply
+  has_forged m =
       let same = forges net w l octets h.environment in
       record {
         environment = h.environment;
@@ -144,31 +161,14 @@ module _ {K E : Type 0} (is_honest : K → Bool) (moment : K → ℕ) (image : K
         counts = h.counts;
       }
 
-  pub flipped : (number bit : ℕ) → MayFlip is_honest moment image told net w l number bit old octets on_wire up → HasFlipped is_honest moment image disk_faults armings told entropy_faults net w l number bit old new reply
-  flipped number bit m =
+  pub has_flipped : (number bit : ℕ) → MayFlip is_honest moment image told net w l number bit old octets forged up → HasFlipped is_honest moment image disk_faults armings told entropy_faults net w l number bit old new reply
+  has_flipped number bit m =
       let same = flips net w l number bit m.frame octets m.there m.has m.are h.environment in
       record {
         environment = h.environment;
-        may = and_both (is_enabled net w (Flip l number bit h.environment)) (is_shown h.environment (step net w (Flip l number bit h.environment)).1) (flip_enabled net w l number bit m.tampers.at h.environment)
+        may = and_both (is_enabled net w (Flip l number bit h.environment)) (is_shown h.environment (step net w (Flip l number bit h.environment)).1) (flip_enabled net w l number bit m.tampers.there.at h.environment)
             (ap (λ (x : World × Outcome). is_shown h.environment x.1) same ∙ ap (is_shown h.environment) h.said ∙ h.shown);
         said = ap (λ (x : World × Outcome). x.1) same ∙ h.said;
         stands = subst (λ (x : World × Outcome). PostStands is_honest moment image told net x.0 (receiver net.site l) new) (sym same) h.stands;
         counts = h.counts;
       }
-
--- the outcomes if memory doesn't run out
-
-module _ {K E T : Type 0} (is_honest : K → Bool) (moment : K → ℕ) (image : K → ℕ → List ℕ → Type 0) (disk_faults : K → ℕ) (armings : K → Armings) (told : E → Option OctetSequence) (entropy_faults : E → ℕ) (net : Network) (w : World) (l : Lane) (old new : Post K E) (octets : List ℕ)
-    (on_wire : Bool) (up : ℕ) where
-  abbrev Tampers : Result (Option Reply) T → Type 0
-  Tampers r = IfOk r (HasTampered is_honest moment image disk_faults armings told entropy_faults net w l octets old new)
-
-  pub forged_as : (r : Result (Option Reply) T) → Tampers r → MayForge is_honest moment image told net w l old octets on_wire up →
-      IfOk r (HasForged is_honest moment image disk_faults armings told entropy_faults net w l octets old new)
-  forged_as (Ok reply) h m = forged is_honest moment image disk_faults armings told entropy_faults net w l old new octets on_wire up reply h m
-  forged_as (Err e) h m = tt
-
-  pub flipped_as : (r : Result (Option Reply) T) → Tampers r → (number bit : ℕ) → MayFlip is_honest moment image told net w l number bit old octets on_wire up →
-      IfOk r (HasFlipped is_honest moment image disk_faults armings told entropy_faults net w l number bit old new)
-  flipped_as (Ok reply) h number bit m = flipped is_honest moment image disk_faults armings told entropy_faults net w l old new octets on_wire up reply h number bit m
-  flipped_as (Err e) h number bit m = tt

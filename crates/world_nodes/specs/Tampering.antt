@@ -1,16 +1,18 @@
 -- Octets that anybody may have made or changed come to a lane's receiver, as actions of the network.
-use Rattle.std.specs.Prelude.{◌≡◌, ℕ, ◌*◌, nat_le, Bool, true, false, List, length, find, slice_get, is_some, Option, Some, None}
+use Rattle.std.specs.Prelude.{◌≡◌, ℕ, ◌*◌, nat_le, Bool, true, false, not, ◌&&◌, List, length, find, slice_get, is_some, Option, Some, None}
 use Rattle.qkd_base.specs.declared.lane.Lane.{Lane}
 use Rattle.net_model.specs.declared.reply.Reply.{Reply}
 use Rattle.net_model.specs.OctetSequence.{OctetSequence}
 use Rattle.net_model.specs.Site.{receiver}
 use Rattle.net_model.specs.World.{Network, World}
 use Rattle.net_model.specs.Events.{is_lane}
-use Rattle.net_model.specs.Frames.{frame_octets, octets_eq, with_flipped, tampered}
+use Rattle.net_model.specs.Frames.{frame_octets, octets_eq, octets_received, with_flipped, tampered}
 use Rattle.net_model.specs.Action.{Environment, Ok, Flip, Forge, Outcome, Replies, ForgedMatch, is_shown, is_entropy_fault, is_io_fault}
 use Rattle.net_model.specs.Step.{is_enabled}
 use Rattle.disk_model.specs.declared.arm.Armings.{Armings}
+use Rattle.hop_frames.specs.Opening.{open_of}
 use Rattle.kme_base.specs.Up.{AreUp}
+use Rattle.kme_store.specs.Passed.{is_match}
 use Rattle.kme_store.specs.declared.post.Post.{Post}
 use Rattle.world_nodes.specs.LaneStands.{IsRunning}
 use Rattle.world_nodes.specs.Stands.{PostStands}
@@ -21,12 +23,24 @@ use Rattle.world_nodes.specs.Counts.{Counts}
 abbrev pub put_as : Network → World → Lane → List ℕ → Option ℕ
 put_as net w l octets = find (λ j. octets_eq (frame_octets net w l (slice_get (w.frames l) j)) octets) (w.wire l)
 
--- the octets on a lane, and whether a frame on its wire has them
-pub record MayTamper {K E : Type 0} (is_honest : K → Bool) (moment : K → ℕ) (image : K → ℕ → List ℕ → Type 0) (told : E → Option OctetSequence) (net : Network) (w : World) (lane : Lane) (post : Post K E) (octets : List ℕ) (on_wire : Bool) (up : ℕ) : Type 0 where
+-- The receiver's manager is up, and the octets have a right tag there.
+abbrev pub would_match : Network → World → Lane → List ℕ → Bool
+would_match net w l octets = w.up (receiver net.site l) && is_match (open_of l (octets_received net w l) octets)
+
+-- Nobody put the octets, and they would match.
+abbrev pub is_forged : Network → World → Lane → List ℕ → Bool
+is_forged net w l octets = not (is_some (put_as net w l octets)) && would_match net w l octets
+
+-- the post of a lane's receiver
+pub record ReceiverStands {K E : Type 0} (is_honest : K → Bool) (moment : K → ℕ) (image : K → ℕ → List ℕ → Type 0) (told : E → Option OctetSequence) (net : Network) (w : World) (lane : Lane) (post : Post K E) : Type 0 where
   pub running : IsRunning net w
   pub stands : PostStands is_honest moment image told net w (receiver net.site lane) post
   pub at : is_lane net.site lane ≡ true
-  pub put : on_wire ≡ is_some (put_as net w lane octets)
+
+-- the octets on a lane, and whether they are forged
+pub record MayTamper {K E : Type 0} (is_honest : K → Bool) (moment : K → ℕ) (image : K → ℕ → List ℕ → Type 0) (told : E → Option OctetSequence) (net : Network) (w : World) (lane : Lane) (post : Post K E) (octets : List ℕ) (forged : Bool) (up : ℕ) : Type 0 where
+  pub there : ReceiverStands is_honest moment image told net w lane post
+  pub is : forged ≡ is_forged net w lane octets
   pub links : AreUp up w.link_up
 
 -- The outcome is the receiver's reply. If there is none, octets that nobody put have a right tag, and the run ends.
@@ -42,13 +56,13 @@ pub record HasTampered {K E : Type 0} (is_honest : K → Bool) (moment : K → �
   pub counts : Counts disk_faults armings entropy_faults (is_io_fault environment) (is_entropy_fault environment) old new
 
 -- octets that anybody made
-pub record MayForge {K E : Type 0} (is_honest : K → Bool) (moment : K → ℕ) (image : K → ℕ → List ℕ → Type 0) (told : E → Option OctetSequence) (net : Network) (w : World) (lane : Lane) (post : Post K E) (octets : List ℕ) (on_wire : Bool) (up : ℕ) : Type 0 where
-  pub tampers : MayTamper is_honest moment image told net w lane post octets on_wire up
+pub record MayForge {K E : Type 0} (is_honest : K → Bool) (moment : K → ℕ) (image : K → ℕ → List ℕ → Type 0) (told : E → Option OctetSequence) (net : Network) (w : World) (lane : Lane) (post : Post K E) (octets : List ℕ) (forged : Bool) (up : ℕ) : Type 0 where
+  pub tampers : MayTamper is_honest moment image told net w lane post octets forged up
   pub enabled : is_enabled net w (Forge lane octets Ok) ≡ true
 
 -- a frame of the wire with one of its bits changed
-pub record MayFlip {K E : Type 0} (is_honest : K → Bool) (moment : K → ℕ) (image : K → ℕ → List ℕ → Type 0) (told : E → Option OctetSequence) (net : Network) (w : World) (lane : Lane) (number bit : ℕ) (post : Post K E) (octets : List ℕ) (on_wire : Bool) (up : ℕ) : Type 0 where
-  pub tampers : MayTamper is_honest moment image told net w lane post octets on_wire up
+pub record MayFlip {K E : Type 0} (is_honest : K → Bool) (moment : K → ℕ) (image : K → ℕ → List ℕ → Type 0) (told : E → Option OctetSequence) (net : Network) (w : World) (lane : Lane) (number bit : ℕ) (post : Post K E) (octets : List ℕ) (forged : Bool) (up : ℕ) : Type 0 where
+  pub tampers : MayTamper is_honest moment image told net w lane post octets forged up
   pub frame : ℕ
   pub there : slice_get (w.wire lane) number ≡ Some frame
   pub has : nat_le (8 * length (frame_octets net w lane (slice_get (w.frames lane) frame))) bit ≡ false

@@ -35,4 +35,4 @@ pub use manager_event::ask;
 pub use manager_start::start;
 pub use node_notes::note;
 pub use placings::{order_placing, repeat_placing};
-pub use tampered_octets::{flip, forge};
+pub use tampered_octets::{flip, forge, would_match};

@@ -1,5 +1,5 @@
 -- Octets that need not be a frame come to their receiver: one post changes, or nothing.
-use Rattle.std.proofs.Common.{◌≡◌, ℕ, ◌*◌, Bool, true, false, ◌&&◌, List, length, refl, sym, ap, subst, ◌∙◌, Option, Some, None}
+use Rattle.std.proofs.Common.{◌≡◌, ℕ, ◌*◌, Bool, true, false, not, ◌&&◌, List, length, refl, sym, ap, subst, ◌∙◌, Option, Some, None}
 use Rattle.std.specs.Prelude.{◌==◌, nat_lt, nat_le, slice_get, is_some, if◌then◌else◌}
 use Rattle.std.specs.List.{list_all}
 use Rattle.qkd_base.specs.declared.lane.Lane.{Lane}
@@ -17,7 +17,7 @@ use Rattle.world_nodes.specs.Passed.{Post}
 use Rattle.law_base.proofs.Base.{and_left, and_right}
 use Rattle.run_ops.specs.Fitting.{is_fit, fits_a_frame}
 use Rattle.run_ops.specs.Acting.{IsReady, Does}
-use Rattle.world_nodes.specs.Tampering.{put_as, MayTamper, MayForge, MayFlip, HasForged, HasFlipped, tampered_outcome}
+use Rattle.world_nodes.specs.Tampering.{put_as, would_match, is_forged, ReceiverStands, MayTamper, MayForge, MayFlip, HasForged, HasFlipped, tampered_outcome}
 use Rattle.world_state.specs.Frames.{IsOnWire, IsChanged}
 use Rattle.world_state.specs.Stands.{Stands}
 use Rattle.world_state.specs.Tallied.{Tallied}
@@ -71,6 +71,22 @@ pub forges_on : (s : Site) (l : Lane) (octets : List ℕ) → is_fit s (Forge l 
 forges_on s l octets fit =
     and_left (is_lane s l) (fits_a_frame (length octets)) (and_left (is_lane s l && fits_a_frame (length octets)) (list_all (λ b. nat_lt b 256) octets) fit)
 
+-- Octets are forged if they match and nobody put them.
+
+module _ (net : Network) (w : World) (l : Lane) (octets : List ℕ) where
+  abbrev nobody_put : Bool
+  nobody_put = not (is_some (put_as net w l octets))
+
+  with_both : (b : Bool) → (b && true) ≡ b
+  with_both true = refl
+  with_both false = refl
+
+  pub no_match : false ≡ would_match net w l octets → false ≡ is_forged net w l octets
+  no_match is = sym (no_part nobody_put) ∙ ap (λ (t : Bool). nobody_put && t) is
+
+  pub match_of : (put : Bool) → true ≡ would_match net w l octets → put ≡ is_some (put_as net w l octets) → not put ≡ is_forged net w l octets
+  match_of put is same = ap not same ∙ sym (with_both nobody_put) ∙ ap (λ (t : Bool). nobody_put && t) is
+
 -- There is no such frame, or it has no such bit.
 
 no_frame : (net : Network) (w : World) (l : Lane) (number bit : ℕ) → slice_get (w.wire l) number ≡ None → step net w (Flip l number bit Fine) ≡ (w, NoFrame (length (w.wire l)))
@@ -105,14 +121,18 @@ module _ {K Q E X : Type 0} (is_honest : K → Bool) (moment : K → ℕ) (image
 
   -- what the post is asked for
 
-  module _ (octets : List ℕ) (on_wire : Bool) (put : on_wire ≡ is_some (put_as net w l octets)) (p : Post K E) (there : slice_get old.posts.items v ≡ Some p) where
-    tampers : MayTamper is_honest moment image left net w l p octets on_wire old.up
-    tampers = record { running = ready.stands.running; stands = ready.stands.posts v p there; at = at; put = put; links = ready.stands.up }
+  module _ (p : Post K E) (there : slice_get old.posts.items v ≡ Some p) where
+    pub receiver_stands : ReceiverStands is_honest moment image left net w l p
+    receiver_stands = record { running = ready.stands.running; stands = ready.stands.posts v p there; at = at }
 
-    pub may_flip : (number bit : ℕ) → IsChanged net w l number bit octets → MayFlip is_honest moment image left net w l number bit p octets on_wire old.up
+  module _ (octets : List ℕ) (forged : Bool) (is : forged ≡ is_forged net w l octets) (p : Post K E) (there : slice_get old.posts.items v ≡ Some p) where
+    tampers : MayTamper is_honest moment image left net w l p octets forged old.up
+    tampers = record { there = receiver_stands p there; is = is; links = ready.stands.up }
+
+    pub may_flip : (number bit : ℕ) → IsChanged net w l number bit octets → MayFlip is_honest moment image left net w l number bit p octets forged old.up
     may_flip number bit changed = record { tampers = tampers; frame = changed.frame; there = changed.there; has = changed.has; are = changed.are }
 
-    pub may_forge : is_fit (site_of old.site) (Forge l octets Fine) ≡ true → MayForge is_honest moment image left net w l p octets on_wire old.up
+    pub may_forge : is_fit (site_of old.site) (Forge l octets Fine) ≡ true → MayForge is_honest moment image left net w l p octets forged old.up
     may_forge made = record {
       tampers = tampers;
       enabled = may_forge_there net w l octets (subst (λ (s : Site). is_fit s (Forge l octets Fine) ≡ true) (sym ready.stands.sited) made);

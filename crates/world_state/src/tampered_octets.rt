@@ -8,7 +8,7 @@ ghost use Rattle.net_model.specs.Action.{Flip, Forge, Ok as Fine};
 ghost use Rattle.run_model.specs.Script.{asks};
 ghost use Rattle.run_ops.specs.Fitting.{is_fit};
 ghost use Rattle.run_ops.specs.Acting.{IsReady, Does, Begins, tampered};
-ghost use Rattle.world_nodes.specs.Tampering.{tampered_outcome};
+ghost use Rattle.world_nodes.specs.Tampering.{is_forged as are_forged, tampered_outcome};
 ghost use Rattle.world_state.specs.Armed.{most_armed};
 ghost use Rattle.world_state.specs.Frames.{IsChanged};
 ghost use Rattle.world_state.specs.Rests.{Rests};
@@ -17,6 +17,7 @@ ghost use Rattle.world_state.specs.Tallied.{Tallied};
 
 use crate::State;
 use crate::frames::seen;
+use crate::places::at;
 use crate::state_reads::on_wire;
 use crate::wire_search::is_put;
 use disk_model::Disk;
@@ -25,6 +26,7 @@ use net_model::Reply;
 use qkd_base::{Lane, Memory, Octets};
 use run_ops::{Delivery, Tampered};
 use source_devices::{Device, Entropy, Wire};
+use world_nodes::would_match;
 
 // What came of the octets, by the answer of the receiver's post.
 fn came(reply: Option<Reply>) -> Tampered
@@ -51,6 +53,28 @@ fn changed(octets: Octets, bit: u32) -> Result<Octets, u32>
     Ok(Octets::from_vec(octets))
 }
 
+// Whether octets that nobody put on a lane's wire would match at the lane's receiver. The wire is searched only where they
+// match, which no octets but a frame's are expected to.
+fn is_forged<K: Disk + Drop, Q: Device + Drop, E: Entropy + Drop, X: Wire + Drop>(
+    state: &State<K, Q, E, X>,
+    lane: &Lane,
+    octets: &[u8],
+) -> Result<bool, Memory>
+    requires lane { is_lane (site_of state.now.site) lane.now ≡ true }
+    requires ready { (net : Network) × (w : World) × IsReady (Stands K.is_honest K.moment K.image E.left Q.told X.frames X.counted) state.now net w }
+    ensures { (net : Network) (w : World) → IsReady (Stands K.is_honest K.moment K.image E.left Q.told X.frames X.counted) state.now net w → IfOk result (λ forged. forged ≡ are_forged net w lane.now octets.now) }
+{
+    let node = receiver(&state.site, *lane);
+    match at(&state.posts, usize::from(node.get())) {
+        None => Ok(false),
+        Some(post) => match would_match(post, *lane, octets) {
+            Err(_) => Err(Memory),
+            Ok(false) => Ok(false),
+            Ok(true) => Ok(!is_put(state, lane, octets)),
+        },
+    }
+}
+
 // A changed frame comes to the lane's receiver.
 fn bring_changed<K: Disk + Drop, Q: Device + Drop, E: Entropy + Drop, X: Wire + Drop>(
     state: &mut State<K, Q, E, X>,
@@ -66,15 +90,15 @@ fn bring_changed<K: Disk + Drop, Q: Device + Drop, E: Entropy + Drop, X: Wire + 
     ensures left { OnErr result ((net : Network) (w : World) (number bit : ℕ) → IsReady (Stands K.is_honest K.moment K.image E.left Q.told X.frames X.counted) state.old net w
         → Begins (Rests K.is_honest K.moment K.image E.left Q.told X.frames X.counted) (Tallied K.faults K.armings E.faults Q.faults X.faults) state.old state.new net w (asks (Flip lane.now number bit Fine) (λ outcome. []))) }
 {
-    let stands = is_put(state, lane, octets.as_slice());
+    let forged = match is_forged(state, lane, octets.as_slice()) {
+        Err(_) => return Err(Memory),
+        Ok(forged) => forged,
+    };
     let up = state.up;
     let node = receiver(&state.site, *lane);
     match state.posts.get_mut(usize::from(node.get())) {
         None => Ok(Tampered::Came(Delivery::Replied(Reply::Down))),
-        Some(post) => match world_nodes::flip(post, *lane, octets, stands, up) {
-            Err(_) => Err(Memory),
-            Ok(reply) => Ok(came(reply)),
-        },
+        Some(post) => Ok(came(world_nodes::flip(post, *lane, octets, forged, up))),
     }
 }
 
@@ -93,15 +117,15 @@ fn bring_made<K: Disk + Drop, Q: Device + Drop, E: Entropy + Drop, X: Wire + Dro
     ensures left { OnErr result ((net : Network) (w : World) → IsReady (Stands K.is_honest K.moment K.image E.left Q.told X.frames X.counted) state.old net w
         → Begins (Rests K.is_honest K.moment K.image E.left Q.told X.frames X.counted) (Tallied K.faults K.armings E.faults Q.faults X.faults) state.old state.new net w (asks (Forge lane.now octets Fine) (λ outcome. []))) }
 {
-    let stands = is_put(state, lane, octets.as_slice());
+    let forged = match is_forged(state, lane, octets.as_slice()) {
+        Err(_) => return Err(Memory),
+        Ok(forged) => forged,
+    };
     let up = state.up;
     let node = receiver(&state.site, *lane);
     match state.posts.get_mut(usize::from(node.get())) {
         None => Ok(Tampered::Came(Delivery::Replied(Reply::Down))),
-        Some(post) => match world_nodes::forge(post, *lane, octets, stands, up) {
-            Err(_) => Err(Memory),
-            Ok(reply) => Ok(came(reply)),
-        },
+        Some(post) => Ok(came(world_nodes::forge(post, *lane, octets, forged, up))),
     }
 }
 

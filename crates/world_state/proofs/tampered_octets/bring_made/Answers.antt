@@ -1,15 +1,15 @@
 use Rattle.std.proofs.Common.{◌≡◌, ℕ, List, refl, sym, ap, ◌∙◌, arith, Some}
-use Rattle.std.specs.Prelude.{slice_get, is_some}
+use Rattle.std.specs.Prelude.{slice_get}
 use Rattle.std.proofs.lemmas.Option.{slice_get-get_or}
 use Rattle.net_model.specs.Site.{receiver}
 use Rattle.net_model.specs.Action.{Forge, Ok as Fine}
 use Rattle.declared_site.specs.SiteOf.{site_of}
 use Rattle.run_ops.specs.Acting.{tampered}
-use Rattle.world_nodes.specs.Tampering.{put_as}
+use Rattle.world_nodes.specs.Tampering.{is_forged}
 use Rattle.world_state.proofs.Armed.{most_same, times_same}
 use Rattle.world_state.proofs.Changes.{with_post}
 use Rattle.world_state.proofs.Receivers.{same_receiver}
-use Rattle.world_state.proofs.Resting.{one_same, rests_still}
+use Rattle.world_state.proofs.Resting.{same_parts, rests_still}
 use Rattle.world_state.proofs.Tampers.{forges_on, may_forge, forge_done}
 use Rattle.world_state.proofs.tampered_octets.bring_made.Goals as goal
 
@@ -23,34 +23,24 @@ forge-requires g c =
     let as_long = c.args.state.now.posts.ok.0 in
     let at = slice_get-get_or c.args.state.now.posts.items c.from.result c.in-Some.post.now (omega (arith, below, as_long)) ∙ ap Some (sym c.in-Some.ensures.value) in
     let there = ap (slice_get c.args.state.now.posts.items) (sym place) ∙ at in
-    let put : c.is_put-stands.result ≡ is_some (put_as a.0 a.1 c.args.lane.now c.args.octets) =
-    c.is_put-stands.ensures a.0 a.1 a.2.stands ∙ ap (λ (bytes : List ℕ). is_some (put_as a.0 a.1 c.args.lane.now bytes)) c.as_slice.ensures in
+    let forged : c.in-Ok.forged ≡ is_forged a.0 a.1 c.args.lane.now c.args.octets =
+    c.in-Ok.ensures a.0 a.1 a.2 ∙ ap (λ (bytes : List ℕ). is_forged a.0 a.1 c.args.lane.now bytes) c.as_slice.ensures in
     record {
       asked = (
         a.0,
         a.1,
         may_forge g.K.Disk.is_honest g.K.Disk.moment g.K.Disk.image g.E.Entropy.left g.Q.Device.told g.X.Wire.frames g.X.Wire.counted c.args.state.now a.0 a.1 c.args.lane.now a.2 (forges_on (site_of c.args.state.now.site) c.args.lane.now c.args.octets c.requires.fit)
-            c.args.octets c.is_put-stands.result put c.in-Some.post.now there c.requires.fit,
+            c.args.octets c.in-Ok.forged forged c.in-Some.post.now there c.requires.fit,
       );
     }
 
 pub returns-in-Err-clause-left : goal.returns-in-Err-clause-left
 returns-in-Err-clause-left g c net w ready =
-    let place : c.from.result ≡ receiver net.site c.args.lane.now =
-    c.from.ensures ∙ c.get.ensures.number ∙ c.receiver-node.ensures
-    ∙ same_receiver g.K.Disk.is_honest g.K.Disk.moment g.K.Disk.image g.E.Entropy.left g.Q.Device.told g.X.Wire.frames g.X.Wire.counted c.args.state.now net w c.args.lane.now ready (forges_on (site_of c.args.state.now.site) c.args.lane.now c.args.octets c.requires.fit) in
-    let below = c.in-Some.ensures.variant.0 refl in
-    let as_long = c.args.state.now.posts.ok.0 in
-    let at = slice_get-get_or c.args.state.now.posts.items c.from.result c.in-Some.post.now (omega (arith, below, as_long)) ∙ ap Some (sym c.in-Some.ensures.value) in
-    let there = ap (slice_get c.args.state.now.posts.items) (sym place) ∙ at in
     rests_still g.K.Disk.is_honest g.K.Disk.moment g.K.Disk.image g.E.Entropy.left g.Q.Device.told g.X.Wire.frames g.X.Wire.counted net w
-    g.K.Disk.faults g.K.Disk.armings g.E.Entropy.faults g.Q.Device.faults g.X.Wire.faults c.args.state.now _
-    (one_same c.args.state.now _ (receiver net.site c.args.lane.now) c.in-Some.post.now c.forge.new.post
-    (with_post c.args.state.now (receiver net.site c.args.lane.now) c.from.result c.in-Some.post.now c.forge.new.post place there) c.in-Err.ensures.err)
-    ready.stands (Forge c.args.lane.now c.args.octets Fine)
+    g.K.Disk.faults g.K.Disk.armings g.E.Entropy.faults g.Q.Device.faults g.X.Wire.faults c.args.state.now c.args.state.now (same_parts c.args.state.now) ready.stands (Forge c.args.lane.now c.args.octets Fine)
 
-pub returns-in-Ok-clause-armed : goal.returns-in-Ok-clause-armed
-returns-in-Ok-clause-armed g c =
+pub returns-in-Some-clause-armed : goal.returns-in-Some-clause-armed
+returns-in-Some-clause-armed g c =
     let a = c.requires.ready in
     let place : c.from.result ≡ receiver a.0.site c.args.lane.now =
     c.from.ensures ∙ c.get.ensures.number ∙ c.receiver-node.ensures
@@ -59,16 +49,16 @@ returns-in-Ok-clause-armed g c =
     let as_long = c.args.state.now.posts.ok.0 in
     let at = slice_get-get_or c.args.state.now.posts.items c.from.result c.in-Some.post.now (omega (arith, below, as_long)) ∙ ap Some (sym c.in-Some.ensures.value) in
     let there = ap (slice_get c.args.state.now.posts.items) (sym place) ∙ at in
-    let put : c.is_put-stands.result ≡ is_some (put_as a.0 a.1 c.args.lane.now c.args.octets) =
-    c.is_put-stands.ensures a.0 a.1 a.2.stands ∙ ap (λ (bytes : List ℕ). is_some (put_as a.0 a.1 c.args.lane.now bytes)) c.as_slice.ensures in
+    let forged : c.in-Ok.forged ≡ is_forged a.0 a.1 c.args.lane.now c.args.octets =
+    c.in-Ok.ensures a.0 a.1 a.2 ∙ ap (λ (bytes : List ℕ). is_forged a.0 a.1 c.args.lane.now bytes) c.as_slice.ensures in
     let may = may_forge g.K.Disk.is_honest g.K.Disk.moment g.K.Disk.image g.E.Entropy.left g.Q.Device.told g.X.Wire.frames g.X.Wire.counted c.args.state.now a.0 a.1 c.args.lane.now a.2 (forges_on (site_of c.args.state.now.site) c.args.lane.now c.args.octets c.requires.fit)
-    c.args.octets c.is_put-stands.result put c.in-Some.post.now there c.requires.fit in
-    let h = c.in-Ok.ensures.ok a.0 a.1 may in
+    c.args.octets c.in-Ok.forged forged c.in-Some.post.now there c.requires.fit in
+    let h = c.forge.ensures a.0 a.1 may in
     most_same g.K.Disk.armings c.args.state.now.posts.items c.from.result c.in-Some.post.now c.forge.new.post at
     (times_same g.K.Disk.armings g.K.Disk.faults g.E.Entropy.faults _ _ c.in-Some.post.now c.forge.new.post h.counts)
 
-pub returns-in-Ok-clause-done : goal.returns-in-Ok-clause-done
-returns-in-Ok-clause-done g c net w ready =
+pub returns-in-Some-clause-done : goal.returns-in-Some-clause-done
+returns-in-Some-clause-done g c net w ready =
     let place : c.from.result ≡ receiver net.site c.args.lane.now =
     c.from.ensures ∙ c.get.ensures.number ∙ c.receiver-node.ensures
     ∙ same_receiver g.K.Disk.is_honest g.K.Disk.moment g.K.Disk.image g.E.Entropy.left g.Q.Device.told g.X.Wire.frames g.X.Wire.counted c.args.state.now net w c.args.lane.now ready (forges_on (site_of c.args.state.now.site) c.args.lane.now c.args.octets c.requires.fit) in
@@ -76,12 +66,12 @@ returns-in-Ok-clause-done g c net w ready =
     let as_long = c.args.state.now.posts.ok.0 in
     let at = slice_get-get_or c.args.state.now.posts.items c.from.result c.in-Some.post.now (omega (arith, below, as_long)) ∙ ap Some (sym c.in-Some.ensures.value) in
     let there = ap (slice_get c.args.state.now.posts.items) (sym place) ∙ at in
-    let put : c.is_put-stands.result ≡ is_some (put_as net w c.args.lane.now c.args.octets) =
-    c.is_put-stands.ensures net w ready.stands ∙ ap (λ (bytes : List ℕ). is_some (put_as net w c.args.lane.now bytes)) c.as_slice.ensures in
+    let forged : c.in-Ok.forged ≡ is_forged net w c.args.lane.now c.args.octets =
+    c.in-Ok.ensures net w ready ∙ ap (λ (bytes : List ℕ). is_forged net w c.args.lane.now bytes) c.as_slice.ensures in
     let may = may_forge g.K.Disk.is_honest g.K.Disk.moment g.K.Disk.image g.E.Entropy.left g.Q.Device.told g.X.Wire.frames g.X.Wire.counted c.args.state.now net w c.args.lane.now ready (forges_on (site_of c.args.state.now.site) c.args.lane.now c.args.octets c.requires.fit)
-    c.args.octets c.is_put-stands.result put c.in-Some.post.now there c.requires.fit in
-    let h = c.in-Ok.ensures.ok net w may in
+    c.args.octets c.in-Ok.forged forged c.in-Some.post.now there c.requires.fit in
+    let h = c.forge.ensures net w may in
     forge_done g.K.Disk.is_honest g.K.Disk.moment g.K.Disk.image g.E.Entropy.left g.Q.Device.told g.X.Wire.frames g.X.Wire.counted c.args.state.now net w c.args.lane.now ready (forges_on (site_of c.args.state.now.site) c.args.lane.now c.args.octets c.requires.fit)
     g.K.Disk.faults g.K.Disk.armings g.E.Entropy.faults g.Q.Device.faults g.X.Wire.faults c.in-Some.post.now c.forge.new.post _
     (with_post c.args.state.now (receiver net.site c.args.lane.now) c.from.result c.in-Some.post.now c.forge.new.post place there)
-    c.in-Ok.reply (tampered c.came.result) c.came.ensures c.args.octets h
+    c.forge.result (tampered c.came.result) c.came.ensures c.args.octets h
