@@ -8,7 +8,8 @@ manager or a lane, and of each number of workers here each has pairs of its own.
 program still lets go of before it exits belongs to no line. Printed are the least times of 25 turns, without that of a scenario that
 ends before the lines: of the lines outside of a block, and in a block by 1, 2 and 4 workers, each as a ratio to the first. A last column
 has the lines a second of so many workers as a multiple of one worker's. The last lines say what the machine itself gives: the same for 2
-and 4 programs at once that do the lines outside, which share nothing. No test depends on them.
+and 4 programs at once that do the lines outside, which share nothing; and what 500 blocks of four lines cost 4 workers, as a multiple of
+the processor time that they cost one. No test depends on them.
 """
 import os
 import pathlib
@@ -50,6 +51,18 @@ def seconds(workers, lines, programs=1):
         if any([it.wait() for it in running]):
             sys.exit(f"{PROGRAM} fails")
         return last - start
+
+
+def processor_seconds(workers, lines):
+    """The processor time of a run of the lines."""
+    with tempfile.TemporaryFile() as source:
+        source.write(text(lines))
+        child = subprocess.Popen([PROGRAM, "run", str(workers)], stdin=opened(source), stdout=subprocess.DEVNULL)
+        _, status, used = os.wait4(child.pid, 0)
+        child.returncode = os.waitstatus_to_exitcode(status)
+    if child.returncode:
+        sys.exit(f"{PROGRAM} fails")
+    return used.ru_utime + used.ru_stime
 
 
 def reported(running):
@@ -95,6 +108,9 @@ def main():
         print(f"{name:18} {(time_of - start) * 1000:7.0f} ms  {(time_of - start) / outside:5.2f} of outside  {alone / (time_of - start):5.2f} of one worker's rate")
     for count, time_of in programs.items():
         print(f"{count} programs at once {count * (outside + start) / time_of:5.2f} of one program's rate")
+    small = ["together", *["status n0 m0x0 s0x0"] * 4, "apart"] * 500
+    one, four = (min(processor_seconds(workers, small) for _ in range(TURNS)) for workers in (1, 4))
+    print(f"500 blocks of four lines: 4 workers {four / one:.2f} of one worker's processor time")
 
 
 if __name__ == "__main__":

@@ -26,3 +26,4 @@ pub mod Opened
 pub mod Nobody
 pub mod Carried
 pub mod Sizes
+pub mod Crews

@@ -61,3 +61,4 @@ pub mod WorkersCalls
 pub mod Sealed
 pub mod SideBySide
 pub mod Unseen
+pub mod Alone

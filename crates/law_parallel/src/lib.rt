@@ -13,4 +13,4 @@ pub use lane_work_laws::{
     law_frames_have_octets_given, law_in_order_is_lane_works, law_lane_works_are_one_block,
     law_workers_works_are_lane_works,
 };
-pub use work_laws::{law_in_order_is_a_merge, law_in_order_is_one_block};
+pub use work_laws::{law_in_order_is_a_merge, law_in_order_is_one_block, law_one_works_for_many};

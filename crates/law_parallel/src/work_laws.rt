@@ -6,10 +6,11 @@ ghost use Rattle.net_model.specs.World.{Network, World};
 ghost use Rattle.net_model.specs.Premises.{IsNetwork};
 ghost use Rattle.net_model.specs.Invariant.{Conserved};
 ghost use Rattle.net_model.specs.BlockOrder.{IsMerge};
-ghost use Rattle.run_model.specs.Works.{Work};
+ghost use Rattle.run_model.specs.Works.{Work, Works};
 ghost use Rattle.run_ops.specs.Quiet.{IsQuiet};
 ghost use Rattle.run_ops.specs.declared.job.Job.{Job as JobValue};
 ghost use Rattle.run_ops.specs.Jobs.{is_job, asked_by, asked_in_order};
+ghost use Rattle.run_ops.specs.Together.{AreWorks};
 ghost use Rattle.law_parallel.specs.Putting.{Putting};
 ghost use Rattle.law_parallel.specs.InOrder.{IsInOrder, IsOneBlock};
 
@@ -27,4 +28,9 @@ pub fn law_in_order_is_one_block()
     ensures { (net : Network) (workers : ℕ) (w : World) (jobs : List JobValue) (histories : List (List Work)) (ps : List Putting) → 1 ≤ workers →
         IsNetwork net → Conserved net w → IsQuiet w → list_all (is_job net.site) jobs ≡ true → IsInOrder net workers w jobs histories ps →
         IsOneBlock net workers w jobs histories ps }
+{}
+
+/// What one worker does alone is what any number of workers may do.
+pub fn law_one_works_for_many()
+    ensures { (net : Network) (workers : ℕ) (w : World) (jobs : List JobValue) (works : Works) → 1 ≤ workers → AreWorks net 1 w jobs works → AreWorks net workers w jobs works }
 {}

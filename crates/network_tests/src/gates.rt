@@ -122,7 +122,7 @@ impl Gate for BothSeal {
     }
 }
 
-// One key on its way, and a block in which two workers tick its node.
+// One key on its way, and a block in which two workers tick its node. It has so many lines that more than one worker does it.
 const TWO_TICKS: &str = "node A\n\
     node B\n\
     link A B\n\
@@ -136,6 +136,9 @@ const TWO_TICKS: &str = "node A\n\
     fill alice bob 256 1\n\
     status A alice bob\n\
     tick A\n\
+    status A alice bob\nstatus A alice bob\nstatus A alice bob\nstatus A alice bob\n\
+    status A alice bob\nstatus A alice bob\nstatus A alice bob\nstatus A alice bob\n\
+    status A alice bob\nstatus A alice bob\nstatus A alice bob\nstatus A alice bob\n\
     apart\nend\n";
 
 #[test]
