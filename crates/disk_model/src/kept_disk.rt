@@ -180,6 +180,5 @@ impl<K: Disk, F: OctetFile> Disk for KeptDisk<K, F> {
 
     fn revive(&mut self)
         ensures same { self.new ≡ self.old }
-    {
-    }
+    {}
 }

@@ -180,6 +180,7 @@ fn a_later_cut_finds_what_an_earlier_one_left(rt: HostRuntime) {
 }
 
 // A file of which one call fails.
+#[derive(Drop)]
 struct FailingFile {
     calls: u32,
     fails: u32,
@@ -202,7 +203,8 @@ impl OctetFile for FailingFile {
     ghost durable = { λ _. None };
 
     fn write_at(&mut self, at: u64, bytes: &[u8]) -> Result<(), DiskFailed> {
-        let _ = (at, bytes);
+        let _ = at;
+        let _ = bytes;
         self.call()
     }
 

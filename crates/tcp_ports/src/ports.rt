@@ -2,8 +2,8 @@
 ghost use Rattle.std.specs.Prelude.{◌≡◌, ◌∷◌, [], ℕ, IfOk, OnOk, OnErr, IsSome, None};
 ghost use Rattle.qkd_base.specs.Faults.{HasCause, one_more};
 ghost use Rattle.edge_io.specs.Writes.{Adds};
-ghost use Rattle.edge_io.specs.Connections.{IsNewDoor};
-ghost use Rattle.tcp_ports.specs.Tcp.{untold_asked, untold_queues};
+ghost use Rattle.edge_io.specs.Connections.{IsFirstQueue, IsNewDoor};
+ghost use Rattle.tcp_ports.specs.Tcp.{untold_asked, untold_queues, untold_waiting, untold_twins};
 
 use crate::entrance::Entrance;
 use crate::hall::Hall;
@@ -122,6 +122,7 @@ impl<'a, R: Net<Listener = TcpListener, Stream = TcpStream> + Files + Clock + Wa
     fn open(&mut self, port: u16) -> Result<TcpDoor<'a, R>, Failed>
         ensures asked { Adds untold_asked untold_asked (port ∷ []) }
         ensures new_door { IfOk result (λ d. IsNewDoor (IsSome untold_asked) port d.port d.accepted d.finished d.faults None None) }
+        ensures queue { IfOk result (λ d. IsFirstQueue (untold_queues port) untold_waiting untold_twins) }
         ensures refused { OnErr result (untold_queues ≡ untold_queues) }
         ensures others { (other : ℕ) → ¬ (other ≡ port) → untold_queues other ≡ untold_queues other }
         ensures door { IfOk result (λ d. d ≡ record { port = port; accepted = 0; finished = 0; faults = 0 }) }
