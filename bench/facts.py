@@ -5,8 +5,8 @@
 
 PROGRAM is the built program, and crates/qkdnet/out/qkdnet where none is named. Node a makes keys for applications of node c,
 to which no lane has bytes, so that they stay; and 4,000 keys for bob, which are stored. Then come 4,000 lines of one kind: calls of
-`enc` and of `dec`, and ticks. In the last row keys for applications of node b, 1,000 or 15,000 of them, were sent and never passed, so
-that a tick finds them in flight. A line's time is the processor time of a run with such lines less that of one without, each the least
+`enc` and of `dec`, and ticks. Then keys for applications of node b, 1,000 or 15,000 of them, were sent and never passed, so that a
+tick finds them in flight; and last frames come changed or made up behind 125 or 4,000 that were put on their wire. A line's time is the processor time of a run with such lines less that of one without, each the least
 of seven turns. Printed are both times of a line, and their ratio. No test depends on them.
 """
 import os
@@ -82,6 +82,8 @@ def kinds():
     yield "dec", (1_000, 100_000), lambda facts: stored(facts) + enc, dec
     yield "tick", (1_000, 100_000), stored, tick
     yield "tick, facts in flight", (1_000, 15_000), in_flight, tick
+    yield "flip, frames on the wire", (125, 4_000), in_flight, [f"flip 0 up {n % 125} {n % 400}" for n in range(LINES)]
+    yield "forge, frames on the wire", (125, 4_000), in_flight, ["forge 0 up " + "5a" * 60] * LINES
 
 
 def main():
