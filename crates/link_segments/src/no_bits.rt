@@ -10,6 +10,11 @@ pub struct NoBits {
 }
 
 impl fmt::Display for NoBits {
+    ghost use Rattle.std.specs.Prelude.{Some};
+    ghost use Rattle.link_segments.specs.Sayings.{lack_said};
+
+    ghost output = { λ r. Some (lack_said r) };
+
     fn fmt<W: fmt::Write>(&self, f: &mut fmt::Formatter<W>) -> fmt::Result {
         write!(f, "no bits past {}", self.have)
     }

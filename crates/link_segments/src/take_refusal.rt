@@ -26,6 +26,11 @@ impl From<AllocError> for TakeRefusal {
 }
 
 impl fmt::Display for TakeRefusal {
+    ghost use Rattle.std.specs.Prelude.{Some};
+    ghost use Rattle.link_segments.specs.Sayings.{said_of};
+
+    ghost output = { λ r. Some (said_of r) };
+
     fn fmt<W: fmt::Write>(&self, f: &mut fmt::Formatter<W>) -> fmt::Result {
         match self {
             TakeRefusal::Full => write!(f, "the link has 1024 blocks"),

@@ -12,6 +12,11 @@ pub struct Short {
 }
 
 impl fmt::Display for Short {
+    ghost use Rattle.std.specs.Prelude.{Some};
+    ghost use Rattle.pad_ledger.specs.Sayings.{said_of};
+
+    ghost output = { λ r. Some (said_of r) };
+
     fn fmt<W: fmt::Write>(&self, f: &mut fmt::Formatter<W>) -> fmt::Result {
         write!(f, "short of bytes: {} of {} are used", self.used, self.end)
     }

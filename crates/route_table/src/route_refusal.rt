@@ -13,6 +13,11 @@ pub enum RouteRefusal {
 }
 
 impl fmt::Display for RouteRefusal {
+    ghost use Rattle.std.specs.Prelude.{Some};
+    ghost use Rattle.route_table.specs.Sayings.{said_of};
+
+    ghost output = { λ r. Some (said_of r) };
+
     fn fmt<W: fmt::Write>(&self, f: &mut fmt::Formatter<W>) -> fmt::Result {
         match self {
             RouteRefusal::SameNode => write!(f, "both nodes are the same"),

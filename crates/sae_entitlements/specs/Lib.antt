@@ -1,3 +1,4 @@
 pub mod Pair
 pub mod Grants
 pub mod Rows
+pub mod Sayings

@@ -26,6 +26,11 @@ impl From<Memory> for AddRefusal {
 }
 
 impl fmt::Display for AddRefusal {
+    ghost use Rattle.std.specs.Prelude.{Some};
+    ghost use Rattle.sae_entitlements.specs.Sayings.{adding_said};
+
+    ghost output = { λ r. Some (adding_said r) };
+
     fn fmt<W: fmt::Write>(&self, f: &mut fmt::Formatter<W>) -> fmt::Result {
         match self {
             AddRefusal::Known => write!(f, "the application is known"),
@@ -47,6 +52,11 @@ pub enum EntitlementRefusal {
 }
 
 impl fmt::Display for EntitlementRefusal {
+    ghost use Rattle.std.specs.Prelude.{Some};
+    ghost use Rattle.sae_entitlements.specs.Sayings.{pair_said};
+
+    ghost output = { λ r. Some (pair_said r) };
+
     fn fmt<W: fmt::Write>(&self, f: &mut fmt::Formatter<W>) -> fmt::Result {
         match self {
             EntitlementRefusal::UnknownSae => write!(f, "unknown application"),
@@ -62,6 +72,10 @@ impl Error for EntitlementRefusal {}
 pub struct UnknownSae;
 
 impl fmt::Display for UnknownSae {
+    ghost use Rattle.std.specs.Prelude.{Some, codes};
+
+    ghost output = { λ _. Some (codes "unknown application") };
+
     fn fmt<W: fmt::Write>(&self, f: &mut fmt::Formatter<W>) -> fmt::Result {
         write!(f, "unknown application")
     }
