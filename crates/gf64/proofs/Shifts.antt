@@ -1,12 +1,13 @@
 -- Reducing a product after each shift gives the same remainder. The laws of the product then follow by induction.
-use Rattle.std.proofs.Common.{◌≡◌, ℕ, zero, suc, ◌+◌, ◌*◌, ◌/◌, ◌^◌, ◌<◌, ◌≤◌, Bool, true, false, refl, sym, ap, ◌∙◌, arith, lit<}
+use Rattle.std.proofs.Common.{◌≡◌, ℕ, zero, suc, ◌+◌, ◌-◌, ◌*◌, ◌/◌, ◌%◌, ◌^◌, ◌<◌, ◌≤◌, Bool, true, false, eqb, refl, sym, ap, ap₂, subst, ◌∙◌, arith, lit<}
 use Rattle.std.specs.Prelude.{bit_xor}
-use Rattle.std.proofs.Math.Nat.{pow-le-pow_right}
+use Rattle.std.proofs.Math.Nat.{pow-succ', pow-le-pow_right}
+use Rattle.std.proofs.lemmas.Nat.{xor_block, mod_below, pow_pos}
 use Rattle.std.specs.Int.Bits.{xor_zero_r}
 use Rattle.gf64.specs.Field.{coefficient, part, modulus, poly_times, remainder}
 use Rattle.gf64.proofs.Sums.{swap_middle, part_differ, part_xor, part_zero, part_below, coefficient_xor, coefficient_double, xor_double}
 use Rattle.gf64.proofs.Multiplication.{double_part, times_half, times_below}
-use Rattle.gf64.proofs.Division.{remainder_xor, remainder_small, remainder_top}
+use Rattle.gf64.proofs.Division.{remainder_xor, remainder_small, remainder_top, remainder_below}
 
 -- the product of an element and x
 pub times_x : ℕ → ℕ
@@ -41,6 +42,55 @@ shifts_are (suc n) a b lt le =
     ∙ remainder_xor 63 (part (coefficient 0 b) a) (2 * poly_times n a (b / 2))
     ∙ ap (λ (x : ℕ). bit_xor x (remainder 63 (2 * poly_times n a (b / 2)))) (remainder_small 63 (part (coefficient 0 b) a) (part_below (coefficient 0 b) a (2 ^ 64) lt))
     ∙ ap (bit_xor (part (coefficient 0 b) a)) (remainder_shift 62 (poly_times n a (b / 2)) ∙ ap times_x (sym (remainder_top 62 (poly_times n a (b / 2)) below) ∙ shifts_are n a (b / 2) lt (omega (arith, le))))
+
+-- ---- shifting by several terms, and what the code does for one
+
+top_term : (a h : ℕ) → a < 2 ^ 64 → h ≡ a / 2 ^ 63 → h < 2 → bit_xor (a * 2 % 2 ^ 64) (27 * h) ≡ bit_xor (2 * a) (part (eqb (h % 2) 1) modulus)
+top_term a zero lt e small =
+    let whole : a * 2 % 2 ^ 64 ≡ 2 * a = omega (arith, lt, e) in
+    ap (λ (x : ℕ). bit_xor x 0) whole
+top_term a (suc zero) lt e small =
+    let low : ℕ = a * 2 % 2 ^ 64 in
+    let whole : 1 * 2 ^ 64 + low ≡ 2 * a = omega (arith, lt, e) in
+    sym (ap (λ (x : ℕ). bit_xor x modulus) (sym whole) ∙ xor_block 64 1 1 low 27 (mod_below (a * 2) (2 ^ 64) (pow_pos 64)) (lit< tt) ∙ omega arith)
+top_term a (suc (suc h)) lt e small = absurd (omega arith)
+
+pub doubled_is : (a : ℕ) → a < 2 ^ 64 → bit_xor (a * 2 % 2 ^ 64) (27 * (a / 2 ^ 63)) ≡ remainder 63 (2 * a)
+unfolding times_x
+doubled_is a lt = top_term a (a / 2 ^ 63) lt refl (omega (arith, lt)) ∙ sym (remainder_shift 62 a ∙ ap times_x (remainder_small 62 a lt))
+
+same_shifted : (k n a b : ℕ) → remainder n a ≡ remainder n b → remainder (n + k) (a * 2 ^ k) ≡ remainder (n + k) (b * 2 ^ k)
+same_shifted zero n a b e =
+    let none : n + 0 ≡ n = omega arith in
+    let one : a * 2 ^ 0 ≡ a = omega arith in
+    let other : b * 2 ^ 0 ≡ b = omega arith in
+    ap₂ remainder none one ∙ e ∙ sym (ap₂ remainder none other)
+same_shifted (suc k) n a b e =
+    let up : n + suc k ≡ suc (n + k) = omega arith in
+    let one : a * 2 ^ suc k ≡ 2 * (a * 2 ^ k) = ap (λ (m : ℕ). a * m) (pow-succ' 2 k) ∙ omega arith in
+    let other : b * 2 ^ suc k ≡ 2 * (b * 2 ^ k) = ap (λ (m : ℕ). b * m) (pow-succ' 2 k) ∙ omega arith in
+    ap₂ remainder up one ∙ remainder_shift (n + k) (a * 2 ^ k) ∙ ap times_x (same_shifted k n a b e)
+    ∙ sym (ap₂ remainder up other ∙ remainder_shift (n + k) (b * 2 ^ k))
+
+-- the remainder of a polynomial below x ^ 67, with three steps of the division or more
+few_steps : (j p : ℕ) → p < 2 ^ 67 → remainder (j + 3) p ≡ remainder 3 p
+few_steps zero p lt = refl
+few_steps (suc j) p lt =
+    let up : suc j + 3 ≡ suc (j + 3) = omega arith in
+    let more : 67 ≤ 64 + (j + 3) = omega arith in
+    let room : 2 ^ 67 ≤ 2 ^ (64 + (j + 3)) = pow-le-pow_right {n = 2} (lit< tt) {i = 67} {j = 64 + (j + 3)} more in
+    ap (λ (n : ℕ). remainder n p) up ∙ remainder_top (j + 3) p (omega (arith, lt, room)) ∙ few_steps j p lt
+
+-- a polynomial may be reduced before it is shifted
+pub reduced_shifted : (k p r : ℕ) → k ≤ 60 → p < 2 ^ 67 → r ≡ remainder 63 p → remainder 63 (r * 2 ^ k) ≡ remainder 63 (p * 2 ^ k)
+reduced_shifted k p r le lt e =
+    let n : ℕ = 63 - k in
+    let whole : n + k ≡ 63 = omega (arith, le) in
+    let steps : n ≡ 60 - k + 3 = omega (arith, le) in
+    let below : p < 2 ^ (64 + 63) = omega (arith, lt) in
+    let small : r < 2 ^ 64 = subst (λ (m : ℕ). m < 2 ^ 64) (sym e) (remainder_below 63 p below) in
+    let here : remainder n r ≡ remainder n p = remainder_small n r small ∙ e ∙ few_steps 60 p lt ∙ sym (ap (λ (m : ℕ). remainder m p) steps ∙ few_steps (60 - k) p lt) in
+    ap (λ (m : ℕ). remainder m (r * 2 ^ k)) (sym whole) ∙ same_shifted k n r p here ∙ ap (λ (m : ℕ). remainder m (p * 2 ^ k)) whole
 
 -- ---- times_x is linear
 

@@ -2,7 +2,7 @@ ghost use Rattle.std.specs.Prelude.{◌≡◌, ℕ, ◌<◌, ◌^◌};
 ghost use Rattle.gf64.specs.Field.{product};
 ghost use Rattle.gf64.specs.Multiples.{AreMultiples};
 
-use crate::remainder::reduce;
+use crate::remainder::{doubled, reduce};
 use std::marker::Model;
 
 /// An element with its products by the 16 polynomials below x^4. They make further products with the element fast: each
@@ -10,7 +10,7 @@ use std::marker::Model;
 #[derive(Drop)]
 pub struct Multiples {
     factor: u64,
-    products: [u128; 16],
+    products: [u64; 16],
 }
 
 impl Model for Multiples {
@@ -39,22 +39,23 @@ impl Multiples {
     {
         let mut sum = 0u128;
         for i in 0..16u32 {
-            sum ^= self.products[((other >> (4 * i)) % 16) as usize] << (4 * i);
+            let multiple = self.products[((other >> (4 * i)) % 16) as usize];
+            sum ^= u128::from(multiple) << (4 * i);
         }
         reduce(sum)
     }
 }
 
 // The products of an element by the 16 polynomials below x^4, each at the index that stands for its polynomial.
-fn products_of(factor: u64) -> [u128; 16]
+fn products_of(factor: u64) -> [u64; 16]
     ensures { AreMultiples factor 16 result }
 {
-    let mut products = [0u128; 16];
-    products[1] = u128::from(factor);
+    let mut products = [0u64; 16];
+    products[1] = factor;
     for i in 1..8usize {
-        let even = products[i] << 1;
+        let even = doubled(products[i]);
         products[2 * i] = even;
-        products[2 * i + 1] = even ^ u128::from(factor);
+        products[2 * i + 1] = even ^ factor;
     }
     products
 }
