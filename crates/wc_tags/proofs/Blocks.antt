@@ -1,11 +1,10 @@
 -- The blocks of a text, in order.
-use Rattle.std.proofs.Common.{◌≡◌, ℕ, zero, suc, ◌+◌, ◌-◌, ◌*◌, ◌^◌, ◌<◌, ◌≤◌, List, [], ◌∷◌, ◌++◌, length, take, drop, replicate, get_or, refl, sym, ap, ◌∙◌, min, arith, lit<, inl, inr}
+use Rattle.std.proofs.Common.{◌≡◌, ℕ, zero, suc, ◌+◌, ◌-◌, ◌*◌, ◌^◌, ◌<◌, ◌≤◌, List, [], ◌∷◌, ◌++◌, length, take, drop, replicate, get_or, refl, sym, ap, ◌∙◌, arith, lit<}
 use Rattle.std.specs.Prelude.{bit_xor}
 use Rattle.std.specs.List.{AllByRecursion}
 use Rattle.std.specs.Int.{w64, from_be_bytes}
-use Rattle.std.proofs.lemmas.Bool.{cases_lt}
 use Rattle.std.proofs.lemmas.Nat.{xor_lt}
-use Rattle.std.proofs.lemmas.List.{take-append-le, take_all, drop-append-le, append-nil, drop-drop, drop-replicate, length-drop, length-append, length-replicate}
+use Rattle.std.proofs.lemmas.List.{take_all, drop-append-le, drop-drop, drop-replicate, length-drop, length-append, length-replicate}
 use Rattle.gf64.specs.Field.{product}
 use Rattle.gf64.proofs.Ring.{commutes}
 use Rattle.wc_tags.specs.Tag.{block_count, padded, numbers, blocks_of, hash}
@@ -119,18 +118,10 @@ done key table sum last i total text lk ls ll t le e h =
 
 -- ---- the first block
 
-pub first_octets : (text : List ℕ) (size : ℕ) → 0 < length text → size ≡ min (length text) 8 → take size text ++ drop size (replicate 8 0) ≡ take 8 (padded text)
-first_octets text size pos e = elim (cases_lt (length text) 8) [
-  | inl lt ↦
-      let s : size ≡ length text = omega (arith, e, lt) in
-      let one : block_count text ≡ 1 = omega (arith, pos, lt) in
-      let fill : ℕ = 8 * block_count text - length text in
-      let fill_is : 8 - length text ≡ fill = omega (arith, one) in
-      let whole : length (padded text) ≡ 8 = length-append text (replicate fill 0) ∙ ap (λ (n : ℕ). length text + n) (length-replicate fill 0) ∙ omega (arith, one, lt) in
-      rw s (ap (λ (l : List ℕ). l ++ drop (length text) (replicate 8 0)) (take_all (length text) text (omega arith))
-      ∙ ap (λ (l : List ℕ). text ++ l) (drop-replicate {X = ℕ} (length text) 8 0 ∙ ap (λ (n : ℕ). replicate n 0) fill_is))
-      ∙ sym (take_all 8 (padded text) (omega (arith, whole)))
-  | inr le ↦
-      let s : size ≡ 8 = omega (arith, e, le) in
-      rw s (append-nil (take 8 text) ∙ sym (take-append-le 8 text (replicate (8 * block_count text - length text) 0) le))
-]
+pub short_octets : (text : List ℕ) → 0 < length text → length text < 8 → text ++ drop (length text) (replicate 8 0) ≡ take 8 (padded text)
+short_octets text pos lt =
+    let one : block_count text ≡ 1 = omega (arith, pos, lt) in
+    let fill : ℕ = 8 * block_count text - length text in
+    let fill_is : 8 - length text ≡ fill = omega (arith, one) in
+    let whole : length (padded text) ≡ 8 = length-append text (replicate fill 0) ∙ ap (λ (n : ℕ). length text + n) (length-replicate fill 0) ∙ omega (arith, one, lt) in
+    ap (λ (l : List ℕ). text ++ l) (drop-replicate {X = ℕ} (length text) 8 0 ∙ ap (λ (n : ℕ). replicate n 0) fill_is) ∙ sym (take_all 8 (padded text) (omega (arith, whole)))
