@@ -3,22 +3,22 @@
 
     python3 bench/speed.py PROGRAM
 
-PROGRAM is bench/out/tag_speed, which `bench/build tag_speed` builds. The three forms take turns, each time is the
-least of five, and what is printed are ratios of one run on one machine.
+PROGRAM is bench/out/tag_speed, which `bench/build tag_speed` builds. The forms take turns, each time is the least
+processor time of five, and what is printed are ratios of one run on one machine.
 """
 import pathlib
+import resource
 import subprocess
 import sys
 import tempfile
-import time
 
 COUNTS = {"products": ("4000000", "0"), "tags of 585 octets": ("0", "60000")}
 
 
 def timed(words):
-    start = time.perf_counter()
+    start = resource.getrusage(resource.RUSAGE_CHILDREN).ru_utime
     out = subprocess.run(words, check=True, capture_output=True, text=True).stdout
-    return time.perf_counter() - start, out
+    return resource.getrusage(resource.RUSAGE_CHILDREN).ru_utime - start, out
 
 
 def main():
@@ -28,6 +28,7 @@ def main():
         rust = f"{folder}/speed"
         subprocess.run(["rustc", "-O", "--edition=2024", "-o", rust, source], check=True)
         forms = {"proved": [program], "shift loop": [rust, "shift"], "carry-less": [rust, "carry-less"]}
+        forms |= {"masked products": [rust, "masked"], "of 128 bits": [rust, "wide"]}
         for name, counts in COUNTS.items():
             least, outputs = {}, set()
             for _ in range(5):
@@ -41,6 +42,8 @@ def main():
             print(f"{name}: " + ", ".join(f"{form} {seconds * each:.0f} ns" for form, seconds in least.items()))
             print(f"  shift loop / proved = {least['shift loop'] / least['proved']:.1f}")
             print(f"  proved / carry-less = {least['proved'] / least['carry-less']:.1f}")
+            for form in ("masked products", "of 128 bits"):
+                print(f"  {form} / proved = {least[form] / least['proved']:.1f}")
 
 
 if __name__ == "__main__":
