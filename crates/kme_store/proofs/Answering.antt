@@ -271,9 +271,9 @@ module _ {K E : Type 0} (is_honest : K → Bool) (content : K → List ℕ) (mom
 
   -- the manager stopped
   pub stopped : AreOver → {T : Type 0} (zeros random : List ℕ) (s : Step) (body body' : Option (List ℕ)) (after : E) (done : T) (mid : SnapshotForm K) (disk : K) (site' : Declared) (v' : View) (reply : Reply) → IsMadeOver zeros s body → length random ≡ length zeros →
-      Gives (told before) (told after) (Ok done) (length random) random → IsWritten mid (record s { batch = with_random random s.batch }) body' disk → reply ≡ replies.Stopped → IsSome body' → Rose (disk_faults mid.disk) (disk_faults disk) →
+      Gives (told before) (told after) (Ok done) (length random) random → IsWritten mid (record s { batch = with_random random s.batch }) body' disk → reply ≡ replies.Stopped → IsSome body' → Rose (disk_faults mid.disk) (disk_faults disk) → v' ≡ v →
       Answered (record { site = site'; view = v'; standing = Down disk; entropy = after }) reply
-  stopped laws zeros random s body body' after done mid disk site' v' reply made as_many gives w answer some rose =
+  stopped laws zeros random s body body' after done mid disk site' v' reply made as_many gives w answer some rose left =
       let new : ManagerForm K E = record { site = site'; view = v'; standing = Down disk; entropy = after } in
       let n = is_next laws zeros random s body after done made as_many gives in
       let drawn_step : Step = record s { batch = with_random random s.batch } in
@@ -285,6 +285,7 @@ module _ {K E : Type 0} (is_honest : K → Bool) (content : K → List ℕ) (mom
       (subst (λ (d : Decision). Comes (journal_of journal) n.rest (random_need v event) d replies.Stopped (Stops (random_need v event) n.is.0) (Rises after) (Fails new)) (sym n.is.1) comes))
       (record {
         answer = answer;
+        view = left;
         entropy = n.left;
         spelled = (body', subst (λ (rs : List Record). IsBody journal.live.version rs body') n.is.2.batch w.spelled);
         down = writes mid drawn_step body' disk n.is.0 w n.is.2;

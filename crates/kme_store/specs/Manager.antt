@@ -30,7 +30,7 @@ use Rattle.kme_journal.specs.Spelled.{with_batch, batch_in_doubt, IsBody}
 use Rattle.kme_store.specs.declared.manager_state.Standing.{Standing}
 use Rattle.kme_store.specs.declared.manager_state.Standing.TheVariants.{Up, Down, Between}
 
--- its site, its view, whether it is up, and its entropy; the view of a manager that is down means nothing
+-- Its site, its view, whether it is up, and its entropy. A manager that is down has the view that it had before its disk failed.
 pub record ManagerForm (K E : Type 0) : Type 0 where
   pub site : Declared
   pub view : View
@@ -143,6 +143,8 @@ pub record HasStayed {K E : Type 0} (is_honest : K → Bool) (moment : K → ℕ
 
 pub record HasStopped {K E : Type 0} (is_honest : K → Bool) (moment : K → ℕ) (image : K → ℕ → List ℕ → Type 0) (told : E → Option OctetSequence) (old : ManagerForm K E) (journal : SnapshotForm K) (octets : ℕ) (effect : Effect) (new : ManagerForm K E) (reply : Reply) : Type 0 where
   pub answer : reply ≡ replies.Stopped
+  -- Nothing was taken over before it was durable.
+  pub view : new.view ≡ old.view
   pub entropy : IsDrawn (told old.entropy) octets (told new.entropy)
   pub spelled : HasBodyIn journal.live.version effect.batch
   pub down : IsDownWith (Writes is_honest moment image journal effect.batch) new.standing

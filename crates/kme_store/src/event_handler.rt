@@ -40,6 +40,7 @@ fn finish<K: Disk>(
     ensures up { WhereUp (λ j. (j.live ≡ journal.live) × (j.batches ≡ with_octets journal.batches draft.body)) result.0 }
     ensures taken { WhereUp (λ j. IsTaken (view node.old) (placings_of event.now) draft.step (view node.new) result.1) result.0 }
     ensures down { WhereDown (λ disk. (result.1 ≡ Reply.Stopped) × IsSome draft.body × Rose (K.faults journal.disk) (K.faults disk)) result.0 }
+    ensures left { WhereDown (λ disk. view node.new ≡ view node.old) result.0 }
     ensures kept { WhereUp (λ j. IsTrue (K.is_honest j.disk) → IsKept j.live j.batches (K.content j.disk) (K.image j.disk (K.moment j.disk))) result.0 }
     ensures same { HasDisk (λ disk. (K.is_honest disk ≡ K.is_honest journal.disk) × (K.armings disk ≡ K.armings journal.disk)) result.0 }
     ensures later { HasDisk (λ disk. K.faults journal.disk ≤ K.faults disk) result.0 }

@@ -78,7 +78,7 @@ returns-clause-answers g c = λ is_up up.
     let ended =
     is_finished d.is_honest d.content d.moment d.image d.faults d.armings e.left e.faults is_up c.args.event.now c.args.node.now.site v c.args.entropy.now c.args.journal
     mid random draft.step new.step new.body c.finish.result.0 (view c.new.new.node) (view c.finish.new.node) c.finish.result.1 c.in-Ok.ensures.view step (c.put_random.ensures.body mid.live.version c.in-Ok.ensures.ready.body)
-    c.finish.ensures.moments c.finish.ensures.up c.finish.ensures.taken c.finish.ensures.down in
+    c.finish.ensures.moments c.finish.ensures.up c.finish.ensures.taken c.finish.ensures.down c.finish.ensures.left in
     finished d.is_honest d.content d.moment d.image d.faults d.armings e.left e.faults is_up c.args.event.now c.args.node.now.site v c.args.entropy.now c.args.journal
     laws {T = Unit {0}} draft.random.items random draft.step draft.body new.body c.draw.new.entropy tt mid c.finish.result.0 c.finish.new.node.site (view c.finish.new.node) c.finish.result.1
     (record { roomier = c.in-Ok.ensures.journal; kept = c.stands.ensures; over = c.in-Ok.ensures.zeros; step = c.in-Ok.ensures.step is_up up; spelled = c.in-Ok.ensures.ready.body; place = c.in-Ok.ensures.place })
@@ -102,7 +102,7 @@ returns-clause-told g c = λ was.
     let ended =
     is_finished d.is_honest d.content d.moment d.image d.faults d.armings e.left e.faults is_up c.args.event.now c.args.node.now.site v c.args.entropy.now c.args.journal
     mid random draft.step new.step new.body c.finish.result.0 (view c.new.new.node) (view c.finish.new.node) c.finish.result.1 c.in-Ok.ensures.view step (c.put_random.ensures.body mid.live.version c.in-Ok.ensures.ready.body)
-    c.finish.ensures.moments c.finish.ensures.up c.finish.ensures.taken c.finish.ensures.down in
+    c.finish.ensures.moments c.finish.ensures.up c.finish.ensures.taken c.finish.ensures.down c.finish.ensures.left in
     told_after d.is_honest d.content d.moment d.image d.faults d.armings e.left e.faults is_up c.args.event.now c.args.node.now.site v c.args.entropy.now c.args.journal
     laws c.law_effect_is_given_back.ensures.appended c.law_effect_is_given_back.ensures.nothing draft.random.items random draft.step draft.body new.body mid c.finish.result.0 c.finish.new.node.site (view c.finish.new.node) c.finish.result.1
     (record { roomier = c.in-Ok.ensures.journal; kept = c.stands.ensures; over = c.in-Ok.ensures.zeros; step = c.in-Ok.ensures.step is_up (λ link within. refl); spelled = c.in-Ok.ensures.ready.body; place = c.in-Ok.ensures.place })
