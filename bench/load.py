@@ -26,15 +26,6 @@ TURNS = 15
 MESH_TURNS = 5
 MESH_NODES = range(16)
 
-# Starts the program that its words name, and says what it used.
-STARTER = """
-import os, sys
-child = os.posix_spawn(sys.argv[1], sys.argv[1:], os.environ)
-_, status, used = os.wait4(child, 0)
-print(used.ru_utime + used.ru_stime, used.ru_maxrss, file=sys.stderr)
-sys.exit(os.waitstatus_to_exitcode(status))
-"""
-
 
 def key(node, count):
     return f"00000000-0000-8{node:03x}-8000-{count:012x}"
@@ -69,12 +60,12 @@ def mesh(keys):
     return "".join(line + "\n" for line in [*lines, "end"]).encode()
 
 
-def turn(program, words, text, report):
+def turn(starter, program, words, text, report):
     """The processor seconds and the KB of one run, whose report goes to the file."""
     with open(report, "wb") as out, tempfile.TemporaryFile() as source:
         source.write(text)
         source.seek(0)
-        ended = subprocess.run([sys.executable, "-I", "-S", "-c", STARTER, program, *words], stdin=source, stdout=out, stderr=subprocess.PIPE)
+        ended = subprocess.run([starter, program, *words], stdin=source, stdout=out, stderr=subprocess.PIPE)
     if ended.returncode:
         sys.exit(f"{program} ends with {ended.returncode}")
     seconds, kilobytes = ended.stderr.split()[-2:]
@@ -92,11 +83,12 @@ def cases():
 
 def main():
     programs = PROGRAM, built("plain", "qkdnet-plain", feature="record"), built("plain", "qkdnet-plain")
+    starter = built("plain", "starter")
     print("words     number  program: s, KB  plain with the record: s, KB  ratios of time, memory  without: s, KB  ratios")
     with tempfile.TemporaryDirectory() as room:
         reports = [f"{room}/{number}" for number in range(len(programs))]
         for name, number, words, text, count in cases():
-            turns = [[turn(it, words, text, report) for it, report in zip(programs, reports)] for _ in range(count)]
+            turns = [[turn(starter, it, words, text, report) for it, report in zip(programs, reports)] for _ in range(count)]
             if len({pathlib.Path(it).read_bytes() for it in reports}) > 1:
                 sys.exit(f"the reports of {name}, {number}, differ")
             ours, *others = [(statistics.median(s for s, _ in it), max(kb for _, kb in it)) for it in zip(*turns)]
