@@ -6,7 +6,8 @@
 PROGRAM is the built program, and crates/qkdnet/out/qkdnet where none is named. The plain server and the client stand in bench/serving
 and are built by cargo, out of nothing but the standard library. Both servers get the same words and the same scenario: pairs of nodes,
 each with a master of keys for its neighbour's slave. First both are asked the same requests, and have to give the same responses, but
-for the bytes of keys. Then, for 1 to 4 workers, the client keeps a connection with each worker and asks for statuses, for all keys
+for the bytes of keys. Then clients ask for statuses, each on a connection of its own or many on one, and the delays of their
+requests are printed. Then, for 1 to 4 workers, the client keeps a connection with each worker and asks for statuses, for all keys
 of the masters, and for all keys of the slaves: with one request at a time on its way, and with 16. Printed are the greatest rates of
 five turns, requests a second, and the ratio. With two nodes more than two workers share managers; with four none do. No test depends on
 them.
@@ -32,9 +33,9 @@ PORTS = itertools.count(19_000, 16)
 KEYS = 3_072
 STATUSES = 20
 TURNS = 5
-# Of clients that each have a connection for each request, and the workers that serve them.
-REQUESTS = 12_800
-WORKERS = 8
+# Of clients: workers, half of which serve them, requests in all, and how many a client asks on one connection, one after another.
+ONE_EACH = 8, 12_800, 1
+KEPT = 8, 64_000, 1_000
 CALLS = ("status", "enc_keys", "dec_keys")
 SECONDS = 300
 
@@ -148,22 +149,23 @@ def best(programs, load, nodes, workers, depth, text):
     return [[max(rate) for rate in zip(*rates_of)] for rates_of in zip(*turns)]
 
 
-def delayed(program, use_by, clients, text):
-    """The requests a second and both delays of a server that so many clients ask at once."""
+def delayed(program, use_by, clients, kind, text):
+    """The requests a second and the delays of a server that so many clients ask at once."""
+    workers, requests, each = kind
 
     def use(port):
-        ran = subprocess.run([use_by, str(port), str(clients), str(REQUESTS)], capture_output=True, text=True, timeout=SECONDS)
+        ran = subprocess.run([use_by, *map(str, (port, clients, requests, each))], capture_output=True, text=True, timeout=SECONDS)
         if ran.returncode:
             sys.exit(f"{program} for {clients} clients: {ran.stderr}")
         count, seconds, *delays = map(float, ran.stdout.split())
         return (count / seconds, *delays)
 
-    return served(program, WORKERS, 10_000, text, use, ends=False)
+    return served(program, workers, 10_000, text, use, ends=False)
 
 
-def delays(programs, use_by, clients, text):
+def delays(programs, use_by, clients, kind, text):
     """The middle of these of each program, which take turns."""
-    turns = [[delayed(program, use_by, clients, text) for program in programs] for _ in range(TURNS)]
+    turns = [[delayed(program, use_by, clients, kind, text) for program in programs] for _ in range(TURNS)]
     return [[statistics.median(it) for it in zip(*of)] for of in zip(*turns)]
 
 
@@ -175,10 +177,11 @@ def main():
     if served(PROGRAM, 1, 1, text, responses) != served(plain, 1, 1, text, responses):
         sys.exit("the servers differ")
     print(f"processors {len(os.sched_getaffinity(0))}")
-    print("clients  program: a second    p50    p99  plain: a second    p50    p99 (us)")
-    for clients in (1, 16, 64):
-        ours, theirs = delays((PROGRAM, plain), built("serving", "delays"), clients, text)
-        print(f"{clients:7} {ours[0]:18.0f} {ours[1]:6.0f} {ours[2]:6.0f} {theirs[0]:16.0f} {theirs[1]:6.0f} {theirs[2]:6.0f}", flush=True)
+    print("clients  a connection  program: a second    p50    p99 longest  plain: a second    p50    p99 longest (us)")
+    for clients, kind in ((1, ONE_EACH), (16, ONE_EACH), (64, ONE_EACH), (4, KEPT), (64, KEPT)):
+        ours, theirs = delays((PROGRAM, plain), built("serving", "delays"), clients, kind, text)
+        columns = "".join(f"  {rate:16.0f} {half:6.0f} {most:6.0f} {longest:7.0f}" for rate, half, most, longest in (ours, theirs))
+        print(f"{clients:7}  {kind[-1]:12}{columns}", flush=True)
     print("nodes workers on-the-way call      program    plain  plain / program")
     for nodes, workers in ((4, 1), (4, 2), (4, 3), (4, 4), (2, 4)):
         text = scenario(nodes, KEYS)

@@ -13,5 +13,6 @@ pub mod reply;
 pub mod request;
 pub mod resource;
 pub mod response;
+pub mod responses;
 pub mod scenario;
 pub mod site;

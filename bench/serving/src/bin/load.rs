@@ -5,7 +5,8 @@
 //! keys of slaves, the number of requests and the seconds. Node n has the master mN, who has keys for the slave sP of the
 //! node P = n xor 1, and the slave sN, who has keys of mP.
 use qkdnet_serving::name::Name;
-use std::io::{self, Read, Write};
+use qkdnet_serving::responses::Responses;
+use std::io::{self, Write};
 use std::net::{Ipv4Addr, TcpStream};
 use std::ops::Range;
 use std::process;
@@ -45,45 +46,6 @@ fn request(call: Call, node: u64, count: u64) -> String {
     format!("GET /api/v1/keys/{target} HTTP/1.1\r\nHost: localhost\r\nX-SAE-ID: {caller}\r\n\r\n")
 }
 
-/// Responses of a connection, each of which has to be 200.
-struct Responses<'a> {
-    stream: &'a TcpStream,
-    octets: Vec<u8>,
-    used: usize,
-}
-
-impl Responses<'_> {
-    fn take(&mut self) -> io::Result<()> {
-        loop {
-            if let Some(length) = whole(&self.octets[self.used..])? {
-                self.used += length;
-                return Ok(());
-            }
-            self.octets.drain(..self.used);
-            self.used = 0;
-            let mut piece = [0; 16_384];
-            match self.stream.read(&mut piece)? {
-                0 => return Err(io::Error::other("the connection ended")),
-                count => self.octets.extend_from_slice(&piece[..count]),
-            }
-        }
-    }
-}
-
-/// How many octets the response has that stands here, if it is whole.
-fn whole(octets: &[u8]) -> io::Result<Option<usize>> {
-    let Some(length) = octets.windows(4).position(|end| end == b"\r\n\r\n") else {
-        return Ok(None);
-    };
-    let head = std::str::from_utf8(&octets[..length]).unwrap_or_default();
-    let mut fields = head.split("\r\n").filter_map(|line| line.split_once(": "));
-    let body: Option<usize> = fields.find(|field| field.0.eq_ignore_ascii_case("content-length")).and_then(|field| field.1.parse().ok());
-    match body {
-        Some(body) if head.starts_with("HTTP/1.1 200 ") => Ok((length + 4 + body <= octets.len()).then_some(length + 4 + body)),
-        _ => Err(io::Error::other(format!("not answered: {head}"))),
-    }
-}
-
 impl Load {
     fn connect(&self, node: u64) -> io::Result<TcpStream> {
         let stream = TcpStream::connect((Ipv4Addr::LOCALHOST, self.port + node as u16))?;
@@ -112,7 +74,7 @@ impl Load {
         for start in numbers.clone().step_by(RESPONSES as usize) {
             let end = numbers.end.min(start + RESPONSES);
             let stream = self.connect(node)?;
-            let mut responses = Responses { stream: &stream, octets: Vec::new(), used: 0 };
+            let mut responses = Responses::new(&stream);
             for first in (start..end).step_by(self.depth as usize) {
                 let some = first..end.min(first + self.depth);
                 let requests: String = some.clone().map(|count| request(call, node, count)).collect();
