@@ -17,16 +17,21 @@ const BLOCKS: u32 = 1024;
 #[derive(Drop)]
 pub struct GeneratedDevice {
     stream: KeyStream,
+    // The block that was read last is kept, since the link's other end reads it next. At first this is no block's number.
+    last: u32,
+    kept: [u8; 1024],
 }
 
 impl Model for GeneratedDevice {
-    ghost use Rattle.std.specs.Prelude.{◌≡◌, ℕ};
+    ghost use Rattle.std.specs.Prelude.{◌≡◌, ◌<◌, ℕ};
+    ghost use Rattle.net_model.specs.OctetSequence.{block_at};
+    ghost use Rattle.source_devices.specs.KeyStream.{device_told};
 
     ghost Value = { ℕ };
 
     ghost view = { λ s. s.stream.number };
 
-    ghost invariant = { λ s. s.stream.letter ≡ 0x4c };
+    ghost invariant = { λ s. (s.stream.letter ≡ 0x4c) × (s.last < 1024 → s.kept ≡ block_at (device_told s.stream.number) s.last) };
 }
 
 impl GeneratedDevice {
@@ -36,6 +41,8 @@ impl GeneratedDevice {
     {
         GeneratedDevice {
             stream: KeyStream::new(b'L', link.get()),
+            last: BLOCKS,
+            kept: [0; 1024],
         }
     }
 }
@@ -53,8 +60,12 @@ impl Device for GeneratedDevice {
         if number >= BLOCKS {
             return Err(Shortage::End);
         }
-        self.stream.go_to_block(number);
-        self.stream.read(into);
+        if number != self.last {
+            self.stream.go_to_block(number);
+            self.stream.read(&mut self.kept);
+            self.last = number;
+        }
+        *into = self.kept;
         Ok(())
     }
 }
