@@ -133,12 +133,10 @@ fn handings(
     ensures { AddsAll result records.new cursor.new (handings sae count records.old cursor.old) }
 {
     for i in 0..count {
-        match cursor.short_name() {
-            Err(why) => return Err(why),
-            Ok(name) => match records.push(Record::Handed { name, sae }) {
-                Err(_) => return Err(Fault::Memory),
-                Ok(()) => {}
-            },
+        let name = cursor.short_name()?;
+        match records.push(Record::Handed { name, sae }) {
+            Err(_) => return Err(Fault::Memory),
+            Ok(()) => {}
         }
     }
     Ok(())
@@ -196,10 +194,7 @@ fn many(
 {
     let mut shut = None;
     for i in 0..count {
-        match item(alloc, cursor, version, shut, records) {
-            Err(why) => return Err(why),
-            Ok(next) => shut = next,
-        }
+        shut = item(alloc, cursor, version, shut, records)?;
     }
     Ok(())
 }

@@ -158,16 +158,15 @@ pub fn read_batches<K: Disk>(
     let mut batches = Vec::new(alloc);
     let mut place = start;
     'batches: loop {
-        match next_batch(alloc, disk, place, size) {
-            Err(why) => return Err(why),
-            Ok(Next::Shut(gate)) => {
+        match next_batch(alloc, disk, place, size)? {
+            Next::Shut(gate) => {
                 return Ok(Found {
                     batches,
                     place,
                     gate,
                 });
             }
-            Ok(Next::Batch(body)) => {
+            Next::Batch(body) => {
                 if batches.reserve(1).is_err() {
                     return Err(JournalRefusal::Memory);
                 }

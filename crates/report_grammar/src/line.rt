@@ -61,10 +61,7 @@ pub fn told_in(alloc: Global, nodes: &Texts, line: &[u8]) -> Result<NumberedItem
     // If the line was written from an item, it is read as the item of the first row with this text, and never refused.
     ensures read { (told : Told) → CanTell nodes.now told → line_text nodes.now told ≡ line.now → IsRead (first_told told) result }
 {
-    let told = match candidate(alloc, nodes, line) {
-        Ok(told) => told,
-        Err(refusal) => return Err(refusal),
-    };
+    let told = candidate(alloc, nodes, line)?;
     let text = line_text(alloc, nodes, &told)?;
     if text.as_slice() == line {
         Ok(told)

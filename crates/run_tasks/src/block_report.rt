@@ -81,10 +81,7 @@ fn write_told<W: Sink>(alloc: Global, site: &Site, told: &[Told], sink: &mut W) 
     ensures lined { InLines W.taken W.pieces (IsItemLine site.now.nodes) sink.old sink.new result }
 {
     for each in told {
-        match write_item(alloc, site, each.number, &each.item, sink) {
-            Ok(()) => {}
-            Err(stop) => return Err(stop),
-        }
+        write_item(alloc, site, each.number, &each.item, sink)?;
     }
     Ok(())
 }
@@ -132,10 +129,7 @@ fn write_turns<H: Requests, W: Sink>(
     ensures lined { InLines W.taken W.pieces (IsItemLine site.now.nodes) sink.old sink.new result }
 {
     for turned in turns {
-        match write_turn(alloc, site, requests, jobs, places, turned, sink) {
-            Ok(()) => {}
-            Err(stop) => return Err(stop),
-        }
+        write_turn(alloc, site, requests, jobs, places, turned, sink)?;
     }
     Ok(())
 }
@@ -164,10 +158,7 @@ fn write_frames<W: Sink>(
 {
     for frame in frames {
         let number = number_at(places, frame.place);
-        match write_item(alloc, site, number, &frame.item, sink) {
-            Ok(()) => {}
-            Err(stop) => return Err(stop),
-        }
+        write_item(alloc, site, number, &frame.item, sink)?;
     }
     Ok(())
 }
@@ -188,13 +179,7 @@ pub fn report<H: Requests, W: Sink>(
     ensures lined { InLines W.taken W.pieces (IsItemLine site.now.nodes) sink.old sink.new result }
 {
     let DoneBlock { turns, frames } = done;
-    match write_told(alloc, site, told, sink) {
-        Ok(()) => {}
-        Err(stop) => return Err(stop),
-    }
-    match write_turns(alloc, site, requests, jobs, places, turns, sink) {
-        Ok(()) => {}
-        Err(stop) => return Err(stop),
-    }
+    write_told(alloc, site, told, sink)?;
+    write_turns(alloc, site, requests, jobs, places, turns, sink)?;
     write_frames(alloc, site, places, &frames, sink)
 }

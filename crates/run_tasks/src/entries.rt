@@ -38,10 +38,7 @@ fn begin_all<S: Acts, W: Sink>(
 {
     for place in 0..node_lines.len() {
         let node = NodeNo::new(place as u8).unwrap();
-        match begin(alloc, net, node_lines[place], node, sink) {
-            Ok(()) => {}
-            Err(stop) => return Err(stop),
-        }
+        begin(alloc, net, node_lines[place], node, sink)?;
     }
     Ok(())
 }
@@ -110,10 +107,7 @@ fn do_all<S: Acts, T: Fn(&mut S, u32, &[Job]) -> Result<DoneBlock, Memory>, H: R
     ensures lined { InLines W.taken W.pieces (IsItemLine (S.site net.old).nodes) sink.old sink.new result }
 {
     for entry in list.into_vec() {
-        match do_entry(alloc, net, requests, together, workers, entry, sink) {
-            Ok(()) => {}
-            Err(stop) => return Err(stop),
-        }
+        do_entry(alloc, net, requests, together, workers, entry, sink)?;
     }
     Ok(())
 }

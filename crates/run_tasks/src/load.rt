@@ -47,10 +47,7 @@ fn begin_all<S: Acts>(alloc: Global, net: &mut S, node_lines: &[u32]) -> Result<
 {
     for place in 0..node_lines.len() {
         let node = NodeNo::new(place as u8).unwrap();
-        match begin(alloc, net, node_lines[place], node, &mut Unheard) {
-            Ok(()) => {}
-            Err(stop) => return Err(stop),
-        }
+        begin(alloc, net, node_lines[place], node, &mut Unheard)?;
     }
     Ok(())
 }
@@ -102,10 +99,7 @@ fn do_all<S: Acts, W: Sink>(
 {
     let mut handed = Handed::none();
     for entry in list.into_vec() {
-        let more = match do_entry(alloc, net, entry, sink) {
-            Ok(more) => more,
-            Err(stop) => return Err(stop),
-        };
+        let more = do_entry(alloc, net, entry, sink)?;
         handed = match handed.plus(more) {
             Ok(all) => all,
             Err(_) => return Err(Stop::Memory),
@@ -152,10 +146,7 @@ pub fn run_load<S: Acts, W: Sink>(
     ensures blame { IsBlamed (W.faults sink.old) (W.faults sink.new) result }
     ensures lined { InLines W.taken W.pieces (IsLoadLine (S.site net.old).nodes) sink.old sink.new result }
 {
-    match begin_all(alloc, net, node_lines) {
-        Ok(()) => {}
-        Err(stop) => return Err(stop),
-    }
+    begin_all(alloc, net, node_lines)?;
     match do_all(alloc, net, list, sink) {
         Ok(handed) => write_handed(alloc, handed, sink),
         Err(stop) => Err(stop),

@@ -1,4 +1,5 @@
 use Rattle.std.proofs.Common.{List, [], ◌∷◌, drop, arith, ◌+◌, Err}
+use Rattle.std.proofs.lemmas.Result.{err_from_is_err_and}
 use Rattle.run_types.specs.declared.item.NumberedItem.{NumberedItem}
 use Rattle.run_model.specs.Play.{numbered}
 use Rattle.run_ops.specs.declared.done_block.PutFrame.{PutFrame}
@@ -21,26 +22,31 @@ loop-frame-init g c = record {
 
 pub loop-frame-preserved : goal.loop-frame-preserved
 loop-frame-preserved g c =
-    let wrote = c.in-Ok.ensures.wrote in
+    let wrote = c.in_ok-write_item.ensures.wrote in
     record {
       told =
           told_on c.args.site.now.nodes _ _ _ _ _ _ (frames_told c.args.places.now (drop (c.loop-frame.frame-index + 1) c.args.frames.now))
           (one_left (said c.args.places.now) c.args.frames.now c.loop-frame.frame-index c.frame-item.result _ c.loop-frame-test.true c.frame-item.is) c.loop-frame.invariant.told
           (rw c.number_at-number.ensures at wrote);
-      lined = lined_on g.W.Sink.taken g.W.Sink.pieces (IsItemLine c.args.site.now.nodes) _ _ _ [] c.loop-frame.invariant.lined c.in-Ok.ensures.lined;
-      later = omega (arith, c.loop-frame.invariant.later, c.in-Ok.ensures.blame.later);
+      lined = lined_on g.W.Sink.taken g.W.Sink.pieces (IsItemLine c.args.site.now.nodes) _ _ _ [] c.loop-frame.invariant.lined c.in_ok-write_item.ensures.lined;
+      later = omega (arith, c.loop-frame.invariant.later, c.in_ok-write_item.ensures.blame.later);
     }
 
-pub returns-in-Err-clause-wrote : goal.returns-in-Err-clause-wrote
-returns-in-Err-clause-wrote g c =
-    let wrote = c.in-Err.ensures.wrote in
-    told_stop c.args.site.now.nodes _ _ _ _ _ _ (frames_told c.args.places.now (drop (c.loop-frame.frame-index + 1) c.args.frames.now)) c.in-Err.stop
+pub returns-in_err-write_item-clause-wrote : goal.returns-in_err-write_item-clause-wrote
+returns-in_err-write_item-clause-wrote g c =
+    let wrote = c.in_err-write_item.ensures.wrote in
+    let err = err_from_is_err_and c.from_residual.result c.from_residual.ensures.1 in
+    rw (err.1, err.2)
+    (told_stop c.args.site.now.nodes _ _ _ _ _ _ (frames_told c.args.places.now (drop (c.loop-frame.frame-index + 1) c.args.frames.now)) c.in_err-write_item.field-0.0
     (one_left (said c.args.places.now) c.args.frames.now c.loop-frame.frame-index c.frame-item.result _ c.loop-frame-test.true c.frame-item.is) c.loop-frame.invariant.told
-    (rw c.number_at-number.ensures at wrote)
+    (rw c.number_at-number.ensures at wrote))
 
 pub returns-clause-wrote : goal.returns-clause-wrote
 returns-clause-wrote g c =
     told_all c.args.site.now.nodes _ _ _ _ (none_left (said c.args.places.now) c.args.frames.now c.loop-frame.frame-index c.loop-frame-test.false) c.loop-frame.invariant.told
 
-pub returns-in-Err-clause-lined : goal.returns-in-Err-clause-lined
-returns-in-Err-clause-lined g c = in_lines_on g.W.Sink.taken g.W.Sink.pieces (IsItemLine c.args.site.now.nodes) {T = Unit {0}} _ _ _ (Err c.in-Err.stop) c.loop-frame.invariant.lined c.in-Err.ensures.lined
+pub returns-in_err-write_item-clause-lined : goal.returns-in_err-write_item-clause-lined
+returns-in_err-write_item-clause-lined g c =
+    let err = err_from_is_err_and c.from_residual.result c.from_residual.ensures.1 in
+    rw err.1
+    (in_lines_on g.W.Sink.taken g.W.Sink.pieces (IsItemLine c.args.site.now.nodes) {T = Unit {0}} _ _ _ (Err c.in_err-write_item.field-0.0) c.loop-frame.invariant.lined c.in_err-write_item.ensures.lined)

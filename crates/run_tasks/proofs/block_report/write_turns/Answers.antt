@@ -1,5 +1,6 @@
 use Rattle.std.proofs.Common.{◌∙◌, List, length, sym, ap, arith, rules, [], Err}
 use Rattle.std.specs.Vec.Iter.{into_iter_items}
+use Rattle.std.proofs.lemmas.Result.{err_from_is_err_and}
 use Rattle.run_ops.specs.declared.done_block.Turned.{Turned}
 use Rattle.run_tasks.specs.Reported.{turn_told, turns_told}
 use Rattle.run_tasks.proofs.Tasking.{is_none}
@@ -23,18 +24,20 @@ loop-turned-preserved g c = record {
       let jobs = c.args.jobs.now in
       let places = c.args.places.now in
       told_on c.args.site.now.nodes _ _ _ _ _ (turn_told http jobs places c.in-Some.turned) (turns_told http jobs places (into_iter_items c.next.new.self))
-      (ap (λ (ts : List Turned). turns_told http jobs places ts) c.in-Some.ensures.steps.0) (c.loop-turned.invariant.told http speaks) (c.in-Ok.ensures.wrote http speaks);
-  lined = lined_on g.W.Sink.taken g.W.Sink.pieces (IsItemLine c.args.site.now.nodes) _ _ _ [] c.loop-turned.invariant.lined c.in-Ok.ensures.lined;
-  later = omega (arith, c.loop-turned.invariant.later, c.in-Ok.ensures.blame.later);
+      (ap (λ (ts : List Turned). turns_told http jobs places ts) c.in-Some.ensures.steps.0) (c.loop-turned.invariant.told http speaks) (c.in_ok-write_turn.ensures.wrote http speaks);
+  lined = lined_on g.W.Sink.taken g.W.Sink.pieces (IsItemLine c.args.site.now.nodes) _ _ _ [] c.loop-turned.invariant.lined c.in_ok-write_turn.ensures.lined;
+  later = omega (arith, c.loop-turned.invariant.later, c.in_ok-write_turn.ensures.blame.later);
 }
 
-pub returns-in-Err-clause-wrote : goal.returns-in-Err-clause-wrote
-returns-in-Err-clause-wrote g c = λ http speaks.
+pub returns-in_err-write_turn-clause-wrote : goal.returns-in_err-write_turn-clause-wrote
+returns-in_err-write_turn-clause-wrote g c = λ http speaks.
     let jobs = c.args.jobs.now in
     let places = c.args.places.now in
-    rw (← c.into_iter-turned-iterator.ensures.into_iter_gives.0)
-    (told_stop c.args.site.now.nodes _ _ _ _ _ (turn_told http jobs places c.in-Some.turned) (turns_told http jobs places (into_iter_items c.next.new.self)) c.in-Err.stop
-    (ap (λ (ts : List Turned). turns_told http jobs places ts) c.in-Some.ensures.steps.0) (c.loop-turned.invariant.told http speaks) (c.in-Err.ensures.wrote http speaks))
+    let err = err_from_is_err_and c.from_residual.result c.from_residual.ensures.1 in
+    rw (err.1, err.2)
+    (rw (← c.into_iter-turned-iterator.ensures.into_iter_gives.0)
+    (told_stop c.args.site.now.nodes _ _ _ _ _ (turn_told http jobs places c.in-Some.turned) (turns_told http jobs places (into_iter_items c.next.new.self)) c.in_err-write_turn.field-0.0
+    (ap (λ (ts : List Turned). turns_told http jobs places ts) c.in-Some.ensures.steps.0) (c.loop-turned.invariant.told http speaks) (c.in_err-write_turn.ensures.wrote http speaks)))
 
 pub returns-clause-wrote : goal.returns-clause-wrote
 returns-clause-wrote g c = λ http speaks.
@@ -42,5 +45,8 @@ returns-clause-wrote g c = λ http speaks.
     rw (← c.into_iter-turned-iterator.ensures.into_iter_gives.0)
     (told_all c.args.site.now.nodes _ _ _ _ (ap (λ (ts : List Turned). turns_told http c.args.jobs.now c.args.places.now ts) none) (c.loop-turned.invariant.told http speaks))
 
-pub returns-in-Err-clause-lined : goal.returns-in-Err-clause-lined
-returns-in-Err-clause-lined g c = in_lines_on g.W.Sink.taken g.W.Sink.pieces (IsItemLine c.args.site.now.nodes) {T = Unit {0}} _ _ _ (Err c.in-Err.stop) c.loop-turned.invariant.lined c.in-Err.ensures.lined
+pub returns-in_err-write_turn-clause-lined : goal.returns-in_err-write_turn-clause-lined
+returns-in_err-write_turn-clause-lined g c =
+    let err = err_from_is_err_and c.from_residual.result c.from_residual.ensures.1 in
+    rw err.1
+    (in_lines_on g.W.Sink.taken g.W.Sink.pieces (IsItemLine c.args.site.now.nodes) {T = Unit {0}} _ _ _ (Err c.in_err-write_turn.field-0.0) c.loop-turned.invariant.lined c.in_err-write_turn.ensures.lined)
