@@ -64,10 +64,7 @@ pub fn tell_asked<W: Sink>(
     ensures wanting { kept.now.0 ≡ [] → ended ≡ Err WantOfMemory → result ≡ Err WantOfMemory }
     ensures blame { IsBlamed (W.faults sink.old) (W.faults sink.new) result }
 {
-    match write_asked(alloc, nodes, kept.lines(), sink) {
-        Err(stop) => return Err(stop),
-        Ok(()) => {}
-    }
+    write_asked(alloc, nodes, kept.lines(), sink)?;
     match ended {
         Ok(()) => Ok(()),
         Err(Stop::Forged(line)) => Err(Stop::Forged(line)),

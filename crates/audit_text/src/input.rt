@@ -56,10 +56,7 @@ fn read_whole(alloc: Global, text: &[u8]) -> Result<Input, AuditRefusal>
     };
     let first = lines + 1;
     let left = TEXT_LIMIT.saturating_sub(size);
-    let items = match read_report(alloc, &scenario.site, left, first, &text[size..]) {
-        Ok(items) => items,
-        Err(refusal) => return Err(refusal),
-    };
+    let items = read_report(alloc, &scenario.site, left, first, &text[size..])?;
     Ok(Input {
         scenario,
         items,

@@ -58,10 +58,7 @@ pub fn read_report(
     let mut left = left;
     let mut number = first;
     while let Some((line, behind)) = split_line(rest) {
-        let told = match told_on(alloc, site, left, number, line) {
-            Ok(told) => told,
-            Err(refusal) => return Err(refusal),
-        };
+        let told = told_on(alloc, site, left, number, line)?;
         items.push(told)?;
         left -= line.len();
         number += 1;
