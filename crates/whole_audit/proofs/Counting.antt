@@ -19,7 +19,7 @@ use Rattle.whole_audit.specs.Blocks.{behind_item, block_lane, is_lane, count_of}
 use Rattle.whole_audit.specs.Kept.{no_count, end_key, count_at, AreCounted}
 use Rattle.run_audit.proofs.Apart.{lane_same}
 
-end_keys : (k l : Lane) → bytes_eq (end_key k) (end_key l) ≡ lane_eq k l
+pub end_keys : (k l : Lane) → bytes_eq (end_key k) (end_key l) ≡ lane_eq k l
 end_keys k l = and_true (eqb (lane_place k) (lane_place l)) ∙ lane_places k l
 
 -- A table with one more count has it at its end, and the earlier ones elsewhere.

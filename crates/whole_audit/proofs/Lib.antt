@@ -5,4 +5,6 @@ pub mod Linking
 pub mod HandedNames
 pub mod Managing
 pub mod Numbering
+pub mod Resting
+pub mod Tracking
 pub mod Deciding

@@ -14,7 +14,7 @@ use Rattle.run_types.specs.declared.item.NumberedItem.{NumberedItem}
 use Rattle.whole_audit.specs.declared.order.Walk.{Walk}
 use Rattle.whole_audit.specs.declared.lines.Spot.{Spot}
 use Rattle.whole_audit.specs.declared.lines.Spots.{Spots}
-use Rattle.whole_audit.specs.Lines.{lines_in, line_with}
+use Rattle.whole_audit.specs.Lines.{lines_in, line_with, command_at}
 use Rattle.whole_audit.specs.declared.tables.Tables.{Tables}
 use Rattle.whole_audit.specs.declared.judge.Judge.{Judge}
 use Rattle.whole_audit.specs.declared.blocks.Count.{Count}
@@ -25,7 +25,13 @@ use Rattle.whole_audit.specs.Claims.{is_up}
 use Rattle.whole_audit.specs.declared.names.Names.{Names}
 use Rattle.whole_audit.specs.Managers.{is_node_up, was_started}
 use Rattle.whole_audit.specs.Names.{names_of}
-use Rattle.whole_audit.specs.Order.{left, has_come, is_above}
+use Rattle.whole_audit.specs.declared.rests.Rest.{Rest}
+use Rattle.whole_audit.specs.declared.rests.Rests.{Rests}
+use Rattle.whole_audit.specs.Rests.{asked_if, rest_of}
+use Rattle.whole_audit.specs.declared.tracks.Track.{Track}
+use Rattle.whole_audit.specs.declared.tracks.Tracks.{Tracks}
+use Rattle.whole_audit.specs.Tracks.{no_track, track_of}
+use Rattle.whole_audit.specs.Order.{left, has_come, owing, is_above}
 
 abbrev pub number_entry : ℕ → List ℕ
 number_entry number = number ∷ 0 ∷ 0 ∷ 0 ∷ 0 ∷ []
@@ -34,10 +40,11 @@ number_entry number = number ∷ 0 ∷ 0 ∷ 0 ∷ 0 ∷ []
 abbrev pub has_number : List (List ℕ) → ℕ → Bool
 has_number entries number = has_entry entries (number_entry number)
 
--- A place in a scenario, and the numbers of the items that came.
+-- A place in a scenario, the numbers of the items that came, and those of lines that have to give more.
 pub record IsWalkOf (s : Scenario) (w : Walk) (before : List NumberedItem) : Type 0 where
   pub left : left s before ≡ Some (drop w.place s.entries)
   pub came : (number : ℕ) → has_number w.came number ≡ has_come before number
+  pub owing : (number : ℕ) → has_number w.owing number ≡ owing s before number
   pub next : (number : ℕ) → nat_le w.next number ≡ is_above number before
 
 -- ---- lines
@@ -81,6 +88,14 @@ count_at c l = unwrap_or (at c.ends (end_key l)) no_count
 abbrev pub AreCounted : Counts → List NumberedItem → Type 0
 AreCounted c before = (l : Lane) → count_at c l ≡ count_of l before
 
+-- ---- lanes
+
+abbrev pub track_at : Tracks → Lane → Track
+track_at k l = unwrap_or (at k.lanes (end_key l)) no_track
+
+abbrev pub AreTracks : Tracks → List NumberedItem → Type 0
+AreTracks k before = (l : Lane) → track_at k l ≡ track_of l before
+
 -- ---- links
 
 -- The set has the links that are down.
@@ -96,6 +111,14 @@ AreDownNodes s down before = (node : ℕ) → has_number down node ≡ not (is_n
 -- The set has the nodes whose managers were started.
 abbrev pub AreStarted : Scenario → List (List ℕ) → List NumberedItem → Type 0
 AreStarted s started before = (node : ℕ) → has_number started node ≡ was_started s node before
+
+-- ---- what lines have to give
+
+abbrev pub rest_at : Rests → (number : ℕ) → (first : Rest) → Rest
+rest_at r number first = unwrap_or (at r.lines (number ∷ [])) first
+
+abbrev pub AreRests : Scenario → Rests → List NumberedItem → Type 0
+AreRests s r before = (number : ℕ) → rest_at r number (asked_if (command_at s number)) ≡ rest_of s number before
 
 -- ---- names
 
@@ -114,6 +137,8 @@ pub record AreTablesOf (s : Scenario) (t : Tables) (before : List NumberedItem) 
   pub managers : AreDownNodes s t.down_nodes before
   pub started : AreStarted s t.started before
   pub names : AreNamed s t.names before
+  pub rests : AreRests s t.rests before
+  pub tracks : AreTracks t.tracks before
 
 pub record IsJudgeOf (s : Scenario) (j : Judge) (before : List NumberedItem) : Type 0 where
   pub walk : IsWalkOf s j.walk before

@@ -9,10 +9,12 @@ pub mod Asked
 pub mod Managers
 pub mod Names
 pub mod Parts
+pub mod Rests
 pub mod Order
 pub mod Blocks
 pub mod Claims
 pub mod Sums
 pub mod Shorts
+pub mod Tracks
 pub mod Whole
 pub mod Kept

@@ -19,7 +19,7 @@ use Rattle.run_types.specs.declared.scenario.Scenario.{Scenario}
 use Rattle.run_types.specs.declared.item.NumberedItem.{NumberedItem}
 use Rattle.run_audit.specs.Ledgers.{lane_from}
 use Rattle.run_audit.specs.Takings.{receiver}
-use Rattle.whole_audit.specs.declared.managers.Said.{Said}
+use Rattle.whole_audit.specs.declared.said.Said.{Said}
 use Rattle.whole_audit.specs.Lines.{command_at}
 
 -- ---- what an answer says of its manager

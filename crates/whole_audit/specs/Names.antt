@@ -21,7 +21,7 @@ use Rattle.run_types.specs.declared.scenario.Scenario.{Scenario}
 use Rattle.run_types.specs.declared.item.NumberedItem.{NumberedItem}
 use Rattle.run_audit.specs.Takings.{receiver}
 use Rattle.whole_audit.specs.declared.blocks.Count.{Count}
-use Rattle.whole_audit.specs.declared.names.Given.{Given}
+use Rattle.whole_audit.specs.declared.given.Given.{Given}
 use Rattle.whole_audit.specs.Lines.{command_at}
 
 -- ---- which names an item tells of

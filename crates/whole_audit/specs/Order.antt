@@ -8,6 +8,8 @@ use Rattle.run_types.specs.declared.entry.Entry.{Entry}
 use Rattle.run_types.specs.declared.entry.Entry.TheVariants as entries
 use Rattle.run_types.specs.declared.scenario.Scenario.{Scenario}
 use Rattle.run_types.specs.declared.item.NumberedItem.{NumberedItem}
+use Rattle.whole_audit.specs.Lines.{command_at}
+use Rattle.whole_audit.specs.Rests.{rest_of, owes_if}
 
 -- The line may give more than one item.
 abbrev pub gives_more : Command → Bool
@@ -29,26 +31,30 @@ abbrev pub takes : (came : ℕ → Bool) → (number : ℕ) → Entry → Bool
 takes came number (entries.Line l) = takes_line came number l
 takes came number (entries.Block ls) = list_any (takes_line came number) ls
 
--- The line has an item, if it needs one.
-abbrev pub line_is_over : (came : ℕ → Bool) → Line → Bool
-line_is_over came l = may_be_silent l.command || came l.number
+-- The line has an item, if it needs one, and has given all. `owing` says which lines have to give more.
+abbrev pub line_is_over : (came owing : ℕ → Bool) → Line → Bool
+line_is_over came owing l = (may_be_silent l.command || came l.number) && not (owing l.number)
 
-abbrev pub is_over : (came : ℕ → Bool) → Entry → Bool
-is_over came (entries.Line l) = line_is_over came l
-is_over came (entries.Block ls) = list_all (line_is_over came) ls
+abbrev pub is_over : (came owing : ℕ → Bool) → Entry → Bool
+is_over came owing (entries.Line l) = line_is_over came owing l
+is_over came owing (entries.Block ls) = list_all (line_is_over came owing) ls
 
 -- The entries from the one on that takes an item with this number. Those before it are over.
-abbrev pub left_behind : (came : ℕ → Bool) → (number : ℕ) → List Entry → Option (List Entry)
-left_behind came number [] = None
-left_behind came number (e ∷ es) = if takes came number e then Some (e ∷ es) else if is_over came e then left_behind came number es else None
+abbrev pub left_behind : (came owing : ℕ → Bool) → (number : ℕ) → List Entry → Option (List Entry)
+left_behind came owing number [] = None
+left_behind came owing number (e ∷ es) = if takes came number e then Some (e ∷ es) else if is_over came owing e then left_behind came owing number es else None
 
-abbrev pub left_with : (came : ℕ → Bool) → (number : ℕ) → Option (List Entry) → Option (List Entry)
-left_with came number None = None
-left_with came number (Some es) = left_behind came number es
+abbrev pub left_with : (came owing : ℕ → Bool) → (number : ℕ) → Option (List Entry) → Option (List Entry)
+left_with came owing number None = None
+left_with came owing number (Some es) = left_behind came owing number es
 
 -- an item with this number is among these
 abbrev pub has_come : List NumberedItem → ℕ → Bool
 has_come before number = list_any (λ (t : NumberedItem). t.number == number) before
+
+-- A line has to give more: it has an item, but not all.
+abbrev pub owing : Scenario → List NumberedItem → ℕ → Bool
+owing s before number = has_come before number && owes_if (command_at s number) (rest_of s number before)
 
 abbrev pub declares_node : Scenario → ℕ → Bool
 declares_node s number = list_any (λ n. n == number) s.node_lines
@@ -62,12 +68,12 @@ abbrev pub left : Scenario → List NumberedItem → Option (List Entry)
 left s [] = Some s.entries
 left s (t ∷ before) =
     if declares_node s t.number then (if is_above t.number before then left s before else None)
-    else left_with (has_come before) t.number (left s before)
+    else left_with (has_come before) (owing s before) t.number (left s before)
 
 -- All entries that are left are over.
-abbrev pub are_over : (came : ℕ → Bool) → Option (List Entry) → Bool
-are_over came None = false
-are_over came (Some es) = list_all (is_over came) es
+abbrev pub are_over : (came owing : ℕ → Bool) → Option (List Entry) → Bool
+are_over came owing None = false
+are_over came owing (Some es) = list_all (is_over came owing) es
 
 -- The item stands in order behind those before it.
 abbrev pub rule_7 : Scenario → List NumberedItem → NumberedItem → Bool
@@ -75,4 +81,4 @@ rule_7 s before t = is_some (left s (t ∷ before))
 
 -- No line lacks an item, so that a report may end here.
 abbrev pub may_end : Scenario → List NumberedItem → Bool
-may_end s before = are_over (has_come before) (left s before)
+may_end s before = are_over (has_come before) (owing s before) (left s before)

@@ -2,6 +2,9 @@
 use Rattle.std.specs.Prelude.{ℕ, Bool, true, false, not, ◌&&◌, ◌||◌, ◌==◌, nat_le, nat_lt, if◌then◌else◌, length}
 use Rattle.qkd_base.specs.declared.lane.Lane.{Lane}
 use Rattle.qkd_base.specs.Lane.{lane_eq}
+use Rattle.qkd_base.specs.Name.{Name, kind_number}
+use Rattle.run_types.specs.declared.payload_kind.PayloadKind.{PayloadKind}
+use Rattle.run_types.specs.declared.payload_kind.PayloadKind.TheVariants as payloads
 use Rattle.run_types.specs.declared.command.Command.{Command}
 use Rattle.run_types.specs.declared.command.Command.TheVariants as commands
 use Rattle.run_types.specs.declared.refusal.Refusal.{Refusal}
@@ -22,9 +25,20 @@ may_refuse_pass number (refusals.JournalFull length need) = true
 may_refuse_pass number refusals.Stopped = true
 may_refuse_pass number _ = false
 
+-- Keys, chunks and parts have names of keys, streams their own, and notes theirs. Each of them may be acknowledged.
+abbrev pub is_of_kind : PayloadKind → Name → Bool
+is_of_kind payloads.Key n = kind_number n.kind == 0
+is_of_kind payloads.Chunk n = kind_number n.kind == 0
+is_of_kind payloads.Part n = kind_number n.kind == 0
+is_of_kind payloads.Open n = kind_number n.kind == 1
+is_of_kind payloads.Stored n = kind_number n.kind == 2
+is_of_kind payloads.Joined n = kind_number n.kind == 2
+is_of_kind payloads.Ack n = true
+
 abbrev pub passes : (number : ℕ) → FrameResult → Bool
 passes number (results.Refused refusal) = may_refuse_pass number refusal
-passes number _ = true
+passes number (results.Taken kind name) = is_of_kind kind name
+passes number (results.Again kind name) = is_of_kind kind name
 
 -- ---- A frame with a changed bit. Its octets: 0 is the version, 1 and 2 are the lane, 3 is zero, 4 and 5 are the length,
 -- 6 and 7 are zero, 8 to 15 are the offset. The payload and the tag follow.

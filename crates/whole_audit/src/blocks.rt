@@ -39,8 +39,8 @@ pub fn lane_from(link: LinkNo, end: End) -> Lane
     Lane { link, way }
 }
 
-// The table key of the end at which a lane begins.
-fn end_key(lane: &Lane) -> [u64; 1]
+/// The table key of the end at which a lane begins.
+pub fn end_key(lane: &Lane) -> [u64; 1]
     ensures { result ≡ end_key lane.now }
 {
     let way = match lane.way {

@@ -9,12 +9,16 @@ use crate::asked::Asked;
 pub struct Findings {
     /// Rule 7.
     pub order: bool,
+    /// Rule 7, of how much a line gives.
+    pub gives: bool,
     /// Rule 8.
     pub managers: bool,
     /// Rule 9.
     pub blocks: bool,
     /// Rule 10.
     pub claims: bool,
+    /// Rule 10, of gaps.
+    pub gaps: bool,
     /// Rule 11.
     pub sums: bool,
     /// Rule 11, of burnt bytes.
@@ -25,6 +29,8 @@ pub struct Findings {
     pub handed: bool,
     /// Rule 14, of names.
     pub heard: bool,
+    /// Rule 14, of wires.
+    pub comes: bool,
     /// Rule 18, of names.
     pub shown: bool,
     /// Rule 17, of lanes that are short.
@@ -37,7 +43,7 @@ pub struct Findings {
 pub fn least(findings: &Findings) -> Option<u8>
     ensures { result ≡ least_of findings.now }
 {
-    if !(findings.order && findings.asked.parts) {
+    if !(findings.order && findings.gives && findings.asked.parts) {
         return Some(7);
     }
     if !findings.managers {
@@ -46,7 +52,7 @@ pub fn least(findings: &Findings) -> Option<u8>
     if !findings.blocks {
         return Some(9);
     }
-    if !findings.claims {
+    if !(findings.claims && findings.gaps) {
         return Some(10);
     }
     if !(findings.sums && findings.burns) {
@@ -58,7 +64,7 @@ pub fn least(findings: &Findings) -> Option<u8>
     if !(findings.handed && findings.asked.handing) {
         return Some(13);
     }
-    if !(findings.heard && findings.asked.passing) {
+    if !(findings.heard && findings.comes && findings.asked.passing) {
         return Some(14);
     }
     if !findings.asked.streaming {

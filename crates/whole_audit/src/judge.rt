@@ -34,8 +34,10 @@ impl Judge {
     pub fn take(&mut self, scenario: &Scenario, told: &NumberedItem) -> Result<Option<u8>, Memory>
         ensures { (before : List Told) → IsJudgeOf scenario.now self.old before → IfOk result (λ rule. (rule ≡ broken scenario.now before told.now) × (rule ≡ None → IsJudgeOf scenario.now self.new (told.now ∷ before))) }
     {
-        let stands = self.walk.take(scenario, told)?;
-        let findings = self.tables.findings(scenario, told, stands);
+        let owes = self.tables.owes(scenario, told);
+        let stands = self.walk.take(scenario, told, owes)?;
+        let inside = self.walk.is_in_block(scenario, stands);
+        let findings = self.tables.findings(scenario, told, stands, inside);
         let rule = least(&findings);
         if rule.is_none() {
             self.tables.learn(scenario, told)?;

@@ -6,23 +6,24 @@
 //! The rules, by number:
 //!
 //! 1. to 6. are those of `run_audit`.
-//! 7. The items stand in order of their lines, those of a block in any order. Each line gives an item, but a settle may give
-//!    none. No line gives two, but a tick, a settle and a line of blocks. A report that lacks an item at its end breaks this
-//!    rule on the line behind its last one. Blocks are of ends that their line names, and a tick's frames of lanes that leave
-//!    its node.
+//! 7. The items stand in order of their lines, those of a block in any order, and each line gives all that it asks for. A
+//!    line of blocks gives those of its ends by turns, until an end refuses. A tick puts as many frames as it told, of lanes
+//!    that leave its node. In a settle each of them comes to its receiver, lane by lane. Each other line gives one item. A
+//!    report that lacks an item at its end breaks this rule on the line behind its last one.
 //! 8. A manager says that it is down exactly if it is: behind a crash, behind an event in which it stopped, and if its start
 //!    at the beginning failed, until it is started. Only of one that is up is it said that it was up.
 //! 9. The blocks of an end are 0, 1, 2 and so on, and it refuses one for being full exactly if it has 1,024. If an end
 //!    stopped at a block, the next number tells whether it had taken it.
-//! 10. A frame leaves over a link that is up, and uses bytes that its sender has received.
+//! 10. A frame leaves over a link that is up, and uses bytes that its sender has received. It leaves no gap behind those
+//!     before it, but in a block, behind a start of its sender, or behind a frame that the wire refused.
 //! 11. The received bytes of a ledger are what its sender's blocks brought, also where the sender stopped at one. Only a
 //!     sender that was started has burnt bytes.
 //! 12. As many keys or chunks are made as the line asks for, at its node. Their names follow those that the node gave before,
 //!     as far as the report tells how many these were. A pair that isn't allowed is refused as such, and no other.
 //! 13. As many keys are handed out as the line asks for, of its size, named by its node and in order of their names, or those
 //!     that it names, none twice. Who may not ask is refused as such, and nobody else. Other refusals fit what was asked for.
-//! 14. A frame that comes to its receiver is the line's. If one bit was changed, or anybody made the octets, the answer is one
-//!     that this bit, or the number of octets, allows.
+//! 14. A frame that comes to its receiver is the line's, and the wire has it. Its name is one of the told kind. If one bit
+//!     was changed, or anybody made the octets, the answer is one that this bit, or the number of octets, allows.
 //! 15. A call on streams is answered by a status that it can have, for the stream and the index that it names.
 //! 16. A response is that of the line's node, and has a status of GS QKD 014.
 //! 17. A tick is that of the line's node. A short item tells what was received, over a link that is up, and its need passes
@@ -36,8 +37,10 @@ mod asked;
 mod blocks;
 mod entitled;
 mod findings;
+mod given;
 mod handing;
 mod judge;
+mod lane_ends;
 mod lines;
 mod making;
 mod managers;
@@ -46,9 +49,12 @@ mod naming;
 mod order;
 mod parts;
 mod passing;
+mod rests;
+mod said;
 mod streaming;
 mod tables;
 mod text;
+mod tracks;
 mod whole_verdict;
 
 pub use text::whole_text;

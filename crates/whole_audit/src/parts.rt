@@ -2,13 +2,13 @@
 ghost use Rattle.std.specs.Prelude.{◌≡◌};
 ghost use Rattle.whole_audit.specs.Parts.{is_among, takes_at, puts_from, is_part};
 
-use crate::managers::sender;
+use crate::lane_ends::sender;
 use declared_site::Site;
 use qkd_base::{LinkNo, NodeNo};
 use run_types::{Command, End, Ends, Item};
 
-// Whether an end is one of these.
-fn is_among(ends: Ends, end: End) -> bool
+/// Whether an end is one of these.
+pub fn is_among(ends: Ends, end: End) -> bool
     ensures { result ≡ is_among ends end }
 {
     match ends {

@@ -1,9 +1,9 @@
 // Rule 14: frames that come to their receivers.
 ghost use Rattle.std.specs.Prelude.{◌≡◌};
-ghost use Rattle.whole_audit.specs.Passing.{may_refuse_pass, passes, is_of_offset, is_bad_place, may_refuse_flip, flips, may_refuse_forge, forges, hears_pass, hears_flip, hears_forge, hears_settle, hears};
+ghost use Rattle.whole_audit.specs.Passing.{may_refuse_pass, is_of_kind, passes, is_of_offset, is_bad_place, may_refuse_flip, flips, may_refuse_forge, forges, hears_pass, hears_flip, hears_forge, hears_settle, hears};
 
-use qkd_base::Lane;
-use run_types::{Command, FrameResult, Item, Refusal};
+use qkd_base::{KeyName, Lane, NameKind};
+use run_types::{Command, FrameResult, Item, PayloadKind, Refusal};
 
 // Whether an unchanged frame of this number may be refused so.
 fn may_refuse_pass(number: u32, refusal: Refusal) -> bool
@@ -20,13 +20,28 @@ fn may_refuse_pass(number: u32, refusal: Refusal) -> bool
     }
 }
 
+// Whether a payload of this kind is told under such a name.
+fn is_of_kind(kind: PayloadKind, name: &KeyName) -> bool
+    ensures { result ≡ is_of_kind kind name.now }
+{
+    match kind {
+        PayloadKind::Key | PayloadKind::Chunk | PayloadKind::Part => {
+            matches!(name.kind(), NameKind::Key)
+        }
+        PayloadKind::Open => matches!(name.kind(), NameKind::Stream),
+        PayloadKind::Stored | PayloadKind::Joined => matches!(name.kind(), NameKind::Note),
+        PayloadKind::Ack => true,
+    }
+}
+
 // Whether this may become of an unchanged frame of this number.
 fn passes(number: u32, outcome: &FrameResult) -> bool
     ensures { result ≡ passes number outcome.now }
 {
     match outcome {
         FrameResult::Refused(refusal) => may_refuse_pass(number, *refusal),
-        _ => true,
+        FrameResult::Taken { kind, name } => is_of_kind(*kind, name),
+        FrameResult::Again { kind, name } => is_of_kind(*kind, name),
     }
 }
 

@@ -2,19 +2,25 @@
 ghost use Rattle.std.specs.Prelude.{◌≡◌, List, [], ◌∷◌, IfOk, OnOk};
 ghost use Rattle.run_types.specs.declared.item.NumberedItem.{NumberedItem as Told};
 ghost use Rattle.whole_audit.specs.Order.{rule_7};
+ghost use Rattle.whole_audit.specs.Rests.{owes_behind};
 ghost use Rattle.whole_audit.specs.Claims.{is_up, link_set, may_use, rule_10};
 ghost use Rattle.whole_audit.specs.Sums.{rule_11};
 ghost use Rattle.whole_audit.specs.Shorts.{rule_17};
+ghost use Rattle.whole_audit.specs.Tracks.{in_block, has_no_gap};
 ghost use Rattle.whole_audit.specs.Whole.{findings};
-ghost use Rattle.whole_audit.specs.Kept.{number_entry, AreSpots, AreCounted, AreDown, AreTablesOf};
+ghost use Rattle.whole_audit.specs.Kept.{number_entry, AreSpots, AreCounted, AreDown, AreStarted, AreTracks, AreTablesOf};
 
 use crate::asked::asked_at;
 use crate::blocks::Counts;
 use crate::findings::Findings;
+use crate::given::given_if;
 use crate::lines::Spots;
-use crate::managers::{burns, is_so, learn_manager, learn_start, said_in};
-use crate::names::{Names, given_if};
+use crate::managers::{burns, is_so, learn_manager, learn_start, was_started_at};
+use crate::names::Names;
 use crate::order::number_entry;
+use crate::rests::{Rests, behind, gives_if, owes_if};
+use crate::said::said_in;
+use crate::tracks::{Tracks, frame_lane};
 use ordered_set::{Entries, Entry as Numbers};
 use qkd_base::{Lane, LinkNo, Memory};
 use run_types::{Item, NumberedItem, Scenario};
@@ -32,6 +38,8 @@ pub struct Tables {
     // The nodes whose managers were started.
     started: Entries,
     names: Names,
+    rests: Rests,
+    tracks: Tracks,
 }
 
 // The entry of a link in a set.
@@ -84,6 +92,8 @@ impl Tables {
             down_nodes: Entries::new(alloc),
             started: Entries::new(alloc),
             names: Names::new(alloc),
+            rests: Rests::new(alloc),
+            tracks: Tracks::new(alloc),
         })
     }
 
@@ -108,6 +118,15 @@ impl Tables {
             Item::Unsent { lane, offset, .. } => self.may_use(lane, u128::from(*offset) + 25),
             _ => true,
         }
+    }
+
+    // Whether a frame leaves no gap behind those before it.
+    fn has_no_gap(&self, scenario: &Scenario, item: &Item, inside: bool) -> bool
+        ensures { (told : Told) (before : List Told) → told.item ≡ item.now → inside ≡ in_block scenario.now before told → AreStarted scenario.now self.now.started before → AreTracks self.now.tracks before → result ≡ has_no_gap scenario.now before told }
+    {
+        inside
+            || was_started_at(&self.started, &scenario.site, &frame_lane(item))
+            || self.tracks.reaches(item)
     }
 
     // Whether a ledger's received bytes are what blocks brought.
@@ -141,20 +160,38 @@ impl Tables {
         }
     }
 
-    /// Which rules an item keeps. `stands` says whether it keeps rule 7.
-    pub fn findings(&self, scenario: &Scenario, told: &NumberedItem, stands: bool) -> Findings
-        ensures { (before : List Told) → AreTablesOf scenario.now self.now before → stands ≡ rule_7 scenario.now before told.now → result ≡ findings scenario.now before told.now }
+    /// Whether the line of an item has to give more behind it.
+    pub fn owes(&self, scenario: &Scenario, told: &NumberedItem) -> bool
+        ensures { (before : List Told) → AreTablesOf scenario.now self.now before → result ≡ owes_behind scenario.now before told.now }
+    {
+        let command = self.spots.command(scenario, told.number);
+        let rest = self.rests.at(told.number, &command);
+        owes_if(&command, &behind(&told.item, &rest))
+    }
+
+    /// Which rules an item keeps. `stands` says whether it stands in order, and `inside` whether that is in a block.
+    pub fn findings(
+        &self,
+        scenario: &Scenario,
+        told: &NumberedItem,
+        stands: bool,
+        inside: bool,
+    ) -> Findings
+        ensures { (before : List Told) → AreTablesOf scenario.now self.now before → stands ≡ rule_7 scenario.now before told.now → inside ≡ in_block scenario.now before told.now → result ≡ findings scenario.now before told.now }
     {
         let item = &told.item;
         let command = self.spots.command(scenario, told.number);
         Findings {
             order: stands,
+            gives: gives_if(&command, item, &self.rests.at(told.number, &command)),
             managers: is_so(
                 &self.down_nodes,
                 &said_in(scenario, &command, told.number, item),
             ),
             blocks: self.counts.fits(item),
             claims: self.claims(item),
+            gaps: self.has_no_gap(scenario, item, inside),
+            comes: self.tracks.comes(item),
             sums: self.sums(item),
             burns: burns(&self.started, &scenario.site, item),
             names: self.names.follow(&given_if(&scenario.site, &command, item)),
@@ -178,6 +215,8 @@ impl Tables {
         learn_link(&mut self.down, item)?;
         learn_manager(&mut self.down_nodes, &said)?;
         learn_start(&mut self.started, &said)?;
+        self.rests.learn(&command, told)?;
+        self.tracks.learn(item)?;
         self.names.learn(&given)
     }
 }

@@ -14,5 +14,5 @@ returns-else-declares_node c told before same walk =
     let w : Walk = c.args.self.now in
     let d : declares_node s told.number ≡ false = ap (declares_node s) same ∙ sym c.declares_node.ensures ∙ c.if-declares_node.false in
     subst (λ (o : Option (List Entry)). MatchOption c.taker.result (o ≡ None) (λ place. o ≡ Some (drop place s.entries))) (sym (line_stands s w told before walk d))
-    (subst (λ (n : ℕ). MatchOption c.taker.result (left_behind (has_number w.came) n (drop w.place s.entries) ≡ None) (λ place. left_behind (has_number w.came) n (drop w.place s.entries) ≡ Some (drop place s.entries))) (sym same)
-    (subst (λ (es : List Entry). MatchOption c.taker.result (left_behind (has_number w.came) c.args.number (drop w.place es) ≡ None) (λ place. left_behind (has_number w.came) c.args.number (drop w.place es) ≡ Some (drop place es))) c.as_slice.ensures c.taker.ensures))
+    (subst (λ (n : ℕ). MatchOption c.taker.result (left_behind (has_number w.came) (has_number w.owing) n (drop w.place s.entries) ≡ None) (λ place. left_behind (has_number w.came) (has_number w.owing) n (drop w.place s.entries) ≡ Some (drop place s.entries))) (sym same)
+    (subst (λ (es : List Entry). MatchOption c.taker.result (left_behind (has_number w.came) (has_number w.owing) c.args.number (drop w.place es) ≡ None) (λ place. left_behind (has_number w.came) (has_number w.owing) c.args.number (drop w.place es) ≡ Some (drop place es))) c.as_slice.ensures c.taker.ensures))

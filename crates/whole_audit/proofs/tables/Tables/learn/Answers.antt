@@ -12,7 +12,7 @@ returns c before kept =
     c.said_in-said.ensures ∙ ap (λ (o : Option Command). said_of_node (position_from (λ n. eqb n c.args.told.now.number) 0 c.args.scenario.now.node_lines) (said_at c.args.scenario.now.site o c.args.told.now.item)) (c.command-command.ensures kept.spots) in
     let given_so : c.given_if-given.result ≡ given c.args.scenario.now c.args.told.now =
     c.given_if-given.ensures ∙ ap (λ (o : Option Command). given_if c.args.scenario.now.site o c.args.told.now.item) (c.command-command.ensures kept.spots) in
-    on_ok_map c.learn-2.result
+    on_ok_map c.learn-4.result
     (λ names. record {
       spots = kept.spots;
       counts = c.in_ok-learn.ensures {u = tt} c.args.told.now before refl kept.counts;
@@ -20,5 +20,7 @@ returns c before kept =
       managers = c.in_ok-learn_manager.ensures {u = tt} c.args.scenario.now c.args.told.now before said_so kept.managers;
       started = c.in_ok-learn_start.ensures {u = tt} c.args.scenario.now c.args.told.now before said_so kept.started;
       names = names;
+      rests = c.in_ok-learn-2.ensures {u = tt} c.args.scenario.now before (c.command-command.ensures kept.spots) kept.rests;
+      tracks = c.in_ok-learn-3.ensures {u = tt} c.args.told.now before refl kept.tracks;
     })
-    (c.learn-2.ensures c.args.scenario.now c.args.told.now before given_so kept.names)
+    (c.learn-4.ensures c.args.scenario.now c.args.told.now before given_so kept.names)

@@ -10,4 +10,6 @@ returns c = record {
   managers = λ node. ap (λ (es : List (List ℕ)). has_number es node) c.new-4.ensures;
   started = λ node. ap (λ (es : List (List ℕ)). has_number es node) c.new-5.ensures;
   names = c.new-6.ensures c.args.scenario.now;
+  rests = c.new-7.ensures c.args.scenario.now;
+  tracks = c.new-8.ensures;
 }
