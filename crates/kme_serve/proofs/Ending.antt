@@ -11,13 +11,12 @@ use Rattle.http_front.specs.Front.{IsRefused}
 use Rattle.http_front.specs.Reading.{IsAnswer, IsEnd, FaultsFor}
 use Rattle.http_front.specs.Response.{response_text}
 use Rattle.http_front.specs.declared.request.HttpRequest.{HttpRequest}
-use Rattle.http_front.specs.declared.response.HttpResponse.{HttpResponse}
 use Rattle.http_front.specs.declared.refusal.FrontRefusal.{FrontRefusal}
 use Rattle.http_front.specs.declared.refusal.FrontRefusal.TheVariants as refusals
 use Rattle.qkd014_api.specs.Texts.{error_response}
 use Rattle.qkd014_api.specs.Fronts.{front_message}
 use Rattle.kme_serve.specs.declared.turn.Turn.{Turn}
-use Rattle.kme_serve.specs.Exchange.{Exchange, event_of, IsTurnOf, answer_to, refusal_answer, text_with, text_of, closes}
+use Rattle.kme_serve.specs.Exchange.{Exchange, event_of, IsTurnOf, IsLost, answer_to, refusal_answer, text_with, text_of, closes}
 use Rattle.kme_serve.specs.Turns.{Takes}
 use Rattle.kme_serve.specs.Connection.{Moment, RoseOnly, is_read_fault, is_write_fault, EndsBy, IsServed}
 use Rattle.kme_serve.specs.Owed.{Owes, IsUnpaid, IsGivenUp}
@@ -216,7 +215,7 @@ module _ (nodes : List (List ℕ)) (g : Grants) (node : ℕ) {P : Type 0} (Answe
         (subst (AppendsPrefix edge.taken taken) (append-nil owed) (owes_unpaid edge.taken mid.taken taken owed [] owed_mid came.owes unpaid))
 
     -- Memory ran out.
-    ends_wanting : (ended : Ended) (turn : Option Turn) → (turn ≡ None) ⊎ (IsTurnOf (event_of g node (Ok q)) turn × IsSome turn) → Takes Answers seen pass turn pass_after
+    ends_wanting : (ended : Ended) (turn : Option Turn) → (turn ≡ None) ⊎ (IsTurnOf (event_of g node (Ok q)) turn × IsLost turn) → Takes Answers seen pass turn pass_after
         → IsGivenUp mid.taken taken mid.write_faults faults owed_mid ended → IsServed nodes g node Answers seen count kept owed before after ended
     ends_wanting endings.Memory turn (inl none) takes up =
         ends_unanswered count kept owed before after came.octets endings.Memory few came.consumed (subst (λ (t : Option Turn). Takes Answers seen pass t pass_after) none takes)
@@ -237,24 +236,19 @@ module _ (nodes : List (List ℕ)) (g : Grants) (node : ℕ) {P : Type 0} (Answe
         → IsGivenUp mid.taken taken mid.write_faults faults owed_mid ended → IsServed nodes g node Answers seen count kept owed before after ended
     memory_ends close m ended answered up = ends_wanting ended answered.turn answered.response answered.takes up
 
-    -- Either no turn was asked for, or the turn is there.
-    some_or_none : (turn : Option Turn) → IsTurnOf (event_of g node (Ok q)) turn → (turn ≡ None) ⊎ (IsTurnOf (event_of g node (Ok q)) turn × IsSome turn)
-    some_or_none None event = inl refl
-    some_or_none (Some turn) event = inr (event, refl)
-
-    module _ {E : Type 0} (response : HttpResponse) (close : Bool) (answered : IsAnswered nodes g node Answers seen {E = E} q close pass pass_after (Ok response))
+    module _ {E : Type 0} (text : List ℕ) (close : Bool) (answered : IsAnswered nodes g node Answers seen {E = E} q close pass pass_after (Ok text))
         (same : close ≡ closes count (Ok q)) where
       abbrev its : Exchange
       its = record { read = Ok q; turn = answered.turn }
 
-      is : IsResponseTo nodes g node {E = E} q close answered.turn (Ok response)
+      is : IsResponseTo nodes g node {E = E} q close answered.turn (Ok text)
       is = answered.response
 
       has_answer : IsSome (answer_to nodes g node its)
       has_answer = subst IsSome (sym is.1.1) refl
 
-      its_own_text : response_text response ≡ text_of nodes g node close its
-      its_own_text = ap response_text is.1.2 ∙ ap (text_with close) (sym is.1.1)
+      its_own_text : text ≡ text_of nodes g node close its
+      its_own_text = is.1.2 ∙ ap (text_with close) (sym is.1.1)
 
       -- The sink failed.
       write_ends : AppendsPrefix edge.taken taken (owed ++ text_of nodes g node (closes count (Ok q)) its) → RoseOnly true mid.write_faults faults
@@ -263,29 +257,26 @@ module _ (nodes : List (List ℕ)) (g : Grants) (node : ℕ) {P : Type 0} (Answe
           ends_asked endings.WriteFault answered.turn (text_of nodes g node (closes count (Ok q)) its) is.0 answered.takes first (inl has_answer, tt, refl) came.read_faults (risen rose)
 
       -- The response was not added to the owed octets.
-      pub fault_ends : (ended : Ended) → IsGivenUp mid.taken taken mid.write_faults faults owed_mid ended → IsServed nodes g node Answers seen count kept owed before after ended
-      fault_ends endings.WriteFault up = write_ends (first_part _ up.0) up.1
-      fault_ends endings.Memory up = ends_wanting endings.Memory answered.turn (some_or_none answered.turn is.0) answered.takes up
-      fault_ends endings.Closed up = absurd up
-      fault_ends endings.ReadFault up = absurd up
+      pub fault_ends : IsUnpaid mid.taken taken mid.write_faults faults owed_mid → IsServed nodes g node Answers seen count kept owed before after endings.WriteFault
+      fault_ends unpaid = write_ends (first_part _ unpaid.0) unpaid.1
 
       -- The response was added to the owed octets, which are then written or not.
-      module _ (owed_now : List ℕ) (now : Option (List ℕ)) (owes : Owes mid.taken now owed_mid (response_text response) owed_now) where
-        owes_all : Owes edge.taken now owed (response_text response) owed_now
-        owes_all = owes_more edge.taken mid.taken now owed [] owed_mid came.owes (response_text response) owed_now owes
+      module _ (owed_now : List ℕ) (now : Option (List ℕ)) (owes : Owes mid.taken now owed_mid text owed_now) where
+        owes_all : Owes edge.taken now owed text owed_now
+        owes_all = owes_more edge.taken mid.taken now owed [] owed_mid came.owes text owed_now owes
 
         pub response_closes : close ≡ true → Appends now taken owed_now → faults ≡ mid.write_faults → IsServed nodes g node Answers seen count kept owed before after endings.Closed
         response_closes closing paid calm =
-            ends_asked endings.Closed answered.turn (response_text response) is.0 answered.takes (owes_paid edge.taken now taken owed (response_text response) owed_now owes_all paid)
+            ends_asked endings.Closed answered.turn text is.0 answered.takes (owes_paid edge.taken now taken owed text owed_now owes_all paid)
             (sym same ∙ closing, has_answer, tt, its_own_text ∙ ap (λ (c : Bool). text_of nodes g node c its) closing) came.read_faults (calm ∙ came.write_faults)
 
         pub response_fails : IsUnpaid now taken mid.write_faults faults owed_now → IsServed nodes g node Answers seen count kept owed before after endings.WriteFault
         response_fails unpaid =
             write_ends
-            (subst (λ (text : List ℕ). AppendsPrefix edge.taken taken (owed ++ text)) (its_own_text ∙ ap (λ (c : Bool). text_of nodes g node c its) same)
-            (owes_unpaid edge.taken now taken owed (response_text response) owed_now owes_all unpaid.0)) unpaid.1
+            (subst (λ (t : List ℕ). AppendsPrefix edge.taken taken (owed ++ t)) (its_own_text ∙ ap (λ (c : Bool). text_of nodes g node c its) same)
+            (owes_unpaid edge.taken now taken owed text owed_now owes_all unpaid.0)) unpaid.1
 
-      pub response_stays : (owed_now : List ℕ) → Owes mid.taken taken owed_mid (response_text response) owed_now → close ≡ false → faults ≡ mid.write_faults
+      pub response_stays : (owed_now : List ℕ) → Owes mid.taken taken owed_mid text owed_now → close ≡ false → faults ≡ mid.write_faults
           → StaysOpen nodes g node Answers seen count kept kept_after owed owed_now before after
       response_stays owed_now owes staying calm = record {
         octets = came.octets;
@@ -296,7 +287,7 @@ module _ (nodes : List (List ℕ)) (g : Grants) (node : ℕ) {P : Type 0} (Answe
         answered = has_answer;
         event = is.0;
         takes = answered.takes;
-        owes = subst (λ (text : List ℕ). Owes edge.taken taken owed text owed_now) (its_own_text ∙ ap (λ (c : Bool). text_of nodes g node c its) staying)
+        owes = subst (λ (t : List ℕ). Owes edge.taken taken owed t owed_now) (its_own_text ∙ ap (λ (c : Bool). text_of nodes g node c its) staying)
             (owes_all owed_now taken owes);
         read_faults = came.read_faults;
         write_faults = calm ∙ came.write_faults;

@@ -12,7 +12,7 @@ use Rattle.http_front.specs.Front.{IsRefused}
 use Rattle.http_front.specs.Reading.{IsMeant, IsEnd}
 use Rattle.http_front.specs.declared.refusal.FrontRefusal.TheVariants.{NoRequest}
 use Rattle.kme_serve.specs.declared.turn.Turn.{Turn}
-use Rattle.kme_serve.specs.Exchange.{Front, Exchange, event_of, IsTurnOf, answer_to, text_of, asks_close, closes}
+use Rattle.kme_serve.specs.Exchange.{Front, Exchange, event_of, IsTurnOf, IsLost, answer_to, text_of, asks_close, closes}
 use Rattle.kme_serve.specs.Turns.{TakesAll}
 
 -- ---- what octets mean
@@ -69,8 +69,8 @@ module _ (nodes : List (List ℕ)) (g : Grants) (node : ℕ) where
   -- response has this text.
   -- Closed: no more octets came, or the last response closes the connection.
   -- ReadFault: no more octets could be read.
-  -- WriteFault: the responses could not be written completely. If memory also ran out, the last one may not have been encoded.
-  -- Memory: memory ran out before the manager was asked, or after its last turn.
+  -- WriteFault: the responses could not be written completely. If memory also ran out, the last one may not have been made.
+  -- Memory: memory ran out before the manager was asked, or after a turn that hands out no keys.
   abbrev pub EndsBy : Ended → (before : ℕ) → Option Exchange → (rest : List ℕ) → (left : Option (List ℕ)) → (text : List ℕ) → Type 0
   EndsBy endings.Closed before None rest left text = IsRefused rest NoRequest × IsEnd NoRequest left × (text ≡ [])
   EndsBy endings.Closed before (Some x) rest left text =
@@ -79,9 +79,9 @@ module _ (nodes : List (List ℕ)) (g : Grants) (node : ℕ) where
   EndsBy endings.ReadFault before (Some x) rest left text = ⊥
   EndsBy endings.WriteFault before None rest left text = (0 < before) × (text ≡ [])
   EndsBy endings.WriteFault before (Some x) rest left text =
-      (IsSome (answer_to nodes g node x) ⊎ IsSome x.turn) × IsFinal x.read left × (text ≡ text_of nodes g node (closes before x.read) x)
+      (IsSome (answer_to nodes g node x) ⊎ IsLost x.turn) × IsFinal x.read left × (text ≡ text_of nodes g node (closes before x.read) x)
   EndsBy endings.Memory before None rest left text = text ≡ []
-  EndsBy endings.Memory before (Some x) rest left text = IsSome x.turn × (text ≡ [])
+  EndsBy endings.Memory before (Some x) rest left text = IsLost x.turn × (text ≡ [])
 
   -- From one moment to the other a connection is served to its end. At the first moment `count` responses had been made, the
   -- octets `kept` were kept, and the octets `owed` were owed.

@@ -12,6 +12,7 @@ use Rattle.qkd014_api.specs.Texts.{message_body}
 use Rattle.qkd014_api.specs.Calls.{asked, fault_status, fault_message}
 use Rattle.qkd014_api.specs.Fronts.{front_message}
 use Rattle.qkd014_api.specs.Answers.{Answer, answer_of}
+use Rattle.qkd014_api.specs.Ready.{MayBeLost}
 use Rattle.qkd014_api.specs.declared.fault.CallFault.{CallFault}
 use Rattle.kme_serve.specs.declared.turn.Turn.{Turn}
 
@@ -67,6 +68,12 @@ text_with close (Some answer) = response_text (response_with close answer)
 -- the text of the response, which says whether the connection closes after it
 abbrev pub text_of : List (List ℕ) → Grants → (node : ℕ) → (close : Bool) → Exchange → List ℕ
 text_of nodes g node close x = text_with close (answer_to nodes g node x)
+
+-- The manager was asked, and the response to its reply may be wanting memory: it hands out no keys, or more than were asked for, or
+-- longer ones than can be. Other keys have their response, whose memory is taken before the manager is asked.
+abbrev pub IsLost : Option Turn → Type 0
+IsLost None = ⊥
+IsLost (Some t) = MayBeLost t.event t.reply
 
 -- ---- what closes the connection
 

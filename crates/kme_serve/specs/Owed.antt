@@ -29,8 +29,3 @@ abbrev pub IsGivenUp : (before after : Option (List ℕ)) → (faults_before fau
 IsGivenUp before after faults_before faults_after owed endings.Memory = Appends before after owed × (faults_after ≡ faults_before)
 IsGivenUp before after faults_before faults_after owed endings.WriteFault = IsUnpaid before after faults_before faults_after owed
 IsGivenUp before after faults_before faults_after owed ended = ⊥
-
--- The octets of an answer were added to the owed ones, or the connection ends.
-abbrev pub IsResponded : {T : Type 0} → (before after : Option (List ℕ)) → (faults_before faults_after : ℕ) → (owed owed_after more : List ℕ) → Result T Ended → Type 0
-IsResponded before after faults_before faults_after owed owed_after more (Ok done) = Owes before after owed more owed_after × (faults_after ≡ faults_before)
-IsResponded before after faults_before faults_after owed owed_after more (Err ended) = IsGivenUp before after faults_before faults_after owed ended

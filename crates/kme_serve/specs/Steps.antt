@@ -1,5 +1,5 @@
 -- What the parts of one exchange do.
-use Rattle.std.specs.Prelude.{◌≡◌, ◌⊎◌, ℕ, Bool, true, false, List, [], ◌++◌, Option, Some, None, Result, Ok, Err, IsSome}
+use Rattle.std.specs.Prelude.{◌≡◌, ◌⊎◌, ℕ, Bool, true, false, List, [], ◌++◌, Option, Some, None, Result, Ok, Err, IsSome, IsTrue}
 use Rattle.std.specs.Io.KnownBytes.{Consumes, Appends}
 use Rattle.edge_io.specs.Writes.{AppendsPrefix}
 use Rattle.edge_io.specs.declared.ended.Ended.{Ended}
@@ -7,18 +7,17 @@ use Rattle.edge_io.specs.declared.ended.Ended.TheVariants as endings
 use Rattle.sae_entitlements.specs.Grants.{Grants}
 use Rattle.http_front.specs.Front.{IsRequest}
 use Rattle.http_front.specs.Reading.{IsMeant, IsAnswer, FaultsFor}
-use Rattle.http_front.specs.Response.{response_text}
+use Rattle.http_front.specs.Response.{has_reason, response_text}
 use Rattle.http_front.specs.declared.refusal.FrontRefusal.{FrontRefusal}
 use Rattle.http_front.specs.declared.refusal.FrontRefusal.TheVariants as refusals
 use Rattle.qkd014_api.specs.Texts.{error_response}
 use Rattle.qkd014_api.specs.Fronts.{front_message}
 use Rattle.http_front.specs.declared.request.HttpRequest.{HttpRequest}
-use Rattle.http_front.specs.declared.response.HttpResponse.{HttpResponse}
 use Rattle.qkd014_api.specs.Answers.{Answer}
 use Rattle.qkd014_api.specs.declared.fault.CallRefusal.{CallRefusal}
 use Rattle.qkd014_api.specs.declared.fault.CallRefusal.TheVariants as calls
 use Rattle.kme_serve.specs.declared.turn.Turn.{Turn}
-use Rattle.kme_serve.specs.Exchange.{Exchange, event_of, IsTurnOf, answer_at, answer_to, text_of, response_with, closes}
+use Rattle.kme_serve.specs.Exchange.{Exchange, event_of, IsTurnOf, IsLost, answer_at, answer_to, text_of, response_with, closes}
 use Rattle.kme_serve.specs.Turns.{Takes}
 use Rattle.kme_serve.specs.Connection.{Moment, RoseOnly, IsServed}
 use Rattle.kme_serve.specs.Owed.{Owes, IsUnpaid}
@@ -30,13 +29,22 @@ IsWritten before after faults_before faults_after text (Err endings.WriteFault) 
 IsWritten before after faults_before faults_after text (Err endings.Memory) = (after ≡ before) × (faults_after ≡ faults_before)
 IsWritten before after faults_before faults_after text (Err ended) = ⊥
 
--- A fault is answered at once, and the response says whether the connection closes after it. If memory ran out, there is no
--- response.
-abbrev pub IsAtOnce : {E : Type 0} → CallRefusal → (close : Bool) → Result HttpResponse E → Type 0
-IsAtOnce (calls.Answer response) close (Ok result) = result ≡ record response { close = close }
-IsAtOnce (calls.Answer response) close (Err e) = ⊥
-IsAtOnce calls.Memory close (Ok result) = ⊥
+-- The response to a fault has a status that this server sends.
+abbrev pub HasReason : CallRefusal → Type 0
+HasReason (calls.Answer response) = IsTrue (has_reason response.status)
+HasReason calls.Memory = Unit {0}
+
+-- A fault is answered at once, and the text of the response says whether the connection closes after it.
+abbrev pub IsAtOnce : {E : Type 0} → CallRefusal → (close : Bool) → Result (List ℕ) E → Type 0
+IsAtOnce (calls.Answer response) close (Ok text) = text ≡ response_text (record response { close = close })
+IsAtOnce (calls.Answer response) close (Err e) = Unit {0}
+IsAtOnce calls.Memory close (Ok text) = ⊥
 IsAtOnce calls.Memory close (Err e) = Unit {0}
+
+-- the text of the response with an answer
+abbrev pub IsTextOf : Option Answer → (close : Bool) → List ℕ → Type 0
+IsTextOf None close text = ⊥
+IsTextOf (Some answer) close text = text ≡ response_text (response_with close answer)
 
 -- Nothing is written for this cause.
 abbrev pub IsUnanswered : FrontRefusal → (cause : FrontRefusal) → Option (List ℕ) → Option (List ℕ) → Type 0
@@ -98,15 +106,15 @@ module _ (kept kept_after owed owed_after : List ℕ) (before after : Edge) wher
   IsNext (Err ended) = IsUnread ended ⊎ IsNoRequest ended
 
 module _ (nodes : List (List ℕ)) (g : Grants) (node : ℕ) where
-  -- The response to a request, after a turn if the request asks for one. Otherwise memory ran out, before the manager was asked
-  -- or after its turn.
-  abbrev pub IsResponseTo : {E : Type 0} → HttpRequest → (close : Bool) → Option Turn → Result HttpResponse E → Type 0
-  IsResponseTo request close turn (Ok response) =
-      IsTurnOf (event_of g node (Ok request)) turn × ((answer : Answer) × (answer_at nodes g node (Ok request) turn ≡ Some answer) × (response ≡ response_with close answer))
-  IsResponseTo request close turn (Err memory) = (turn ≡ None) ⊎ (IsTurnOf (event_of g node (Ok request)) turn × IsSome turn)
+  -- The text of the response to a request, after a turn if the request asks for one. Otherwise memory ran out, before the manager
+  -- was asked or after a turn that hands out no keys.
+  abbrev pub IsResponseTo : {E : Type 0} → HttpRequest → (close : Bool) → Option Turn → Result (List ℕ) E → Type 0
+  IsResponseTo request close turn (Ok text) =
+      IsTurnOf (event_of g node (Ok request)) turn × ((answer : Answer) × (answer_at nodes g node (Ok request) turn ≡ Some answer) × (text ≡ response_text (response_with close answer)))
+  IsResponseTo request close turn (Err memory) = (turn ≡ None) ⊎ (IsTurnOf (event_of g node (Ok request)) turn × IsLost turn)
 
   module _ {P : Type 0} (Answers : P → Turn → P → Type 0) (seen : P → ℕ) where
-    pub record IsAnswered {E : Type 0} (request : HttpRequest) (close : Bool) (before after : P) (result : Result HttpResponse E) : Type 0 where
+    pub record IsAnswered {E : Type 0} (request : HttpRequest) (close : Bool) (before after : P) (result : Result (List ℕ) E) : Type 0 where
       pub turn : Option Turn
       pub takes : Takes Answers seen before turn after
       pub response : IsResponseTo request close turn result

@@ -17,7 +17,8 @@ use std::sync::Wait;
 /// Requests are read from the source and answered one after another. Answers to requests that arrived together are written
 /// together. All answers are written before more is read, and before the connection closes. The connection closes at the end of
 /// the input, after octets that are no request, after a request that closes it, and after the 1,000th response. After a fault
-/// nothing more is read or written. If memory runs out, only the answers made before are written.
+/// nothing more is read or written. If memory runs out, only the answers made before are written. Memory for keys is taken
+/// before the manager is asked for them.
 pub fn serve_connection<R: Wait, M: Managers, S: Source, W: Sink>(
     rt: &R,
     alloc: Global,

@@ -7,9 +7,8 @@ ghost use Rattle.kme_serve.specs.Steps.{Goes};
 
 use crate::Managers;
 use crate::next::next;
-use crate::owed::{give_up, pay};
+use crate::owed::{give_up, owe, pay};
 use crate::request_answer::answer;
-use crate::response_writer::respond;
 use edge_io::{Ended, Failed, Sink, Source};
 use qkd_base::{Memory, NodeNo, Octets};
 use qkd014_api::Api;
@@ -51,13 +50,13 @@ pub(crate) fn exchange<R: Wait, M: Managers, S: Source, W: Sink>(
         Err(ended) => return Err(ended),
     };
     let close = request.close || count + 1 == RESPONSE_LIMIT;
-    let response = match answer(rt, alloc, managers, api, pass, node, &request, close) {
-        Ok(response) => response,
+    let text = match answer(rt, alloc, managers, api, pass, node, &request, close) {
+        Ok(text) => text,
         Err(Memory) => return Err(give_up(alloc, sink, owed)),
     };
-    match respond(alloc, &response, sink, owed) {
+    match owe(alloc, sink, owed, text) {
         Ok(()) => {}
-        Err(ended) => return Err(ended),
+        Err(Failed) => return Err(Ended::WriteFault),
     }
     if !close {
         return Ok(());

@@ -1,13 +1,11 @@
 // Writing responses.
 ghost use Rattle.std.specs.Prelude.{IsTrue};
 ghost use Rattle.http_front.specs.Response.{has_reason, response_text};
-ghost use Rattle.kme_serve.specs.Owed.{IsResponded};
 ghost use Rattle.kme_serve.specs.Steps.{IsWritten};
 
-use crate::owed::{give_up, owe};
 use edge_io::{Ended, Failed, Sink};
 use http_front::{HttpResponse, response_bytes};
-use qkd_base::{Memory, Octets};
+use qkd_base::Memory;
 use std::alloc::Global;
 
 /// Writes a response. An `Err` tells how the connection ends: the sink failed, or memory ran out.
@@ -24,27 +22,6 @@ pub(crate) fn write<W: Sink>(
         Err(Memory) => return Err(Ended::Memory),
     };
     match sink.write_all(octets.as_slice()) {
-        Ok(()) => Ok(()),
-        Err(Failed) => Err(Ended::WriteFault),
-    }
-}
-
-/// Encodes a response and adds its octets to the owed ones. An `Err` tells how the connection ends: the sink failed, or memory
-/// ran out.
-pub(crate) fn respond<W: Sink>(
-    alloc: Global,
-    response: &HttpResponse,
-    sink: &mut W,
-    owed: &mut Octets,
-) -> Result<(), Ended>
-    requires { IsTrue (has_reason response.now.status) }
-    ensures { IsResponded (W.taken sink.old) (W.taken sink.new) (W.faults sink.old) (W.faults sink.new) owed.old owed.new (response_text response.now) result }
-{
-    let octets = match response_bytes(alloc, response) {
-        Ok(octets) => octets,
-        Err(Memory) => return Err(give_up(alloc, sink, owed)),
-    };
-    match owe(alloc, sink, owed, octets) {
         Ok(()) => Ok(()),
         Err(Failed) => Err(Ended::WriteFault),
     }

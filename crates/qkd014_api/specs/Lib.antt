@@ -7,3 +7,4 @@ pub mod Numbers
 pub mod Queries
 pub mod Resources
 pub mod Texts
+pub mod Ready

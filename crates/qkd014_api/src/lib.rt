@@ -11,9 +11,11 @@ mod enc_keys;
 mod fault;
 mod message;
 mod query;
+mod ready;
 mod resource;
 mod status;
 
 pub use api::Api;
 pub use fault::CallRefusal;
 pub use message::front_response;
+pub use ready::Ready;

@@ -22,35 +22,35 @@ pub returns-in-Err-answer-clause-goes : goal.returns-in-Err-answer-clause-goes
 returns-in-Err-answer-clause-goes g c =
     memory_ends _ _ _ _ _ _ _ _ _ _ _ _ _ _ _ _ c.in-Ok.request c.requires.few c.requires.owed c.in-Ok.ensures _ _ _ c.in-Err-answer.ensures.answered c.give_up.ensures
 
-pub returns-in-Err-respond-clause-goes : goal.returns-in-Err-respond-clause-goes
-returns-in-Err-respond-clause-goes g c =
-    fault_ends _ _ _ _ _ _ _ _ _ _ _ _ _ _ _ _ c.in-Ok.request c.requires.few c.requires.owed c.in-Ok.ensures c.in-Ok-answer.response _ c.in-Ok-answer.ensures.answered
+pub returns-in-Err-owe-clause-goes : goal.returns-in-Err-owe-clause-goes
+returns-in-Err-owe-clause-goes g c =
+    fault_ends _ _ _ _ _ _ _ _ _ _ _ _ _ _ _ _ c.in-Ok.request c.requires.few c.requires.owed c.in-Ok.ensures c.in-Ok-answer.text _ c.in-Ok-answer.ensures.answered
     (elim c.if-request.branch [
       | then-request w ↦ either_left _ _ _ w.if-request.true w.close-is
       | else-request w ↦ either_right _ _ _ w.if-request.false w.close-is
-    ]) _ c.in-Err-respond.ensures
+    ]) c.in-Err-owe.ensures
 
 pub returns-then-not-close-clause-goes : goal.returns-then-not-close-clause-goes
 returns-then-not-close-clause-goes g c =
-    response_stays _ _ _ _ _ _ _ _ _ _ _ _ _ _ _ _ c.in-Ok.request c.requires.few c.requires.owed c.in-Ok.ensures c.in-Ok-answer.response _ c.in-Ok-answer.ensures.answered
+    response_stays _ _ _ _ _ _ _ _ _ _ _ _ _ _ _ _ c.in-Ok.request c.requires.few c.requires.owed c.in-Ok.ensures c.in-Ok-answer.text _ c.in-Ok-answer.ensures.answered
     (elim c.if-request.branch [
       | then-request w ↦ either_left _ _ _ w.if-request.true w.close-is
       | else-request w ↦ either_right _ _ _ w.if-request.false w.close-is
-    ]) c.respond.new.owed c.in-Ok-respond.ensures.0 c.if-not-close.true c.in-Ok-respond.ensures.1
+    ]) c.owe.new.owed c.in-Ok-owe.ensures.0 c.if-not-close.true c.in-Ok-owe.ensures.1
 
 pub returns-in-Ok-pay-clause-goes : goal.returns-in-Ok-pay-clause-goes
 returns-in-Ok-pay-clause-goes g c =
-    response_closes _ _ _ _ _ _ _ _ _ _ _ _ _ _ _ _ c.in-Ok.request c.requires.few c.requires.owed c.in-Ok.ensures c.in-Ok-answer.response _ c.in-Ok-answer.ensures.answered
+    response_closes _ _ _ _ _ _ _ _ _ _ _ _ _ _ _ _ c.in-Ok.request c.requires.few c.requires.owed c.in-Ok.ensures c.in-Ok-answer.text _ c.in-Ok-answer.ensures.answered
     (elim c.if-request.branch [
       | then-request w ↦ either_left _ _ _ w.if-request.true w.close-is
       | else-request w ↦ either_right _ _ _ w.if-request.false w.close-is
-    ]) c.respond.new.owed (g.W.Sink.taken c.respond.new.sink) c.in-Ok-respond.ensures.0 c.if-not-close.false c.in-Ok-pay.ensures.0 (c.in-Ok-pay.ensures.2 ∙ c.in-Ok-respond.ensures.1)
+    ]) c.owe.new.owed (g.W.Sink.taken c.owe.new.sink) c.in-Ok-owe.ensures.0 c.if-not-close.false c.in-Ok-pay.ensures.0 (c.in-Ok-pay.ensures.2 ∙ c.in-Ok-owe.ensures.1)
 
 pub returns-clause-goes : goal.returns-clause-goes
 returns-clause-goes g c =
-    response_fails _ _ _ _ _ _ _ _ _ _ _ _ _ _ _ _ c.in-Ok.request c.requires.few c.requires.owed c.in-Ok.ensures c.in-Ok-answer.response _ c.in-Ok-answer.ensures.answered
+    response_fails _ _ _ _ _ _ _ _ _ _ _ _ _ _ _ _ c.in-Ok.request c.requires.few c.requires.owed c.in-Ok.ensures c.in-Ok-answer.text _ c.in-Ok-answer.ensures.answered
     (elim c.if-request.branch [
       | then-request w ↦ either_left _ _ _ w.if-request.true w.close-is
       | else-request w ↦ either_right _ _ _ w.if-request.false w.close-is
-    ]) c.respond.new.owed (g.W.Sink.taken c.respond.new.sink) c.in-Ok-respond.ensures.0
-    (unpaid_since _ _ _ _ _ _ c.in-Ok-respond.ensures.1 c.in-Err-pay.ensures)
+    ]) c.owe.new.owed (g.W.Sink.taken c.owe.new.sink) c.in-Ok-owe.ensures.0
+    (unpaid_since _ _ _ _ _ _ c.in-Ok-owe.ensures.1 c.in-Err-pay.ensures)
