@@ -1,5 +1,5 @@
 use Rattle.std.proofs.Common.{◌≡◌, [], All, length}
-use Rattle.http_tests.proofs.workers.workers.Given as goal
+use Rattle.thread_tests.proofs.workers.workers.Given as goal
 
 abbrev pub invariant-loop-requests : goal.invariant-loop-requests
 invariant-loop-requests l = record {
