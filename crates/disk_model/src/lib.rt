@@ -6,6 +6,7 @@ mod allowance;
 mod arm;
 mod disk;
 mod failed;
+mod held_disk;
 mod history;
 mod kept_disk;
 mod laws;

@@ -1,17 +1,14 @@
 // A disk in memory.
-ghost use Rattle.std.specs.Prelude.{◌≡◌, ◌+◌, ◌^◌, ◌<◌, ◌≤◌, [], List, ℕ, length, take, drop, true, if◌then◌else◌, IsTrue, is_err, IfOk, OnOk, OnErr, None, Some};
+ghost use Rattle.std.specs.Prelude.{◌≡◌, ◌+◌, ◌^◌, ◌<◌, ◌≤◌, [], List, ℕ, length, take, drop, true, is_err, IfOk, OnOk, OnErr, None};
 ghost use Rattle.qkd_base.specs.Faults.{HasCause};
-ghost use Rattle.disk_model.specs.Allowance.{no_room, after_room, after_write, after_sync};
+ghost use Rattle.disk_model.specs.Allowance.{no_room};
 ghost use Rattle.disk_model.specs.Calls.{MayWrite};
-ghost use Rattle.disk_model.specs.History.{IsHistory, HasRoom, GrowsFrom, used_of};
-ghost use Rattle.disk_model.specs.Images.{Torn, Follows, Only, Passes, StandsStill, overlaid};
+ghost use Rattle.disk_model.specs.Images.{Torn, Follows, Only, Passes, overlaid};
 ghost use Rattle.disk_model.specs.Plan.{fails_in, passage};
-ghost use Rattle.disk_model.specs.Record.{after_settle};
 ghost use Rattle.disk_model.specs.MemForm.{content_of, images_of, after_look, after_write_at, synced_in, with_room, with_arm, left_by};
 
-use crate::history::History;
-use crate::passage::{FaultPlan, Passage};
-use crate::{Allowance, Arm, Armings, Disk, DiskFailed};
+use crate::held_disk::HeldDisk;
+use crate::{Arm, Disk, DiskFailed};
 use qkd_base::Memory;
 use std::alloc::Global;
 use std::marker::Model;
@@ -21,21 +18,16 @@ use std::marker::Model;
 /// follow.
 #[derive(Debug, Drop)]
 pub struct MemDisk {
-    history: History,
-    plan: FaultPlan,
-    allowance: Allowance,
-    armings: Armings,
+    // Each event of a manager moves its disk several times, so what the disk holds stays in one place.
+    held: Box<HeldDisk>,
 }
 
 impl Model for MemDisk {
-    ghost use Rattle.disk_model.specs.History.{used_of};
-    ghost use Rattle.disk_model.specs.MemForm.{MemForm, IsMemory};
+    ghost use Rattle.disk_model.specs.MemForm.{MemForm};
 
     ghost Value = { MemForm };
 
-    ghost view = { λ d. record { first = d.history.first.items; used = used_of d.history; synced = d.history.synced; plan = d.plan; allowance = d.allowance; armings = d.armings } };
-
-    ghost invariant = { λ d. IsMemory d.history d.allowance };
+    ghost view = { λ d. d.held.value };
 }
 
 impl MemDisk {
@@ -50,11 +42,9 @@ impl MemDisk {
           armings = record { count = 0; last = None };
         }) }
     {
+        let held = HeldDisk::new(alloc, content, fails)?;
         Ok(MemDisk {
-            history: History::new(alloc, content)?,
-            plan: FaultPlan::new(fails),
-            allowance: Allowance::new(),
-            armings: Armings::new(),
+            held: Box::new(alloc, held)?,
         })
     }
 
@@ -62,26 +52,8 @@ impl MemDisk {
     pub fn content(&self) -> &[u8]
         ensures { result.now ≡ content_of self.now }
     {
-        self.history.content.as_slice()
+        self.held.content()
     }
-}
-
-// Records a sync. It is a used call if something was unsynced.
-fn settle(history: &mut History, allowance: &mut Allowance)
-    requires sound { IsHistory history.old }
-    requires used { allowance.old.used < 16 }
-    requires room { IsTrue allowance.old.unsynced → HasRoom history.old 0 0 1 }
-    ensures sound { IsHistory history.new }
-    ensures first { history.new.first ≡ history.old.first }
-    ensures calls { used_of history.new ≡ after_settle allowance.old.unsynced (used_of history.old) }
-    ensures synced { history.new.synced ≡ (if allowance.old.unsynced then length (used_of history.old) + 1 else history.old.synced) }
-    ensures allowance { allowance.new ≡ after_sync allowance.old }
-    ensures grows { GrowsFrom history.old history.new 0 (if allowance.old.unsynced then 1 else 0) }
-{
-    if allowance.unsynced {
-        history.sync();
-    }
-    allowance.synced();
 }
 
 impl Disk for MemDisk {
@@ -109,11 +81,7 @@ impl Disk for MemDisk {
         ensures len { IfOk result (λ n. n ≡ length (content_of self.old)) }
         ensures disk { self.new ≡ after_look self.old }
     {
-        match self.plan.pass() {
-            Passage::Passes => Ok(self.history.content.len() as u64),
-            Passage::Fails => Err(DiskFailed),
-            Passage::Cuts => Err(DiskFailed),
-        }
+        self.held.len()
     }
 
     fn read(&mut self, at: u64, into: &mut [u8]) -> Result<(), DiskFailed>
@@ -123,15 +91,7 @@ impl Disk for MemDisk {
         ensures bytes { OnOk result (into.new ≡ take (length into.old) (drop at (content_of self.old))) }
         ensures disk { self.new ≡ after_look self.old }
     {
-        match self.plan.pass() {
-            Passage::Passes => {
-                let at = at as usize;
-                into.copy_from_slice(&self.history.content[at..at + into.len()]);
-                Ok(())
-            }
-            Passage::Fails => Err(DiskFailed),
-            Passage::Cuts => Err(DiskFailed),
-        }
+        self.held.read(at, into)
     }
 
     fn write_at(&mut self, at: u64, bytes: &[u8]) -> Result<(), DiskFailed>
@@ -144,18 +104,7 @@ impl Disk for MemDisk {
         ensures time { Passes (length self.old.used) (length self.new.used) (images_of self.old) (images_of self.new) }
         ensures disk { self.new ≡ after_write_at at bytes.now self.old }
     {
-        self.allowance.wrote(bytes.len() as u64);
-        match self.plan.pass() {
-            Passage::Passes => {
-                self.history.write(at as usize, bytes);
-                Ok(())
-            }
-            Passage::Cuts => {
-                self.history.write(at as usize, bytes);
-                Err(DiskFailed)
-            }
-            Passage::Fails => Err(DiskFailed),
-        }
+        self.held.write_at(at, bytes)
     }
 
     fn sync(&mut self) -> Result<(), DiskFailed>
@@ -168,35 +117,21 @@ impl Disk for MemDisk {
         ensures time { Passes (length self.old.used) (length self.new.used) (images_of self.old) (images_of self.new) }
         ensures disk { self.new ≡ synced_in (passage self.old.plan) self.old }
     {
-        match self.plan.pass() {
-            Passage::Passes => {
-                settle(&mut self.history, &mut self.allowance);
-                Ok(())
-            }
-            Passage::Fails => Err(DiskFailed),
-            Passage::Cuts => Err(DiskFailed),
-        }
+        self.held.sync()
     }
 
     fn room(&mut self, end: u64) -> Result<(), Memory>
         ensures ok { OnOk result (self.new ≡ with_room end self.old) }
         ensures err { OnErr result (self.new ≡ self.old) }
     {
-        match self.history.room(end as usize) {
-            Err(Memory) => Err(Memory),
-            Ok(()) => {
-                self.allowance.grant(end);
-                Ok(())
-            }
-        }
+        self.held.room(end)
     }
 
     fn arm(&mut self, arm: Arm)
         requires { self.old.armings.count < 2 ^ 32 }
         ensures { self.new ≡ with_arm arm self.old }
     {
-        self.plan.arm(arm);
-        self.armings.add(arm);
+        self.held.arm(arm);
     }
 
     fn revive(&mut self)
@@ -205,8 +140,6 @@ impl Disk for MemDisk {
         ensures time { Passes (length self.old.used) (length self.new.used) (images_of self.old) (images_of self.new) }
         ensures disk { self.new ≡ left_by self.old.plan.cut self.old }
     {
-        if let Some(image) = self.plan.revive() {
-            self.history.revive(image);
-        }
+        self.held.revive();
     }
 }

@@ -4,7 +4,7 @@ use Rattle.disk_model.specs.MemForm.{MemForm}
 use Rattle.disk_model.specs.Plan.{PlanForm}
 use Rattle.disk_model.specs.declared.allowance.Allowance.{Allowance}
 use Rattle.disk_model.specs.declared.arm.Armings.{Armings}
-use Rattle.disk_model.proofs.mem_disk.MemDisk.new.Goals as goal
+use Rattle.disk_model.proofs.held_disk.HeldDisk.new.Goals as goal
 
 same_forms : (f f' : List ℕ) (u u' : List Used) (s s' : ℕ) (p p' : PlanForm) (a a' : Allowance) (r r' : Armings) → f ≡ f' → u ≡ u' → s ≡ s' → p ≡ p' → a ≡ a' → r ≡ r'
     → let x : MemForm = record { first = f; used = u; synced = s; plan = p; allowance = a; armings = r } in

@@ -6,7 +6,7 @@ use Rattle.disk_model.specs.History.{used_of}
 use Rattle.disk_model.specs.MemForm.{IsMemory, MemForm, content_of, images_of}
 use Rattle.disk_model.specs.declared.allowance.Allowance.{Allowance}
 use Rattle.disk_model.proofs.Forms.{sync_content, sync_only, sync_clean, sync_fewer}
-use Rattle.disk_model.proofs.mem_disk.MemDiskDisk.sync.Goals as goal
+use Rattle.disk_model.proofs.held_disk.HeldDisk.sync.Goals as goal
 
 list_after : (b : Bool) (n m used cap more : ℕ) → n + (16 - used) ≤ cap → cap ≤ more → used < 16 → m ≡ n + cond b 1 0 → m + (16 - cond b (used + 1) used) ≤ more
 list_after true n m used cap more room grows few is = omega (arith, room, grows, few, is)

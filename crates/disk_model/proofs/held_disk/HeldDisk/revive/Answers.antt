@@ -5,7 +5,7 @@ use Rattle.disk_model.specs.Record.{replayed, image_of}
 use Rattle.disk_model.specs.History.{used_of}
 use Rattle.disk_model.specs.MemForm.{MemForm, images_of}
 use Rattle.disk_model.proofs.Forms.{revive_image, revive_passes, revive_fewer, revive_clean}
-use Rattle.disk_model.proofs.mem_disk.MemDiskDisk.revive.Goals as goal
+use Rattle.disk_model.proofs.held_disk.HeldDisk.revive.Goals as goal
 
 pub invariant_of-self : goal.invariant_of-self
 invariant_of-self c =

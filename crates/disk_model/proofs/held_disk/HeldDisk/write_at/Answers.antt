@@ -4,7 +4,7 @@ use Rattle.disk_model.specs.History.{used_of}
 use Rattle.disk_model.specs.MemForm.{MemForm}
 use Rattle.disk_model.specs.declared.arm.Image.TheVariants.{Kept}
 use Rattle.disk_model.proofs.Forms.{wrote_content, wrote_others, wrote_images}
-use Rattle.disk_model.proofs.mem_disk.MemDiskDisk.write_at.Goals as goal
+use Rattle.disk_model.proofs.held_disk.HeldDisk.write_at.Goals as goal
 
 pub returns-in-Passes-clause-written : goal.returns-in-Passes-clause-written
 returns-in-Passes-clause-written c =
