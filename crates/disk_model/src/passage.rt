@@ -127,6 +127,10 @@ impl FaultPlan {
     {
         self.calls = self.calls.saturating_add(1);
         self.since = self.since.saturating_add(1);
+        // Most disks have no fault before them, and none behind.
+        if self.armed.is_none() && self.cut.is_none() && self.fails.is_empty() {
+            return Passage::Passes;
+        }
         let listed = self.fails.contains(&self.calls);
         let fault = due(self.armed, self.since);
         let way = way_of(fault, self.cut, listed);
