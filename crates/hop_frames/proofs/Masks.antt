@@ -1,31 +1,54 @@
 -- Masked octets, and which lane bytes a frame depends on.
-use Rattle.std.proofs.Common.{◌≡◌, ℕ, zero, suc, ◌+◌, ◌<◌, ◌≤◌, List, [], ◌∷◌, ◌++◌, length, take, drop, get_or, set, refl, sym, ap, ◌∙◌, append_assoc, arith, add-one}
+use Rattle.std.proofs.Common.{◌≡◌, ℕ, zero, suc, ◌+◌, ◌<◌, ◌≤◌, List, [], ◌∷◌, ◌++◌, length, take, drop, get_or, set, refl, sym, ap, ◌∙◌, append_assoc, length-append, arith}
 use Rattle.std.specs.Prelude.{bit_xor}
-use Rattle.std.proofs.lemmas.List.{take_more_set, take-take, drop-take, take-append-le, drop-append-le, length-drop}
+use Rattle.std.proofs.lemmas.List.{take-take, length-take-le, take_all, take_at, drop_at, drop-take, take-append-le, drop-append-le, length-drop}
+use Rattle.std.proofs.lemmas.Nat.{xor_comm}
 use Rattle.std.specs.Int.{w64, to_be_bytes, from_be_bytes}
 use Rattle.std.specs.Int.Bits.{xor_assoc, xor_self, xor_zero_r}
 use Rattle.qkd_base.specs.declared.lane.Lane.{Lane}
 use Rattle.wc_tags.specs.Tag.{tag}
 use Rattle.hop_frames.specs.Frame.{header, masked, number_of, hash_key, text_of, framed, spell}
 
-masked_suc : (octets pads : List ℕ) (i : ℕ) → i < length octets → i < length pads → masked (take (suc i) octets) pads ≡ masked (take i octets) pads ++ bit_xor (get_or octets i 0) (get_or pads i 0) ∷ []
-masked_suc [] pads i lt le = absurd (omega arith)
-masked_suc (p ∷ ps) [] i lt le = absurd (omega arith)
-masked_suc (p ∷ ps) (l ∷ ls) zero lt le = refl
-masked_suc (p ∷ ps) (l ∷ ls) (suc i) lt le = ap (λ (x : List ℕ). bit_xor p l ∷ x) (masked_suc ps ls i (omega (arith, lt)) (omega (arith, le)))
-
--- Writing one more masked octet extends the masked octets by one.
-pub mask_more : (room octets pads prefix : List ℕ) (at i : ℕ) → i < length octets → i < length pads → at + i < length room → take (at + i) room ≡ prefix ++ masked (take i octets) pads
-    → take (at + (i + 1)) (set room (at + i) (bit_xor (get_or octets i 0) (get_or pads i 0))) ≡ prefix ++ masked (take (i + 1) octets) pads
-mask_more room octets pads prefix at i lt le fits h =
-    let k : at + (i + 1) ≡ at + i + 1 = omega arith in
-    rw k (take_more_set room (at + i) _ fits ∙ ap (λ (l : List ℕ). l ++ bit_xor (get_or octets i 0) (get_or pads i 0) ∷ []) h ∙ append_assoc prefix (masked (take i octets) pads) _
-    ∙ ap (λ (l : List ℕ). prefix ++ l) (sym (masked_suc octets pads i lt le)) ∙ rw add-one refl)
-
 pub length-masked : (octets pads : List ℕ) → length (masked octets pads) ≡ length octets
 length-masked [] pads = refl
 length-masked (p ∷ ps) [] = ap suc (length-masked ps [])
 length-masked (p ∷ ps) (l ∷ ls) = ap suc (length-masked ps ls)
+
+-- Masking one more octet where it stands extends the masked ones by one.
+pub mask_more : (octets pads : List ℕ) (i : ℕ) → i < length octets → i < length pads
+    → set (masked (take i octets) pads ++ drop i octets) i (bit_xor (get_or (masked (take i octets) pads ++ drop i octets) i 0) (get_or pads i 0)) ≡ masked (take (suc i) octets) pads ++ drop (suc i) octets
+mask_more [] pads i lt le = absurd (omega arith)
+mask_more (p ∷ ps) [] i lt le = absurd (omega arith)
+mask_more (p ∷ ps) (l ∷ ls) zero lt le = refl
+mask_more (p ∷ ps) (l ∷ ls) (suc i) lt le = ap (λ (x : List ℕ). bit_xor p l ∷ x) (mask_more ps ls i (omega (arith, lt)) (omega (arith, le)))
+
+-- Octets and as many pads mask each other alike.
+pub masked_swap : (octets pads : List ℕ) → length octets ≡ length pads → masked octets pads ≡ masked pads octets
+masked_swap [] [] same = refl
+masked_swap [] (l ∷ ls) same = absurd (omega (arith, same))
+masked_swap (p ∷ ps) [] same = absurd (omega (arith, same))
+masked_swap (p ∷ ps) (l ∷ ls) same = rw (xor_comm p l) (ap (λ (x : List ℕ). bit_xor l p ∷ x) (masked_swap ps ls (omega (arith, same))))
+
+-- The text of a frame whose header was written in front of a payload, and whose payload was then masked.
+pub text_written : (into head body post pads : List ℕ) (size k : ℕ) → length head ≡ 16 → 16 + size ≤ length into → k ≡ size → body ≡ masked (take k (drop 16 (head ++ drop 16 into))) pads
+    → take (16 + size) (take 16 (head ++ drop 16 into) ++ (body ++ post)) ≡ take 16 head ++ masked (take size (drop 16 into)) pads
+text_written into head body post pads size k long room is masks =
+    let behind : drop 16 (head ++ drop 16 into) ≡ drop 16 into = drop_at head (drop 16 into) 16 long in
+    let front : take 16 (head ++ drop 16 into) ≡ head = take_at head (drop 16 into) 16 long in
+    let whole : take 16 head ≡ head = take_all 16 head (omega (arith, long)) in
+    let body_is : body ≡ masked (take size (drop 16 into)) pads = masks ∙ ap (λ (l : List ℕ). masked (take k l) pads) behind ∙ ap (λ (n : ℕ). masked (take n (drop 16 into)) pads) is in
+    let few : length body ≡ size = ap length body_is ∙ length-masked (take size (drop 16 into)) pads ∙ length-take-le size (drop 16 into) (omega (arith, length-drop 16 into, room)) in
+    let both : length (head ++ body) ≡ 16 + size = omega (arith, length-append head body, long, few) in
+    ap (λ (l : List ℕ). take (16 + size) (l ++ (body ++ post))) front
+    ∙ ap (take (16 + size)) (sym (append_assoc head body post))
+    ∙ take_at (head ++ body) post (16 + size) both
+    ∙ ap (λ (l : List ℕ). l ++ body) (sym whole)
+    ∙ ap (λ (l : List ℕ). take 16 head ++ l) body_is
+
+-- The payload that was written behind the room of a header.
+pub payload_behind : (room old payload : List ℕ) (n : ℕ) → 16 ≤ length old → length payload ≡ n → take (16 + n) room ≡ take 16 old ++ payload → take n (drop 16 (take (24 + n) room)) ≡ payload
+payload_behind room old payload n long size is =
+    sym (drop-take 16 n (take (24 + n) room)) ∙ ap (drop 16) (take-take (16 + n) (24 + n) room (omega arith) ∙ is) ∙ drop_at (take 16 old) payload 16 (length-take-le 16 old long)
 
 xor_twice : (a b : ℕ) → bit_xor (bit_xor a b) b ≡ a
 xor_twice a b = xor_assoc a b b ∙ ap (bit_xor a) (xor_self b) ∙ xor_zero_r a

@@ -8,7 +8,7 @@ ghost use Rattle.hop_frames.specs.Opening.{Opens, checked, tagged, opened_at, op
 
 use crate::header::{Header, header_of, number_at, on_lane};
 use crate::lane_part::{lane_number, lane_part};
-use crate::mask::put_masked;
+use crate::mask::mask_all;
 use crate::parts::{after, prefix};
 use crate::{OpenRefusal, Opened};
 use frame_codec::{PayloadRefusal, read};
@@ -55,42 +55,26 @@ fn checked(lane: &Lane, frame: &[u8], held: &Segments) -> Result<Header, OpenRef
     tagged(frame, header, held, lane.way)
 }
 
-// Reads the payload that these octets mask. `clear` is room for its octets.
-fn read_masked(
-    alloc: Global,
-    octets: &[u8],
-    pads: &[u8],
-    clear: &mut [u8],
-) -> Result<Payload, PayloadRefusal>
-    requires pads { length octets.now ≤ length pads.now }
-    requires room { length octets.now ≤ length clear.old }
-    ensures { Reads result (payload_of (masked octets.now pads.now)) }
-{
-    put_masked(clear, 0, octets, pads);
-    read(alloc, prefix(clear, octets.len()))
-}
-
-// Reads the payload that the octets mask at an offset of the lane. `pads` and `clear` are room for its octets.
+// Reads the payload that the octets mask at an offset of the lane. `room` is for its octets.
 fn read_in(
     alloc: Global,
     octets: &[u8],
     held: &Segments,
     way: Way,
     offset: u64,
-    pads: &mut [u8],
-    clear: &mut [u8],
+    room: &mut [u8],
 ) -> Result<Payload, PayloadRefusal>
     requires reach { offset + length octets.now ≤ length (lane_octets way held.now.blocks) }
-    requires pads { length octets.now ≤ length pads.old }
-    requires room { length octets.now ≤ length clear.old }
+    requires room { length octets.now ≤ length room.old }
     ensures { Reads result (payload_of (masked octets.now (drop offset (lane_octets way held.now.blocks)))) }
 {
-    let pads = &mut pads[..octets.len()];
-    lane_part(held, way, offset, pads);
-    read_masked(alloc, octets, pads, clear)
+    let clear = &mut room[..octets.len()];
+    lane_part(held, way, offset, clear);
+    mask_all(clear, octets);
+    read(alloc, clear)
 }
 
-// Reads the payload that at most 65,535 octets mask, in buffers of its own.
+// Reads the payload that at most 65,535 octets mask, in a buffer of its own.
 fn read_long(
     alloc: Global,
     octets: &[u8],
@@ -102,12 +86,11 @@ fn read_long(
     requires size { length octets.now < 65536 }
     ensures { Reads result (payload_of (masked octets.now (drop offset (lane_octets way held.now.blocks)))) }
 {
-    let mut pads = [0u8; 65_536];
-    let mut clear = [0u8; 65_536];
-    read_in(alloc, octets, held, way, offset, &mut pads, &mut clear)
+    let mut room = [0u8; 65_536];
+    read_in(alloc, octets, held, way, offset, &mut room)
 }
 
-// Reads the payload that at most 600 octets mask. As a function of its own it lets only long frames need large buffers.
+// Reads the payload that at most 600 octets mask. As a function of its own it lets only long frames need a large buffer.
 fn read_short(
     alloc: Global,
     octets: &[u8],
@@ -119,9 +102,8 @@ fn read_short(
     requires size { length octets.now ≤ 600 }
     ensures { Reads result (payload_of (masked octets.now (drop offset (lane_octets way held.now.blocks)))) }
 {
-    let mut pads = [0u8; 600];
-    let mut clear = [0u8; 600];
-    read_in(alloc, octets, held, way, offset, &mut pads, &mut clear)
+    let mut room = [0u8; 600];
+    read_in(alloc, octets, held, way, offset, &mut room)
 }
 
 // The payload with its offset, or the reason why there is none.

@@ -5,7 +5,7 @@ ghost use Rattle.frame_codec.specs.Payload.{IsPayload, payload_octets};
 ghost use Rattle.hop_frames.specs.Frame.{framed, hash_key, spell};
 
 use crate::header::{number_at, put_header};
-use crate::mask::{put, put_masked};
+use crate::mask::{mask_all, put};
 use crate::parts::{after, prefix};
 use frame_codec::spell;
 use net_model::{Payload, spelled_len};
@@ -13,17 +13,16 @@ use pad_ledger::PadRange;
 use qkd_base::{FrameOctets, Lane};
 use wc_tags::tag;
 
-// Writes the frame of a payload's octets to the front of a buffer.
+// Makes a frame of a payload of `size` octets that stands behind the room of the header.
 #[tactic(auto, unfolding(crate::specs::Frame::framed))]
-fn put_frame(into: &mut [u8], lane: &Lane, offset: u64, key: u64, pads: &[u8], payload: &[u8])
-    requires size { length payload.now ≤ 561 }
-    requires pads { length payload.now + 8 ≤ length pads.now }
-    requires room { 24 + length payload.now ≤ length into.old }
-    ensures { take (24 + length payload.now) into.new ≡ framed lane.now offset key pads.now payload.now }
+fn frame(into: &mut [u8], lane: &Lane, offset: u64, key: u64, pads: &[u8], size: usize)
+    requires size { size ≤ 561 }
+    requires pads { size + 8 ≤ length pads.now }
+    requires room { 24 + size ≤ length into.old }
+    ensures { take (24 + size) into.new ≡ framed lane.now offset key pads.now (take size (drop 16 into.old)) }
 {
-    let size = payload.len();
-    put_header(into, lane, offset, size as u16);
-    put_masked(into, 16, payload, pads);
+    put_header(&mut into[..16], lane, offset, size as u16);
+    mask_all(&mut into[16..16 + size], pads);
     let mask = number_at(after(pads, size));
     let tag = tag(key, prefix(into, 16 + size), mask);
     put(into, 16 + size, &tag.to_be_bytes());
@@ -54,16 +53,14 @@ pub fn seal(
     let offset = range.start();
     range.spend();
     let size = usize::from(spelled_len(payload));
-    let mut clear = FrameOctets::new();
-    spell(payload, &mut clear, 0);
-    let clear = prefix(&clear.octets, size);
-    put_frame(
+    spell(payload, into, 16);
+    frame(
         &mut into.octets[..24 + size],
         &lane,
         offset,
         key,
         pads,
-        clear,
+        size,
     );
     24 + size
 }

@@ -10,13 +10,12 @@ pub fn put(into: &mut [u8], at: usize, octets: &[u8])
     into[at..at + octets.len()].copy_from_slice(octets);
 }
 
-// Writes octets at a place, each masked by one pad.
-pub fn put_masked(into: &mut [u8], at: usize, octets: &[u8], pads: &[u8])
-    requires room { at + length octets.now ≤ length into.old }
-    requires pads { length octets.now ≤ length pads.now }
-    ensures { take (at + length octets.now) into.new ≡ take at into.old ++ masked octets.now pads.now }
+// Masks octets where they stand, each by one pad.
+pub fn mask_all(octets: &mut [u8], pads: &[u8])
+    requires { length octets.old ≤ length pads.now }
+    ensures { octets.new ≡ masked octets.old pads.now }
 {
-    for (i, octet) in octets.iter().enumerate() {
-        into[at + i] = *octet ^ pads[i];
+    for i in 0..octets.len() {
+        octets[i] ^= pads[i];
     }
 }
