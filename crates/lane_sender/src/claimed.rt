@@ -73,6 +73,31 @@ pub(crate) fn claimed_of(bytes: &[u8], range: PadRange) -> Claimed
     Claimed { range, key, pads }
 }
 
+/// Seals a payload with the lane's own bytes of a range, which are not copied first: writes its frame to the front of the
+/// buffer, and returns the frame's length, 41 to 585 octets.
+pub(crate) fn seal_at(
+    bytes: &[u8],
+    range: PadRange,
+    lane: Lane,
+    payload: &Payload,
+    into: &mut FrameOctets,
+) -> u16
+    requires key { 8 ≤ length bytes.now }
+    requires inside { range.start + range.len ≤ length bytes.now }
+    requires formed { IsWellFormed payload.now }
+    requires need { range.len ≡ frame_need payload.now }
+    ensures length { result ≡ 24 + payload_len payload.now }
+    ensures range { result ≤ 585 }
+    ensures frame { take result into.new.octets ≡ spell lane range.start bytes.now (payload_octets payload.now) }
+    ensures rest { drop result into.new.octets ≡ drop result into.old.octets }
+    ensures grammar { IsPayload payload.now }
+{
+    let key = hash_key(bytes);
+    let pads = part(bytes, &range);
+    seal(range, lane, key, pads, payload, into);
+    24 + spelled_len(payload)
+}
+
 impl Claimed {
     /// Seals a payload: writes its frame to the front of the buffer, and returns the frame's length, 41 to 585 octets. The call
     /// uses up the range.

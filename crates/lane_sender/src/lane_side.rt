@@ -10,7 +10,7 @@ ghost use Rattle.source_devices.specs.declared.wire.WireFailed.TheVariants.{Faul
 ghost use Rattle.lane_sender.specs.Lane.{IsLaneOf, burnt_to, claimed, reaching, frame_need, next_frame, counts_of};
 ghost use Rattle.lane_sender.specs.Sending.{sent, sent_frame, answer_of, TakesNumbered, TakesRepeat};
 
-use crate::claimed::claimed_of;
+use crate::claimed::{claimed_of, seal_at};
 use crate::sent::answered;
 use crate::{Claimed, Sent};
 use net_model::{Counts4, Order, Repeat, spelled_len};
@@ -209,10 +209,12 @@ impl<X: Wire> LaneSide<X> {
         ensures calm { (IsErrOf (answer_of result) Fault → ⊥) → X.faults self.new.wire ≡ X.faults self.old.wire }
     {
         let need = u64::from(spelled_len(&order.payload)) + 8;
-        let claimed = self.claim(need);
-        let offset = claimed.range.start();
+        let Ok(range) = self.ledger.claim(need) else {
+            unreachable!()
+        };
+        let offset = range.start();
         let mut frame = FrameOctets::new();
-        let length = claimed.seal(self.lane, &order.payload, &mut frame);
+        let length = seal_at(&self.bytes, range, self.lane, &order.payload, &mut frame);
         let answer = self.put(&frame, length);
         answered(offset, length, &frame, answer)
     }
