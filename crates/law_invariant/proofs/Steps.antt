@@ -1,4 +1,4 @@
--- Every action keeps the conserved properties, so every run from the first world has them.
+-- Every action keeps the conserved properties, so every run does. The first world has them.
 use Rattle.std.proofs.Common.{◌≡◌, ℕ, true, false, ◌&&◌, List, [], ◌∷◌, refl, arith, inl}
 use Rattle.std.specs.Prelude.{nat_lt}
 use Rattle.std.proofs.lemmas.Bool.Decides.{nat_tests}
@@ -98,12 +98,9 @@ first_keeps net =
 
 -- Every run keeps the conserved properties.
 
-run_from : (net : Network) → IsNetwork net → (actions : List Action) (w : World) → Conserved net w → IsRun net w actions → Conserved net (run net w actions)
+pub run_keeps : (net : Network) (w : World) (actions : List Action) → IsNetwork net → Conserved net w → IsRun net w actions → Conserved net (run net w actions)
 unfolding run is_run
-run_from net network [] w c h = c
-run_from net network (a ∷ actions) w c h =
-    run_from net network actions (step net w a).0 (step_keeps net w a network (and_left (is_step net w a) (is_run net (step net w a).0 actions) h) c)
+run_keeps net w [] network c h = c
+run_keeps net w (a ∷ actions) network c h =
+    run_keeps net (step net w a).0 actions network (step_keeps net w a network (and_left (is_step net w a) (is_run net (step net w a).0 actions) h) c)
     (and_right (is_step net w a) (is_run net (step net w a).0 actions) h)
-
-pub run_keeps : (net : Network) (actions : List Action) → IsNetwork net → IsRun net first actions → Conserved net (run net first actions)
-run_keeps net actions network h = run_from net network actions first (first_keeps net) h

@@ -17,9 +17,9 @@ pub fn law_step_keeps()
     ensures { (net : Network) (w : World) (a : Action) → IsNetwork net → IsStep net w a → Conserved net w → Conserved net (step net w a).0 }
 {}
 
-/// The conserved properties hold after every run.
+/// The conserved properties hold after every run that begins in a world that has them, as the world before any start has.
 pub fn law_run_keeps()
-    ensures { (net : Network) (actions : List Action) → IsNetwork net → IsRun net first actions → Conserved net (run net first actions) }
+    ensures { (net : Network) (w : World) (actions : List Action) → IsNetwork net → Conserved net w → IsRun net w actions → Conserved net (run net w actions) }
 {}
 
 /// A world, an action and the answers of the outside determine the new world and the outcome.

@@ -1,7 +1,7 @@
 -- In every run a node that was never started has no batches, and gives back nothing.
 use Rattle.std.proofs.Common.{◌≡◌, ℕ, Bool, true, false, ◌&&◌, ◌||◌, refl, sym, ap, subst, arith, Option, Some, None}
 use Rattle.std.specs.Prelude.{◌==◌, if◌then◌else◌}
-use Rattle.net_model.specs.World.{Network, World, Journal, InDoubt, no_doubt, first}
+use Rattle.net_model.specs.World.{Network, World, Journal, InDoubt, no_doubt}
 use Rattle.net_model.specs.Journal.{added_len, is_blank, new_journal, extended, is_checkpoint_due, checkpointed, recovered_journal}
 use Rattle.net_model.specs.Decision.{Effect}
 use Rattle.net_model.specs.Handle.{commit, stopped}
@@ -127,10 +127,6 @@ module _ (net : Network) (w : World) (b : IsBegun w) where
 
 pub still_begun : (net : Network) (w : World) → IsBegun w → (a : Action) → IsBegun (step net w a).0
 still_begun net w b a v = let h = step_begun net w b a v in record { version = h.version; unsettled = h.unsettled; stays = λ none. none }
-
-pub first_begun : IsBegun first
-unfolding first
-first_begun v = record { version = refl; unsettled = λ none. refl; stays = λ none. none }
 
 -- A journal of version 2 is blank exactly if it has no octet.
 blank_length : (j : Journal) → j.version ≡ 2 → is_blank j ≡ true → j.length' ≡ 0

@@ -18,7 +18,8 @@ use Rattle.law_invariant.proofs.Steps.{step_keeps}
 use Rattle.law_safety.specs.Truth.{IsTrueReply}
 use Rattle.law_safety.proofs.Bytes.{true_grows}
 use Rattle.law_safety.proofs.Replies.{handled_true}
-use Rattle.law_lives.proofs.Runs.{GoesOn, step_goes, run_goes}
+use Rattle.law_lives.specs.Lasting.{Lasts}
+use Rattle.law_lives.proofs.Runs.{step_lasts, run_lasts}
 
 pair_same : (n : Name) (sae : ℕ) → (name_eq n n && (sae == sae)) ≡ true
 pair_same n sae = and_both (name_eq n n) (sae == sae) (name_eq_same n) (eq_same sae)
@@ -55,14 +56,14 @@ pub record IsNewHanding (w end : World) (d : Delivery) : Type 0 where
   pub marked : was_handed end.durable.handed d.name d.sae ≡ true
   pub bytes : IsTrueDelivery end.durable.facts d
 
-replied : (w new : World) (net : Network) (v : ℕ) (ds : List Delivery) → IsTrueReply net w new v ds → Conserved net new → GoesOn w.durable new.durable → (k : ℕ) (d : Delivery) →
+replied : (w new : World) (net : Network) (v : ℕ) (ds : List Delivery) → IsTrueReply net w new v ds → Conserved net new → Lasts w.durable new.durable → (k : ℕ) (d : Delivery) →
     slice_get ds k ≡ Some d → IsNewHanding w new d
 replied w new net v ds h c grown k d at =
     let pair = listed ds k d at in
     record {
       fresh = not_in_first w.durable.handed (pairs_of ds) (subst' h.marked c.now.handings.differ) d.name d.sae pair;
       marked = ap (λ (hs : List (Name × ℕ)). was_handed hs d.name d.sae) h.marked ∙ in_second w.durable.handed (pairs_of ds) d.name d.sae pair;
-      bytes = true_grows w.durable.facts new.durable.facts d c.now.groups grown.lasts.facts (h.bytes k d at);
+      bytes = true_grows w.durable.facts new.durable.facts d c.now.groups grown.facts (h.bytes k d at);
     }
   where
     subst' : {xs ys : List (Name × ℕ)} → xs ≡ ys → PairsDiffer xs → PairsDiffer ys
@@ -79,7 +80,7 @@ step_new net w (Ask v event environment) network c c' enabled k d at =
     let node : v < net.site.nodes = below v net.site.nodes (and_left (is_node net v) (is_asked event) prefix) in
     replied w (handle net w v event environment).0 net v _
     (handled_true net w v event environment network c node (and_right (is_node net v) (is_asked event) prefix)
-    (and_right (is_node net v && is_asked event) (is_valid_event net.site v event) enabled)) c' (step_goes net w c (Ask v event environment)) k d at
+    (and_right (is_node net v && is_asked event) (is_valid_event net.site v event) enabled)) c' (step_lasts net w (Ask v event environment)) k d at
 step_new net w (Start v recovery) network c c' enabled k d at = absurd (cc)
 step_new net w (Crash v) network c c' enabled k d at = absurd (cc)
 step_new net w (Arm v fault) network c c' enabled k d at = absurd (cc)
@@ -103,20 +104,20 @@ run_new net network (a ∷ actions) w c end r k d at =
     let later = and_right (is_step net w a) (is_run net new actions) r in
     let c' : Conserved net new = step_keeps net w a network one c in
     let enabled = and_left (is_enabled net w a) (is_shown (environment_of a) (step net w a).1) one in
-    let grown = run_goes net network actions new c' later in
-    let first = step_goes net w c a in
+    let grown = run_lasts net actions new in
+    let first = step_lasts net w a in
     elim (get_cases (of_step net w a (step net w a).1) (deliveries net new actions) k) [
       | inl (less, is) ↦
           let h = step_new net w a network c c' enabled k d (sym is ∙ at) in
           record {
             fresh = h.fresh;
-            marked = grown.lasts.handed d.name d.sae h.marked;
-            bytes = true_grows new.durable.facts (run net new actions).durable.facts d end.now.groups grown.lasts.facts h.bytes;
+            marked = grown.handed d.name d.sae h.marked;
+            bytes = true_grows new.durable.facts (run net new actions).durable.facts d end.now.groups grown.facts h.bytes;
           }
       | inr (j, place, is) ↦
           let h = run_new net network actions new c' end later j d (sym is ∙ at) in
           record {
-            fresh = not_false (was_handed w.durable.handed d.name d.sae) (λ e. not_both (was_handed new.durable.handed d.name d.sae) (first.lasts.handed d.name d.sae e) h.fresh);
+            fresh = not_false (was_handed w.durable.handed d.name d.sae) (λ e. not_both (was_handed new.durable.handed d.name d.sae) (first.handed d.name d.sae e) h.fresh);
             marked = h.marked;
             bytes = h.bytes;
           }

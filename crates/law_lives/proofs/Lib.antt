@@ -6,12 +6,9 @@ pub mod Unstarted
 pub mod NextNetworks
 pub mod Lastings
 pub mod Owners
-pub mod Owns
 pub mod Runs
 pub mod Lives
-pub mod Firsts
 pub mod Fronts
 pub mod Handings
-pub mod Repeats
 pub mod Views
 pub mod Worlds

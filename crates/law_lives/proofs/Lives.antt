@@ -1,28 +1,27 @@
 -- What holds of one life's end holds of all later lives, and their frames take later bytes.
-use Rattle.std.proofs.Common.{◌≡◌, ℕ, zero, suc, ◌<◌, ◌≤◌, Bool, true, false, List, [], ◌∷◌, ◌++◌, length, refl, sym, ◌∙◌, ap, subst, arith, Some, length-append, inl, inr}
-use Rattle.std.specs.Prelude.{slice_get, nat_lt}
-use Rattle.std.proofs.lemmas.Bool.{ltb-true, ltb-false}
+use Rattle.std.proofs.Common.{◌≡◌, ℕ, zero, suc, ◌<◌, true, false, List, [], ◌∷◌, ◌++◌, length, sym, ◌∙◌, ap, subst, arith, Some, length-append, inl, inr}
+use Rattle.std.specs.Prelude.{slice_get}
 use Rattle.qkd_base.specs.Name.{Name}
 use Rattle.qkd_base.specs.declared.lane.Lane.{Lane}
 use Rattle.net_model.specs.Table.{was_handed}
 use Rattle.net_model.specs.Site.{Site}
 use Rattle.net_model.specs.Handings.{MayHaveOne}
-use Rattle.net_model.specs.World.{Network, World, Durable, Owner, Allocation}
-use Rattle.net_model.specs.Ownership.{is_frame, covers}
+use Rattle.net_model.specs.World.{World, Durable, Owner}
+use Rattle.net_model.specs.Ownership.{covers}
 use Rattle.net_model.specs.Invariant.{Conserved}
 use Rattle.net_model.specs.Deliveries.{Delivery, is_of_name, IsTrueDelivery}
-use Rattle.law_base.proofs.Base.{not_both, slice_get-append_left}
+use Rattle.law_base.proofs.Base.{not_both}
 use Rattle.law_base.proofs.Grow.{sae_grows, stored_grows}
-use Rattle.law_recovery.specs.Saved.{DoubtsFit}
-use Rattle.law_lives.specs.AtRest.{IsAtRest}
+use Rattle.law_recovery.proofs.Runs.{IsHeld, run_held}
+use Rattle.law_run.proofs.Resting.{rest_fits}
+use Rattle.law_run.proofs.Continuing.{OwnsOn, run_owns, frames_above}
+use Rattle.run_model.specs.Begin.{IsAtRest}
 use Rattle.law_lives.specs.Lasting.{Lasts}
-use Rattle.law_lives.specs.NextNetwork.{with_drawn}
 use Rattle.law_lives.specs.Lives.{Life, end_of, rest_of, handed_in, IsLife, IsNextLife, Follow, AreLives, IsEarlier}
 use Rattle.law_lives.proofs.Handings.{IsNewHanding, run_new}
 use Rattle.law_lives.proofs.Lastings.{lasts_then, rest_lasts, rest_leases, frames_below}
-use Rattle.law_lives.proofs.NextNetworks.{goes_on}
-use Rattle.law_lives.proofs.Repeats.{rest_fits, run_goes_on}
-use Rattle.law_lives.proofs.Runs.{GoesOn, run_goes}
+use Rattle.law_lives.proofs.NextNetworks.{drawn_aside, goes_on}
+use Rattle.law_lives.proofs.Runs.{run_lasts}
 use Rattle.law_lives.proofs.Worlds.{one_world}
 
 -- An application that may have a key or chunk may have it as long as nothing is lost.
@@ -41,26 +40,6 @@ still_ready a b h s n sae k = record {
   ];
 }
 
--- The frames of a run from a world at rest take bytes behind those owned there.
-frames_above : (net : Network) (b u : World) → IsAtRest b → Conserved net b → Conserved net u → GoesOn b.durable u.durable → (l : Lane) (j x : ℕ) →
-    covers u.durable.facts (slice_get (u.frames l) j) x ≡ true → length (b.durable.own l) ≤ x
-frames_above net b u rest c d h l j x covered = late (nat_lt x (length (b.durable.own l))) refl
-  where
-    owned : is_frame j (slice_get (u.durable.own l) x) ≡ true
-    owned = (d.now.owned l).frame x j ∙ covered
-
-    unframed : is_frame j (slice_get (b.durable.own l) x) ≡ false
-    unframed = (c.now.owned l).frame x j ∙ ap (λ (fs : List Allocation). covers b.durable.facts (slice_get fs j) x) (rest.framed l)
-
-    late : (t : Bool) → nat_lt x (length (b.durable.own l)) ≡ t → length (b.durable.own l) ≤ x
-    late false e = ltb-false x (length (b.durable.own l)) e
-    late true e =
-        let less = ltb-true x (length (b.durable.own l)) e in
-        let more = h.own l in
-        let at : slice_get (u.durable.own l) x ≡ slice_get (b.durable.own l) x =
-        ap (λ (os : List Owner). slice_get os x) more.1 ∙ slice_get-append_left (b.durable.own l) more.0 x less in
-        absurd (not_both (is_frame j (slice_get (b.durable.own l) x)) (sym (ap (is_frame j) at) ∙ owned) unframed)
-
 -- The life begins in a world at rest.
 record Begins (l : Life) : Type 0 where
   rest : IsAtRest l.begin
@@ -72,24 +51,27 @@ record IsBefore (a : Life) (w : World) : Type 0 where
   below : (k : Lane) (j x : ℕ) → covers (end_of a).durable.facts (slice_get ((end_of a).frames k) j) x ≡ true → x < length (w.durable.own k)
 
 module _ (l : Life) (b : Begins l) (h : IsLife l) where
-  kept : Conserved l.net (end_of l) × DoubtsFit l.net (end_of l)
-  kept = run_goes_on l.net h.network l.actions l.begin b.conserved (rest_fits l.net l.begin b.rest) h.steps
+  kept : IsHeld l.net (end_of l)
+  kept = run_held l.net h.network l.actions l.begin (record { conserved = b.conserved; fits = rest_fits l.net l.begin b.rest }) h.steps
 
-  grown : GoesOn l.begin.durable (end_of l).durable
-  grown = run_goes l.net h.network l.actions l.begin b.conserved h.steps
+  grown : Lasts l.begin.durable (end_of l).durable
+  grown = run_lasts l.net l.actions l.begin
+
+  owns : OwnsOn l.begin.durable (end_of l).durable
+  owns = run_owns l.net h.network l.actions l.begin b.conserved h.steps
 
   handed_new : (k : ℕ) (d : Delivery) → slice_get (handed_in l) k ≡ Some d → IsNewHanding l.begin (end_of l) d
-  handed_new k d at = run_new l.net h.network l.actions l.begin b.conserved kept.0 h.steps k d at
+  handed_new k d at = run_new l.net h.network l.actions l.begin b.conserved kept.conserved h.steps k d at
 
   rests : IsAtRest (rest_of l) × Conserved l.net (rest_of l)
-  rests = let one = one_world l.net (end_of l) kept.0 kept.1 l.made l.journals l.images h.sized h.read in (one.rest, one.conserved)
+  rests = let one = one_world l.net (end_of l) kept.conserved kept.fits l.made l.journals l.images h.sized h.read in (one.rest, one.conserved)
 
   -- The life's end itself is before what it left.
   rest_after : IsBefore l (rest_of l)
   rest_after = record {
     lasts = rest_lasts l.net (end_of l) l.made l.journals;
     below = λ k j x covered.
-        let low = frames_below l.net (end_of l) kept.0 kept.1 l.made l.journals k j x covered in
+        let low = frames_below l.net (end_of l) kept.conserved kept.fits l.made l.journals k j x covered in
         let owned = rests.0.owned k in
         omega (arith, low, owned);
   }
@@ -98,13 +80,13 @@ module _ (l : Life) (b : Begins l) (h : IsLife l) where
   rest_later : (a : Life) → IsBefore a l.begin → IsBefore a (rest_of l)
   rest_later a before = record {
     lasts = lasts_then (end_of a).durable l.begin.durable (rest_of l).durable before.lasts
-        (lasts_then l.begin.durable (end_of l).durable (rest_of l).durable grown.lasts rest_after.lasts);
+        (lasts_then l.begin.durable (end_of l).durable (rest_of l).durable grown rest_after.lasts);
     below = λ k j x covered.
         let low = before.below k j x covered in
-        let more = grown.own k in
+        let more = owns k in
         let longer : length ((end_of l).durable.own k) ≡ length (l.begin.durable.own k ++ more.0) = ap (λ (os : List Owner). length os) more.1 in
-        let room = kept.0.now.room k in
-        let lease = rest_leases l.net (end_of l) kept.0 kept.1 l.made l.journals k in
+        let room = kept.conserved.now.room k in
+        let lease = rest_leases l.net (end_of l) kept.conserved kept.fits l.made l.journals k in
         let owned = rests.0.owned k in
         omega (arith, low, longer, length-append (l.begin.durable.own k) more.0, room.planned, lease, owned);
   }
@@ -120,12 +102,12 @@ module _ (l : Life) (b : Begins l) (h : IsLife l) where
     equal i j d e at at2 name =
         let first : IsTrueDelivery (end_of a).durable.facts d = (marks i d at).bytes in
         let second : IsTrueDelivery (end_of l).durable.facts e = (handed_new j e at2).bytes in
-        let there = grown.lasts.facts first.name first.fact (before.lasts.facts first.name first.fact first.there) in
+        let there = grown.facts first.name first.fact (before.lasts.facts first.name first.fact first.there) in
         let is : is_of_name e.name first.fact ≡ true = ap (λ (n : Name). is_of_name n first.fact) (sym name) ∙ first.is in
         first.bytes first.name first.fact first.there first.is ∙ sym (second.bytes first.name first.fact there is)
 
     all_lasts : Lasts (end_of a).durable (end_of l).durable
-    all_lasts = lasts_then (end_of a).durable l.begin.durable (end_of l).durable before.lasts grown.lasts
+    all_lasts = lasts_then (end_of a).durable l.begin.durable (end_of l).durable before.lasts grown
 
     is_earlier : IsEarlier a l
     is_earlier = record {
@@ -133,35 +115,19 @@ module _ (l : Life) (b : Begins l) (h : IsLife l) where
       ready = still_ready (end_of a).durable (end_of l).durable all_lasts;
       apart = λ k i j x early late.
           let low = before.below k i x early in
-          let high = frames_above l.net l.begin (end_of l) b.rest b.conserved kept.0 grown k j x late in
-          omega (arith, low, high);
+          let high = frames_above l.net l.begin (end_of l) b.rest b.conserved kept.conserved owns k j x late in
+          let owned = b.rest.owned k in
+          omega (arith, low, high, owned);
       once = once;
       equal = equal;
     }
 
--- The counts of what is drawn are aside.
 module _ (l next : Life) (b : Begins l) (h : IsLife l) (n : IsNextLife l next) where
-  drawn_aside : IsAtRest (rest_of l) → IsAtRest (with_drawn n.drawn (rest_of l))
-  drawn_aside r = record {
-    down = r.down;
-    certain = r.certain;
-    unbroken = r.unbroken;
-    empty = r.empty;
-    noted = r.noted;
-    linked = r.linked;
-    claimed = r.claimed;
-    put = r.put;
-    framed = r.framed;
-    wired = r.wired;
-    owned = r.owned;
-    recovered = r.recovered;
-  }
-
   next_begins : Begins next
   next_begins =
       let r = rests l b h in
       record {
-        rest = subst IsAtRest (sym n.begin) (drawn_aside r.0);
+        rest = subst IsAtRest (sym n.begin) (drawn_aside n.drawn (rest_of l) r.0);
         conserved = subst (λ (w : World). Conserved next.net w) (sym n.begin) (goes_on l.net next.net n.drawn (rest_of l) n.network r.0 r.1).conserved;
       }
 
@@ -187,7 +153,7 @@ following [] l b h f (suc i) (suc j) a m less at at2 = absurd (cc)
 following (n ∷ ls) l b h f (suc i) (suc j) a m less at at2 = following ls n (next_begins l n b h f.0) f.1 f.2 i j a m (omega (arith, less)) at at2
 
 kept_after : (ls : List Life) (l : Life) → Begins l → IsLife l → Follow l ls → (i : ℕ) (a : Life) → slice_get (l ∷ ls) i ≡ Some a → Conserved a.net (end_of a)
-kept_after ls l b h f zero a at = let is : l ≡ a = cc in subst (λ (x : Life). Conserved x.net (end_of x)) is (kept l b h).0
+kept_after ls l b h f zero a at = let is : l ≡ a = cc in subst (λ (x : Life). Conserved x.net (end_of x)) is (kept l b h).conserved
 kept_after [] l b h f (suc i) a at = absurd (cc)
 kept_after (n ∷ ls) l b h f (suc i) a at = kept_after ls n (next_begins l n b h f.0) f.1 f.2 i a at
 

@@ -1,5 +1,5 @@
 -- A world at rest is one of each network that follows.
-use Rattle.std.proofs.Common.{◌≡◌, ℕ, List, [], ◌∷◌, map, refl, sym, ◌∙◌, ap, subst, Some}
+use Rattle.std.proofs.Common.{◌≡◌, ℕ, ◌<◌, List, [], ◌∷◌, map, refl, sym, ◌∙◌, ap, subst, Some}
 use Rattle.std.specs.Prelude.{slice_get}
 use Rattle.qkd_base.specs.declared.lane.Lane.{Lane}
 use Rattle.net_model.specs.declared.placing.Placing.{Placing}
@@ -12,8 +12,26 @@ use Rattle.net_model.specs.Invariant.{Invariant, Conserved}
 use Rattle.net_model.specs.Windows.{IsVolatile, IsPlaced}
 use Rattle.law_base.proofs.Seen.{bare_view}
 use Rattle.law_invariant.proofs.Volatiles.{nothing_kept}
-use Rattle.law_lives.specs.AtRest.{IsAtRest}
+use Rattle.net_model.specs.Fold.{recovered_view}
+use Rattle.run_model.specs.Begin.{IsAtRest, MayBegin}
 use Rattle.law_lives.specs.NextNetwork.{with_drawn, IsNextNetwork, GoesOnIn}
+
+-- The counts of what is drawn are aside.
+pub drawn_aside : (counts : ℕ → ℕ) (w : World) → IsAtRest w → IsAtRest (with_drawn counts w)
+drawn_aside counts w r = record {
+  down = r.down;
+  certain = r.certain;
+  unbroken = r.unbroken;
+  empty = r.empty;
+  noted = r.noted;
+  linked = r.linked;
+  claimed = r.claimed;
+  put = r.put;
+  framed = r.framed;
+  wired = r.wired;
+  owned = r.owned;
+  recovered = r.recovered;
+}
 
 module _ (earlier later : Network) (drawn : ℕ → ℕ) (w : World) (h : IsNextNetwork earlier later drawn w) where
   abbrev after : World
@@ -65,4 +83,16 @@ module _ (earlier later : Network) (drawn : ℕ → ℕ) (w : World) (h : IsNext
         recovered = c.recovered;
       };
       sees = sees_same;
+    }
+
+-- The next life may begin there.
+pub begins_next : (earlier later : Network) (counts : ℕ → ℕ) (w : World) → MayBegin earlier w → IsNextNetwork earlier later counts w → MayBegin later (with_drawn counts w)
+begins_next earlier later counts w b h =
+    let on = goes_on earlier later counts w h b.rest b.conserved in
+    record {
+      rest = drawn_aside counts w b.rest;
+      conserved = on.conserved;
+      given = λ v less.
+          let g = b.given v (subst (λ (s : Site). v < s.nodes) h.site less) in
+          (g.0, on.sees v ∙ g.1 ∙ ap (λ (s : Site). recovered_view s v g.0) (sym h.site));
     }

@@ -1,21 +1,26 @@
 -- A node that was never started made no batch, so no batch gives it back.
-use Rattle.std.proofs.Common.{◌≡◌, ℕ, Bool, true, false, List, [], ◌∷◌, ◌++◌, refl, ◌∙◌, ap, subst}
+use Rattle.std.proofs.Common.{◌≡◌, ℕ, ◌<◌, Bool, true, false, List, [], ◌∷◌, ◌++◌, refl, sym, ◌∙◌, ap, subst}
 use Rattle.std.specs.Prelude.{◌==◌}
 use Rattle.net_model.specs.declared.record.Record.{Record}
 use Rattle.net_model.specs.Premises.{IsNetwork}
-use Rattle.net_model.specs.World.{Network, World, first}
+use Rattle.net_model.specs.World.{Network, World, InDoubt, first}
 use Rattle.net_model.specs.Journal.{is_blank}
 use Rattle.net_model.specs.Needed.{view_of}
 use Rattle.net_model.specs.Invariant.{Conserved}
 use Rattle.net_model.specs.Start.{recovers, start, restarted, may_resolve}
 use Rattle.net_model.specs.Action.{Action, Recovery, Outcome, Start, Crash, Arm, SetLink, TakeBlock, Ask, Allocate, Transmit, Complete, Deliver, Flip, Forge, WantMemory, Recovers, Resumes, Interrupted, NoMemory, Foreign, WasUp}
 use Rattle.net_model.specs.Step.{step, is_step, run, is_run, IsRun}
+use Rattle.run_model.specs.Begin.{MayBegin}
 use Rattle.run_model.specs.Left.{found, batch_made, batches_made}
 use Rattle.law_base.proofs.Base.{and_left, and_right, eq_from, not_both, not_false, number_set_same, when_false}
-use Rattle.law_invariant.proofs.Steps.{first_keeps, step_keeps}
+use Rattle.law_invariant.proofs.Steps.{step_keeps}
 use Rattle.law_recovery.specs.GivesBack.{GivesBack}
+use Rattle.law_recovery.proofs.Empty.{first_empty}
+use Rattle.law_recovery.proofs.Restarting.{nothing_given}
+use Rattle.law_run.proofs.Resting.{rest_fits, gives_back}
+use Rattle.law_lives.specs.Left.{AreCurrent}
 use Rattle.law_run.proofs.Folds.{made_gives_back}
-use Rattle.law_lives.proofs.Beginnings.{IsBegun, still_begun, first_begun, was_blank, blank_certain}
+use Rattle.law_lives.proofs.Beginnings.{IsBegun, still_begun, was_blank, blank_certain}
 
 module _ (net : Network) (w : World) where
   start_is : (u : ℕ) (r : Recovery) → w.up u ≡ false → step net w (Start u r) ≡ recovers net w u r
@@ -66,6 +71,14 @@ module _ (net : Network) (w : World) where
   blank_down : Conserved net w → (v : ℕ) → is_blank (w.journal v) ≡ true → w.up v ≡ false
   blank_down c v e = not_false (w.up v) (λ up. not_both (is_blank (w.journal v)) e (c.started v up))
 
+-- At rest nothing is in doubt.
+current_begun : (net : Network) (w : World) → MayBegin net w → AreCurrent net w → IsBegun w
+current_begun net w begins current v = record {
+  version = current.version v;
+  unsettled = λ none. ap (λ (d : InDoubt). d.checkpointed) (begins.rest.certain v);
+  stays = λ none. none;
+}
+
 -- In a run at whose end the journal is blank no batch was made.
 none_made : (net : Network) → IsNetwork net → (v : ℕ) (actions : List Action) (w : World) → Conserved net w → IsBegun w → IsRun net w actions →
     is_blank ((run net w actions).journal v) ≡ true → (is_blank (w.journal v) ≡ true) × (batches_made net v w actions ≡ [])
@@ -81,11 +94,13 @@ none_made net network v (a ∷ actions) w c b r e =
     let none : batch_made net w a v ≡ [] = when_false (w.up v) _ (found w a v) down ∙ none_found net w a v down (blank_down net next c' v rest.0) in
     (blank, ap (λ (bs : List (List Record)). bs ++ batches_made net v next actions) none ∙ rest.1)
 
-pub unstarted_given : (net : Network) (actions : List Action) (v : ℕ) → IsNetwork net → IsRun net first actions → is_blank ((run net first actions).journal v) ≡ true →
-    GivesBack net.site v [] (view_of net (run net first actions) v)
-unstarted_given net actions v network r blank =
-    subst (λ (bs : List (List Record)). GivesBack net.site v bs (view_of net (run net first actions) v))
-    (none_made net network v actions first (first_keeps net) first_begun r blank).1 (made_gives_back net actions v network r)
+-- So it gives back nothing.
+pub unstarted_given : (net : Network) (begin : World) (actions : List Action) (v : ℕ) → IsNetwork net → MayBegin net begin → AreCurrent net begin → IsRun net begin actions →
+    v < net.site.nodes → is_blank ((run net begin actions).journal v) ≡ true → GivesBack net.site v [] (view_of net (run net begin actions) v)
+unstarted_given net begin actions v network begins current r less blank =
+    let none = none_made net network v actions begin begins.conserved (current_begun net begin begins current) r blank in
+    subst (λ (bs : List (List Record)). GivesBack net.site v bs (view_of net (run net begin actions) v)) none.1
+    (made_gives_back net network v actions begin begins.conserved (rest_fits net begin begins.rest) r [] (gives_back net begin v [] (current.unseen v less none.0)))
 
 run_begun : (net : Network) (actions : List Action) (w : World) → IsBegun w → IsBegun (run net w actions)
 unfolding run
@@ -93,6 +108,11 @@ run_begun net [] w b = b
 run_begun net (a ∷ actions) w b = run_begun net actions (step net w a).0 (still_begun net w b a)
 
 -- No checkpoint settled the doubt of a node that was never started.
-pub unstarted_may : (net : Network) (actions : List Action) (v : ℕ) → is_blank ((run net first actions).journal v) ≡ true →
-    may_resolve ((run net first actions).in_doubt v) false ≡ true
-unstarted_may net actions v blank = blank_certain (run net first actions) (run_begun net actions first first_begun) v blank
+pub unstarted_may : (net : Network) (begin : World) (actions : List Action) → MayBegin net begin → AreCurrent net begin → (v : ℕ) → is_blank ((run net begin actions).journal v) ≡ true →
+    may_resolve ((run net begin actions).in_doubt v) false ≡ true
+unstarted_may net begin actions begins current v blank =
+    blank_certain (run net begin actions) (run_begun net actions begin (current_begun net begin begins current)) v blank
+
+pub first_current : (net : Network) → AreCurrent net first
+unfolding first
+first_current net = record { version = λ v. refl; unseen = λ v less blank. first_empty net v ∙ sym (nothing_given net.site v) }

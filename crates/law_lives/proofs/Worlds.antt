@@ -10,7 +10,8 @@ use Rattle.law_invariant.proofs.Effects.{drawn_later}
 use Rattle.law_invariant.proofs.Volatiles.{nothing_kept}
 use Rattle.law_recovery.specs.Saved.{DoubtsFit}
 use Rattle.law_lives.specs.Images.{IsImage, AreImages}
-use Rattle.law_lives.specs.AtRest.{IsAtRest, durable_at_rest, at_rest}
+use Rattle.run_model.specs.Begin.{IsAtRest, MayBegin}
+use Rattle.law_lives.specs.AtRest.{durable_at_rest, at_rest}
 use Rattle.law_lives.specs.OneWorld.{IsOneWorld}
 use Rattle.law_lives.proofs.Choices.{choice, choice_holds}
 use Rattle.law_lives.proofs.Owners.{owned_at_rest, room_at_rest, length_at_rest}
@@ -100,3 +101,8 @@ pub images_have_one_world : (net : Network) (w : World) (images : ℕ → List (
 images_have_one_world net w images journals c fits read sized =
     let P : ℕ → Bool → Type 0 = λ v made. IsImage net w v made (images v) in
     (choice net.site.nodes P false read, one_world net w c fits (choice net.site.nodes P false read) journals images sized (choice_holds net.site.nodes P false read))
+
+-- A course may begin in that world.
+pub one_begins : (net : Network) (w : World) (images : ℕ → List (List Record)) (journals : ℕ → Journal) (made : ℕ → Bool) → IsOneWorld net w images journals made →
+    MayBegin net (at_rest net.site made journals w)
+one_begins net w images journals made one = record { rest = one.rest; conserved = one.conserved; given = λ v less. (images v, one.given v less) }

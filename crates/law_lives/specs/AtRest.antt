@@ -1,26 +1,9 @@
 -- The world between two lives: what disks have, and nothing else.
-use Rattle.std.specs.Prelude.{◌≡◌, ℕ, Bool, true, false, [], length, map}
-use Rattle.qkd_base.specs.declared.lane.Lane.{Lane}
+use Rattle.std.specs.Prelude.{ℕ, Bool, true, false, [], map}
 use Rattle.net_model.specs.Site.{Site, count_up}
 use Rattle.net_model.specs.World.{World, Durable, Owner, HashKey, Burnt, Journal, no_doubt, no_volatile}
 use Rattle.net_model.specs.Start.{burnt_to}
 use Rattle.net_model.specs.Invariant.{with_doubts}
-
--- All managers are down, no batch is in doubt, and no start was interrupted. No frame is known or on its way. Each lane
--- goes on at its leased end. All links are up.
-pub record IsAtRest (w : World) : Type 0 where
-  pub down : (v : ℕ) → w.up v ≡ false
-  pub certain : (v : ℕ) → w.in_doubt v ≡ no_doubt
-  pub unbroken : (v : ℕ) → w.interrupted v ≡ false
-  pub empty : (v : ℕ) → w.volatile v ≡ no_volatile
-  pub noted : (v : ℕ) → w.placings v ≡ []
-  pub linked : (link : ℕ) → w.link_up link ≡ true
-  pub claimed : (l : Lane) → w.unclaimed l ≡ []
-  pub put : (l : Lane) → w.outgoing l ≡ []
-  pub framed : (l : Lane) → w.frames l ≡ []
-  pub wired : (l : Lane) → w.wire l ≡ []
-  pub owned : (l : Lane) → length (w.durable.own l) ≡ w.durable.lease l
-  pub recovered : (l : Lane) → w.recovered l ≡ w.durable.lease l
 
 -- a byte of a frame counts as burnt, since the frame is forgotten
 abbrev pub spent : Owner → Owner

@@ -1,7 +1,9 @@
 -- The images that a course may leave on disks.
 use Rattle.std.specs.Prelude.{◌≡◌, ℕ, ◌<◌, Bool, true, false, List, [], Some}
 use Rattle.net_model.specs.declared.record.Record.{Record}
-use Rattle.net_model.specs.World.{Network, Journal, first}
+use Rattle.net_model.specs.World.{Network, World, Journal}
+use Rattle.net_model.specs.Needed.{view_of}
+use Rattle.net_model.specs.Fold.{recovered_view}
 use Rattle.net_model.specs.Journal.{is_blank}
 use Rattle.net_model.specs.Action.{Action}
 use Rattle.net_model.specs.Step.{run}
@@ -12,9 +14,14 @@ use Rattle.law_lives.specs.OneWorld.{IsOneWorld}
 
 -- The batches of one image of each disk. Those of a node that was started have the fold of the batches of its events,
 -- with its batch in doubt or without it. A disk of a node that was never started has no batches.
-pub record AreLeft (net : Network) (actions : List Action) (images : ℕ → List (List Record)) : Type 0 where
-  pub started : (v : ℕ) → v < net.site.nodes → is_blank ((run net first actions).journal v) ≡ false → IsFoldOf net actions (run net first actions) v (images v)
-  pub unstarted : (v : ℕ) → v < net.site.nodes → is_blank ((run net first actions).journal v) ≡ true → images v ≡ []
+pub record AreLeft (net : Network) (begin : World) (actions : List Action) (images : ℕ → List (List Record)) : Type 0 where
+  pub started : (v : ℕ) → v < net.site.nodes → is_blank ((run net begin actions).journal v) ≡ false → IsFoldOf net begin actions (run net begin actions) v (images v)
+  pub unstarted : (v : ℕ) → v < net.site.nodes → is_blank ((run net begin actions).journal v) ≡ true → images v ≡ []
+
+-- All journals are of the version that is written now. A node whose journal is blank has seen nothing.
+pub record AreCurrent (net : Network) (w : World) : Type 0 where
+  pub version : (v : ℕ) → (w.journal v).version ≡ 2
+  pub unseen : (v : ℕ) → v < net.site.nodes → is_blank (w.journal v) ≡ true → view_of net w v ≡ recovered_view net.site v []
 
 -- The disks that are seen after a course encode images that have one world.
 pub record HasOneWorld (reading : DiskBatches) (seen : Seen) (c : Course) (journals : ℕ → Journal) : Type 0 where

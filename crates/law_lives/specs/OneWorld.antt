@@ -6,7 +6,8 @@ use Rattle.net_model.specs.Needed.{view_of}
 use Rattle.net_model.specs.Fold.{recovered_view}
 use Rattle.net_model.specs.Invariant.{Conserved}
 use Rattle.law_lives.specs.Images.{IsImage}
-use Rattle.law_lives.specs.AtRest.{IsAtRest, at_rest}
+use Rattle.run_model.specs.Begin.{IsAtRest}
+use Rattle.law_lives.specs.AtRest.{at_rest}
 
 -- Each doubt is made as its node's image has it. In the world at rest after that, each node sees what its image gives
 -- back, and all that is conserved holds.

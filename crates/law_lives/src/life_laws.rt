@@ -2,7 +2,7 @@
 ghost use Rattle.std.specs.Prelude.{◌≡◌, ◌<◌, ◌∷◌, ℕ, List, Some, slice_get};
 ghost use Rattle.net_model.specs.World.{first};
 ghost use Rattle.net_model.specs.Invariant.{Conserved};
-ghost use Rattle.law_lives.specs.AtRest.{IsAtRest};
+ghost use Rattle.run_model.specs.Begin.{IsAtRest};
 ghost use Rattle.law_lives.specs.Lives.{Life, end_of, AreLives, IsEarlier};
 
 /// Of two lives over the same disks, the later one has lost nothing that the earlier one had. A key or chunk that was

@@ -19,7 +19,7 @@ use Rattle.net_model.specs.Action.{Action}
 use Rattle.net_model.specs.Step.{run, IsRun}
 use Rattle.law_base.proofs.Lists.{reverse_twice}
 use Rattle.law_invariant.proofs.Outgoing.{sender_back}
-use Rattle.law_invariant.proofs.Steps.{run_keeps}
+use Rattle.law_invariant.proofs.Steps.{first_keeps, run_keeps}
 use Rattle.law_locality.specs.Quiet.{IsQuiet}
 use Rattle.law_locality.proofs.Runs.{run-append, runs-append}
 use Rattle.law_safety.proofs.Before.{route_differs}
@@ -163,12 +163,12 @@ module _ (net : Network) (earlier later : List Action) (f : Fact) (network : IsN
 
   pub since : IsQuiet (world_since net earlier later) → IsSince net (run net first earlier) (world_since net earlier later)
   since quiet = record {
-    kept = from_whole (Conserved net) (run_keeps net (earlier ++ later) network whole);
+    kept = from_whole (Conserved net) (run_keeps net first (earlier ++ later) network (first_keeps net) whole);
     unanswered = from_whole AreUnanswered (run_unanswered net (earlier ++ later) network whole);
     naming = from_whole AreNaming (run_names net (earlier ++ later) network whole);
     noted = from_whole IsNoted (run_noted net (earlier ++ later) network whole);
     quiet = quiet;
     awaits = from_whole (λ (x : World). IsQuiet x → NoneAwaits x) (quiet_awaits net (run net first (earlier ++ later)) (run_awaited net (earlier ++ later) network whole)) quiet;
     passes = λ l clear alive there.
-        run_passes net network l later (run net first earlier) (run_keeps net earlier network rested.before) rested.quiet (run_names net earlier network rested.before) clear rested.since rested.passes alive there;
+        run_passes net network l later (run net first earlier) (run_keeps net first earlier network (first_keeps net) rested.before) rested.quiet (run_names net earlier network rested.before) clear rested.since rested.passes alive there;
   }

@@ -11,13 +11,13 @@ use Rattle.net_model.specs.Journal.{checkpoint_batches, checkpoint_need}
 use Rattle.net_model.specs.Start.{need_at, resolved, interrupted_start}
 use Rattle.net_model.specs.Fold.{view_batch, view_restarted}
 use Rattle.net_model.specs.Action.{Action, Start, Recovers, Resumes, is_shown, environment_of}
-use Rattle.net_model.specs.Step.{step, is_enabled, is_step, run, is_run, IsRun}
+use Rattle.net_model.specs.Step.{step, is_enabled, is_step, IsStep, run, is_run, IsRun}
 use Rattle.law_base.proofs.Base.{and_left, and_right}
 use Rattle.law_base.proofs.Resuming.{resolved_view}
 use Rattle.law_recovery.specs.Fitting.{AllFit}
 use Rattle.law_recovery.proofs.Empty.{first_empty}
 use Rattle.law_recovery.proofs.Starting.{start_goes, start_restarts, resume_goes, resume_restarts}
-use Rattle.law_invariant.proofs.Steps.{first_keeps, step_keeps}
+use Rattle.law_invariant.proofs.Steps.{step_keeps}
 use Rattle.law_recovery.specs.GivesBack.{GivesBack}
 use Rattle.law_recovery.proofs.Restarting.{restarted_twice, recovered_next, nothing_given, recovered_restarts}
 use Rattle.law_recovery.proofs.Checkpoint.{checkpoint_given, same_need}
@@ -26,7 +26,7 @@ use Rattle.law_recovery.proofs.Views.{restarted_fits, fits_before}
 use Rattle.law_recovery.proofs.Steps.{step_moves}
 
 -- Some journal gives back the manager of node v.
-abbrev HasJournal : Network → World → ℕ → Type 0
+abbrev pub HasJournal : Network → World → ℕ → Type 0
 HasJournal net w v = (batches : List (List Record)) × GivesBack net.site v batches (view_of net w v)
 
 module _ (net : Network) (w after : World) (v : ℕ) where
@@ -51,52 +51,54 @@ step_fits net w a network c fits may v =
     fits_before net (after.in_doubt v).batch (view_of net after v)
     (moved_fits net w after v (step_moves net w network c fits a may v) (restarted_fits net (w.in_doubt v).batch (view_of net w v) (fits v)))
 
-first_given : (net : Network) (v : ℕ) → HasJournal net first v
-first_given net v = ([], recovered_restarts net.site v [] ∙ ap view_restarted (nothing_given net.site v ∙ sym (first_empty net v)))
+pub first_given : (net : Network) (v : ℕ) → GivesBack net.site v [] (view_of net first v)
+first_given net v = recovered_restarts net.site v [] ∙ ap view_restarted (nothing_given net.site v ∙ sym (first_empty net v))
 
 -- What holds of every world of a run.
 pub record IsHeld (net : Network) (w : World) : Type 0 where
   pub conserved : Conserved net w
   pub fits : DoubtsFit net w
-  pub given : (v : ℕ) → HasJournal net w v
 
-run_from : (net : Network) → IsNetwork net → (actions : List Action) (w : World) → IsHeld net w → IsRun net w actions → IsHeld net (run net w actions)
-unfolding run is_run
-run_from net network [] w h r = h
-run_from net network (a ∷ actions) w h r =
-    let one = and_left (is_step net w a) (is_run net (step net w a).0 actions) r in
-    let may = and_left (is_enabled net w a) (is_shown (environment_of a) (step net w a).1) one in
-    let after : World = (step net w a).0 in
-    run_from net network actions after (record {
-      conserved = step_keeps net w a network one h.conserved;
-      fits = step_fits net w a network h.conserved h.fits may;
-      given = λ v. moved_given net w after v (step_moves net w network h.conserved h.fits a may v) (h.given v);
-    }) (and_right (is_step net w a) (is_run net after actions) r)
+module _ (net : Network) (network : IsNetwork net) where
+  step_held : (w : World) (a : Action) → IsHeld net w → IsStep net w a → IsHeld net (step net w a).0
+  step_held w a h may = record {
+    conserved = step_keeps net w a network may h.conserved;
+    fits = step_fits net w a network h.conserved h.fits (and_left (is_enabled net w a) (is_shown (environment_of a) (step net w a).1) may);
+  }
 
-pub run_held : (net : Network) (actions : List Action) → IsNetwork net → IsRun net first actions → IsHeld net (run net first actions)
-run_held net actions network r =
-    run_from net network actions first (record { conserved = first_keeps net; fits = first_fits net; given = first_given net }) r
+  pub run_held : (actions : List Action) (w : World) → IsHeld net w → IsRun net w actions → IsHeld net (run net w actions)
+  unfolding run is_run
+  run_held [] w h r = h
+  run_held (a ∷ actions) w h r =
+      let after : World = (step net w a).0 in
+      run_held actions after (step_held w a h (and_left (is_step net w a) (is_run net after actions) r)) (and_right (is_step net w a) (is_run net after actions) r)
 
-pub run_starts : (net : Network) (actions : List Action) (v : ℕ) (committed : Bool) → IsNetwork net → IsRun net first actions → (run net first actions).up v ≡ false →
-    is_enabled net (run net first actions) (Start v (Recovers committed)) ≡ true →
-    view_of net (step net (run net first actions) (Start v (Recovers committed))).0 v ≡
-    view_restarted (if committed then view_batch (view_of net (run net first actions) v) ((run net first actions).in_doubt v).batch else view_of net (run net first actions) v)
-run_starts net actions v committed network r down enabled =
-    let h = run_held net actions network r in
-    start_goes net (run net first actions) v committed down enabled h.conserved (λ e. h.fits v)
+  pub run_given : (v : ℕ) (actions : List Action) (w : World) → IsHeld net w → HasJournal net w v → IsRun net w actions → HasJournal net (run net w actions) v
+  unfolding run is_run
+  run_given v [] w h given r = given
+  run_given v (a ∷ actions) w h given r =
+      let one = and_left (is_step net w a) (is_run net (step net w a).0 actions) r in
+      let may = and_left (is_enabled net w a) (is_shown (environment_of a) (step net w a).1) one in
+      let after : World = (step net w a).0 in
+      run_given v actions after (step_held w a h one) (moved_given net w after v (step_moves net w network h.conserved h.fits a may v) given)
+      (and_right (is_step net w a) (is_run net after actions) r)
 
-pub run_resumes : (net : Network) (actions : List Action) (v : ℕ) (committed : Bool) → IsNetwork net → IsRun net first actions → (run net first actions).up v ≡ false →
-    is_enabled net (run net first actions) (Start v (Resumes committed)) ≡ true →
-    view_of net (step net (run net first actions) (Start v (Resumes committed))).0 v ≡
-    view_restarted (if committed then view_batch (view_of net (run net first actions) v) ((run net first actions).in_doubt v).batch else view_of net (run net first actions) v)
-run_resumes net actions v committed network r down enabled =
-    let h = run_held net actions network r in
-    resume_goes net (run net first actions) v committed down enabled h.conserved (λ e. h.fits v)
+  module _ (w : World) (actions : List Action) (v : ℕ) (h : IsHeld net w) (r : IsRun net w actions) where
+    abbrev last : World
+    last = run net w actions
 
-pub run_checkpoint : (net : Network) (actions : List Action) (v : ℕ) → IsNetwork net → IsRun net first actions →
-    GivesBack net.site v (checkpoint_batches (view_of net (run net first actions) v)) (view_of net (run net first actions) v)
-run_checkpoint net actions v network r =
-    let h = (run_held net actions network r).given v in checkpoint_given net.site v h.0 (view_of net (run net first actions) v) h.1
+    pub run_starts : (committed : Bool) → last.up v ≡ false → is_enabled net last (Start v (Recovers committed)) ≡ true →
+        view_of net (step net last (Start v (Recovers committed))).0 v ≡
+        view_restarted (if committed then view_batch (view_of net last v) (last.in_doubt v).batch else view_of net last v)
+    run_starts committed down enabled = let k = run_held actions w h r in start_goes net last v committed down enabled k.conserved (λ e. k.fits v)
+
+    pub run_resumes : (committed : Bool) → last.up v ≡ false → is_enabled net last (Start v (Resumes committed)) ≡ true →
+        view_of net (step net last (Start v (Resumes committed))).0 v ≡
+        view_restarted (if committed then view_batch (view_of net last v) (last.in_doubt v).batch else view_of net last v)
+    run_resumes committed down enabled = let k = run_held actions w h r in resume_goes net last v committed down enabled k.conserved (λ e. k.fits v)
+
+    pub run_checkpoint : HasJournal net w v → GivesBack net.site v (checkpoint_batches (view_of net last v)) (view_of net last v)
+    run_checkpoint given = let k = run_given v actions w h given r in checkpoint_given net.site v k.0 (view_of net last v) k.1
 
 -- The checkpoint that a start makes has the size that the started manager computes.
 pub start_needs : (net : Network) (w : World) (v : ℕ) (committed : Bool) → Conserved net w → w.up v ≡ false → is_enabled net w (Start v (Recovers committed)) ≡ true →

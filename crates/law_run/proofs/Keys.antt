@@ -1,11 +1,12 @@
 -- In every run, all clauses of the headline on keys and lane bytes hold.
-use Rattle.std.proofs.Common.{◌≡◌, ℕ, zero, suc, ◌<◌, true, ◌&&◌, List, [], ◌∷◌, length, subst, Some, arith}
+use Rattle.std.proofs.Common.{◌≡◌, ◌∙◌, ℕ, zero, suc, ◌<◌, ◌≤◌, true, ◌&&◌, List, [], ◌∷◌, length, ap, subst, Option, Some, arith}
 use Rattle.std.specs.Prelude.{nat_le, nat_lt, slice_get, take}
 use Rattle.std.proofs.lemmas.Bool.Decides.{nat_tests}
 use Rattle.qkd_base.specs.Name.{Name}
 use Rattle.net_model.specs.declared.event.Event.{Event}
 use Rattle.net_model.specs.declared.event.Event.TheVariants.{EncGroup}
-use Rattle.net_model.specs.World.{Network, World, first}
+use Rattle.net_model.specs.World.{Network, World, Allocation}
+use Rattle.net_model.specs.Ownership.{covers}
 use Rattle.net_model.specs.Premises.{IsNetwork}
 use Rattle.net_model.specs.Invariant.{Conserved}
 use Rattle.net_model.specs.Events.{are_slaves, is_count, is_rising, is_valid_event}
@@ -20,8 +21,13 @@ use Rattle.law_safety.proofs.Replies.{handled_true}
 use Rattle.law_safety.proofs.Worlds.{grows_step}
 use Rattle.law_locality.proofs.Runs.{first_step, later_steps}
 use Rattle.run_model.specs.Course.{Course, whole_run, world_after, last_world}
-use Rattle.run_model.specs.Keys.{AreBytesOf}
+use Rattle.run_model.specs.Keys.{AreBytesOf, Covers}
+use Rattle.run_model.specs.Begin.{MayBegin}
+use Rattle.qkd_base.specs.declared.lane.Lane.{Lane}
+use Rattle.law_safety.proofs.Covers.{in_range}
 use Rattle.law_run.proofs.Fronts.{front_is_run}
+use Rattle.law_run.proofs.Owned.{one_place}
+use Rattle.law_run.proofs.Continuing.{run_owns, frames_above}
 
 pub got_within : {A : Type 0} (xs : List A) (i : ℕ) (x : A) → slice_get xs i ≡ Some x → i < length xs
 got_within [] i x h = cc
@@ -53,7 +59,7 @@ bytes_stay c k n bytes h =
     record {
       name = h.name;
       fact = h.fact;
-      there = facts_stay c.net k first (whole_run c) h.name h.fact h.there;
+      there = facts_stay c.net k c.begin (whole_run c) h.name h.fact h.there;
       is_secret = h.is_secret;
       is = h.is;
       bytes_are = h.bytes_are;
@@ -72,11 +78,11 @@ enabled_group net w v m n bits slaves environment h =
     let sizes = and_left (nat_le 2 (length slaves) && nat_le (length slaves) 5) (is_rising slaves) slaved in
     two_or_more (length slaves) (and_left (nat_le 2 (length slaves)) (nat_le (length slaves) 5) sizes)
 
-pub group_has_slaves : (c : Course) → IsRun c.net first (whole_run c) → (k v m n bits : ℕ) (slaves : List ℕ) (environment : Environment) →
+pub group_has_slaves : (c : Course) → IsRun c.net c.begin (whole_run c) → (k v m n bits : ℕ) (slaves : List ℕ) (environment : Environment) →
     slice_get (whole_run c) k ≡ Some (Ask v (EncGroup m slaves n bits) environment) → 0 < length slaves
 group_has_slaves c r k v m n bits slaves environment at =
     let a : Action = Ask v (EncGroup m slaves n bits) environment in
-    let now : IsStep c.net (world_after c k) a = step_at c.net k first (whole_run c) a r at in
+    let now : IsStep c.net (world_after c k) a = step_at c.net k c.begin (whole_run c) a r at in
     enabled_group c.net (world_after c k) v m n bits slaves environment (and_left (is_enabled c.net (world_after c k) a) (is_shown (environment_of a) (step c.net (world_after c k) a).1) now)
 
 asked_at : (net : Network) (w : World) (v : ℕ) (event : Event) (environment : Environment) → is_enabled net w (Ask v event environment) ≡ true →
@@ -100,14 +106,27 @@ home_of net w v event environment network k enabled i d at =
     let asked = asked_at net w v event environment enabled in
     (handled_true net w v event environment network k asked.0 asked.1 asked.2).home i d at
 
-pub conserved_after : (c : Course) → IsNetwork c.net → IsRun c.net first (whole_run c) → (k : ℕ) → Conserved c.net (world_after c k)
-conserved_after c network r k = run_keeps c.net (take k (whole_run c)) network (front_is_run c.net first (whole_run c) k r)
+pub conserved_after : (c : Course) → IsNetwork c.net → Conserved c.net c.begin → IsRun c.net c.begin (whole_run c) → (k : ℕ) → Conserved c.net (world_after c k)
+conserved_after c network begin r k = run_keeps c.net c.begin (take k (whole_run c)) network begin (front_is_run c.net c.begin (whole_run c) k r)
 
-pub handed_at_home : (c : Course) → IsNetwork c.net → IsRun c.net first (whole_run c) → (k v i : ℕ) (event : Event) (environment : Environment) (d : Delivery) →
+pub handed_at_home : (c : Course) → IsNetwork c.net → Conserved c.net c.begin → IsRun c.net c.begin (whole_run c) → (k v i : ℕ) (event : Event) (environment : Environment) (d : Delivery) →
     slice_get (whole_run c) k ≡ Some (Ask v event environment) →
     slice_get (of_step c.net (world_after c k) (Ask v event environment) (step c.net (world_after c k) (Ask v event environment)).1) i ≡ Some d → c.net.site.home d.sae ≡ v
-handed_at_home c network r k v i event environment d at given =
+handed_at_home c network begin r k v i event environment d at given =
     let a : Action = Ask v event environment in
-    let now : IsStep c.net (world_after c k) a = step_at c.net k first (whole_run c) a r at in
-    home_of c.net (world_after c k) v event environment network (conserved_after c network r k)
+    let now : IsStep c.net (world_after c k) a = step_at c.net k c.begin (whole_run c) a r at in
+    home_of c.net (world_after c k) v event environment network (conserved_after c network begin r k)
     (and_left (is_enabled c.net (world_after c k) a) (is_shown (environment_of a) (step c.net (world_after c k) a).1) now) i d given
+
+-- A frame's bytes are behind those leased at the beginning, and below the leased end.
+pub is_apart : (c : Course) → IsNetwork c.net → MayBegin c.net c.begin → IsRun c.net c.begin (whole_run c) → Conserved c.net (last_world c) → (l : Lane) (j x : ℕ) (a : Allocation) →
+    slice_get ((last_world c).frames l) j ≡ Some a → Covers (last_world c) a x → (c.begin.durable.lease l ≤ x) × (x < (last_world c).durable.lease l)
+is_apart c network begins r last l j x a at range =
+    let w : World = last_world c in
+    let covered : covers w.durable.facts (slice_get (w.frames l) j) x ≡ true =
+    ap (λ (o : Option Allocation). covers w.durable.facts o x) at ∙ in_range w.durable.facts a x range.0 range.1 in
+    let within = got_within (w.durable.own l) x _ (one_place c.net w last l j x a at range.0 range.1) in
+    let planned = (last.now.room l).planned in (
+      frames_above c.net c.begin w begins.rest begins.conserved last (run_owns c.net network (whole_run c) c.begin begins.conserved r) l j x covered,
+      omega (arith, within, planned),
+    )

@@ -1,5 +1,8 @@
 pub mod Fronts
 pub mod Owned
+pub mod Owns
+pub mod Continuing
+pub mod Resting
 pub mod Within
 pub mod Plays
 pub mod Tasks

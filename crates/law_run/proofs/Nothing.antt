@@ -16,6 +16,7 @@ use Rattle.run_types.specs.Texts.{report_text}
 use Rattle.run_model.specs.Report.{report, actions_of}
 use Rattle.run_model.specs.Left.{wire_octets}
 use Rattle.run_model.specs.Turn.{HttpTexts}
+use Rattle.run_model.specs.Begin.{MayBegin}
 use Rattle.run_model.specs.Bench.{DiskBatches}
 use Rattle.run_model.specs.Course.{Course, Run, whole_run, IsCourseOf}
 use Rattle.run_model.specs.Keys.{KeysAndBytes}
@@ -45,7 +46,7 @@ abbrev zeros : OctetSequence
 zeros = record { octet = λ i. 0; end = None }
 
 abbrev pub course : Sealing → Course
-course sealing = record { net = record { site = site_of nothing_declared; sealing = sealing; device = λ link. zeros; entropy = λ v. zeros }; done = []; served = [] }
+course sealing = record { net = record { site = site_of nothing_declared; sealing = sealing; device = λ link. zeros; entropy = λ v. zeros }; begin = first; done = []; served = [] }
 
 pub is_network : (sealing : Sealing) → IsSealing sealing → IsNetwork (course sealing).net
 is_network sealing f = record { site = is_site; sealing = f; devices = λ l i. omega arith; entropies = λ v i. omega arith }
@@ -66,10 +67,11 @@ no_more n e = omega (arith, e)
 none_below : (v : ℕ) → v < 0 → ⊥
 none_below v h = omega (arith, h)
 
-is_course : (sealing : Sealing) (http : HttpTexts) → IsSealing sealing → IsCourseOf (Run 1) http nothing_asked (course sealing)
-is_course sealing http f =
+is_course : (sealing : Sealing) (http : HttpTexts) → IsSealing sealing → MayBegin (course sealing).net first → IsCourseOf (Run 1) http nothing_asked (course sealing)
+is_course sealing http f begins =
     record {
       network = is_network sealing f;
+      begins = begins;
       scenario_is = tt;
       site = refl;
       lines = tt;
@@ -77,11 +79,11 @@ is_course sealing http f =
       steps = runs sealing;
     }
 
-pub headline : (sealing : Sealing) (http : HttpTexts) (reading : DiskBatches) → IsSealing sealing → KeysAndBytes (course sealing) → Headline (Run 1) Done http reading nothing_asked untouched (Some []) (Some []) (course sealing)
+pub headline : (sealing : Sealing) (http : HttpTexts) (reading : DiskBatches) → IsSealing sealing → MayBegin (course sealing).net first → KeysAndBytes (course sealing) → Headline (Run 1) Done http reading nothing_asked untouched (Some []) (Some []) (course sealing)
 unfolding report report_text actions_of run first wire_octets disk_faults entropy_faults device_faults wire_faults armings
-headline sealing http reading f keys =
+headline sealing http reading f begins keys =
     record {
-      run = is_course sealing http f;
+      run = is_course sealing http f begins;
       reported = (refl, nothing_more);
       wires = λ l frames e. sym (some_same [] frames e);
       disks = λ v h blank. absurd (none_below v h);

@@ -16,9 +16,9 @@ pub record IsBenched (scenario : Scenario) (net : Network) : Type 0 where
   pub network : IsNetwork net
   pub site : net.site ≡ site_of scenario.site
 
--- The course in which nothing was asked for after the lines.
-abbrev pub lines_alone : Network → List Performed → Course
-lines_alone net done = record { net = net; done = done; served = [] }
+-- The course from a world on in which nothing was asked for after the lines.
+abbrev pub lines_alone : Network → (begin : World) → List Performed → Course
+lines_alone net begin done = record { net = net; begin = begin; done = done; served = [] }
 
 -- A counter of 64 bits that doesn't rise above its greatest value.
 abbrev pub counter : (before now : ℕ) → Count

@@ -5,7 +5,8 @@ ghost use Rattle.net_model.specs.declared.record.Record.{Record};
 ghost use Rattle.net_model.specs.OctetSequence.{sequence_of};
 ghost use Rattle.net_model.specs.Premises.{IsNetwork};
 ghost use Rattle.net_model.specs.Site.{Site};
-ghost use Rattle.net_model.specs.World.{Network, first};
+ghost use Rattle.net_model.specs.World.{Network, World};
+ghost use Rattle.net_model.specs.Invariant.{Conserved};
 ghost use Rattle.net_model.specs.Needed.{view_of};
 ghost use Rattle.net_model.specs.Start.{may_resolve};
 ghost use Rattle.net_model.specs.Action.{Action};
@@ -18,11 +19,13 @@ ghost use Rattle.run_model.specs.Report.{Performed, report, actions_of, IsRunOf}
 ghost use Rattle.run_model.specs.Load.{load_scenario};
 ghost use Rattle.run_model.specs.Left.{batches_made, IsFoldOf};
 ghost use Rattle.run_model.specs.Turn.{HttpTexts};
+ghost use Rattle.run_model.specs.Begin.{MayBegin};
 ghost use Rattle.run_model.specs.Bench.{DiskBatches, Seen, RoseBy};
 ghost use Rattle.run_model.specs.Course.{Words, Run, Load, Course, tasks_of, whole_run, last_world, lines_played, IsCourseOf};
 ghost use Rattle.run_model.specs.Keys.{KeysAndBytes};
 ghost use Rattle.run_model.specs.Headline.{Stop, Took, TookFirst, Done, ForgedMatch, WriteFault, Memory, IsReported, Headline};
 ghost use Rattle.law_recovery.specs.GivesBack.{GivesBack};
+ghost use Rattle.law_recovery.specs.Saved.{DoubtsFit};
 ghost use Rattle.law_run.specs.Benched.{IsBenched, lines_alone, counter, kept_view};
 ghost use Rattle.law_run.specs.Seen.{IsTold, IsSeen};
 
@@ -30,20 +33,21 @@ use crate::{law_course_is_run, law_keys_and_bytes, law_tasks_are_run};
 
 /// What was done for the tasks of a scenario is its course, if nothing is asked for after the lines.
 pub fn law_tasks_make_a_course()
-    ensures run { (http : HttpTexts) (scenario : Scenario) (workers : ℕ) (net : Network) (done : List Performed) → IsBenched scenario net →
-        IsRunOf http net workers first (tasks_of scenario) done → IsCourseOf (Run workers) http scenario (lines_alone net done) }
-    ensures load { (http : HttpTexts) (scenario : Scenario) (rounds : ℕ) (net : Network) (done : List Performed) → scenario ≡ load_scenario rounds →
-        IsBenched scenario net → IsRunOf http net 1 first (tasks_of scenario) done → IsCourseOf (Load rounds) http scenario (lines_alone net done) }
+    ensures run { (http : HttpTexts) (scenario : Scenario) (workers : ℕ) (net : Network) (begin : World) (done : List Performed) → IsBenched scenario net →
+        MayBegin net begin → IsRunOf http net workers begin (tasks_of scenario) done → IsCourseOf (Run workers) http scenario (lines_alone net begin done) }
+    ensures load { (http : HttpTexts) (scenario : Scenario) (rounds : ℕ) (net : Network) (begin : World) (done : List Performed) → scenario ≡ load_scenario rounds →
+        IsBenched scenario net → MayBegin net begin → IsRunOf http net 1 begin (tasks_of scenario) done →
+        IsCourseOf (Load rounds) http scenario (lines_alone net begin done) }
 {
     law_course_is_run();
 }
 
 /// Such a course consists of the actions of its tasks, and leads to the world that is reported.
 pub fn law_lines_are_the_whole()
-    ensures actions { (net : Network) (done : List Performed) → whole_run (lines_alone net done) ≡ actions_of net done }
-    ensures world { (http : HttpTexts) (scenario : Scenario) (workers : ℕ) (net : Network) (done : List Performed) → IsBenched scenario net →
-        IsRunOf http net workers first (tasks_of scenario) done →
-        (report http net first (tasks_of scenario) done).world ≡ last_world (lines_alone net done) }
+    ensures actions { (net : Network) (begin : World) (done : List Performed) → whole_run (lines_alone net begin done) ≡ actions_of net done }
+    ensures world { (http : HttpTexts) (scenario : Scenario) (workers : ℕ) (net : Network) (begin : World) (done : List Performed) → IsBenched scenario net →
+        Conserved net begin → IsRunOf http net workers begin (tasks_of scenario) done →
+        (report http net begin (tasks_of scenario) done).world ≡ last_world (lines_alone net begin done) }
 {
     law_tasks_are_run();
 }
@@ -69,15 +73,17 @@ pub fn law_keys_of_a_course()
     law_keys_and_bytes();
 }
 
-/// In every run, the batches that a node made give it back. If the batches on a node's disk give back what the node
-/// sees in the end, they have the same meaning as those of its events. If a batch is in doubt, this holds with it or
-/// without it.
+/// In every run, a journal that gave a node back at the beginning does so with the batches that the node made. If the
+/// batches on a node's disk give back what the node sees in the end, they have the same meaning as those of its events,
+/// over what it saw at the beginning. If a batch is in doubt, this holds with it or without it.
 pub fn law_disks_of_a_course()
-    ensures made { (net : Network) (actions : List Action) (v : ℕ) → IsNetwork net → IsRun net first actions →
-        GivesBack net.site v (batches_made net v first actions) (view_of net (run net first actions) v) }
+    ensures made { (net : Network) (w : World) (actions : List Action) (v : ℕ) (before : List (List Record)) → IsNetwork net → Conserved net w → DoubtsFit net w →
+        GivesBack net.site v before (view_of net w v) → IsRun net w actions →
+        GivesBack net.site v (before ++ batches_made net v w actions) (view_of net (run net w actions) v) }
     ensures fold { (words : Words) (http : HttpTexts) (scenario : Scenario) (c : Course) → IsCourseOf words http scenario c →
-        (v : ℕ) (committed : Bool) (batches : List (List Record)) → may_resolve ((last_world c).in_doubt v) committed ≡ true →
-        GivesBack c.net.site v batches (kept_view c.net (last_world c) v committed) → IsFoldOf c.net (whole_run c) (last_world c) v batches }
+        (v : ℕ) (before : List (List Record)) → GivesBack c.net.site v before (view_of c.net c.begin v) →
+        (committed : Bool) (batches : List (List Record)) → may_resolve ((last_world c).in_doubt v) committed ≡ true →
+        GivesBack c.net.site v batches (kept_view c.net (last_world c) v committed) → IsFoldOf c.net c.begin (whole_run c) (last_world c) v batches }
 {}
 
 /// If a counter of 64 bits rose by n or reached its greatest value, then it rose by n in the sense of the headline.
@@ -100,16 +106,16 @@ pub fn law_octets_left()
 /// The headline holds of what was done for the tasks of a scenario, if the sink and the bench's parts
 /// show what they should. For a generated load, what the sink took is a further premise.
 pub fn law_headline_of_tasks()
-    ensures run { (http : HttpTexts) (scenario : Scenario) (workers : ℕ) (stop : Stop) (reading : DiskBatches) (seen : Seen) (old new : Option (List ℕ)) (net : Network) (done : List Performed) →
-        IsBenched scenario net → IsRunOf http net workers first (tasks_of scenario) done →
-        IsTold stop scenario.site.nodes (report http net first (tasks_of scenario) done) old new →
-        IsSeen reading net (report http net first (tasks_of scenario) done).world (actions_of net done) seen →
-        Headline (Run workers) stop http reading scenario seen old new (lines_alone net done) }
-    ensures load { (http : HttpTexts) (scenario : Scenario) (rounds : ℕ) (stop : Stop) (reading : DiskBatches) (seen : Seen) (old new : Option (List ℕ)) (net : Network) (done : List Performed) →
-        scenario ≡ load_scenario rounds → IsBenched scenario net → IsRunOf http net 1 first (tasks_of scenario) done →
-        IsReported (Load rounds) stop http scenario (lines_alone net done) old new →
-        IsSeen reading net (report http net first (tasks_of scenario) done).world (actions_of net done) seen →
-        Headline (Load rounds) stop http reading scenario seen old new (lines_alone net done) }
+    ensures run { (http : HttpTexts) (scenario : Scenario) (workers : ℕ) (stop : Stop) (reading : DiskBatches) (seen : Seen) (old new : Option (List ℕ)) (net : Network) (begin : World) (done : List Performed) →
+        IsBenched scenario net → MayBegin net begin → IsRunOf http net workers begin (tasks_of scenario) done →
+        IsTold stop scenario.site.nodes (report http net begin (tasks_of scenario) done) old new →
+        IsSeen reading net (report http net begin (tasks_of scenario) done).world (actions_of net done) seen →
+        Headline (Run workers) stop http reading scenario seen old new (lines_alone net begin done) }
+    ensures load { (http : HttpTexts) (scenario : Scenario) (rounds : ℕ) (stop : Stop) (reading : DiskBatches) (seen : Seen) (old new : Option (List ℕ)) (net : Network) (begin : World) (done : List Performed) →
+        scenario ≡ load_scenario rounds → IsBenched scenario net → MayBegin net begin → IsRunOf http net 1 begin (tasks_of scenario) done →
+        IsReported (Load rounds) stop http scenario (lines_alone net begin done) old new →
+        IsSeen reading net (report http net begin (tasks_of scenario) done).world (actions_of net done) seen →
+        Headline (Load rounds) stop http reading scenario seen old new (lines_alone net begin done) }
 {
     law_tasks_make_a_course();
     law_lines_are_the_whole();

@@ -4,6 +4,7 @@ ghost use Rattle.std.specs.List.{flat_map};
 ghost use Rattle.net_model.specs.Premises.{IsNetwork};
 ghost use Rattle.net_model.specs.Invariant.{Conserved};
 ghost use Rattle.net_model.specs.World.{Network, World, first};
+ghost use Rattle.run_model.specs.Begin.{MayBegin};
 ghost use Rattle.net_model.specs.Action.{Action};
 ghost use Rattle.net_model.specs.Step.{run, outcomes, IsRun};
 ghost use Rattle.net_model.specs.BlockOrder.{AreChains, all_histories};
@@ -22,19 +23,24 @@ use law_safety::{
     law_received_is_counted,
 };
 
+/// A course may begin in the world before any start.
+pub fn law_first_may_begin()
+    ensures { (net : Network) → MayBegin net first }
+{}
+
 /// What is done for the tasks of a scenario is one list of actions. Each action may happen, and the list leads to the
 /// world that is reported.
 pub fn law_tasks_are_run()
-    ensures run { (http : HttpTexts) (net : Network) (workers : ℕ) (tasks : List Task) (done : List Performed) → IsNetwork net →
-        IsRunOf http net workers first tasks done → IsRun net first (actions_of net done) }
-    ensures world { (http : HttpTexts) (net : Network) (workers : ℕ) (tasks : List Task) (done : List Performed) → IsNetwork net →
-        IsRunOf http net workers first tasks done → (report http net first tasks done).world ≡ run net first (actions_of net done) }
+    ensures run { (http : HttpTexts) (net : Network) (workers : ℕ) (w : World) (tasks : List Task) (done : List Performed) → IsNetwork net → Conserved net w →
+        IsRunOf http net workers w tasks done → IsRun net w (actions_of net done) }
+    ensures world { (http : HttpTexts) (net : Network) (workers : ℕ) (w : World) (tasks : List Task) (done : List Performed) → IsNetwork net → Conserved net w →
+        IsRunOf http net workers w tasks done → (report http net w tasks done).world ≡ run net w (actions_of net done) }
 {}
 
 /// The whole course of a call is such a run too, including what connections asked for after the lines.
 pub fn law_course_is_run()
-    ensures { (words : Words) (http : HttpTexts) (scenario : Scenario) (c : Course) → IsNetwork c.net →
-        IsRunOf http c.net (workers_of words) first (tasks_of scenario) c.done → AreServed words http scenario c → IsRun c.net first (whole_run c) }
+    ensures { (words : Words) (http : HttpTexts) (scenario : Scenario) (c : Course) → IsNetwork c.net → Conserved c.net c.begin →
+        IsRunOf http c.net (workers_of words) c.begin (tasks_of scenario) c.done → AreServed words http scenario c → IsRun c.net c.begin (whole_run c) }
 {}
 
 /// The outcome of a turn in a block is the same whether its manager's history is made on its own from the block's
@@ -44,9 +50,9 @@ pub fn law_turns_by_themselves()
         IsBlockOf http net workers w lines b → map (λ (d : Done). d.outcome) (flat (turns_done net w b)) ≡ outcomes net w (all_histories (parts b)) }
 {}
 
-/// In every run, all clauses of the headline on keys and lane bytes hold.
+/// In every run from a world in which a course may begin, all clauses of the headline on keys and lane bytes hold.
 pub fn law_keys_and_bytes()
-    ensures { (c : Course) → IsNetwork c.net → IsRun c.net first (whole_run c) → KeysAndBytes c }
+    ensures { (c : Course) → IsNetwork c.net → MayBegin c.net c.begin → IsRun c.net c.begin (whole_run c) → KeysAndBytes c }
 {
     law_bytes_are_drawn();
     law_handed_to_entitled();
@@ -61,5 +67,6 @@ pub fn law_keys_and_bytes()
 pub fn law_headline_is_met()
     ensures { NothingIsDone }
 {
+    law_first_may_begin();
     law_keys_and_bytes();
 }

@@ -12,8 +12,8 @@ pub use course_laws::{
 };
 pub use fit_laws::{law_load_commands_fit, law_read_commands_fit};
 pub use headline_laws::{
-    law_course_is_run, law_headline_is_met, law_keys_and_bytes, law_tasks_are_run,
-    law_turns_by_themselves,
+    law_course_is_run, law_first_may_begin, law_headline_is_met, law_keys_and_bytes,
+    law_tasks_are_run, law_turns_by_themselves,
 };
 pub use load_laws::{
     law_keys_add_up, law_lines_hand_out, law_lines_of_ledgers, law_load_lines,

@@ -23,7 +23,8 @@ ghost use Rattle.law_run.specs.Kinds.{is_of_load, is_unhanding, is_ledger_line, 
 ghost use Rattle.law_run.specs.Ledgers.{ledgers_of};
 
 /// In a run that asks for no group key and no chunk, masters got the keys that `enc` handed out, and slaves got those
-/// that `dec` handed out.
+/// that `dec` handed out. The run begins before any start, since a load does: of a later world it isn't said that its
+/// table has each name once.
 pub fn law_masters_and_slaves()
     ensures masters { (net : Network) (actions : List Action) → IsNetwork net → IsRun net first actions → list_all is_of_pairs actions ≡ true →
         to_masters (run net first actions) (deliveries net first actions) ≡ enc_keys net first actions }

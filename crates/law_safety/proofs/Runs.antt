@@ -1,11 +1,11 @@
 -- The handings of a run are marked in order, each pair once, and have the bytes of their names.
 use Rattle.std.proofs.Common.{◌≡◌, ℕ, ◌<◌, true, false, ◌&&◌, ◌||◌, List, [], ◌∷◌, ◌++◌, refl, sym, ◌∙◌, ap, subst, append_assoc, Some, inl, inr, arith}
-use Rattle.std.specs.Prelude.{◌==◌, nat_lt, slice_get}
+use Rattle.std.specs.Prelude.{◌==◌, nat_lt, length, drop, slice_get}
 use Rattle.std.proofs.lemmas.Bool.Decides.{nat_tests}
 use Rattle.std.proofs.lemmas.List.{append-nil}
 use Rattle.qkd_base.specs.Name.{Name, name_eq}
 use Rattle.net_model.specs.Table.{was_handed}
-use Rattle.net_model.specs.World.{Network, World, first}
+use Rattle.net_model.specs.World.{Network, World}
 use Rattle.net_model.specs.Knowledge.{IsGroups}
 use Rattle.net_model.specs.Handings.{PairsDiffer}
 use Rattle.net_model.specs.Invariant.{Conserved}
@@ -17,10 +17,10 @@ use Rattle.net_model.specs.Step.{step, is_asked, is_node, is_enabled, is_step, r
 use Rattle.net_model.specs.Deliveries.{Delivery, of_step, deliveries, IsTrueDelivery, pairs_of, IsWithin, Empty, Next, Skip, AreTrueDeliveries}
 use Rattle.law_base.proofs.Base.{and_left, and_right, or_right, not_false, not_both, get_cases}
 use Rattle.law_base.proofs.Grow.{Grows}
-use Rattle.law_safety.specs.Truth.{IsTrueReply}
+use Rattle.law_safety.specs.Truth.{IsTrueReply, AreNew}
 use Rattle.law_safety.proofs.Bytes.{true_grows}
 use Rattle.law_safety.proofs.Replies.{handled_true}
-use Rattle.law_invariant.proofs.Steps.{first_keeps, step_keeps}
+use Rattle.law_invariant.proofs.Steps.{step_keeps}
 use Rattle.law_safety.proofs.Worlds.{grows_step, IsLonger, longer_step}
 
 -- Lemmas on lists that are contained, in order, in other lists.
@@ -54,6 +54,18 @@ differ_within _ _ (Next x xs ys k) d = (
   differ_within xs ys k d.1,
 )
 differ_within _ _ (Skip y xs ys k) d = differ_within xs ys k d.1
+
+drop_prefix : {A : Type 0} (xs ys : List A) → drop (length xs) (xs ++ ys) ≡ ys
+drop_prefix [] ys = refl
+drop_prefix (x ∷ xs) ys = drop_prefix xs ys
+
+within_later : {A : Type 0} (before xs ys : List A) → IsWithin xs ys → IsWithin xs (before ++ ys)
+within_later [] xs ys k = k
+within_later (b ∷ before) xs ys k = Skip b xs (before ++ ys) (within_later before xs ys k)
+
+differ_behind : (before xs : List (Name × ℕ)) → PairsDiffer (before ++ xs) → PairsDiffer xs
+differ_behind [] xs d = d
+differ_behind (b ∷ before) xs d = differ_behind before xs d.1
 
 pairs_append : (xs ys : List Delivery) → pairs_of (xs ++ ys) ≡ pairs_of xs ++ pairs_of ys
 pairs_append [] ys = refl
@@ -143,13 +155,36 @@ true_run net w (a ∷ rest) good c runs =
     true_cons net w new (run net new rest) (of_step net w a (step net w a).1) (deliveries net new rest) (grows_step net w a)
     (true_step net w a good c after enabled) (true_run net new rest good after (and_right (is_step net w a) (is_run net new rest) runs))
 
-pub deliveries_true : (net : Network) (actions : List Action) → IsNetwork net → IsRun net first actions → AreTrueDeliveries (run net first actions) (deliveries net first actions)
-unfolding first
-deliveries_true net actions good runs =
-    let h = true_run net first actions good (first_keeps net) runs in
-    let within : IsWithin (pairs_of (deliveries net first actions)) (run net first actions).durable.handed = subst (IsWithin (pairs_of (deliveries net first actions))) (sym h.step.longer) h.step.within in
-    record {
-      marked = within;
-      once = differ_within (pairs_of (deliveries net first actions)) (run net first actions).durable.handed within h.conserved.now.handings.differ;
-      bytes = h.step.bytes;
-    }
+module _ (net : Network) (w : World) (actions : List Action) (good : IsNetwork net) (c : Conserved net w) (runs : IsRun net w actions) where
+  abbrev last : World
+  last = run net w actions
+
+  abbrev out : List Delivery
+  out = deliveries net w actions
+
+  true_out : IsTrueRun net w last out
+  true_out = true_run net w actions good c runs
+
+  -- the earlier marks, and then those of the run
+  all_within : IsWithin (w.durable.handed ++ pairs_of out) last.durable.handed
+  all_within = subst (IsWithin (w.durable.handed ++ pairs_of out)) (sym true_out.step.longer)
+      (within_append w.durable.handed w.durable.handed (pairs_of out) true_out.step.more (within_same w.durable.handed) true_out.step.within)
+
+  all_differ : PairsDiffer (w.durable.handed ++ pairs_of out)
+  all_differ = differ_within (w.durable.handed ++ pairs_of out) last.durable.handed all_within true_out.conserved.now.handings.differ
+
+  pub deliveries_new : AreNew w last out
+  deliveries_new =
+      let h = true_out.step in
+      record {
+        marked = subst (λ (hs : List (Name × ℕ)). IsWithin (pairs_of out) (drop (length w.durable.handed) hs)) (sym h.longer)
+            (subst (IsWithin (pairs_of out)) (sym (drop_prefix w.durable.handed h.more)) h.within);
+        once = all_differ;
+      }
+
+  pub deliveries_true : AreTrueDeliveries last out
+  deliveries_true = record {
+    marked = subst (IsWithin (pairs_of out)) (sym true_out.step.longer) (within_later w.durable.handed (pairs_of out) true_out.step.more true_out.step.within);
+    once = differ_behind w.durable.handed (pairs_of out) all_differ;
+    bytes = true_out.step.bytes;
+  }

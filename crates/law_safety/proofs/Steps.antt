@@ -1,6 +1,7 @@
--- Every action keeps the places of keys, so every run from the first world has them.
+-- Every action keeps the places of keys, so every run does.
 use Rattle.std.proofs.Common.{◌≡◌, ℕ, Bool, true, false, ◌&&◌, ◌||◌, List, [], ◌∷◌, refl, sym, ◌∙◌, ap, arith, Option, Some, None, inl, inr}
 use Rattle.std.specs.Prelude.{slice_get, if◌then◌else◌}
+use Rattle.qkd_base.specs.Name.{Name}
 use Rattle.qkd_base.specs.Family.{number_set}
 use Rattle.net_model.specs.declared.fact.Fact.{Fact}
 use Rattle.net_model.specs.declared.record.Record.TheVariants.{Learned}
@@ -17,7 +18,7 @@ use Rattle.qkd_base.specs.declared.lane.Lane.{Lane}
 use Rattle.law_base.proofs.Base.{by_number, by_test, and_left, and_right}
 use Rattle.law_base.proofs.Growing.{replay_cases}
 use Rattle.law_base.proofs.Resuming.{resumed_durable}
-use Rattle.law_invariant.proofs.Steps.{first_keeps, step_keeps}
+use Rattle.law_invariant.proofs.Steps.{step_keeps}
 use Rattle.law_safety.specs.Places.{ArePlaced}
 use Rattle.law_safety.proofs.Laid.{laid_stays}
 use Rattle.law_safety.proofs.Names.{IsThere}
@@ -143,13 +144,19 @@ module _ (net : Network) (w : World) (network : IsNetwork net) (c : Conserved ne
 
 -- Lemmas on runs.
 
-first_lays : (net : Network) → AreLaid net first
-unfolding first
-first_lays net = record { place = λ n. 0; each = λ f t secret. absurd (nothing f t); apart = λ f g t. absurd (nothing f t) }
+-- Where no batch is in doubt, all facts are in the table.
+certain_lays : (net : Network) (w : World) → ((v : ℕ) → w.in_doubt v ≡ no_doubt) → ArePlaced net w → AreLaid net w
+certain_lays net w certain h =
+    record {
+      place = h.place;
+      each = λ f there secret. let t = in_table f there in h.each t.0 f t.1 secret;
+      apart = λ f g there there' secret secret'. let t = in_table f there in let u = in_table g there' in h.apart t.0 u.0 f g t.1 u.1 secret secret';
+    }
   where
-    nothing : (f : Fact) → IsThere first f → ⊥
-    nothing f (inl (n, there)) = cc
-    nothing f (inr (v, k, at)) = cc
+    in_table : (f : Fact) → IsThere w f → (n : Name) × (fact_at w.durable.facts n ≡ Some f)
+    in_table f (inl there) = there
+    in_table f (inr (v, k, at)) =
+        let none : slice_get no_doubt.batch k ≡ Some (Learned f) = ap (λ (d : InDoubt). slice_get d.batch k) (sym (certain v)) ∙ at in absurd (cc)
 
 run_lays : (net : Network) → IsNetwork net → (actions : List Action) (w : World) → Conserved net w → AreLaid net w → IsRun net w actions → AreLaid net (run net w actions)
 unfolding run is_run
@@ -169,5 +176,10 @@ placed net w h =
       apart = λ n m f g there there' secret secret'. h.apart f g (inl (n, there)) (inl (m, there')) secret secret';
     }
 
-pub octets_placed : (net : Network) (actions : List Action) → IsNetwork net → IsRun net first actions → ArePlaced net (run net first actions)
-octets_placed net actions network h = placed net (run net first actions) (run_lays net network actions first (first_keeps net) (first_lays net) h)
+pub octets_placed : (net : Network) (w : World) (actions : List Action) → IsNetwork net → Conserved net w → ((v : ℕ) → w.in_doubt v ≡ no_doubt) → ArePlaced net w → IsRun net w actions →
+    ArePlaced net (run net w actions)
+octets_placed net w actions network c certain h r = placed net (run net w actions) (run_lays net network actions w c (certain_lays net w certain h) r)
+
+pub first_placed : (net : Network) → ArePlaced net first
+unfolding first
+first_placed net = record { place = λ n. 0; each = λ n f there. cc; apart = λ n m f g there. cc }

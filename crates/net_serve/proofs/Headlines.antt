@@ -5,6 +5,7 @@ use Rattle.std.specs.List.{flat_map}
 use Rattle.disk_model.specs.declared.arm.Armings.{Armings}
 use Rattle.net_model.specs.OctetSequence.{OctetSequence}
 use Rattle.net_model.specs.Premises.{IsNetwork}
+use Rattle.net_model.specs.Invariant.{Conserved}
 use Rattle.net_model.specs.World.{Network, World, first}
 use Rattle.net_model.specs.Action.{Action}
 use Rattle.net_model.specs.Step.{run}
@@ -29,6 +30,7 @@ use Rattle.run_tasks.specs.Tasks.{IsCut}
 use Rattle.run_tasks.proofs.Cuts.{HasTaken, cut_more}
 use Rattle.law_locality.proofs.Runs.{run-append}
 use Rattle.law_run.specs.Benched.{IsBenched}
+use Rattle.law_run.proofs.Resting.{first_begins}
 use Rattle.net_serve.specs.ServedRun.{course_on, MayFollow}
 use Rattle.net_serve.specs.Told.{IsServeTold}
 use Rattle.kme_serve.specs.Door.{Door}
@@ -53,7 +55,7 @@ follows : {T : Type 0} (lines : Result T Stop) (http : HttpTexts) (scenario : Sc
     (report http net first (tasks_of scenario) done).world ≡ run net first (actions_of net done) →
     MatchResult lines (λ answer. ((report http net first (tasks_of scenario) done).ending ≡ Whole) × Took before after (report_text scenario.site.nodes (report http net first (tasks_of scenario) done).items))
     (λ stop. StopsAs stop scenario.site.nodes (report http net first (tasks_of scenario) done) before after) →
-    (served ≡ []) ⊎ ((is_ok lines ≡ true) × AreRequests net (report http net first (tasks_of scenario) done).world served) → MayFollow http scenario net done served
+    (served ≡ []) ⊎ ((is_ok lines ≡ true) × AreRequests net (report http net first (tasks_of scenario) done).world served) → MayFollow http scenario net first done served
 follows lines http scenario net done served before after leads told (inl none) = inl none
 follows (Ok answer) http scenario net done served before after leads told (inr asked) = inr (record {
   whole = told.0;
@@ -84,14 +86,14 @@ module _ {K Q E X D : Type 0} (is_honest : K → Bool) (content : K → List ℕ
 
   module _ {T U : Type 0} (old stayed new : Bench K Q E X) (state final : State K Q E X) (scenario : Scenario) (workers connections port : ℕ) (before between after : Option (List ℕ))
       (ports_before ports_after : PortsTold D) (lines : Result T Stop) (result : Result U ServeStop)
-      (tasks_lead : (http : HttpTexts) (net : Network) (workers : ℕ) (tasks : List Task) (done : List Performed) → IsNetwork net → IsRunOf http net workers first tasks done →
-      (report http net first tasks done).world ≡ run net first (actions_of net done))
+      (tasks_lead : (http : HttpTexts) (net : Network) (workers : ℕ) (w : World) (tasks : List Task) (done : List Performed) → IsNetwork net → Conserved net w →
+      IsRunOf http net workers w tasks done → (report http net w tasks done).world ≡ run net w (actions_of net done))
       (bench_begins : (b : Bench K Q E X) (scenario : Scenario) → IsNew is_honest moment image left told frames b → IsDeclared scenario.site → IsBenched scenario (network_on told left b scenario.site))
       (bench_serves : (http : HttpTexts) (scenario : Scenario) (workers connections port : ℕ) (stop : headline.Stop) (old new : Bench K Q E X) (before after : Option (List ℕ))
       (done : List Performed) (served : List (List Action)) →
       IsOver is_honest content moment image left told frames counted disk_count armed entropy_count device_count wire_count old new scenario.site
       (whole_run (course_on told left old scenario done served)) (last_world (course_on told left old scenario done served)) →
-      IsRunOf http (network_on told left old scenario.site) workers first (tasks_of scenario) done → MayFollow http scenario (network_on told left old scenario.site) done served →
+      IsRunOf http (network_on told left old scenario.site) workers first (tasks_of scenario) done → MayFollow http scenario (network_on told left old scenario.site) first done served →
       IsServeTold stop scenario.site.nodes (report http (network_on told left old scenario.site) first (tasks_of scenario) done)
       (served_by (Serve workers connections port) (length scenario.site.nodes)) before after →
       IsCut (headline.written_of (Serve workers connections port)) scenario.site.nodes http (network_on told left old scenario.site) first (tasks_of scenario) done before after →
@@ -112,7 +114,7 @@ module _ {K Q E X D : Type 0} (is_honest : K → Bool) (content : K → List ℕ
         let p = report http net first (tasks_of scenario) r.done in
         let actions = actions_of net r.done in
         let benched = bench_begins old scenario fresh declared in
-        let leads : p.world ≡ run net first actions = tasks_lead http net workers (tasks_of scenario) r.done benched.network r.is in
+        let leads : p.world ≡ run net first actions = tasks_lead http net workers first (tasks_of scenario) r.done benched.network (first_begins net).conserved r.is in
         let e = ends net p.world (left_of state net p.world lines r.left) in
         let course : Course = course_on told left old scenario r.done e.served in
         let behind : List Action = flat_map (λ h. h) e.served in

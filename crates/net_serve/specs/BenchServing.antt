@@ -4,7 +4,7 @@ use Rattle.qkd_base.specs.Faults.{Rose}
 use Rattle.disk_model.specs.declared.arm.Armings.{Armings}
 use Rattle.edge_io.specs.Writes.{Adds}
 use Rattle.net_model.specs.OctetSequence.{OctetSequence}
-use Rattle.net_model.specs.World.{Network, World, first}
+use Rattle.net_model.specs.World.{Network, World}
 use Rattle.net_model.specs.Action.{Action}
 use Rattle.net_model.specs.Step.{run}
 use Rattle.declared_site.specs.declared.site.Site.{Site as Declared}
@@ -77,7 +77,7 @@ module _ {D : Type 0} (tell : D → Door) (failed : D → ℕ) (told : Type 0) (
   ServedBehind headline.Memory net w served = WereKept served ⊎ (WereTried served ⊎ WereServed true net w served)
 
   abbrev pub ServedBy : headline.Stop → Course → Type 0
-  ServedBy stop c = ServedBehind stop c.net (run c.net first (lines_run c)) c.served
+  ServedBy stop c = ServedBehind stop c.net (run c.net c.begin (lines_run c)) c.served
 
 -- For all texts of HTTP that are the site's there is one course whose headline holds: it goes on with what connections asked. What became of the ports is told
 -- of the same course.

@@ -2,7 +2,7 @@
 use Rattle.std.specs.Prelude.{◌≡◌, ◌⊎◌, true, List, [], length, Option}
 use Rattle.std.specs.List.{list_all}
 use Rattle.net_model.specs.OctetSequence.{OctetSequence}
-use Rattle.net_model.specs.World.{Network, first}
+use Rattle.net_model.specs.World.{Network, World, first}
 use Rattle.net_model.specs.Action.{Action}
 use Rattle.net_model.specs.Step.{run}
 use Rattle.net_model.specs.BlockOrder.{AreChains}
@@ -14,20 +14,20 @@ use Rattle.run_model.specs.Course.{Course, tasks_of, is_request_of}
 use Rattle.net_world.specs.New.{network_on}
 use Rattle.net_world.specs.declared.bench.Bench.{Bench}
 
-abbrev pub course_of : Network → List Performed → List (List Action) → Course
-course_of net done served = record { net = net; done = done; served = served }
+abbrev pub course_of : Network → (begin : World) → List Performed → List (List Action) → Course
+course_of net begin done served = record { net = net; begin = begin; done = done; served = served }
 
--- the course over what the bench's devices and entropies told
+-- the course over what the bench's devices and entropies told, from the world before any start
 abbrev pub course_on : {K Q E X : Type 0} → (told : Q → Option OctetSequence) → (left : E → Option OctetSequence) → Bench K Q E X → Scenario → List Performed → List (List Action) → Course
-course_on told left old scenario done served = course_of (network_on told left old scenario.site) done served
+course_on told left old scenario done served = course_of (network_on told left old scenario.site) first done served
 
 -- All lines were done, and then each manager took the turns of its own history, all of them requests.
-pub record AreAsked (http : HttpTexts) (scenario : Scenario) (net : Network) (done : List Performed) (served : List (List Action)) : Type 0 where
-  pub whole : (report http net first (tasks_of scenario) done).ending ≡ Whole
+pub record AreAsked (http : HttpTexts) (scenario : Scenario) (net : Network) (begin : World) (done : List Performed) (served : List (List Action)) : Type 0 where
+  pub whole : (report http net begin (tasks_of scenario) done).ending ≡ Whole
   pub nodes : length served ≡ net.site.nodes
-  pub chains : AreChains net (run net first (actions_of net done)) 0 served
+  pub chains : AreChains net (run net begin (actions_of net done)) 0 served
   pub requests : list_all (list_all is_request_of) served ≡ true
 
 -- either connections asked for nothing, or all lines were done before their requests
-abbrev pub MayFollow : HttpTexts → Scenario → Network → List Performed → List (List Action) → Type 0
-MayFollow http scenario net done served = (served ≡ []) ⊎ AreAsked http scenario net done served
+abbrev pub MayFollow : HttpTexts → Scenario → Network → (begin : World) → List Performed → List (List Action) → Type 0
+MayFollow http scenario net begin done served = (served ≡ []) ⊎ AreAsked http scenario net begin done served

@@ -29,7 +29,7 @@ pub fn law_bench_serves<K: Disk + Drop, Q: Device + Drop, E: Entropy + Drop, X: 
         IsOver K.is_honest K.content K.moment K.image E.left Q.told X.frames X.counted K.faults K.armings E.faults Q.faults X.faults old new scenario.site
         (whole_run (course_on Q.told E.left old scenario done served)) (last_world (course_on Q.told E.left old scenario done served)) →
         IsRunOf http (network_on Q.told E.left old scenario.site) workers first (tasks_of scenario) done →
-        MayFollow http scenario (network_on Q.told E.left old scenario.site) done served →
+        MayFollow http scenario (network_on Q.told E.left old scenario.site) first done served →
         IsServeTold stop scenario.site.nodes (report http (network_on Q.told E.left old scenario.site) first (tasks_of scenario) done)
         (served_by (Serve workers connections port) (length scenario.site.nodes)) before after →
         IsCut (written_of (Serve workers connections port)) scenario.site.nodes http (network_on Q.told E.left old scenario.site) first (tasks_of scenario) done before after →

@@ -1,10 +1,11 @@
 // Laws of the course of a scenario that is served.
 ghost use Rattle.std.specs.Prelude.{◌≡◌, ℕ, List, Option, length};
-ghost use Rattle.net_model.specs.World.{Network, first};
+ghost use Rattle.net_model.specs.World.{Network, World};
 ghost use Rattle.net_model.specs.Action.{Action};
 ghost use Rattle.run_types.specs.declared.scenario.Scenario.{Scenario};
 ghost use Rattle.run_model.specs.Report.{Performed, IsRunOf};
 ghost use Rattle.run_model.specs.Turn.{HttpTexts};
+ghost use Rattle.run_model.specs.Begin.{MayBegin};
 ghost use Rattle.run_model.specs.Bench.{DiskBatches, Seen};
 ghost use Rattle.run_model.specs.Course.{Words, Serve, Course, tasks_of, served_by, whole_run, last_world, lines_played, IsCourseOf};
 ghost use Rattle.run_model.specs.Headline.{Stop, IsReported, Headline};
@@ -17,9 +18,9 @@ use law_run::{law_course_is_run, law_keys_of_a_course};
 
 /// What was done for the lines of a scenario, followed by what connections had each manager do, is a course of the scenario.
 pub fn law_served_lines_make_a_course()
-    ensures { (http : HttpTexts) (scenario : Scenario) (workers connections port : ℕ) (net : Network) (done : List Performed) (served : List (List Action)) →
-        IsBenched scenario net → IsRunOf http net workers first (tasks_of scenario) done → MayFollow http scenario net done served →
-        IsCourseOf (Serve workers connections port) http scenario (course_of net done served) }
+    ensures { (http : HttpTexts) (scenario : Scenario) (workers connections port : ℕ) (net : Network) (begin : World) (done : List Performed) (served : List (List Action)) →
+        IsBenched scenario net → MayBegin net begin → IsRunOf http net workers begin (tasks_of scenario) done → MayFollow http scenario net begin done served →
+        IsCourseOf (Serve workers connections port) http scenario (course_of net begin done served) }
 {
     law_course_is_run();
 }

@@ -64,12 +64,12 @@ module _ {K Q E X S : Type 0} (is_honest : K → Bool) (content : K → List ℕ
       IsOver is_honest content moment image left told frames counted disk_count armed entropy_count device_count wire_count old new scenario.site
       (actions_of (network_on told left old scenario.site) done) (report http (network_on told left old scenario.site) first (tasks_of scenario) done).world →
       IsRunOf http (network_on told left old scenario.site) 1 first (tasks_of scenario) done →
-      headline.IsReported (Load rounds) stop http scenario (lines_alone (network_on told left old scenario.site) done) before after →
+      headline.IsReported (Load rounds) stop http scenario (lines_alone (network_on told left old scenario.site) first done) before after →
       IsCut (headline.written_of (Load rounds)) scenario.site.nodes http (network_on told left old scenario.site) first (tasks_of scenario) done before after →
       HasHeadline moment image left told frames disk_count armed entropy_count device_count wire_count old new (Load rounds) stop http scenario before after
-      (lines_alone (network_on told left old scenario.site) done)) →
+      (lines_alone (network_on told left old scenario.site) first done)) →
       ((http : HttpTexts) (scenario : Scenario) (rounds : ℕ) (c : Course) (stop : headline.Stop) (old new : Option (List ℕ)) → IsLoadOver http scenario rounds c →
-      IsLoadTold stop scenario.site.nodes (lines_played http scenario c) (enc_keys c.net first (lines_run c)) (dec_keys c.net first (lines_run c)) old new →
+      IsLoadTold stop scenario.site.nodes (lines_played http scenario c) (enc_keys c.net c.begin (lines_run c)) (dec_keys c.net c.begin (lines_run c)) old new →
       headline.IsReported (Load rounds) stop http scenario c old new) →
       IsSealing hop_sealing → scenario ≡ load_scenario rounds →
       IsNew is_honest moment image left told frames old → IsDeclared scenario.site → IsLaidOut old stayed scenario.site (part begin) →
@@ -89,8 +89,8 @@ module _ {K Q E X S : Type 0} (is_honest : K → Bool) (content : K → List ℕ
       let benched = over_benched is_honest content moment image left told frames counted disk_count armed entropy_count device_count wire_count old new scenario (actions_of net r.done) w frame_law over in
       let told_so = subst (λ (stop : headline.Stop). IsLoadTold stop scenario.site.nodes (report http net first (tasks_of scenario) r.done)
       (enc_keys net first (actions_of net r.done)) (dec_keys net first (actions_of net r.done)) before after) (ends_alike result) r.told in (
-        lines_alone net r.done,
+        lines_alone net first r.done,
         law http scenario rounds (ended result) old new before after r.done is over r.is
-            (reported http scenario rounds (lines_alone net r.done) (ended result) before after
-            (record { scenario_is = is; network = benched.network; lines = r.is; alone = refl }) told_so) r.cut,
+            (reported http scenario rounds (lines_alone net first r.done) (ended result) before after
+            (record { scenario_is = is; network = benched.network; begin = refl; lines = r.is; alone = refl }) told_so) r.cut,
       )

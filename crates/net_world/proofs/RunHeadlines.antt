@@ -92,7 +92,7 @@ module _ {K Q E X S : Type 0} (is_honest : K → Bool) (content : K → List ℕ
       IsTold stop scenario.site.nodes (report http (network_on told left old scenario.site) first (tasks_of scenario) done) before after →
       IsCut (headline.written_of (Run workers)) scenario.site.nodes http (network_on told left old scenario.site) first (tasks_of scenario) done before after →
       HasHeadline moment image left told frames disk_count armed entropy_count device_count wire_count old new (Run workers) stop http scenario before after
-      (lines_alone (network_on told left old scenario.site) done)) →
+      (lines_alone (network_on told left old scenario.site) first done)) →
       IsNew is_honest moment image left told frames old → IsDeclared scenario.site → IsLaidOut old stayed scenario.site (part begin) →
       ((http : HttpTexts) → IsTextsOf scenario.site.nodes scenario.site.entitlements http →
       RanTasks Standing Resting Told scenario.site.nodes begin end before after http (network_on told left old scenario.site) workers first (tasks_of scenario) result) →
@@ -101,7 +101,7 @@ module _ {K Q E X S : Type 0} (is_honest : K → Bool) (content : K → List ℕ
   headlines old stayed new begin end scenario workers before after result law fresh declared laid ran back = λ http speaks.
       let net = network_on told left old scenario.site in
       let r = ran http speaks in (
-        lines_alone net r.done,
+        lines_alone net first r.done,
         law http scenario workers (ended result) old new before after r.done
             (record {
               fresh = fresh;

@@ -15,6 +15,7 @@ use Rattle.run_types.specs.Texts.{report_text}
 use Rattle.run_model.specs.Turn.{HttpTexts}
 use Rattle.run_model.specs.Play.{Played, Whole}
 use Rattle.run_model.specs.Report.{Task, Performed, IsRunOf, report, actions_of}
+use Rattle.run_model.specs.Begin.{MayBegin}
 use Rattle.run_model.specs.Bench.{DiskBatches, Seen}
 use Rattle.run_model.specs.Course.{Run, Course, tasks_of, last_world}
 use Rattle.run_model.specs.Headline as headline
@@ -26,6 +27,7 @@ use Rattle.run_lines.specs.declared.stop.Stop.{Stop}
 use Rattle.run_lines.specs.declared.stop.Stop.TheVariants as stops
 use Rattle.law_run.specs.Benched.{IsBenched, lines_alone}
 use Rattle.law_run.specs.Seen.{IsTold, IsSeen}
+use Rattle.law_run.proofs.Resting.{first_begins}
 use Rattle.net_world.specs.Other.{EveryKeyFits}
 use Rattle.world_state.specs.Rests.{Rests}
 use Rattle.world_state.specs.Stands.{Stands}
@@ -103,16 +105,17 @@ module _ {K Q E X : Type 0} (is_honest : K → Bool) (content : K → List ℕ) 
 
   module _ {T U W : Type 0} (taken : W → Option (List ℕ)) (old stayed new : Bench K Q E X) (state : State K Q E X) (scenario : Scenario) (result : Result T Stop) (before after : W) (final : Result U Stop)
       (frame_law : IsSealing hop_sealing)
-      (tasks_run : (http : HttpTexts) (net : Network) (workers : ℕ) (tasks : List Task) (done : List Performed) → IsNetwork net → IsRunOf http net workers first tasks done → IsRun net first (actions_of net done))
-      (tasks_lead : (http : HttpTexts) (net : Network) (workers : ℕ) (tasks : List Task) (done : List Performed) → IsNetwork net → IsRunOf http net workers first tasks done →
-      (report http net first tasks done).world ≡ run net first (actions_of net done))
-      (headline_law : (http : HttpTexts) (scenario : Scenario) (workers : ℕ) (stop : headline.Stop) (reading : DiskBatches) (seen : Seen) (old new : Option (List ℕ)) (net : Network) (done : List Performed) →
-      IsBenched scenario net → IsRunOf http net workers first (tasks_of scenario) done →
-      IsTold stop scenario.site.nodes (report http net first (tasks_of scenario) done) old new →
-      IsSeen reading net (report http net first (tasks_of scenario) done).world (actions_of net done) seen →
-      headline.Headline (Run workers) stop http reading scenario seen old new (lines_alone net done))
-      (whole_law : (http : HttpTexts) (scenario : Scenario) (workers : ℕ) (net : Network) (done : List Performed) → IsBenched scenario net → IsRunOf http net workers first (tasks_of scenario) done →
-      (report http net first (tasks_of scenario) done).world ≡ last_world (lines_alone net done))
+      (tasks_run : (http : HttpTexts) (net : Network) (workers : ℕ) (w : World) (tasks : List Task) (done : List Performed) → IsNetwork net → Conserved net w →
+      IsRunOf http net workers w tasks done → IsRun net w (actions_of net done))
+      (tasks_lead : (http : HttpTexts) (net : Network) (workers : ℕ) (w : World) (tasks : List Task) (done : List Performed) → IsNetwork net → Conserved net w →
+      IsRunOf http net workers w tasks done → (report http net w tasks done).world ≡ run net w (actions_of net done))
+      (headline_law : (http : HttpTexts) (scenario : Scenario) (workers : ℕ) (stop : headline.Stop) (reading : DiskBatches) (seen : Seen) (old new : Option (List ℕ)) (net : Network) (begin : World) (done : List Performed) →
+      IsBenched scenario net → MayBegin net begin → IsRunOf http net workers begin (tasks_of scenario) done →
+      IsTold stop scenario.site.nodes (report http net begin (tasks_of scenario) done) old new →
+      IsSeen reading net (report http net begin (tasks_of scenario) done).world (actions_of net done) seen →
+      headline.Headline (Run workers) stop http reading scenario seen old new (lines_alone net begin done))
+      (whole_law : (http : HttpTexts) (scenario : Scenario) (workers : ℕ) (net : Network) (begin : World) (done : List Performed) → IsBenched scenario net → Conserved net begin →
+      IsRunOf http net workers begin (tasks_of scenario) done → (report http net begin (tasks_of scenario) done).world ≡ last_world (lines_alone net begin done))
       (fit_law : (net : Network) (w : World) → IsNetwork net → Conserved net w → net.sealing ≡ hop_sealing → EveryKeyFits net w)
       (fresh : IsNew is_honest moment image left told frames old) (declared : IsDeclared scenario.site)
       (ran : RanOut is_honest moment image left told frames counted disk_count armed entropy_count device_count wire_count old stayed 1 scenario None None state result)
@@ -130,22 +133,24 @@ module _ {K Q E X : Type 0} (is_honest : K → Bool) (content : K → List ℕ) 
           declared = declared;
           ran = record { begin = ran.begin; end = state; stayed = stayed; laid = ran.laid; rests = rests; tallied = r.tallied; back = back };
         } in
+        let begins : MayBegin net first = first_begins net in
         let benched = over_benched is_honest content moment image left told frames counted disk_count armed entropy_count device_count wire_count old new scenario actions p.world frame_law over in
         let sees = over_seen is_honest content moment image left told frames counted disk_count armed entropy_count device_count wire_count old new scenario actions p.world frame_law over
-        (tasks_run http net 1 (tasks_of scenario) r.done benched.network r.is) (tasks_lead http net 1 (tasks_of scenario) r.done benched.network r.is) in
+        (tasks_run http net 1 first (tasks_of scenario) r.done benched.network begins.conserved r.is) (tasks_lead http net 1 first (tasks_of scenario) r.done benched.network begins.conserved r.is) in
         let end : Ends taken result (veil_line net p.world) before after final = ends net p.world (stands_of net p.world result r.left) in
-        let leads : last_world (lines_alone net r.done) ≡ p.world = sym (whole_law http scenario 1 net r.done benched r.is) in
+        let leads : last_world (lines_alone net first r.done) ≡ p.world = sym (whole_law http scenario 1 net first r.done benched begins.conserved r.is) in
         let fits : EveryKeyFits net p.world = fit_law net p.world benched.network rests.running.conserved rests.running.sealing in (
-          lines_alone net r.done,
+          lines_alone net first r.done,
           record {
             run = record {
               net = refl;
-              holds = λ reading seen reads shows. headline_law http scenario 1 (ended final) reading seen None None net r.done benched r.is
+              begin = refl;
+              holds = λ reading seen reads shows. headline_law http scenario 1 (ended final) reading seen None None net first r.done benched begins r.is
                   (told_none taken result scenario.site.nodes p (veil_line net p.world) before after final r.told end) (sees reading seen reads shows);
               cut = r.cut;
             };
             fits = subst (λ (w : World). EveryKeyFits net w) (sym leads) fits;
-            line = line_told taken result scenario.site.nodes p net p.world (lines_alone net r.done) before after final refl leads calm r.told end;
+            line = line_told taken result scenario.site.nodes p net p.world (lines_alone net first r.done) before after final refl leads calm r.told end;
           },
         )
       where

@@ -33,6 +33,8 @@ pub record HasHeadline {K Q E X : Type 0} (moment : K → ℕ) (image : K → �
     (frames : X → Option (List (List ℕ))) (disk_count : K → ℕ) (armed : K → Armings) (entropy_count : E → ℕ) (device_count : Q → ℕ) (wire_count : X → ℕ)
     (old new : Bench K Q E X) (words : Words) (stop : Stop) (http : HttpTexts) (scenario : Scenario) (before after : Option (List ℕ)) (c : Course) : Type 0 where
   pub net : c.net ≡ network_on told left old scenario.site
+  -- nothing was there before
+  pub begin : c.begin ≡ first
   pub holds : (reading : DiskBatches) (seen : Seen) → ReadsDisks reading → IsSeenOn moment image left frames disk_count armed entropy_count device_count wire_count old new seen →
       Headline words stop http reading scenario seen before after c
   -- where the run was cut, only items of the last task that was done may be missing

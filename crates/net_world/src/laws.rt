@@ -79,16 +79,16 @@ pub fn law_bench_headline<K: Disk + Drop, Q: Device + Drop, E: Entropy + Drop, X
         IsTold stop scenario.site.nodes (report http (network_on Q.told E.left old scenario.site) first (tasks_of scenario) done) before after →
         IsCut (written_of (Run workers)) scenario.site.nodes http (network_on Q.told E.left old scenario.site) first (tasks_of scenario) done before after →
         HasHeadline K.moment K.image E.left Q.told X.frames K.faults K.armings E.faults Q.faults X.faults old new (Run workers) stop http scenario before after
-        (lines_alone (network_on Q.told E.left old scenario.site) done) }
+        (lines_alone (network_on Q.told E.left old scenario.site) first done) }
     ensures load { (http : HttpTexts) (scenario : Scenario) (rounds : ℕ) (stop : Stop) (old new : BenchValue K Q E X) (before after : Option (List ℕ)) (done : List Performed) →
         scenario ≡ load_scenario rounds →
         IsOver K.is_honest K.content K.moment K.image E.left Q.told X.frames X.counted K.faults K.armings E.faults Q.faults X.faults old new scenario.site
         (actions_of (network_on Q.told E.left old scenario.site) done) (report http (network_on Q.told E.left old scenario.site) first (tasks_of scenario) done).world →
         IsRunOf http (network_on Q.told E.left old scenario.site) 1 first (tasks_of scenario) done →
-        IsReported (Load rounds) stop http scenario (lines_alone (network_on Q.told E.left old scenario.site) done) before after →
+        IsReported (Load rounds) stop http scenario (lines_alone (network_on Q.told E.left old scenario.site) first done) before after →
         IsCut (written_of (Load rounds)) scenario.site.nodes http (network_on Q.told E.left old scenario.site) first (tasks_of scenario) done before after →
         HasHeadline K.moment K.image E.left Q.told X.frames K.faults K.armings E.faults Q.faults X.faults old new (Load rounds) stop http scenario before after
-        (lines_alone (network_on Q.told E.left old scenario.site) done) }
+        (lines_alone (network_on Q.told E.left old scenario.site) first done) }
 {
     frames_of_a_network();
     law_tasks_are_run();
@@ -116,7 +116,7 @@ pub fn law_headline_stands<K: Disk + Drop, Q: Device + Drop, E: Entropy + Drop, 
     ensures honest { (old new : BenchValue K Q E X) (words : Words) (scenario : Scenario) (before after : Option (List ℕ)) (stop : Stop) →
         HasHeadlines K.moment K.image E.left Q.told X.frames K.faults K.armings E.faults Q.faults X.faults old new words scenario before after stop →
         All (λ k. IsTrue (K.is_honest k)) new.disks.items →
-        (http : HttpTexts) × IsTextsOf scenario.site.nodes scenario.site.entitlements http × (c : Course) ×
+        (http : HttpTexts) × IsTextsOf scenario.site.nodes scenario.site.entitlements http × (c : Course) × (c.begin ≡ first) ×
         Headline words stop http batches_on scenario (shown_by K.content X.frames K.faults K.armings E.faults Q.faults X.faults old new) before after c }
 {
     law_texts_exist();
@@ -129,7 +129,7 @@ pub fn law_asking_is_promised<K: Disk + Drop, Q: Device + Drop, E: Entropy + Dro
     ensures { (old new : BenchValue K Q E X) (before after : Option (List ℕ)) (stop : Stop) →
         HasHeadlines K.moment K.image E.left Q.told X.frames K.faults K.armings E.faults Q.faults X.faults old new (Run 1) asking before after stop →
         All (λ k. IsTrue (K.is_honest k)) new.disks.items →
-        (http : HttpTexts) × (http.request 0 by_alice ≡ Calls (Enc 0 1 1 256)) × (http.request 0 by_carol ≡ message 401 (codes "not allowed")) × (c : Course) ×
+        (http : HttpTexts) × (http.request 0 by_alice ≡ Calls (Enc 0 1 1 256)) × (http.request 0 by_carol ≡ message 401 (codes "not allowed")) × (c : Course) × (c.begin ≡ first) ×
         Headline (Run 1) stop http batches_on asking (shown_by K.content X.frames K.faults K.armings E.faults Q.faults X.faults old new) before after c × KeysAndBytes c }
 {
     law_requests_ask();

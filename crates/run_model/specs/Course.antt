@@ -4,13 +4,14 @@ use Rattle.std.specs.List.{flat_map, list_all}
 use Rattle.net_model.specs.declared.event.Event.{Event}
 use Rattle.net_model.specs.declared.event.Event.TheVariants.{Enc, Dec, Status, EncGroup}
 use Rattle.net_model.specs.Premises.{IsNetwork}
-use Rattle.net_model.specs.World.{Network, World, first}
+use Rattle.net_model.specs.World.{Network, World}
 use Rattle.net_model.specs.Action.{Action, Ask}
 use Rattle.net_model.specs.Step.{run, IsRun}
 use Rattle.net_model.specs.BlockOrder.{AreChains}
 use Rattle.net_model.specs.Deliveries.{Delivery, deliveries}
 use Rattle.declared_site.specs.SiteOf.{site_of}
 use Rattle.run_types.specs.declared.scenario.Scenario.{Scenario}
+use Rattle.run_model.specs.Begin.{MayBegin}
 use Rattle.run_model.specs.Play.{Played, Whole}
 use Rattle.run_model.specs.Report.{Task, tasks, Performed, report, actions_of, IsRunOf}
 use Rattle.run_model.specs.Turn.{HttpTexts}
@@ -38,10 +39,11 @@ abbrev pub IsOfWords : Words → Scenario → Type 0
 IsOfWords (Load rounds) scenario = scenario ≡ load_scenario rounds
 IsOfWords _ scenario = Unit {0}
 
--- A course has its network, what was done for each task, and what connections then had the managers do: one history for
--- each node, in order of node.
+-- A course has its network, the world in which it begins, what was done for each task, and what connections then had the
+-- managers do: one history for each node, in order of node.
 pub record Course : Type 0 where
   pub net : Network
+  pub begin : World
   pub done : List Performed
   pub served : List (List Action)
 
@@ -53,21 +55,21 @@ whole_run c = lines_run c ++ flat_map (λ h. h) c.served
 
 -- the world after the first n actions, and after all of them
 abbrev pub world_after : Course → ℕ → World
-world_after c n = run c.net first (take n (whole_run c))
+world_after c n = run c.net c.begin (take n (whole_run c))
 
 abbrev pub last_world : Course → World
-last_world c = run c.net first (whole_run c)
+last_world c = run c.net c.begin (whole_run c)
 
 abbrev pub tasks_of : Scenario → List Task
 tasks_of scenario = tasks scenario.node_lines scenario.entries
 
 -- what the lines reported, and how far they got
 abbrev pub lines_played : HttpTexts → Scenario → Course → Played
-lines_played http scenario c = report http c.net first (tasks_of scenario) c.done
+lines_played http scenario c = report http c.net c.begin (tasks_of scenario) c.done
 
 -- what the replies of the run handed out
 abbrev pub handed_out : Course → List Delivery
-handed_out c = deliveries c.net first (whole_run c)
+handed_out c = deliveries c.net c.begin (whole_run c)
 
 -- the events that a connection may ask of a manager: the requests of GS QKD 014
 abbrev pub is_request : Event → Bool
@@ -86,18 +88,19 @@ is_request_of _ = false
 abbrev pub AreServed : Words → HttpTexts → Scenario → Course → Type 0
 AreServed (Serve workers connections port) http scenario c =
     (c.served ≡ []) ⊎
-    (((lines_played http scenario c).ending ≡ Whole) × (length c.served ≡ c.net.site.nodes) × AreChains c.net (run c.net first (lines_run c)) 0 c.served ×
+    (((lines_played http scenario c).ending ≡ Whole) × (length c.served ≡ c.net.site.nodes) × AreChains c.net (run c.net c.begin (lines_run c)) 0 c.served ×
     (list_all (list_all is_request_of) c.served ≡ true))
 AreServed _ http scenario c = c.served ≡ []
 
--- The run consists of the actions that the scenario's lines make, from the first world on.
+-- The run consists of the actions that the scenario's lines make, from the world on in which the course begins.
 pub record IsCourseOf (words : Words) (http : HttpTexts) (scenario : Scenario) (c : Course) : Type 0 where
   pub network : IsNetwork c.net
+  pub begins : MayBegin c.net c.begin
   pub scenario_is : IsOfWords words scenario
   pub site : c.net.site ≡ site_of scenario.site
   -- the actions of the lines, with each block as its workers did it
-  pub lines : IsRunOf http c.net (workers_of words) first (tasks_of scenario) c.done
+  pub lines : IsRunOf http c.net (workers_of words) c.begin (tasks_of scenario) c.done
   -- for `serve`, the run goes on with the managers' turns for the connections, in order of node
   pub served : AreServed words http scenario c
   -- all of it is one list of actions, each of which may happen when it does
-  pub steps : IsRun c.net first (whole_run c)
+  pub steps : IsRun c.net c.begin (whole_run c)

@@ -90,12 +90,13 @@ pub record Headline (words : Words) (stop : Stop) (http : HttpTexts) (reading : 
   -- each wire whose frames are known has exactly the frames of its lane, in order; a wire of no link has none
   pub wires : (l : Lane) (frames : List (List ℕ)) → seen.wire l ≡ Some frames → frames ≡ wire_octets course.net (last_world course) l
   -- The disk of each node that was ever started encodes batches. Their fold is that of the batches of the node's
-  -- events. A batch in doubt may or may not be among these.
+  -- events, over what the node saw at the beginning. A batch in doubt may or may not be among these.
   pub disks : (v : ℕ) → v < course.net.site.nodes → is_blank ((last_world course).journal v) ≡ false →
-      (batches : List (List Record)) × (reading (seen.disk v) ≡ Some batches) × IsFoldOf course.net (whole_run course) (last_world course) v batches
+      (batches : List (List Record)) × (reading (seen.disk v) ≡ Some batches) × IsFoldOf course.net course.begin (whole_run course) (last_world course) v batches
   -- the disk of a number that no node has is empty, as it was before
   pub other_disks : (v : ℕ) → course.net.site.nodes ≤ v → seen.disk v ≡ []
-  -- what is left of an entropy is what it had, without the octets that its node drew
+  -- What is left of an entropy is what it had, without the octets that its node drew. Those drawn before the beginning
+  -- count, too.
   pub left : (v : ℕ) (told rest : List ℕ) → course.net.entropy v ≡ sequence_of told → seen.entropy v ≡ Some rest → rest ≡ drop ((last_world course).drawn v) told
   -- all that is promised of keys and of lane bytes
   pub keys : KeysAndBytes course

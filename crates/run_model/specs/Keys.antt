@@ -1,5 +1,5 @@
 -- What the headline says of keys and of lane bytes. All of it follows, for every run, from the invariant.
-use Rattle.std.specs.Prelude.{◌≡◌, ◌⊎◌, ℕ, ◌+◌, ◌≤◌, ◌<◌, true, false, List, ◌∷◌, length, map, take, slice_get, Some}
+use Rattle.std.specs.Prelude.{◌≡◌, ◌⊎◌, ℕ, ◌+◌, ◌≤◌, ◌<◌, true, false, List, ◌∷◌, ◌++◌, length, map, take, drop, slice_get, Some}
 use Rattle.std.specs.List.{list_all}
 use Rattle.qkd_base.specs.Name.{Name, has}
 use Rattle.qkd_base.specs.Route.{first_of, last_of}
@@ -93,10 +93,10 @@ pub record KeysAndBytes (c : Course) : Type 0 where
       slice_get (whole_run c) n ≡ Some (Ask v (Show name) environment) →
       (step c.net (world_after c n) (Ask v (Show name) environment)).1 ≡ Replies (Shown held (b ∷ bytes)) →
       AreBytesOf (last_world c).durable.facts name (b ∷ bytes)
-  -- no key is handed to the same application twice
-  pub once : PairsDiffer (pairs_of (handed_out c))
-  -- each handing is marked, in order
-  pub marked : IsWithin (pairs_of (handed_out c)) (last_world c).durable.handed
+  -- no key is handed to the same application twice, nor to one that had it before the course began
+  pub once : PairsDiffer (c.begin.durable.handed ++ pairs_of (handed_out c))
+  -- each handing is marked, in order, behind the earlier ones
+  pub marked : IsWithin (pairs_of (handed_out c)) (drop (length c.begin.durable.handed) (last_world c).durable.handed)
   -- keys are handed out only where their applications are at home
   pub at_home : (k v i : ℕ) (event : Event) (environment : Environment) (d : Delivery) → slice_get (whole_run c) k ≡ Some (Ask v event environment) →
       slice_get (of_step c.net (world_after c k) (Ask v event environment) (step c.net (world_after c k) (Ask v event environment)).1) i ≡ Some d → c.net.site.home d.sae ≡ v
@@ -114,6 +114,9 @@ pub record KeysAndBytes (c : Course) : Type 0 where
   -- a byte that a frame covers is spent by this frame alone
   pub one_place : (l : Lane) (j x : ℕ) (a : Allocation) → slice_get ((last_world c).frames l) j ≡ Some a → Covers (last_world c) a x →
       slice_get ((last_world c).durable.own l) x ≡ Some (Frame j)
+  -- the frames of a course cover only bytes behind those that were leased before it began, and below the leased ends
+  pub apart : (l : Lane) (j x : ℕ) (a : Allocation) → slice_get ((last_world c).frames l) j ≡ Some a → Covers (last_world c) a x →
+      (c.begin.durable.lease l ≤ x) × (x < (last_world c).durable.lease l)
   -- a master that asks for keys gets the first ones of its pool, if the pool has enough
   pub succeeds : (k v m s n bits : ℕ) (environment : Environment) → slice_get (whole_run c) k ≡ Some (Ask v (Enc m s n bits) environment) →
       c.net.site.allowed m s ≡ true →

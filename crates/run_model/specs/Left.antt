@@ -4,9 +4,10 @@ use Rattle.qkd_base.specs.declared.lane.Lane.{Lane}
 use Rattle.net_model.specs.declared.fact.Fact.{Fact}
 use Rattle.net_model.specs.declared.record.Record.{Record}
 use Rattle.net_model.specs.Table.{sae_at}
-use Rattle.net_model.specs.World.{Network, World, Journal, InDoubt, first}
+use Rattle.net_model.specs.World.{Network, World, Journal, InDoubt}
+use Rattle.net_model.specs.Needed.{view_of}
 use Rattle.net_model.specs.Frames.{frame_octets}
-use Rattle.net_model.specs.Fold.{recovered_view}
+use Rattle.net_model.specs.Fold.{recovered_view, view_batches, view_restarted}
 use Rattle.net_model.specs.Action.{Action, Start, TakeBlock, Ask, Deliver, Flip, Forge, Recovers, Resumes, IoFault}
 use Rattle.net_model.specs.Step.{step}
 use Rattle.net_model.specs.Start.{may_resolve}
@@ -56,12 +57,12 @@ batches_made net v w (a ∷ rest) = batch_made net w a v ++ batches_made net v (
 abbrev pub with_doubt : Bool → InDoubt → List (List Record) → List (List Record)
 with_doubt committed d batches = if committed then batches ++ none_or_one d.batch else batches
 
--- The batches give the same view as the batches of the node's events (their fold). A batch in doubt counts among these
--- or not. If a checkpoint was made, the batch counts exactly if the checkpoint has it.
-pub record IsFoldOf (net : Network) (run : List Action) (w : World) (v : ℕ) (batches : List (List Record)) : Type 0 where
+-- The batches give the view that the node had when the run began, with the batches of its events since (their fold). A
+-- batch in doubt counts among these or not. If a checkpoint was made, the batch counts exactly if the checkpoint has it.
+pub record IsFoldOf (net : Network) (begin : World) (run : List Action) (w : World) (v : ℕ) (batches : List (List Record)) : Type 0 where
   pub committed : Bool
   pub may : may_resolve (w.in_doubt v) committed ≡ true
-  pub fold : recovered_view net.site v batches ≡ recovered_view net.site v (with_doubt committed (w.in_doubt v) (batches_made net v first run))
+  pub fold : recovered_view net.site v batches ≡ view_restarted (view_batches (view_of net begin v) (with_doubt committed (w.in_doubt v) (batches_made net v begin run)))
 
 -- the application is the master of a key, the source of a chunk, or the master of a group key
 abbrev pub is_first_of : Option ℕ → ℕ → Bool

@@ -1,3 +1,4 @@
+pub mod Begin
 pub mod Bench
 pub mod Block
 pub mod Course

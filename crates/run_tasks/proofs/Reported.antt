@@ -1,7 +1,6 @@
 -- The headline of a load and what its sink took.
 use Rattle.std.proofs.Common.{◌≡◌, ◌∙◌, ℕ, List, ◌++◌, Option, sym, ap, subst, append-nil}
 use Rattle.std.specs.List.{flat_map}
-use Rattle.net_model.specs.World.{first}
 use Rattle.net_model.specs.Action.{Action}
 use Rattle.net_model.specs.Step.{run}
 use Rattle.net_model.specs.Deliveries.{deliveries}
@@ -17,13 +16,13 @@ use Rattle.law_run.specs.Handed.{enc_keys, dec_keys}
 use Rattle.run_tasks.specs.Told.{ledger_text, load_text, IsLoadTold, IsLoadOver}
 
 module _ (http : HttpTexts) (scenario : Scenario) (rounds : ℕ) (c : Course) (over : IsLoadOver http scenario rounds c)
-    (masters : to_masters (run c.net first (lines_run c)) (deliveries c.net first (lines_run c)) ≡ enc_keys c.net first (lines_run c))
-    (slaves : to_slaves (run c.net first (lines_run c)) (deliveries c.net first (lines_run c)) ≡ dec_keys c.net first (lines_run c)) where
+    (masters : to_masters (run c.net c.begin (lines_run c)) (deliveries c.net c.begin (lines_run c)) ≡ enc_keys c.net c.begin (lines_run c))
+    (slaves : to_slaves (run c.net c.begin (lines_run c)) (deliveries c.net c.begin (lines_run c)) ≡ dec_keys c.net c.begin (lines_run c)) where
   abbrev encs : ℕ
-  encs = enc_keys c.net first (lines_run c)
+  encs = enc_keys c.net c.begin (lines_run c)
 
   abbrev decs : ℕ
-  decs = dec_keys c.net first (lines_run c)
+  decs = dec_keys c.net c.begin (lines_run c)
 
   abbrev ledgers : List ℕ
   ledgers = ledger_text scenario.site.nodes (lines_played http scenario c)
@@ -33,10 +32,10 @@ module _ (http : HttpTexts) (scenario : Scenario) (rounds : ℕ) (c : Course) (o
   whole_is = ap (λ (hs : List (List Action)). lines_run c ++ flat_map (λ h. h) hs) over.alone ∙ append-nil (lines_run c)
 
   to_masters_are : to_masters (last_world c) (handed_out c) ≡ encs
-  to_masters_are = ap (λ (xs : List Action). to_masters (run c.net first xs) (deliveries c.net first xs)) whole_is ∙ masters
+  to_masters_are = ap (λ (xs : List Action). to_masters (run c.net c.begin xs) (deliveries c.net c.begin xs)) whole_is ∙ masters
 
   to_slaves_are : to_slaves (last_world c) (handed_out c) ≡ decs
-  to_slaves_are = ap (λ (xs : List Action). to_slaves (run c.net first xs) (deliveries c.net first xs)) whole_is ∙ slaves
+  to_slaves_are = ap (λ (xs : List Action). to_slaves (run c.net c.begin xs) (deliveries c.net c.begin xs)) whole_is ∙ slaves
 
   last_is : last_text (Load rounds) scenario c ≡ handed_text encs decs
   last_is = ap (λ (n : ℕ). handed_text n (to_slaves (last_world c) (handed_out c))) to_masters_are ∙ ap (handed_text encs) to_slaves_are

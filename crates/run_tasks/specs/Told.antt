@@ -42,9 +42,10 @@ IsLoadTold ListenFault nodes p masters slaves old new = ⊥
 IsLoadTold WriteFault nodes p masters slaves old new = TookFirst old new (load_text nodes p masters slaves)
 IsLoadTold Memory nodes p masters slaves old new = TookFirst old new (load_text nodes p masters slaves)
 
--- the course of a load's scenario over a network, with nothing after its lines
+-- the course of a load's scenario over a network, from the world before any start and with nothing after its lines
 pub record IsLoadOver (http : HttpTexts) (scenario : Scenario) (rounds : ℕ) (c : Course) : Type 0 where
   pub scenario_is : scenario ≡ load_scenario rounds
   pub network : IsNetwork c.net
+  pub begin : c.begin ≡ first
   pub lines : IsRunOf http c.net 1 first (tasks_of scenario) c.done
   pub alone : c.served ≡ []

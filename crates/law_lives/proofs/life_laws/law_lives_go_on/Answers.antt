@@ -1,4 +1,4 @@
-use Rattle.law_lives.proofs.Firsts.{first_rests}
+use Rattle.law_run.proofs.Resting.{first_rests}
 use Rattle.law_lives.proofs.Lives.{earlier, conserved_at}
 use Rattle.law_lives.proofs.life_laws.law_lives_go_on.Goals as goal
 

@@ -8,4 +8,4 @@ pub returns-clause-step : goal.returns-clause-step
 returns-clause-step c = λ net w a network conserved fits may. step_fits net w a network conserved fits may
 
 pub returns-clause-run : goal.returns-clause-run
-returns-clause-run c = λ net actions network r. (run_held net actions network r).fits
+returns-clause-run c = λ net w actions network conserved fits r. (run_held net network actions w (record { conserved = conserved; fits = fits }) r).fits

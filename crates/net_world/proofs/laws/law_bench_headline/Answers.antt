@@ -2,6 +2,7 @@ use Rattle.std.proofs.Common.{refl}
 use Rattle.net_model.specs.World.{first}
 use Rattle.run_model.specs.Report.{report, actions_of}
 use Rattle.run_model.specs.Course.{tasks_of}
+use Rattle.law_run.proofs.Resting.{first_begins}
 use Rattle.net_world.specs.New.{network_on}
 use Rattle.net_world.proofs.Headlines.{over_benched, over_seen}
 use Rattle.net_world.proofs.laws.law_bench_headline.Goals as goal
@@ -14,11 +15,12 @@ returns-clause-run g c http scenario workers stop old new before after done h ru
     g.K.Disk.faults g.K.Disk.armings g.E.Entropy.faults g.Q.Device.faults g.X.Wire.faults old new scenario (actions_of net done) w c.frames_of_a_network.ensures h in
     let sees = over_seen g.K.Disk.is_honest g.K.Disk.content g.K.Disk.moment g.K.Disk.image g.E.Entropy.left g.Q.Device.told g.X.Wire.frames g.X.Wire.counted
     g.K.Disk.faults g.K.Disk.armings g.E.Entropy.faults g.Q.Device.faults g.X.Wire.faults old new scenario (actions_of net done) w c.frames_of_a_network.ensures h
-    (c.law_tasks_are_run.ensures.run http net workers (tasks_of scenario) done benched.network runs)
-    (c.law_tasks_are_run.ensures.world http net workers (tasks_of scenario) done benched.network runs) in
+    (c.law_tasks_are_run.ensures.run http net workers first (tasks_of scenario) done benched.network (first_begins net).conserved runs)
+    (c.law_tasks_are_run.ensures.world http net workers first (tasks_of scenario) done benched.network (first_begins net).conserved runs) in
     record {
       net = refl;
-      holds = λ reading seen reads on. c.law_headline_of_tasks.ensures.run http scenario workers stop reading seen before after net done benched runs told (sees reading seen reads on);
+      begin = refl;
+      holds = λ reading seen reads on. c.law_headline_of_tasks.ensures.run http scenario workers stop reading seen before after net first done benched (first_begins net) runs told (sees reading seen reads on);
       cut = cut;
     }
 
@@ -30,10 +32,11 @@ returns-clause-load g c http scenario rounds stop old new before after done is h
     g.K.Disk.faults g.K.Disk.armings g.E.Entropy.faults g.Q.Device.faults g.X.Wire.faults old new scenario (actions_of net done) w c.frames_of_a_network.ensures h in
     let sees = over_seen g.K.Disk.is_honest g.K.Disk.content g.K.Disk.moment g.K.Disk.image g.E.Entropy.left g.Q.Device.told g.X.Wire.frames g.X.Wire.counted
     g.K.Disk.faults g.K.Disk.armings g.E.Entropy.faults g.Q.Device.faults g.X.Wire.faults old new scenario (actions_of net done) w c.frames_of_a_network.ensures h
-    (c.law_tasks_are_run.ensures.run http net 1 (tasks_of scenario) done benched.network runs)
-    (c.law_tasks_are_run.ensures.world http net 1 (tasks_of scenario) done benched.network runs) in
+    (c.law_tasks_are_run.ensures.run http net 1 first (tasks_of scenario) done benched.network (first_begins net).conserved runs)
+    (c.law_tasks_are_run.ensures.world http net 1 first (tasks_of scenario) done benched.network (first_begins net).conserved runs) in
     record {
       net = refl;
-      holds = λ reading seen reads on. c.law_headline_of_tasks.ensures.load http scenario rounds stop reading seen before after net done is benched runs told (sees reading seen reads on);
+      begin = refl;
+      holds = λ reading seen reads on. c.law_headline_of_tasks.ensures.load http scenario rounds stop reading seen before after net first done is benched (first_begins net) runs told (sees reading seen reads on);
       cut = cut;
     }

@@ -15,6 +15,7 @@ returns-clause-honest g c old new words scenario before after stop h honest =
       texts.0,
       texts.1,
       course.0,
+      course.1.begin,
       course.1.holds batches_on
           (shown_by g.K.Disk.content g.X.Wire.frames g.K.Disk.faults g.K.Disk.armings g.E.Entropy.faults g.Q.Device.faults g.X.Wire.faults old new)
           c.law_disks_are_read.ensures (c.law_bench_is_shown.ensures old new honest),
