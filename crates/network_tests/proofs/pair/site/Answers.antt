@@ -1,5 +1,5 @@
-use Rattle.kme_tests.proofs.Within.{site_declared}
-use Rattle.kme_tests.proofs.pair.site.Goals as goal
+use Rattle.network_tests.proofs.Within.{site_declared}
+use Rattle.network_tests.proofs.pair.site.Goals as goal
 
 pub returns : goal.returns
 returns c =

@@ -1,7 +1,7 @@
 use Rattle.std.proofs.Common.{sym, ap, ◌∙◌}
 use Rattle.route_table.specs.Table.{Table, ends_of}
-use Rattle.kme_tests.proofs.Within.{apart_of_none}
-use Rattle.kme_tests.proofs.pair.links.Goals as goal
+use Rattle.network_tests.proofs.Within.{apart_of_none}
+use Rattle.network_tests.proofs.pair.links.Goals as goal
 
 pub add_link-requires-clause-apart : goal.add_link-requires-clause-apart
 add_link-requires-clause-apart c = λ link is.
