@@ -1,4 +1,7 @@
 //! Laws of quiet networks: what nobody owes has come, and four rounds without work leave nothing owed.
+//!
+//! Runs begin before any start here. These laws rest on more than what is conserved, as that each target has made its
+//! notes, and of a later beginning that isn't said.
 #![tactic(auto)]
 
 mod awaited_laws;
