@@ -99,4 +99,11 @@ module _ (words : Words) (stop : Stop) (http : HttpTexts) (reading : DiskBatches
       let are = choice_holds c.net.site.nodes IsRead [] one_read in
       let left : AreLeft c.net c.begin (whole_run c) images = record { started = λ v less. (are v less).fold; unstarted = λ v less. (are v less).unstarted } in
       let world = left_have_one_world c.net c.begin (whole_run c) h.run.network h.run.begins h.run.steps current images left journals sized in
-      record { images = images; read = λ v less. (are v less).read; unstarted = λ v less. (are v less).unstarted; made = world.0; world = world.1 }
+      record {
+        images = images;
+        read = λ v less. (are v less).read;
+        unstarted = λ v less. (are v less).unstarted;
+        made = world.0;
+        world = world.1;
+        life = record { network = h.run.network; steps = h.run.steps; read = world.1.as_read; sized = sized };
+      }

@@ -30,7 +30,8 @@ pub fn law_run_leaves_one_world()
         (images : ℕ → List (List Record)) × ((v : ℕ) → v < net.site.nodes → IsImage net (run net begin actions) v (made v) (images v)) }
 {}
 
-/// Where the headline holds of what is seen of the bench, the disks that are seen have one world together.
+/// Where the headline holds of what is seen of the bench, the disks that are seen have one world together, and the course
+/// is a life. It may begin before any start, or in a later world, if a node there whose journal is blank has seen nothing.
 pub fn law_headline_has_one_world()
     ensures { (words : Words) (stop : Stop) (http : HttpTexts) (reading : DiskBatches) (scenario : Scenario) (seen : Seen) (old new : Option (List ℕ)) (c : Course) (journals : ℕ → Journal) →
         Headline words stop http reading scenario seen old new c → AreCurrent c.net c.begin → ((v : ℕ) → IsJournal (journals v)) → HasOneWorld reading seen c journals }
