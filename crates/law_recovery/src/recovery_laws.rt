@@ -31,7 +31,7 @@ pub fn law_doubts_fit()
 
 /// After a start in a run, each lane goes on at its leased end, and the memory is empty. Otherwise the manager sees
 /// what it saw before, with the batch in doubt if that was committed. The same holds of a start that finds the
-/// checkpoint of an interrupted one.
+/// checkpoint of an interrupted one. The run may begin as in `law_doubts_fit`.
 pub fn law_start_goes_on_in_a_run()
     ensures recovers { (net : Network) (w : World) (actions : List Action) (v : ℕ) (committed : Bool) → IsNetwork net → Conserved net w → DoubtsFit net w → IsRun net w actions →
         (run net w actions).up v ≡ false → is_enabled net (run net w actions) (Start v (Recovers committed)) ≡ true →
@@ -43,8 +43,8 @@ pub fn law_start_goes_on_in_a_run()
         view_restarted (if committed then view_batch (view_of net (run net w actions) v) ((run net w actions).in_doubt v).batch else view_of net (run net w actions) v) }
 {}
 
-/// If a manager has a journal that gives it back, it has one after every run. A checkpoint of its view is such a journal.
-/// Before any start, the empty journal gives every manager back.
+/// If a manager has a journal that gives it back, it has one after every run, which may begin as in `law_doubts_fit`. A
+/// checkpoint of its view is such a journal. Before any start, the empty journal gives every manager back.
 pub fn law_run_is_given_back()
     ensures first { (net : Network) (v : ℕ) → GivesBack net.site v [] (view_of net first v) }
     ensures journal { (net : Network) (w : World) (actions : List Action) (v : ℕ) (before : List (List Record)) → IsNetwork net → Conserved net w → DoubtsFit net w →
