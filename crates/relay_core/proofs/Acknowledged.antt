@@ -1,17 +1,16 @@
 -- Lemmas on acknowledged facts: how to tell them from the facts that are owed.
-use Rattle.std.proofs.Common.{◌≡◌, ℕ, ◌<◌, ◌≤◌, Bool, true, false, ◌&&◌, List, refl, sym, ◌∙◌, ap, subst, arith, Option, Some, None, ◌⊎◌, inl, inr}
-use Rattle.std.specs.Prelude.{slice_get, is_some, not, IfSome, IfNone, ◌==◌}
-use Rattle.std.specs.Option.{option_eq}
-use Rattle.std.proofs.lemmas.Bool.Decides.{nat_tests}
+use Rattle.std.proofs.Common.{◌≡◌, ℕ, Bool, true, false, ◌&&◌, List, refl, sym, ◌∙◌, ap, subst, Option, Some, None}
+use Rattle.std.specs.Prelude.{slice_get, is_some, not, IfSome, if◌then◌else◌}
 use Rattle.qkd_base.specs.Name.{Name, name_eq, has}
 use Rattle.qkd_base.specs.Route.{next_after}
 use Rattle.net_model.specs.declared.fact.Fact.{Fact}
 use Rattle.net_model.specs.Table.{name_of, route_of, has_fact}
 use Rattle.net_model.specs.Relay.{is_some_of}
 use Rattle.relay_core.specs.Firsts.{IsFirstFrom, IsNoneFrom}
-use Rattle.relay_core.specs.Index.{is_owed_to}
+use Rattle.relay_core.specs.declared.group.Group.TheVariants.{OwedTo}
+use Rattle.relay_core.specs.Index.{belongs_at, creditor_of}
 use Rattle.relay_core.proofs.Firsts.{not_true, none_find}
-use Rattle.relay_core.proofs.Names.{eq_same, eq_from, and_right, name_eq_from}
+use Rattle.relay_core.proofs.Names.{eq_same, name_eq_from}
 
 -- A name of which no fact is known isn't acknowledged.
 pub unknown_unacked : (facts : List Fact) (acked : List Name) (n : Name) → ((m : Name) → has acked m ≡ true → has_fact facts m ≡ true) → IsNoneFrom (λ f. name_eq (name_of f) n) facts 0 → false ≡ has acked n
@@ -36,46 +35,27 @@ ended_unacked me facts acked place f told there next =
     let t : true ≡ false = sym (told place f there h) ∙ ap is_some next in
     let u : ⊥ = cc in u)))
 
-not_from : (b : Bool) → not b ≡ true → b ≡ false
-not_from true h = cc
-not_from false h = refl
+-- Whether the fact at a place is owed to the next node of its route says whether that node has acknowledged it.
 
-from_not : (b : Bool) → not b ≡ false → b ≡ true
-from_not true h = refl
-from_not false h = cc
+not_not : (b : Bool) → not (not b) ≡ b
+not_not true = refl
+not_not false = refl
 
-owed_unacked : (me : ℕ) (acked : List Name) (to : ℕ) (f : Fact) → is_owed_to me acked to f ≡ true → has acked (name_of f) ≡ false
-owed_unacked me acked to f h = not_from (has acked (name_of f)) (and_right (is_some_of (next_after (route_of f) me) to) (not (has acked (name_of f))) h)
+owed_here : (me : ℕ) (facts : List Fact) (acked : List Name) (place to : ℕ) (f : Fact) (r : Bool) → slice_get facts place ≡ Some f → next_after (route_of f) me ≡ Some to →
+    r ≡ belongs_at me acked (OwedTo to) (slice_get facts place) → r ≡ not (has acked (name_of f))
+owed_here me facts acked place to f r there next is =
+    is ∙ ap (belongs_at me acked (OwedTo to)) there
+    ∙ ap (λ (o : Option ℕ). is_some_of o to && not (has acked (name_of f))) next ∙ ap (λ (b : Bool). b && not (has acked (name_of f))) (eq_same to)
 
-unowed_acked : (me : ℕ) (acked : List Name) (to : ℕ) (f : Fact) → next_after (route_of f) me ≡ Some to → is_owed_to me acked to f ≡ false → has acked (name_of f) ≡ true
-unowed_acked me acked to f next h =
-    from_not (has acked (name_of f))
-    (sym (ap (λ (o : Option ℕ). is_some_of o to && not (has acked (name_of f))) next ∙ ap (λ (b : Bool). b && not (has acked (name_of f))) (eq_same to)) ∙ h)
+pub told_acked : (me : ℕ) (facts : List Fact) (acked : List Name) (place to : ℕ) (f : Fact) (r : Bool) → slice_get facts place ≡ Some f → next_after (route_of f) me ≡ Some to →
+    r ≡ belongs_at me acked (OwedTo to) (slice_get facts place) → IfSome (slice_get facts place) (λ g. not r ≡ has acked (name_of g))
+told_acked me facts acked place to f r there next is =
+    subst (λ (x : Option Fact). IfSome x (λ g. not r ≡ has acked (name_of g))) (sym there)
+    (ap not (owed_here me facts acked place to f r there next is) ∙ not_not (has acked (name_of f)))
 
-apart : (p q : ℕ) → p ≤ q → (q == p) ≡ false → p < q
-apart p q le e = grind (arith, nat_tests)
-
-sides : (p q : ℕ) → p ≤ q → ((p ≡ q) × ((q == p) ≡ true)) ⊎ ((p < q) × ((q == p) ≡ false))
-sides p q le = by (q == p) refl
-  where
-    by : (b : Bool) → (q == p) ≡ b → ((p ≡ q) × ((q == p) ≡ true)) ⊎ ((p < q) × ((q == p) ≡ false))
-    by true e = inl (sym (eq_from q p e), e)
-    by false e = inr (apart p q le e, e)
-
--- To test whether a fact is acknowledged, search the facts owed to its next node from its own place on. The fact is
--- acknowledged exactly if the search doesn't stop at it.
-pub told_acked : (me : ℕ) (facts : List Fact) (acked : List Name) (place to : ℕ) (f : Fact) (o : Option ℕ) (r : Bool) → slice_get facts place ≡ Some f → next_after (route_of f) me ≡ Some to →
-    IfSome o (λ p. IsFirstFrom (is_owed_to me acked to) facts place p) → IfNone o (IsNoneFrom (is_owed_to me acked to) facts place) → r ≡ not (option_eq (λ a b. a == b) o (Some place)) →
-    IfSome (slice_get facts place) (λ g. r ≡ has acked (name_of g))
-told_acked me facts acked place to f o r there next some none is =
-    subst (λ (x : Option Fact). IfSome x (λ g. r ≡ has acked (name_of g))) (sym there) (by o some none is)
-  where
-    by : (x : Option ℕ) → IfSome x (λ p. IsFirstFrom (is_owed_to me acked to) facts place p) → IfNone x (IsNoneFrom (is_owed_to me acked to) facts place) → r ≡ not (option_eq (λ a b. a == b) x (Some place)) → r ≡ has acked (name_of f)
-    by None s n e = e ∙ sym (unowed_acked me acked to f next (n.none place f (omega arith) there))
-    by (Some q) s n e = elim (sides place q s.behind) [
-      | inl (same, test) ↦
-          let item : Some s.item ≡ Some f = sym s.there ∙ ap (slice_get facts) (sym same) ∙ there in
-          let f_is : s.item ≡ f = cc in
-          e ∙ ap not test ∙ sym (ap (λ (x : Fact). has acked (name_of x)) (sym f_is) ∙ owed_unacked me acked to s.item s.passes)
-      | inr (lt, test) ↦ e ∙ ap not test ∙ sym (unowed_acked me acked to f next (s.before place f (omega arith) lt there))
-    ]
+-- An acknowledged fact is owed to nobody.
+pub unowed_creditor : (me : ℕ) (facts : List Fact) (acked : List Name) (place to : ℕ) (f : Fact) (r : Bool) → slice_get facts place ≡ Some f → next_after (route_of f) me ≡ Some to →
+    r ≡ belongs_at me acked (OwedTo to) (slice_get facts place) → r ≡ false → None ≡ creditor_of me acked (slice_get facts place)
+unowed_creditor me facts acked place to f r there next is false_is =
+    let told : has acked (name_of f) ≡ true = sym (not_not (has acked (name_of f))) ∙ ap not (sym (owed_here me facts acked place to f r there next is) ∙ false_is) in
+    sym (ap (creditor_of me acked) there ∙ ap (λ (x : Bool). if x then None else next_after (route_of f) me) told)

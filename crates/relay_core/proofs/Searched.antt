@@ -39,6 +39,17 @@ absent me acked facts es count g p x index lt miss there =
     let t : true ≡ false = sym hit ∙ miss in
     let u : ⊥ = cc in u)
 
+-- An entry among the indexed facts tells whether its fact belongs to the group.
+
+both_ways : (a b : Bool) → (a ≡ true → b ≡ true) → (b ≡ true → a ≡ true) → a ≡ b
+both_ways true b f g = sym (f refl)
+both_ways false true f g = g refl
+both_ways false false f g = refl
+
+pub entry_tells : (me : ℕ) (acked : List Name) (facts : List Fact) (es : List (List ℕ)) (count : ℕ) (g : Group) (p : ℕ) → IsIndex me acked facts es count → p < count →
+    has_entry es (entry_of g p) ≡ belongs_at me acked g (slice_get facts p)
+entry_tells me acked facts es count g p index lt = both_ways (has_entry es (entry_of g p)) (belongs_at me acked g (slice_get facts p)) (index.sound g p) (index.complete g p lt)
+
 pub found : (me : ℕ) (acked : List Name) (facts : List Fact) (es : List (List ℕ)) (count : ℕ) (g : Group) (from place : ℕ) → IsIndex me acked facts es count → place < count →
     ((group : List ℕ) (start : ℕ) → entry_of g from ≡ entry_at group start → IsNextIn es group start place) → IsFirstFrom (belongs me acked g) facts from place
 found me acked facts es count g from place index lt next =

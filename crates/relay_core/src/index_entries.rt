@@ -6,7 +6,7 @@ ghost use Rattle.qkd_base.specs.Name.{has};
 ghost use Rattle.net_model.specs.Table.{name_of};
 ghost use Rattle.ordered_set.specs.Entries.{has_entry};
 ghost use Rattle.relay_core.specs.Firsts.{IsFirstFrom, IsNoneFrom};
-ghost use Rattle.relay_core.specs.Index.{belongs, entry_of, IsIndex, second_of, third_of, owed_group, creditor};
+ghost use Rattle.relay_core.specs.Index.{belongs, belongs_at, entry_of, IsIndex, second_of, third_of, owed_group, creditor};
 ghost use Rattle.relay_core.specs.Listed.{Grows, GrowsBy, IsListed, IsPartlyListed};
 
 use crate::Group;
@@ -137,6 +137,28 @@ pub fn next_in(
                 walk(facts, me, acked, group, later(from, count))
             }
         }
+    }
+}
+
+/// Whether the fact at a place belongs to a group. The first `count` facts are looked up in the index.
+pub fn is_in(
+    index: &Entries,
+    count: usize,
+    facts: &[Fact],
+    me: NodeNo,
+    acked: &[KeyName],
+    group: &Group,
+    place: usize,
+) -> bool
+    requires { IsIndex me acked.now facts.now index.now count }
+    ensures { result ≡ belongs_at me acked.now group.now (slice_get facts.now place) }
+{
+    if place < count {
+        return index.has(group.entry(place));
+    }
+    match facts.get(place) {
+        None => false,
+        Some(fact) => group.contains(fact, me, acked),
     }
 }
 

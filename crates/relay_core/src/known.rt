@@ -8,12 +8,13 @@ ghost use Rattle.net_model.specs.Decision.{last_count};
 ghost use Rattle.qkd_base.specs.Name.{Name, IsName, name_eq, has};
 ghost use Rattle.net_model.specs.Relay.{is_some_of};
 ghost use Rattle.relay_core.specs.Firsts.{IsFirstFrom, IsNoneFrom};
-ghost use Rattle.relay_core.specs.Index.{belongs, is_owed_to, creditor, creditor_of};
+ghost use Rattle.relay_core.specs.Index.{belongs, belongs_at, is_owed_to, creditor, creditor_of};
+ghost use Rattle.relay_core.specs.declared.group.Group.TheVariants.{OwedTo};
 ghost use Rattle.relay_core.specs.Knowledge.{place_of, AreDistinct, owes_fact, owed_names, acked_with, forgotten};
 
 use crate::Group;
 use crate::fact_parts::{fact_name, fact_route, later_count, wipe};
-use crate::index_entries::{list_new, next_in};
+use crate::index_entries::{is_in, list_new, next_in};
 use net_model::Fact;
 use ordered_set::Entries;
 use qkd_base::{KeyName, Memory, NodeNo};
@@ -229,6 +230,21 @@ impl Known {
         self.next(&Group::OwedTo(to), from)
     }
 
+    // Whether the fact at a place is owed to this neighbour.
+    fn owes_at(&self, to: NodeNo, place: usize) -> bool
+        ensures { result ≡ belongs_at self.now.me self.now.acked (OwedTo to) (slice_get self.now.facts place) }
+    {
+        is_in(
+            &self.index,
+            self.listed,
+            &self.facts,
+            self.me,
+            &self.acked,
+            &Group::OwedTo(to),
+            place,
+        )
+    }
+
     // The neighbour to whom the fact at a place is owed.
     fn creditor_at(&self, place: usize) -> Option<NodeNo>
         ensures { result ≡ creditor_of self.now.me self.now.acked (slice_get self.now.facts place) }
@@ -238,7 +254,7 @@ impl Known {
             Some(fact) => match fact_route(fact).next_after(self.me) {
                 None => None,
                 Some(to) => {
-                    if self.next_owed(to, place) == Some(place) {
+                    if self.owes_at(to, place) {
                         Some(to)
                     } else {
                         None
@@ -268,7 +284,7 @@ impl Known {
             None => false,
             Some(fact) => match fact_route(fact).next_after(self.me) {
                 None => false,
-                Some(to) => self.next_owed(to, place) != Some(place),
+                Some(to) => !self.owes_at(to, place),
             },
         }
     }

@@ -18,7 +18,7 @@ returns-in-None-next_after c =
 
 pub returns-in-Some-next_after : goal.returns-in-Some-next_after
 returns-in-Some-next_after c =
-    told_acked c.args.self.now.me c.args.self.now.facts c.args.self.now.acked c.args.place c.in-Some-next_after.to c.in-Some.fact.now c.next_owed.result c.ne.result
+    told_acked c.args.self.now.me c.args.self.now.facts c.args.self.now.acked c.args.place c.in-Some-next_after.to c.in-Some.fact.now c.owes_at.result
     (sym c.at.ensures ∙ ap option_copied c.in-Some.is)
     (sym (c.next_after.ensures ∙ ap (λ (r : List ℕ). next_after r c.self.inside.me) c.fact_route.ensures ∙ ap (λ (k : Knowledge). next_after (route_of c.in-Some.fact.now) k.me) c.self.view_is) ∙ c.in-Some-next_after.is)
-    c.next_owed.ensures.first c.next_owed.ensures.none c.ne.ensures
+    c.owes_at.ensures
