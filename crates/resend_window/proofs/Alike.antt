@@ -1,10 +1,10 @@
 -- The set of due frames, when one frame is added, changed or removed.
-use Rattle.std.proofs.Common.{◌≡◌, ℕ, zero, suc, ◌+◌, ◌<◌, ◌≤◌, Bool, true, false, ◌||◌, ◌&&◌, List, [], ◌∷◌, ◌++◌, length, refl, sym, ◌∙◌, ap, subst, arith, Option, Some, None, ◌⊎◌, inl, inr}
+use Rattle.std.proofs.Common.{◌≡◌, ℕ, zero, suc, ◌+◌, ◌<◌, ◌≤◌, Bool, true, false, ◌||◌, ◌&&◌, List, [], ◌∷◌, ◌++◌, refl, sym, ◌∙◌, ap, arith, Option, Some, None, ◌⊎◌, inl, inr}
 use Rattle.std.specs.Prelude.{slice_get, slice_set, ◌==◌, if◌then◌else◌}
 use Rattle.std.specs.List.{list_any}
 use Rattle.std.specs.Str.{bytes_eq}
 use Rattle.std.proofs.lemmas.List.Folds.{list_any-append}
-use Rattle.qkd_base.specs.Lane.{lane_eq, way_eq, way_number}
+use Rattle.qkd_base.specs.Lane.{lane_eq, way_eq}
 use Rattle.qkd_base.specs.declared.lane.Lane.{Lane}
 use Rattle.qkd_base.specs.declared.lane.Way.{Way}
 use Rattle.qkd_base.specs.declared.lane.Way.TheVariants.{Up, Down}
@@ -181,11 +181,7 @@ pub alike_set : (xs : List (Option Held)) (p : ℕ) (was next : Option Held) →
 alike_set xs p None next there still = λ t. none_set t xs p next there still
 alike_set xs p (Some k) next there still = λ t off. one_set t xs p k next there still off
 
--- whether a frame at this offset of this lane is sent again
-
-off_asked : (l : Lane) (x : ℕ) (o : Option Held) → passes (is_asked (At l x)) o ≡ false → passes (goes_at l x) o ≡ false
-off_asked l x None h = refl
-off_asked l x (Some k) h = ap (λ (b : Bool). b && is_ready k) h
+-- a list in which one slot was changed, whose frame isn't sent again before and after
 
 off_ready : (l : Lane) (x : ℕ) (o : Option Held) → passes is_ready o ≡ false → passes (goes_at l x) o ≡ false
 off_ready l x None h = refl
@@ -194,6 +190,29 @@ off_ready l x (Some k) h = ap (λ (b : Bool). stands l x k && b) h ∙ none (sta
     none : (b : Bool) → (b && false) ≡ false
     none true = refl
     none false = refl
+
+calm_set : (t : Held → Bool) (xs : List (Option Held)) (p : ℕ) (was next : Option Held) → slice_get xs p ≡ Some was → passes t was ≡ false → passes t next ≡ false →
+    list_any t (somes (slice_set xs p next)) ≡ list_any t (somes xs)
+calm_set t xs p was next there before after = sym (any_somes t (slice_set xs p next)) ∙ by xs p there ∙ any_somes t xs
+  where
+    by : (xs : List (Option Held)) (p : ℕ) → slice_get xs p ≡ Some was → list_any (passes t) (slice_set xs p next) ≡ list_any (passes t) xs
+    by [] p there = refl
+    by (o ∷ xs) zero there =
+        let same : o ≡ was = cc in
+        ap (λ (b : Bool). b || list_any (passes t) xs) (after ∙ sym (ap (passes t) same ∙ before))
+    by (o ∷ xs) (suc p) there = ap (λ (b : Bool). passes t o || b) (by xs p there)
+
+pub calm_dues : (xs : List (Option Held)) (p : ℕ) (was next : Option Held) (es : List (List ℕ)) → slice_get xs p ≡ Some was → passes is_ready was ≡ false → passes is_ready next ≡ false →
+    AreDues xs es → AreDues (slice_set xs p next) es
+calm_dues xs p was next es there before after dues = record {
+  has = λ m y. dues.has m y ∙ sym (calm_set (goes_at m y) xs p was next there (off_ready m y was before) (off_ready m y next after));
+}
+
+-- whether a frame at this offset of this lane is sent again
+
+off_asked : (l : Lane) (x : ℕ) (o : Option Held) → passes (is_asked (At l x)) o ≡ false → passes (goes_at l x) o ≡ false
+off_asked l x None h = refl
+off_asked l x (Some k) h = ap (λ (b : Bool). b && is_ready k) h
 
 both_go : (l : Lane) (x : ℕ) (o : Option Held) → passes (is_asked (At l x)) o ≡ true → passes is_ready o ≡ true → passes (goes_at l x) o ≡ true
 both_go l x None h k = h

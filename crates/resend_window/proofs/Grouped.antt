@@ -1,6 +1,6 @@
 -- An item passes a query exactly if it has the query's group.
 use Rattle.std.proofs.Common.{◌≡◌, ℕ, zero, suc, ◌+◌, ◌*◌, ◌%◌, Bool, true, false, ◌||◌, ◌&&◌, List, [], ◌∷◌, ◌++◌, length, refl, sym, ◌∙◌, ap, subst, arith, Option, Some, None}
-use Rattle.std.specs.Prelude.{map, slice_get, slice_set, ◌==◌, if◌then◌else◌}
+use Rattle.std.specs.Prelude.{map, slice_set, ◌==◌}
 use Rattle.std.specs.List.{list_any}
 use Rattle.std.specs.Str.{bytes_eq}
 use Rattle.std.proofs.lemmas.Bool.Decides.{nat_tests}
@@ -15,9 +15,7 @@ use Rattle.qkd_base.specs.declared.frame_octets.FrameOctets.{FrameOctets}
 use Rattle.resend_window.specs.declared.held.Held.{Held}
 use Rattle.resend_window.specs.declared.edit.Query.{Query}
 use Rattle.resend_window.specs.declared.edit.Query.TheVariants.{At, Answering, DataOf, SentAt}
-use Rattle.resend_window.specs.declared.edit.Edit.{Edit}
-use Rattle.resend_window.specs.declared.edit.Edit.TheVariants.{MarkDue, Renew, Renumber, Remove}
-use Rattle.resend_window.specs.Slots.{passes, is_asked, edit, edited}
+use Rattle.resend_window.specs.Slots.{passes, is_asked}
 use Rattle.net_model.specs.Item.{item_eq}
 use Rattle.net_model.specs.Window.{offset_eq}
 use Rattle.resend_window.specs.declared.arrival.Arrival.{Arrival}
@@ -28,7 +26,7 @@ use Rattle.relay_core.specs.Index.{origin_number, tagged}
 use Rattle.resend_window.specs.Held.{item_by}
 use Rattle.resend_window.specs.Lists.{is_from, is_same}
 use Rattle.resend_window.proofs.Edits.{lane_sym}
-use Rattle.resend_window.specs.Groups.{offset_group, name_group, query_group, item_group, held_groups, is_removal, arrivals_group, arrival_groups, awaited_by, awaited_group, awaited_groups}
+use Rattle.resend_window.specs.Groups.{offset_group, name_group, query_group, held_groups, arrivals_group, arrival_groups, awaited_by, awaited_group, awaited_groups}
 use Rattle.resend_window.specs.declared.catalogue.Catalogue.{Catalogue}
 use Rattle.resend_window.specs.Catalogued.{IsCatalogue, Catalogues}
 use Rattle.resend_window.proofs.Catalogues.{AreGroups, catalogue_gap}
@@ -173,10 +171,6 @@ arrival_are q = record { asked = by; nothing = refl }
 
 -- orders
 
-or_same : (b : Bool) → (b || (b || false)) ≡ b
-or_same true = refl
-or_same false = refl
-
 name_sym : (l k : Lane) (n m : Name) → (lane_eq k l && name_eq m n) ≡ (lane_eq l k && name_eq n m)
 name_sym l k n m =
     ap (λ (b : Bool). b && name_eq m n) (lane_sym k l)
@@ -227,7 +221,7 @@ awaited_are w = record { asked = by; nothing = refl }
   where
     by : (o : Option Awaited) → list_any (bytes_eq (awaited_group w)) (awaited_groups o) ≡ passes (is_same w) o
     by None = refl
-    by (Some a) = or_same (bytes_eq (awaited_group w) (awaited_group a)) ∙ same_by w.lane a.lane w.name a.name w.is_ack a.is_ack w.ack_of a.ack_of
+    by (Some a) = or_none (bytes_eq (awaited_group w) (awaited_group a)) ∙ same_by w.lane a.lane w.name a.name w.is_ack a.is_ack w.ack_of a.ack_of
 
 -- adding a place
 
@@ -238,4 +232,9 @@ listed_gap keys xs more o index e none was whole =
 pub listed_more : {A : Type 0} (keys : Option A → List (List ℕ)) (xs more : List (Option A)) (o : Option A) (first second : List ℕ) (index : Catalogue) → more ≡ xs ++ o ∷ [] → keys o ≡ first ∷ second ∷ [] →
     Catalogues (map keys xs ++ (first ∷ second ∷ []) ∷ []) index → Catalogues (map keys more) index
 listed_more keys xs more o first second index e some was =
+    subst (λ (ks : List (List (List ℕ))). Catalogues ks index) (sym (ap (map keys) e ∙ keys_push keys xs o ∙ ap (λ k. map keys xs ++ k ∷ []) some)) was
+
+pub listed_one : {A : Type 0} (keys : Option A → List (List ℕ)) (xs more : List (Option A)) (o : Option A) (group : List ℕ) (index : Catalogue) → more ≡ xs ++ o ∷ [] → keys o ≡ group ∷ [] →
+    Catalogues (map keys xs ++ (group ∷ []) ∷ []) index → Catalogues (map keys more) index
+listed_one keys xs more o group index e some was =
     subst (λ (ks : List (List (List ℕ))). Catalogues ks index) (sym (ap (map keys) e ∙ keys_push keys xs o ∙ ap (λ k. map keys xs ++ k ∷ []) some)) was

@@ -1,15 +1,16 @@
 -- The index groups of a frame's place, added and removed one by one.
-use Rattle.std.proofs.Common.{◌≡◌, ℕ, zero, suc, ◌<◌, Bool, true, false, List, [], ◌∷◌, ◌++◌, length, refl, sym, ◌∙◌, ap, subst, arith, Option, Some, None}
-use Rattle.std.specs.Prelude.{map, slice_set, ◌==◌, if◌then◌else◌}
+use Rattle.std.proofs.Common.{◌≡◌, ℕ, zero, suc, ◌<◌, Bool, false, ◌||◌, List, [], ◌∷◌, ◌++◌, length, refl, sym, ◌∙◌, ap, subst, arith, Option, Some, None}
+use Rattle.std.specs.Prelude.{map, slice_set, if◌then◌else◌}
 use Rattle.std.specs.List.{list_any}
 use Rattle.std.specs.Str.{bytes_eq}
 use Rattle.qkd_base.specs.Lane.{lane_place}
 use Rattle.qkd_base.specs.Name.{Name}
 use Rattle.qkd_base.specs.declared.lane.Lane.{Lane}
 use Rattle.relay_core.proofs.Names.{eq_same}
-use Rattle.resend_window.specs.Catalogued.{groups_at}
+use Rattle.ordered_set.specs.Entries.{has_entry, entry_at}
+use Rattle.resend_window.specs.Catalogued.{groups_at, IsCatalogue}
 use Rattle.resend_window.specs.Groups.{offset_group, item_group, sent_group}
-use Rattle.resend_window.proofs.Catalogues.{groups_put}
+use Rattle.resend_window.proofs.Catalogues.{groups_put, catalogue_gap, catalogue_join}
 use Rattle.resend_window.proofs.Grouped.{behind}
 
 -- a tick's group differs from the other groups of a place
@@ -37,6 +38,13 @@ within_last keys k place size = let r = by keys k in omega arith
     by : (keys : List (List (List ℕ))) (k : List (List ℕ)) → length keys < length (keys ++ k ∷ [])
     by [] k = omega arith
     by (j ∷ keys) k = let r = by keys k in omega arith
+
+-- adding the last place to one group
+pub catalogue_append : (keys : List (List (List ℕ))) (group : List ℕ) (place : ℕ) (old new : List (List ℕ)) → IsCatalogue keys old → length keys ≡ place →
+    ((e : List ℕ) → has_entry new e ≡ (bytes_eq (entry_at group place) e || has_entry old e)) → IsCatalogue (keys ++ (group ∷ []) ∷ []) new
+catalogue_append keys group place old new is size one =
+    subst (λ (ks : List (List (List ℕ))). IsCatalogue ks new) (put_last keys (group ∷ []) [] place size)
+    (catalogue_join (keys ++ [] ∷ []) group place old new (catalogue_gap keys old is) (within_last keys [] place size) one)
 
 pub set_twice : (keys : List (List (List ℕ))) (n : ℕ) (a b : List (List ℕ)) → slice_set (slice_set keys n a) n b ≡ slice_set keys n b
 set_twice [] n a b = refl

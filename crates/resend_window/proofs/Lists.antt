@@ -1,10 +1,10 @@
 -- Lists with empty slots, whose items are removed and changed in place.
-use Rattle.std.proofs.Common.{◌≡◌, ℕ, zero, suc, ◌+◌, ◌<◌, ◌≤◌, Bool, true, false, ◌||◌, ◌&&◌, List, [], ◌∷◌, ◌++◌, length, take, refl, sym, ◌∙◌, ap, subst, arith, Option, Some, None, ◌⊎◌, inl, inr}
+use Rattle.std.proofs.Common.{◌≡◌, ℕ, zero, suc, ◌+◌, ◌<◌, ◌≤◌, Bool, true, false, ◌||◌, List, [], ◌∷◌, ◌++◌, length, take, refl, sym, ◌∙◌, ap, arith, Option, Some, None, ◌⊎◌, inl, inr}
 use Rattle.std.specs.Prelude.{slice_get, slice_set, map, filter, drop, not, if◌then◌else◌}
 use Rattle.std.specs.List.{list_any}
 use Rattle.relay_core.specs.Firsts.{IsFirstFrom, IsNoneFrom}
 use Rattle.resend_window.specs.Kept.{somes}
-use Rattle.resend_window.specs.Slots.{passes, removed}
+use Rattle.resend_window.specs.Slots.{passes}
 
 pub any_somes : {A : Type 0} (t : A → Bool) (xs : List (Option A)) → list_any (passes t) xs ≡ list_any t (somes xs)
 any_somes t [] = refl
@@ -179,3 +179,8 @@ pub length_somes : {A : Type 0} (xs : List (Option A)) → length (somes xs) ≤
 length_somes [] = omega arith
 length_somes (None ∷ xs) = let r = length_somes xs in omega arith
 length_somes (Some x ∷ xs) = let r = length_somes xs in omega arith
+
+pub length_more : {A : Type 0} (xs : List (Option A)) (o : Option A) → length (somes (xs ++ o ∷ [])) ≡ length (somes xs) + length (somes (o ∷ []))
+length_more [] o = omega arith
+length_more (None ∷ xs) o = length_more xs o
+length_more (Some x ∷ xs) o = let r = length_more xs o in omega arith

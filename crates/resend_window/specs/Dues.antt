@@ -1,5 +1,5 @@
 -- The set of frames that are sent again at the next plan, by lane and offset.
-use Rattle.std.specs.Prelude.{◌≡◌, ℕ, ◌<◌, ◌^◌, ◌==◌, ◌&&◌, ◌||◌, Bool, true, false, List, [], ◌∷◌, map, Option, Some, None}
+use Rattle.std.specs.Prelude.{◌≡◌, ℕ, ◌<◌, ◌^◌, ◌==◌, ◌&&◌, Bool, true, false, List, map, Option, Some, None}
 use Rattle.std.specs.List.{list_any}
 use Rattle.ordered_set.specs.Entries.{has_entry, entry_at}
 use Rattle.qkd_base.specs.Lane.{lane_eq}

@@ -89,4 +89,4 @@ awaited_group a = awaited_by a.lane a.name a.is_ack a.ack_of
 
 abbrev pub awaited_groups : Option Awaited → List (List ℕ)
 awaited_groups None = []
-awaited_groups (Some a) = awaited_group a ∷ awaited_group a ∷ []
+awaited_groups (Some a) = awaited_group a ∷ []

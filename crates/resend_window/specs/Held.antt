@@ -4,9 +4,9 @@ use Rattle.std.specs.List.{list_any}
 use Rattle.qkd_base.specs.Lane.{lane_eq}
 use Rattle.qkd_base.specs.Name.{Name}
 use Rattle.qkd_base.specs.declared.lane.Lane.{Lane}
-use Rattle.net_model.specs.Item.{Item, DataItem, AckItem, item_of, is_data_of}
+use Rattle.net_model.specs.Item.{Item, DataItem, AckItem, item_of}
 use Rattle.net_model.specs.World.{Entry, Transmission, PendingAck}
-use Rattle.net_model.specs.Window.{offset_eq, room_octets}
+use Rattle.net_model.specs.Window.{room_octets}
 use Rattle.resend_window.specs.declared.held.Held.{Held}
 use Rattle.resend_window.specs.declared.arrival.Arrival.{Arrival}
 use Rattle.resend_window.specs.declared.awaited.Awaited.{Awaited}

@@ -1,14 +1,12 @@
 -- What the operations on a window's lists do.
-use Rattle.std.specs.Prelude.{◌≡◌, ℕ, ◌+◌, ◌≤◌, ◌==◌, ◌&&◌, nat_lt, Bool, true, false, List, [], ◌∷◌, ◌++◌, map, filter, length, min, is_none, Option, Some, None, if◌then◌else◌, MatchOption, drop}
+use Rattle.std.specs.Prelude.{◌≡◌, ℕ, ◌+◌, ◌≤◌, ◌==◌, ◌&&◌, nat_lt, Bool, true, false, List, map, filter, length, is_none, Option, Some, None, if◌then◌else◌, MatchOption, drop}
 use Rattle.std.specs.List.{list_any}
 use Rattle.std.specs.Option.{option_map}
-use Rattle.qkd_base.specs.Lane.{lane_eq, reverse_lane}
-use Rattle.qkd_base.specs.Name.{name_eq}
+use Rattle.qkd_base.specs.Lane.{lane_eq}
 use Rattle.qkd_base.specs.declared.lane.Lane.{Lane}
 use Rattle.net_model.specs.declared.repeat.Repeat.{Repeat}
-use Rattle.net_model.specs.declared.placing.Placing.{Placing}
 use Rattle.net_model.specs.World.{PendingAck, Volatile}
-use Rattle.net_model.specs.Window.{transmission_eq, transmission_of, room_octets}
+use Rattle.net_model.specs.Window.{transmission_eq}
 use Rattle.resend_window.specs.declared.held.Held.{Held}
 use Rattle.resend_window.specs.declared.arrival.Arrival.{Arrival}
 use Rattle.resend_window.specs.declared.awaited.Awaited.{Awaited}

@@ -1,5 +1,5 @@
 -- The window after a placing, by what was placed.
-use Rattle.std.specs.Prelude.{◌&&◌, not, Bool, List, [], ◌∷◌, ◌++◌, map, filter, if◌then◌else◌}
+use Rattle.std.specs.Prelude.{◌&&◌, not, Bool, [], ◌∷◌, ◌++◌, map, filter, if◌then◌else◌}
 use Rattle.std.specs.List.{list_any}
 use Rattle.net_model.specs.declared.placing.Placing.{Placing}
 use Rattle.net_model.specs.World.{Volatile}

@@ -1,7 +1,6 @@
 -- Lists with empty slots, whose items are removed and changed in place.
-use Rattle.std.specs.Prelude.{ℕ, ◌==◌, ◌&&◌, is_none, Bool, true, false, List, Option, Some, None, if◌then◌else◌}
+use Rattle.std.specs.Prelude.{◌==◌, ◌&&◌, is_none, Bool, true, false, Option, Some, None, if◌then◌else◌}
 use Rattle.qkd_base.specs.Lane.{lane_eq}
-use Rattle.qkd_base.specs.declared.lane.Lane.{Lane}
 use Rattle.net_model.specs.Item.{item_of, is_data_of}
 use Rattle.net_model.specs.Window.{offset_eq}
 use Rattle.resend_window.specs.declared.held.Held.{Held}

@@ -145,7 +145,7 @@ fn unlist(index: &mut Catalogue, slot: &Option<Awaited>, place: usize)
 {
     match slot {
         None => {}
-        Some(awaited) => index.remove(&awaited.group(), &awaited.group(), place),
+        Some(awaited) => index.leave(&awaited.group(), place),
     }
 }
 
@@ -181,7 +181,7 @@ pub fn listed(alloc: Global, awaiting: &[Option<Awaited>]) -> Catalogue
     for place in 0..awaiting.len() {
         match &awaiting[place] {
             None => {}
-            Some(awaited) => index.add(&awaited.group(), &awaited.group(), place),
+            Some(awaited) => index.append(&awaited.group(), place),
         }
     }
     index

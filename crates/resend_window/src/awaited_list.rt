@@ -88,8 +88,7 @@ impl AwaitedList {
         ensures spare { self.old.spare ≡ self.new.spare + 1 }
     {
         let place = self.items.len();
-        let group = awaited.group();
-        self.index.add(&group, &group, place);
+        self.index.append(&awaited.group(), place);
         self.items.push_reserved(Some(awaited));
     }
 

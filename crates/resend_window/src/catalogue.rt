@@ -67,6 +67,15 @@ impl Catalogue {
         }
     }
 
+    /// Adds the place after the last one to a group.
+    pub fn append(&mut self, group: &Group, place: usize)
+        ensures { (keys : List (List (List ℕ))) → length keys ≡ place → Catalogues keys self.old → Catalogues (keys ++ (group.now ∷ []) ∷ []) self.new }
+    {
+        if !insert(&mut self.entries, group, place) {
+            self.is_whole = false;
+        }
+    }
+
     /// Removes a place from its two groups.
     pub fn remove(&mut self, first: &Group, second: &Group, place: usize)
         ensures { (keys : List (List (List ℕ))) → groups_at keys place ≡ first.now ∷ second.now ∷ [] → Catalogues keys self.old → Catalogues (slice_set keys place []) self.new }

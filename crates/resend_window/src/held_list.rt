@@ -13,7 +13,7 @@ use crate::catalogue::Catalogue;
 use crate::due_set::DueSet;
 use crate::edit::{Edit, Query};
 use crate::held::Held;
-use crate::rooms::{compact, has_room, reserve};
+use crate::rooms::{compact, has_room, is_sparse, reserve};
 use crate::slots::{all_due, change_all, enlist, listed, next_offset, next_slot, remove_all};
 use net_model::Repeat;
 use qkd_base::{Lane, Memory};
@@ -155,6 +155,16 @@ impl HeldList {
         self.items.push_reserved(Some(held));
     }
 
+    // Removes the empty slots of the list. It keeps the memory of the list.
+    fn compact(&mut self)
+        ensures items { somes self.new.items ≡ somes self.old.items }
+        ensures spare { self.old.spare ≤ self.new.spare }
+    {
+        compact(&mut self.items);
+        self.index = listed(*self.items.allocator(), &self.items);
+        self.dues = all_due(*self.items.allocator(), &self.items);
+    }
+
     /// Reserves memory for `more` further frames. An `Err` keeps the frames of the list.
     pub fn grow(&mut self, more: usize) -> Result<(), Memory>
         ensures items { somes self.new.items ≡ somes self.old.items }
@@ -164,9 +174,10 @@ impl HeldList {
         if has_room(&self.items, more) {
             return Ok(());
         }
-        compact(&mut self.items);
-        self.index = listed(*self.items.allocator(), &self.items);
-        self.dues = all_due(*self.items.allocator(), &self.items);
+        // To compact a list is to make its index anew, so it has to free many slots.
+        if is_sparse(&self.items) {
+            self.compact();
+        }
         reserve(&mut self.items, more)
     }
 }

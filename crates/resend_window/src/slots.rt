@@ -230,8 +230,12 @@ fn change_at(
 {
     let stood = slots[place];
     relist_asked(index, &stood, query, change, place);
-    slots[place] = changed(&stood, query, change);
-    settle(dues, slots, index, &stood);
+    let next = changed(&stood, query, change);
+    slots[place] = next;
+    // The set of due frames stays as it is where the frame wasn't due and isn't.
+    if is_ready(&stood) || is_ready(&next) {
+        settle(dues, slots, index, &stood);
+    }
 }
 
 /// Changes all frames that the query finds. The change must not be a removal.
@@ -264,7 +268,9 @@ fn remove_at(slots: &mut [Option<Held>], index: &mut Catalogue, dues: &mut DueSe
     let stood = slots[place];
     unlist(index, &stood, place);
     slots[place] = None;
-    settle(dues, slots, index, &stood);
+    if is_ready(&stood) {
+        settle(dues, slots, index, &stood);
+    }
 }
 
 /// Removes all frames that the query finds.

@@ -1,4 +1,4 @@
-use Rattle.std.proofs.Common.{◌≡◌, ◌+◌, List, ℕ, Option, [], ◌∷◌, take, length, refl, sym, subst, ap, ◌∙◌, arith}
+use Rattle.std.proofs.Common.{◌+◌, List, ℕ, Option, [], ◌∷◌, take, sym, subst, ap, ◌∙◌, arith}
 use Rattle.std.specs.Prelude.{map}
 use Rattle.relay_core.proofs.Firsts.{got}
 use Rattle.resend_window.specs.declared.catalogue.Catalogue.{Catalogue}
@@ -7,7 +7,7 @@ use Rattle.resend_window.specs.Catalogued.{Catalogues}
 use Rattle.resend_window.specs.Groups.{awaited_groups}
 use Rattle.resend_window.proofs.Edits.{take_more}
 use Rattle.resend_window.proofs.Frames.{length_take, take_long}
-use Rattle.resend_window.proofs.Grouped.{listed_gap, listed_more, keys_length}
+use Rattle.resend_window.proofs.Grouped.{listed_gap, listed_one, keys_length}
 use Rattle.resend_window.proofs.awaited.listed.Goals as goal
 use Rattle.resend_window.proofs.awaited.listed.Goals.{in-None, in-Some}
 
@@ -24,8 +24,8 @@ loop-place-preserved c =
           (listed_gap awaited_groups first (take (c.loop-place.place + 1) c.args.awaiting.now) o c.loop-place.index more (ap awaited_groups w.in-None.is) c.loop-place.invariant)
       | in-Some w ↦
           subst (λ (i : Catalogue). Catalogues (map awaited_groups (take (c.loop-place.place + 1) c.args.awaiting.now)) i) (sym w.index-is)
-          (listed_more awaited_groups first (take (c.loop-place.place + 1) c.args.awaiting.now) o w.group.result w.group-in-Some.result w.add.new.self more
-          (ap awaited_groups w.in-Some.is ∙ (let a = sym w.group.ensures in let b = sym w.group-in-Some.ensures in λ i. a i ∷ b i ∷ [])) (w.add.ensures (map awaited_groups first) size c.loop-place.invariant))
+          (listed_one awaited_groups first (take (c.loop-place.place + 1) c.args.awaiting.now) o w.group.result w.append.new.self more
+          (ap awaited_groups w.in-Some.is ∙ ap (λ (g : List ℕ). g ∷ []) (sym w.group.ensures)) (w.append.ensures (map awaited_groups first) size c.loop-place.invariant))
     ]
 
 pub returns : goal.returns
