@@ -12,6 +12,10 @@ pub record TcpForm : Type 0 where
 abbrev pub untold_asked : Option (List ℕ)
 untold_asked = None
 
+-- nor what a connection sends
+abbrev pub untold_octets : Option (List ℕ)
+untold_octets = None
+
 -- nor which connections wait
 abbrev pub untold_waiting : Option (List (List ℕ))
 untold_waiting = None

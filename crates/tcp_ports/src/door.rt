@@ -6,7 +6,7 @@ ghost use Rattle.tcp_ports.specs.Tcp.{TcpForm, untold_waiting, untold_twins, unt
 
 use crate::hall::Hall;
 use crate::{Crew, PeerReader, PeerWriter, Service};
-use edge_io::{Ended, Failed, Listener, ReadSource, WriteSink};
+use edge_io::{Ended, Failed, Listener, WriteSink};
 use std::alloc::Global;
 use std::io;
 use std::marker::Model;
@@ -16,10 +16,11 @@ use std::time::Clock;
 
 /// A listener over the system's TCP. Contracts know nothing of its connections. Each error is counted, and makes all listeners of
 /// the crew fail. A connection is accepted once its peer has sent an octet, has ended it, or was silent for too long. So a peer
-/// that does nothing costs no worker's time.
+/// that does nothing costs no worker's time. Where connections take turns, one whose turn was finished is accepted again.
 #[derive(Drop)]
 pub struct TcpDoor<'a, R> {
     rt: &'a R,
+    alloc: Global,
     hall: Arc<Hall, Global>,
     crew: &'a Crew,
     service: Service<'a>,
@@ -48,6 +49,7 @@ impl<'a, R> TcpDoor<'a, R> {
     /// A listener of this port, bound to this address, before its first call.
     pub(crate) fn new(
         rt: &'a R,
+        alloc: Global,
         hall: Arc<Hall, Global>,
         crew: &'a Crew,
         service: Service<'a>,
@@ -60,6 +62,7 @@ impl<'a, R> TcpDoor<'a, R> {
         hall.add();
         TcpDoor {
             rt,
+            alloc,
             hall,
             crew,
             service,
@@ -95,21 +98,24 @@ impl<'a, R> TcpDoor<'a, R> {
 
 impl<'a, R: Clock + Wait> TcpDoor<'a, R> {
     // The next connection, as what reads from it and what writes to it. The first one comes once each listener has a thread.
-    fn next_peer(&self) -> io::Result<(PeerReader<'a, R>, PeerWriter<'a, R>)> {
+    fn next_peer(&self) -> io::Result<(PeerReader<'a, R>, PeerWriter<'a, R>)>
+        ensures { IfOk result (λ ends. ends.0 ≡ 0) }
+    {
         if !self.ready {
             self.crew.muster(self.rt)?;
         }
         let peer = self.hall.next(self.rt, self.crew)?;
         let other = Arc::try_clone(&peer)?;
+        let hall = Arc::try_clone(&self.hall)?;
         Ok((
-            PeerReader::new(self.rt, peer, self.service.patience),
+            PeerReader::new(self.rt, self.alloc, hall, peer, self.service.patience),
             PeerWriter::new(self.rt, other, self.service),
         ))
     }
 }
 
 impl<'a, R: Clock + Wait + Eprint> Listener for TcpDoor<'a, R> {
-    type In = ReadSource<PeerReader<'a, R>>;
+    type In = PeerReader<'a, R>;
 
     type Out = WriteSink<PeerWriter<'a, R>>;
 
@@ -127,17 +133,15 @@ impl<'a, R: Clock + Wait + Eprint> Listener for TcpDoor<'a, R> {
 
     ghost faults = { λ s. s.faults };
 
-    fn accept(
-        &mut self,
-    ) -> Result<(ReadSource<PeerReader<'a, R>>, WriteSink<PeerWriter<'a, R>>), Failed>
+    fn accept(&mut self) -> Result<(PeerReader<'a, R>, WriteSink<PeerWriter<'a, R>>), Failed>
         requires few { self.old.accepted < 2 ^ 48 }
         ensures next { MatchResult result
             (λ ends. (self.new.accepted ≡ self.old.accepted + 1) × IsNext untold_waiting untold_waiting None None)
             (λ _. (self.new.accepted ≡ self.old.accepted) × (untold_waiting ≡ untold_waiting)) }
-        ensures fresh { IfOk result (λ ends. (ends.0.1 ≡ 0) × (ends.1.1 ≡ 0)) }
+        ensures fresh { IfOk result (λ ends. (ends.0 ≡ 0) × (ends.1.1 ≡ 0)) }
         ensures calm { OnOk result (self.new.faults ≡ self.old.faults) }
         ensures same { (self.new.port ≡ self.old.port) × (self.new.finished ≡ self.old.finished) × (untold_twins ≡ untold_twins) × (untold_done ≡ untold_done) }
-        ensures ok { IfOk result (λ ends. (self.new ≡ record self.old { accepted = self.old.accepted + 1 }) × (ends.0.1 ≡ 0) × (ends.1.1 ≡ 0)) }
+        ensures ok { IfOk result (λ ends. (self.new ≡ record self.old { accepted = self.old.accepted + 1 }) × (ends.0 ≡ 0) × (ends.1.1 ≡ 0)) }
         ensures err { OnErr result (self.new ≡ record self.old { faults = one_more self.old.faults }) }
         ensures cause { HasCause self.old.faults self.new.faults result }
     {
@@ -145,7 +149,7 @@ impl<'a, R: Clock + Wait + Eprint> Listener for TcpDoor<'a, R> {
             Ok((input, output)) => {
                 self.ready = true;
                 self.accepted += 1;
-                Ok((ReadSource::new(input), WriteSink::new(output)))
+                Ok((input, WriteSink::new(output)))
             }
             Err(_) => Err(self.fail()),
         }
@@ -153,7 +157,7 @@ impl<'a, R: Clock + Wait + Eprint> Listener for TcpDoor<'a, R> {
 
     fn finish(
         &mut self,
-        source: ReadSource<PeerReader<'a, R>>,
+        source: PeerReader<'a, R>,
         sink: WriteSink<PeerWriter<'a, R>>,
         ended: Ended,
     )
@@ -162,7 +166,10 @@ impl<'a, R: Clock + Wait + Eprint> Listener for TcpDoor<'a, R> {
         ensures same { (self.new.port ≡ self.old.port) × (self.new.accepted ≡ self.old.accepted) × (untold_waiting ≡ untold_waiting) × (untold_twins ≡ untold_twins) × (self.new.faults ≡ self.old.faults) }
         ensures whole { self.new ≡ record self.old { finished = self.old.finished + 1 } }
     {
-        let _ = (source, sink, ended);
+        let _ = sink;
+        if let Some(peer) = source.into_rest(ended) {
+            self.hall.give_back(self.rt, peer);
+        }
         self.finished += 1;
         if self.finished == self.service.connections {
             self.hall.leave(self.rt);
@@ -181,6 +188,7 @@ impl<'a, R: Clock + Wait + Eprint> Listener for TcpDoor<'a, R> {
         match Arc::try_clone(&self.hall) {
             Ok(hall) => Ok(TcpDoor::new(
                 self.rt,
+                self.alloc,
                 hall,
                 self.crew,
                 self.service,

@@ -2,6 +2,7 @@
 #![tactic(auto)]
 
 mod answer;
+mod bell;
 mod crew;
 mod deadline;
 mod door;
@@ -13,6 +14,7 @@ mod peer;
 mod peer_reader;
 mod peer_writer;
 mod ports;
+mod request_ends;
 mod service;
 mod socket;
 mod stream;

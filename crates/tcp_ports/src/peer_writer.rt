@@ -56,7 +56,7 @@ impl<R: Clock + Wait + Eprint> Write for PeerWriter<'_, R> {
                 self.tell(bytes, true);
                 return Err(io::Error::from(ErrorKind::TimedOut));
             }
-            self.peer.stream.set_write_timeout(wait)?;
+            self.peer.limit_write(wait)?;
             match self.peer.stream.write(bytes) {
                 Ok(count) => {
                     self.tell(&bytes[..count], false);

@@ -5,6 +5,7 @@ ghost use Rattle.edge_io.specs.Writes.{Adds};
 ghost use Rattle.edge_io.specs.Connections.{IsFirstQueue, IsNewDoor};
 ghost use Rattle.tcp_ports.specs.Tcp.{untold_asked, untold_queues, untold_waiting, untold_twins};
 
+use crate::bell::Bell;
 use crate::entrance::Entrance;
 use crate::hall::Hall;
 use crate::socket::{open_socket, path_of};
@@ -91,8 +92,21 @@ impl<
             None => None,
         };
         let room = WaitingRoom::new(self.alloc, entrance, self.service.patience, told)?;
-        let hall = Arc::new(self.alloc, Hall::new(room))?;
-        Ok(TcpDoor::new(self.rt, hall, self.crew, self.service, address, port))
+        let bell = if self.service.takes_turns() {
+            Some(Bell::new(self.rt)?)
+        } else {
+            None
+        };
+        let hall = Arc::new(self.alloc, Hall::new(room, bell))?;
+        Ok(TcpDoor::new(
+            self.rt,
+            self.alloc,
+            hall,
+            self.crew,
+            self.service,
+            address,
+            port,
+        ))
     }
 
     // Takes the socket of a node out of its folder. It may be gone, since the node's listeners share it.

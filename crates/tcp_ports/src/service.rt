@@ -1,5 +1,8 @@
 use crate::{Log, Patience};
 
+// So many connections that no listener comes to their end.
+const ENDLESS: u64 = 1 << 48;
+
 /// Where the ports of a program are.
 #[derive(Clone, Copy)]
 pub enum Place<'a> {
@@ -16,7 +19,8 @@ pub struct Service<'a> {
     /// The port of node 0. Each further node has the next one.
     pub first: u16,
     pub patience: Patience,
-    /// A port closes once each of its listeners has finished so many connections.
+    /// A port closes once each of its listeners has finished so many connections. With 2^48, which none comes to, connections take
+    /// turns: each time that one is taken up counts as a connection.
     pub connections: u64,
     /// What tells of each request, if anything does.
     pub log: Option<&'a Log>,
@@ -26,5 +30,10 @@ impl Service<'_> {
     /// The number of the node that has a port.
     pub(crate) fn node(&self, port: u16) -> u16 {
         port.saturating_sub(self.first)
+    }
+
+    /// Whether connections take turns at workers.
+    pub(crate) fn takes_turns(&self) -> bool {
+        self.connections >= ENDLESS
     }
 }

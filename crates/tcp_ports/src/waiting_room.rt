@@ -1,43 +1,55 @@
-// The connections of a port that have said nothing yet.
-ghost use Rattle.std.specs.Prelude.{◌<◌, IfOk, IfSome, vec_len};
+// The connections of a port that no worker has.
+ghost use Rattle.std.specs.Prelude.{◌≤◌, ◌<◌, IfOk};
 
+use crate::Patience;
 use crate::entrance::Entrance;
 use crate::peer::Peer;
 use crate::talk::Talk;
-use crate::{Crew, Patience};
 use libc::EMFILE;
-use libc::net::{POLLIN, poll};
+use libc::net::POLLIN;
 use libc::types::pollfd;
 use std::alloc::Global;
 use std::io;
 use std::io::ErrorKind;
 use std::os::fd::RawFd;
-use std::sync::{Arc, Wait};
-use std::thread::sleep;
+use std::sync::Arc;
 use std::time::{Clock, Duration, Instant};
 
-// The most connections that are accepted and have said nothing yet.
+// The most connections that wait, beyond which none is accepted.
 const ROOM: usize = 128;
+
+// The most connections that wait, with those that workers gave back.
+const SEATS: usize = 160;
+
+// What a wait asks besides, in places before those of the connections: the bell, and the entrance.
+const BEFORE: usize = 2;
+
+const ENTRANCE: usize = 1;
+
+/// The most places of what a wait asks.
+pub(crate) const ASKED: usize = 162;
 
 // The most milliseconds of one wait, behind which it is looked whether another listener has failed.
 const LOOK: u64 = 500;
 
-// The milliseconds until an accept is tried again, where descriptors or memory were wanting.
-const RETRY: u64 = 50;
+/// The milliseconds until what failed is tried again, as an accept where descriptors or memory were wanting.
+pub(crate) const RETRY: u64 = 50;
 
-// Stands for a descriptor where none is asked.
-const NOBODY: RawFd = -1;
+/// Stands for a descriptor where none is asked.
+pub(crate) const NOBODY: RawFd = -1;
 
 // The system's numbers of errors for which the table of open files is full, and the memory of sockets.
 const ENFILE: i32 = 23;
 
 const ENOBUFS: i32 = 105;
 
-// A connection that was accepted and has said nothing since.
+// A connection that was accepted or given back and has said nothing since, as far as is known.
 #[derive(Drop)]
 struct Waiting {
     peer: Arc<Peer, Global>,
     since: Instant,
+    // Whether a worker can take it up.
+    ready: bool,
 }
 
 // How the system answered an accept.
@@ -51,8 +63,8 @@ enum Admitted {
     Crowd,
 }
 
-/// An entrance, and those of its connections that have said nothing yet. A worker gets a connection once its first octet is there,
-/// its peer has ended it, or its peer was silent for too long.
+/// An entrance, and those of its connections that no worker has. A worker gets a connection once an octet is there, its peer has
+/// ended it, or its peer was silent for too long.
 #[derive(Drop)]
 pub(crate) struct WaitingRoom {
     alloc: Global,
@@ -61,23 +73,19 @@ pub(crate) struct WaitingRoom {
     patience: Patience,
     // The node of the port, where its connections are told of.
     told: Option<u16>,
+    // Whether some may have to stay at the system's door.
+    crowded: bool,
+    // Those that wait longest come first.
     waiting: Vec<Waiting>,
 }
 
-// What a descriptor is asked.
-fn asks(fd: RawFd) -> pollfd {
+/// What a descriptor is asked.
+pub(crate) fn asks(fd: RawFd) -> pollfd {
     pollfd {
         fd,
         events: POLLIN,
         revents: 0,
     }
-}
-
-// A time in milliseconds, rounded up.
-fn millis(time: Duration) -> i32 {
-    i32::try_from(time.as_millis())
-        .unwrap_or(i32::MAX)
-        .saturating_add(1)
 }
 
 // What an accept that failed tells. Any other error is one of the listener.
@@ -107,26 +115,47 @@ impl WaitingRoom {
             entrance: Some(entrance),
             patience,
             told,
-            waiting: Vec::with_capacity(alloc, ROOM)?,
+            crowded: false,
+            waiting: Vec::with_capacity(alloc, SEATS)?,
         })
     }
 
-    /// The next connection that a worker can take up. The error is one of this or another listener.
-    pub fn next<R: Clock + Wait>(&mut self, rt: &R, crew: &Crew) -> io::Result<Arc<Peer, Global>> {
-        for _ in rt.forever() {
-            crew.check()?;
-            let crowded = self.admit(rt)?;
-            if let Some(place) = self.wait(rt, crowded)? {
-                return Ok(self.waiting.remove(place).peer);
-            }
-        }
-        unreachable!()
+    /// How many connections wait.
+    pub fn len(&self) -> usize {
+        self.waiting.len()
     }
 
-    /// Closes the port, and the connections that have said nothing yet.
+    /// Takes the connection that waits longest of those that a worker can take up.
+    pub fn take(&mut self) -> Option<Arc<Peer, Global>> {
+        for place in 0..self.waiting.len() {
+            if self.waiting[place].ready {
+                return Some(self.waiting.remove(place).peer);
+            }
+        }
+        None
+    }
+
+    /// A worker gives a connection back. Where memory is wanting, it ends.
+    pub fn give_back<C: Clock>(&mut self, clock: &C, peer: Arc<Peer, Global>) {
+        // The connection is closed as it is dropped.
+        let _ = self.seat(clock, peer);
+    }
+
+    /// Closes the port, and the connections that wait.
     pub fn close(&mut self) {
         self.entrance = None;
         self.waiting.clear();
+    }
+
+    // Has a connection wait.
+    fn seat<C: Clock>(&mut self, clock: &C, peer: Arc<Peer, Global>) -> io::Result<()> {
+        let since = Instant::now(clock)?;
+        self.waiting.push(Waiting {
+            peer,
+            since,
+            ready: false,
+        })?;
+        Ok(())
     }
 
     // Takes in who waits at the system's door. The answer is whether some may have to stay there.
@@ -154,76 +183,82 @@ impl WaitingRoom {
         if stream.set_nodelay().is_err() {
             return Ok(Admitted::One);
         }
-        let since = Instant::now(clock)?;
         let talk = match self.told {
             Some(node) => Some(Talk::new(self.alloc, node)),
             None => None,
         };
-        let Ok(peer) = Arc::new(self.alloc, Peer::new(stream, talk)) else {
+        let Ok(peer) = Arc::new(self.alloc, Peer::new(self.alloc, stream, talk)) else {
             return Ok(Admitted::Crowd);
         };
-        match self.waiting.push(Waiting { peer, since }) {
+        match self.seat(clock, peer) {
             Ok(()) => Ok(Admitted::One),
-            Err(_) => Ok(Admitted::Crowd),
+            Err(error) if error.kind() == ErrorKind::OutOfMemory => Ok(Admitted::Crowd),
+            Err(error) => Err(error),
         }
     }
 
-    // Waits until a connection says something or ends, or a new one comes, but not for long. The answer is the place of a
-    // connection that a worker can take up, if there is one.
-    fn wait<C: Clock>(&self, clock: &C, crowded: bool) -> io::Result<Option<usize>>
-        ensures { IfOk result (λ found. IfSome found (λ place. place < vec_len self.now.waiting)) }
-    {
-        let (patience, longest) = if crowded {
-            (self.patience.crowd, Duration::from_millis(RETRY))
+    // How long a connection may be silent.
+    fn patience(&self) -> Duration {
+        if self.crowded {
+            self.patience.crowd
         } else {
-            (self.patience.silence, Duration::from_millis(LOOK))
+            self.patience.silence
+        }
+    }
+
+    /// Writes what a wait is for behind the first place of a list: a new connection, unless none can be accepted, and an octet or the
+    /// end of each that waits. The answer is how many places are written, and how long to wait.
+    pub fn ask<C: Clock>(
+        &mut self,
+        clock: &C,
+        asked: &mut [pollfd; ASKED],
+    ) -> io::Result<(usize, Duration)>
+        ensures { IfOk result (λ wait. wait.0 ≤ 162) }
+    {
+        if self.crowded {
+            self.crowded = self.admit(clock)?;
+        }
+        asked[ENTRANCE] = match &self.entrance {
+            Some(entrance) if !self.crowded => asks(entrance.as_raw_fd()),
+            _ => asks(NOBODY),
         };
+        let count = self.waiting.len().min(SEATS);
+        for place in 0..count {
+            asked[BEFORE + place] = asks(self.waiting[place].peer.stream.as_raw_fd());
+        }
+        let longest = Duration::from_millis(if self.crowded { RETRY } else { LOOK });
         let left = match self.waiting.first() {
-            Some(first) => patience.saturating_sub(first.since.elapsed(clock)?),
+            Some(first) => self.patience().saturating_sub(first.since.elapsed(clock)?),
             None => longest,
         };
-        match self.ready(clock, crowded, left.min(longest)) {
-            Some(place) => Ok(Some(place)),
-            None => self.late(clock, patience),
-        }
+        Ok((BEFORE + count, left.min(longest)))
     }
 
-    // The place of a connection that said something or ended. Waits at most so long for it, or for a new one.
-    fn ready<C: Clock>(&self, clock: &C, crowded: bool, time: Duration) -> Option<usize>
-        ensures { IfSome result (λ place. place < vec_len self.now.waiting) }
-    {
-        let mut asked = [asks(NOBODY); ROOM + 1];
-        let count = self.waiting.len().min(ROOM);
-        for place in 0..count {
-            asked[place] = asks(self.waiting[place].peer.stream.as_raw_fd());
+    /// Takes what a wait has told, in the list that it was asked by. Who was given back meanwhile is behind those that it asked for.
+    pub fn hear<C: Clock>(&mut self, clock: &C, told: &[pollfd]) -> io::Result<()> {
+        for (waiting, answer) in self.waiting.iter_mut().zip(told.iter().skip(BEFORE)) {
+            waiting.ready = answer.revents != 0;
         }
-        match &self.entrance {
-            Some(entrance) if !crowded => asked[count] = asks(entrance.as_raw_fd()),
-            _ => {}
+        if told.get(ENTRANCE).is_some_and(|answer| answer.revents != 0) {
+            self.crowded = self.admit(clock)?;
         }
-        if poll(&mut asked[..=count], millis(time)) < 0 {
-            sleep(clock, Duration::from_millis(RETRY));
-        }
-        for place in 0..count {
-            if asked[place].revents != 0 {
-                return Some(place);
+        self.end_late(clock)
+    }
+
+    // Ends the input of each connection that was silent for too long. Its worker will find that it has ended.
+    fn end_late<C: Clock>(&mut self, clock: &C) -> io::Result<()> {
+        let patience = self.patience();
+        let now = Instant::now(clock)?;
+        for waiting in &mut self.waiting {
+            if now.duration_since(waiting.since) < patience {
+                break;
+            }
+            if !waiting.ready {
+                // It may have ended before.
+                let _ = waiting.peer.stream.end_input();
+                waiting.ready = true;
             }
         }
-        None
-    }
-
-    // The place of the connection that was silent for too long, if one was. Its worker will find that it has ended.
-    fn late<C: Clock>(&self, clock: &C, patience: Duration) -> io::Result<Option<usize>>
-        ensures { IfOk result (λ found. IfSome found (λ place. place < vec_len self.now.waiting)) }
-    {
-        let Some(first) = self.waiting.first() else {
-            return Ok(None);
-        };
-        if first.since.elapsed(clock)? < patience {
-            return Ok(None);
-        }
-        // It may have ended before.
-        let _ = first.peer.stream.end_input();
-        Ok(Some(0))
+        Ok(())
     }
 }
