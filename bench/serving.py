@@ -7,7 +7,8 @@ PROGRAM is the built program, and crates/qkdnet/out/qkdnet where none is named. 
 and are built by cargo, out of nothing but the standard library. Both servers get the same words and the same scenario: pairs of nodes,
 each with a master of keys for its neighbour's slave. First both are asked the same requests, and have to give the same responses, but
 for the bytes of keys. Then clients ask for statuses, each on a connection of its own or many on one, and the delays of their
-requests are printed. Then, for 1 to 4 workers, the client keeps a connection with each worker and asks for statuses, for all keys
+requests are printed; there both serve without end, the plain server each connection by a thread of its own, and the program by its
+workers, at which connections take turns. Then, for 1 to 4 workers, the client keeps a connection with each worker and asks for statuses, for all keys
 of the masters, and for all keys of the slaves: with one request at a time on its way, and with 16. Printed are the greatest rates of
 five turns, requests a second, and the ratio. With two nodes more than two workers share managers; with four none do. No test depends on
 them.
@@ -160,7 +161,7 @@ def delayed(program, use_by, clients, kind, text):
         count, seconds, *delays = map(float, ran.stdout.split())
         return (count / seconds, *delays)
 
-    return served(program, workers, 10_000, text, use, ends=False)
+    return served(program, workers, "forever", text, use, ends=False)
 
 
 def delays(programs, use_by, clients, kind, text):

@@ -10,6 +10,9 @@ use std::thread::join;
 use std::time::{Clock, Duration};
 use tcp_ports::{Crew, Patience, Place, Service, TcpDoor, TcpPorts};
 
+// A request without a body.
+const REQUEST: &[u8] = b"GET / HTTP/1.1\r\n\r\n";
+
 // Waits that a test can wait for, and others that none comes to the end of.
 fn patience(silence: u64, request: u64) -> Patience {
     Patience {
@@ -134,6 +137,46 @@ fn await_slow<R: Clock + Wait + Eprint>(door: &mut TcpDoor<'_, R>) -> bool
     first == Ok(1) && answered == Ok(()) && second == Ok(1) && third == Ok(0)
 }
 
+// Accepts a connection, reads a request, answers it by an octet, and finishes the connection, whose turn has ended.
+fn serve_turn<R: Clock + Wait + Eprint>(door: &mut TcpDoor<'_, R>) -> bool
+    requires few { door.old.accepted < 8 }
+    requires finished { door.old.finished ≤ door.old.accepted }
+    ensures few { door.new.accepted ≤ door.old.accepted + 1 }
+    ensures finished { door.new.finished ≤ door.new.accepted }
+{
+    let mut buffer = [0u8; 64];
+    let Ok((mut source, mut sink)) = door.accept() else {
+        return false;
+    };
+    let read = source.read(&mut buffer);
+    let written = sink.write_all(b"x");
+    let end = source.read(&mut buffer);
+    door.finish(source, sink, Ended::Closed);
+    read == Ok(REQUEST.len()) && written == Ok(()) && end == Ok(0)
+}
+
+// Serves three turns.
+fn serve_three_turns<R: Clock + Wait + Eprint>(door: &mut TcpDoor<'_, R>) -> bool
+    requires none_accepted { door.old.accepted ≡ 0 }
+    requires none_finished { door.old.finished ≡ 0 }
+{
+    serve_turn(door) && serve_turn(door) && serve_turn(door)
+}
+
+// Sends a request on each of two connections, and one more on the first. The answers are the octets that come back.
+fn ask_by_turns<R: Net<Stream = TcpStream>>(
+    net: &R,
+    address: SocketAddr,
+) -> io::Result<(u8, u8, u8)> {
+    let mut first = TcpStream::connect(net, address)?;
+    let mut second = TcpStream::connect(net, address)?;
+    first.write_all(REQUEST)?;
+    second.write_all(REQUEST)?;
+    let answers = (receive(&mut first)?, receive(&mut second)?);
+    first.write_all(REQUEST)?;
+    Ok((answers.0, answers.1, receive(&mut first)?))
+}
+
 // Connects and sends nothing, while another connection asks. The answer is that of the other one, and what came at the silent one.
 fn ask_beside_silence<R: Net<Stream = TcpStream>>(
     net: &R,
@@ -189,6 +232,29 @@ fn a_request_has_to_be_whole_in_time(rt: HostRuntime) {
     );
     assert!(rt; served);
     assert!(rt; rest.ok() == Some(0));
+    ports.shut(door);
+}
+
+#[test]
+fn connections_take_turns_where_they_have_no_end(rt: HostRuntime) {
+    let crew = Crew::new();
+    let mut ports = TcpPorts::new(
+        &rt,
+        rt.alloc(),
+        &crew,
+        service(patience(60_000, 60_000), 1 << 48),
+    );
+    let Ok(mut door) = ports.open(0) else {
+        panic!(rt; "not opened");
+    };
+    let (client, address) = (&rt, address_of(&door));
+    let (served, answers) = join(
+        &rt,
+        || serve_three_turns(&mut door),
+        || ask_by_turns(client, address),
+    );
+    assert!(rt; served);
+    assert!(rt; answers.ok() == Some((b'x', b'x', b'x')));
     ports.shut(door);
 }
 
