@@ -14,7 +14,7 @@ none_stands f none = by f.order refl
   where
     by : (b : Bool) → f.order ≡ b → f.order ≡ true
     by true e = e
-    by false e = absurd (let broken : Some 7 ≡ None = sym (ap (λ (c : Bool). cond (not (c && f.gives && f.asked.parts)) (Some 7) (least_of (record f { order = true; gives = true; asked = record (f.asked) { parts = true } }))) e) ∙ none in cc)
+    by false e = absurd (let broken : Some 7 ≡ None = sym (ap (λ (c : Bool). cond (not (c && f.gives && f.turns && f.asked.parts)) (Some 7) (least_of (record f { order = true; gives = true; turns = true; asked = record (f.asked) { parts = true } }))) e) ∙ none in cc)
 
 -- ---- the loop
 

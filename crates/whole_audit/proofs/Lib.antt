@@ -2,9 +2,9 @@ pub mod Walking
 pub mod Lining
 pub mod Counting
 pub mod Linking
-pub mod HandedNames
 pub mod Managing
 pub mod Numbering
 pub mod Resting
 pub mod Tracking
+pub mod Knowing
 pub mod Deciding

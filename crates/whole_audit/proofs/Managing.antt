@@ -4,7 +4,7 @@ use Rattle.std.specs.Str.{bytes_eq}
 use Rattle.ordered_set.specs.Entries.{has_entry}
 use Rattle.run_types.specs.declared.scenario.Scenario.{Scenario}
 use Rattle.run_types.specs.declared.item.NumberedItem.{NumberedItem}
-use Rattle.whole_audit.specs.declared.said.Said.{Said}
+use Rattle.item_audit.specs.declared.said.Said.{Said}
 use Rattle.whole_audit.specs.Managers.{said, is_up_behind, is_node_up, start_of, is_this, was_started}
 use Rattle.whole_audit.specs.Kept.{number_entry, has_number, AreDownNodes, AreStarted}
 use Rattle.whole_audit.proofs.Walking.{number_entries}

@@ -11,7 +11,7 @@ use Rattle.run_audit.proofs.Keys.{and_true}
 use Rattle.run_types.specs.declared.scenario.Scenario.{Scenario}
 use Rattle.run_types.specs.declared.item.NumberedItem.{NumberedItem}
 use Rattle.whole_audit.specs.declared.blocks.Count.{Count}
-use Rattle.whole_audit.specs.declared.given.Given.{Given}
+use Rattle.item_audit.specs.declared.given.Given.{Given}
 use Rattle.whole_audit.specs.declared.names.Names.{Names}
 use Rattle.whole_audit.specs.Names.{given, count_behind, names_behind, names_of}
 use Rattle.whole_audit.specs.Kept.{no_count, named_at, AreNamed}

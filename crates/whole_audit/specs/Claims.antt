@@ -1,6 +1,7 @@
 -- Rule 10: a frame leaves over a link that is up, and uses bytes that its sender has received.
 use Rattle.std.specs.Prelude.{ℕ, ◌+◌, Bool, true, ◌&&◌, ◌==◌, nat_le, if◌then◌else◌, List, [], ◌∷◌, Option, Some, None}
 use Rattle.qkd_base.specs.declared.lane.Lane.{Lane}
+use Rattle.qkd_base.specs.Lane.{reverse_lane}
 use Rattle.run_types.specs.declared.item.Item.{Item}
 use Rattle.run_types.specs.declared.item.Item.TheVariants as items
 use Rattle.run_types.specs.declared.item.NumberedItem.{NumberedItem}
@@ -28,6 +29,11 @@ most_received l before = received_in l.way (count_of l before).most
 -- the least bytes of the lane that its sender has received
 abbrev pub least_received : Lane → List NumberedItem → ℕ
 least_received l before = received_in l.way (count_of l before).least
+
+-- The lane's receiver may have this number of its bytes.
+abbrev pub may_have_at_end : Lane → (bytes : ℕ) → List NumberedItem → Bool
+may_have_at_end l bytes before =
+    nat_le (received_in l.way (count_of (reverse_lane l) before).least) bytes && nat_le bytes (received_in l.way (count_of (reverse_lane l) before).most)
 
 -- The first `to` bytes of the lane may be used: so many may have been received, and the link is up.
 abbrev pub may_use : Lane → (to : ℕ) → List NumberedItem → Bool

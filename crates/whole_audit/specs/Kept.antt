@@ -6,6 +6,7 @@ use Rattle.std.specs.BTreeMap.{BTreeMap, get}
 use Rattle.ordered_set.specs.Entries.{has_entry}
 use Rattle.qkd_base.specs.declared.lane.Lane.{Lane}
 use Rattle.qkd_base.specs.Lane.{lane_place}
+use Rattle.qkd_base.specs.Name.{kind_number}
 use Rattle.run_types.specs.declared.line.Line.{Line}
 use Rattle.run_types.specs.declared.entry.Entry.{Entry}
 use Rattle.run_types.specs.declared.entry.Entry.TheVariants as entries
@@ -23,6 +24,9 @@ use Rattle.run_audit.specs.Table.{at}
 use Rattle.whole_audit.specs.Blocks.{count_of}
 use Rattle.whole_audit.specs.Claims.{is_up}
 use Rattle.whole_audit.specs.declared.names.Names.{Names}
+use Rattle.whole_audit.specs.declared.knowledge.Heard.{Heard}
+use Rattle.whole_audit.specs.declared.knowledge.Knowledge.{Knowledge}
+use Rattle.whole_audit.specs.Knowledge.{has_heard}
 use Rattle.whole_audit.specs.Managers.{is_node_up, was_started}
 use Rattle.whole_audit.specs.Names.{names_of}
 use Rattle.whole_audit.specs.declared.rests.Rest.{Rest}
@@ -112,6 +116,18 @@ AreDownNodes s down before = (node : ℕ) → has_number down node ≡ not (is_n
 abbrev pub AreStarted : Scenario → List (List ℕ) → List NumberedItem → Type 0
 AreStarted s started before = (node : ℕ) → has_number started node ≡ was_started s node before
 
+-- ---- what nodes know
+
+abbrev pub bool_number : Bool → ℕ
+bool_number b = if b then 1 else 0
+
+abbrev pub heard_entry : Heard → List ℕ
+heard_entry h = h.name.count ∷ h.name.node ∷ kind_number h.name.kind ∷ h.node ∷ bool_number h.is_ack ∷ []
+
+-- The set has what nodes took.
+abbrev pub AreHeard : Scenario → Knowledge → List NumberedItem → Type 0
+AreHeard s k before = (h : Heard) → has_entry k.heard (heard_entry h) ≡ has_heard s before h
+
 -- ---- what lines have to give
 
 abbrev pub rest_at : Rests → (number : ℕ) → (first : Rest) → Rest
@@ -139,6 +155,7 @@ pub record AreTablesOf (s : Scenario) (t : Tables) (before : List NumberedItem) 
   pub names : AreNamed s t.names before
   pub rests : AreRests s t.rests before
   pub tracks : AreTracks t.tracks before
+  pub knowledge : AreHeard s t.knowledge before
 
 pub record IsJudgeOf (s : Scenario) (j : Judge) (before : List NumberedItem) : Type 0 where
   pub walk : IsWalkOf s j.walk before

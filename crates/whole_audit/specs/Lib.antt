@@ -1,15 +1,9 @@
 pub mod Lines
-pub mod Entitled
-pub mod Making
-pub mod Handing
-pub mod Passing
-pub mod Streaming
-pub mod Naming
-pub mod Asked
 pub mod Managers
 pub mod Names
-pub mod Parts
+pub mod Knowledge
 pub mod Rests
+pub mod Turns
 pub mod Order
 pub mod Blocks
 pub mod Claims

@@ -12,9 +12,10 @@ use Rattle.run_types.specs.declared.item.Item.TheVariants as items
 use Rattle.run_types.specs.declared.item.NumberedItem.{NumberedItem}
 use Rattle.whole_audit.specs.declared.tracks.Track.{Track}
 use Rattle.whole_audit.specs.Blocks.{is_lane}
-use Rattle.whole_audit.specs.Names.{bounded}
+use Rattle.item_audit.specs.Gifts.{bounded}
 use Rattle.whole_audit.specs.Order.{left}
-use Rattle.whole_audit.specs.Managers.{sender, was_started}
+use Rattle.item_audit.specs.Sayings.{sender}
+use Rattle.whole_audit.specs.Managers.{was_started}
 
 -- The first 8 bytes of a lane are its hash key.
 abbrev pub no_track : Track
@@ -72,6 +73,16 @@ was_started_at s (Some l) before = was_started s (sender s.site l) before
 -- A sender that was started begins behind what it had leased.
 abbrev pub has_no_gap : Scenario → List NumberedItem → NumberedItem → Bool
 has_no_gap s before t = in_block s before t || was_started_at s (frame_lane t.item) before || reaches_at (frame_lane t.item) t.item before
+
+-- ---- rules 11 and 17
+
+-- What is unused lies behind all frames.
+abbrev pub leaves : (unused received : ℕ) → Track → Bool
+leaves unused received k = (received == 0) || nat_le (k.end + unused) received
+
+-- A lane that lacks bytes has used those up to its last frame's end, and none where it has none.
+abbrev pub has_used : (used received : ℕ) → Track → Bool
+has_used used received k = if received == 0 then used == 0 else nat_le k.end used && nat_le used received
 
 -- ---- rule 14
 

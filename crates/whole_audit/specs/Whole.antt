@@ -9,15 +9,16 @@ use Rattle.audit_text.specs.declared.input.Input.{Input}
 use Rattle.audit_text.specs.Input.{IsInput}
 use Rattle.whole_audit.specs.declared.findings.Findings.{Findings}
 use Rattle.whole_audit.specs.Order.{rule_7, may_end}
-use Rattle.whole_audit.specs.Rests.{gives_next}
+use Rattle.whole_audit.specs.Turns.{gives_next, is_in_turn}
 use Rattle.whole_audit.specs.Managers.{rule_8, burns}
 use Rattle.whole_audit.specs.Blocks.{rule_9}
 use Rattle.whole_audit.specs.Names.{given, names_of, names_follow, keys_were_given, frame_was_given, shown_was_given}
 use Rattle.whole_audit.specs.Claims.{rule_10}
 use Rattle.whole_audit.specs.Tracks.{has_no_gap, comes_rightly}
-use Rattle.whole_audit.specs.Sums.{rule_11}
+use Rattle.whole_audit.specs.Sums.{rule_11, lacks_bytes}
+use Rattle.whole_audit.specs.Knowledge.{is_known}
 use Rattle.whole_audit.specs.Lines.{command_at}
-use Rattle.whole_audit.specs.Asked.{asked_at}
+use Rattle.item_audit.specs.Asked.{asked_at}
 use Rattle.whole_audit.specs.Shorts.{rule_17}
 
 -- Which rules from 7 on the item keeps, given the items before it, of which the last one stands first.
@@ -25,11 +26,14 @@ abbrev pub findings : Scenario → List NumberedItem → NumberedItem → Findin
 findings s before t = record {
   order = rule_7 s before t;
   gives = gives_next s before t;
+  turns = is_in_turn s before t;
   managers = rule_8 s before t;
   blocks = rule_9 before t;
   claims = rule_10 before t.item;
   gaps = has_no_gap s before t;
   comes = comes_rightly before t.item;
+  lacks = lacks_bytes before t.item;
+  known = is_known s before t.item;
   sums = rule_11 before t.item;
   asked = asked_at s.site (command_at s t.number) t.item;
   burns = burns s before t.item;
@@ -43,14 +47,14 @@ findings s before t = record {
 -- the least rule that is broken
 abbrev pub least_of : Findings → Option ℕ
 least_of f =
-    if not (f.order && f.gives && f.asked.parts) then Some 7
+    if not (f.order && f.gives && f.turns && f.asked.parts) then Some 7
     else if not f.managers then Some 8
     else if not f.blocks then Some 9
     else if not (f.claims && f.gaps) then Some 10
     else if not (f.sums && f.burns) then Some 11
     else if not (f.names && f.asked.making) then Some 12
     else if not (f.handed && f.asked.handing) then Some 13
-    else if not (f.heard && f.comes && f.asked.passing) then Some 14
+    else if not (f.heard && f.comes && f.lacks && f.known && f.asked.passing) then Some 14
     else if not f.asked.streaming then Some 15
     else if not f.asked.responding then Some 16
     else if not (f.shorts && f.asked.ticking) then Some 17

@@ -3,14 +3,15 @@ ghost use Rattle.std.specs.Prelude.{◌≡◌, List, [], ◌∷◌, nat_le, if�
 ghost use Rattle.qkd_base.specs.declared.lane.Lane.{Lane as LaneValue};
 ghost use Rattle.qkd_base.specs.Lane.{lane_eq};
 ghost use Rattle.run_types.specs.declared.item.NumberedItem.{NumberedItem as Told};
-ghost use Rattle.run_audit.specs.Ledgers.{lane_from, received_in};
+ghost use Rattle.run_audit.specs.Ledgers.{received_in};
 ghost use Rattle.whole_audit.specs.Blocks.{behind_refusal, behind_item, block_lane, may_take_none, is_next, follows};
-ghost use Rattle.whole_audit.specs.Claims.{most_received, least_received};
-ghost use Rattle.whole_audit.specs.Sums.{may_have_received};
+ghost use Rattle.whole_audit.specs.Claims.{most_received, least_received, may_have_at_end};
+ghost use Rattle.whole_audit.specs.Sums.{may_have_received, lacks_rightly, lacks_bytes};
 ghost use Rattle.whole_audit.specs.Kept.{no_count, end_key, count_at, AreCounted};
 
-use qkd_base::{Lane, LinkNo, Memory, Way};
-use run_types::{End, Item, Refusal};
+use item_audit::{lane_from, lane_place, reversed};
+use qkd_base::{Lane, Memory, Way};
+use run_types::{FrameResult, Item, Refusal};
 use std::alloc::Global;
 use std::collections::BTreeMap;
 
@@ -28,26 +29,11 @@ pub struct Counts {
     ends: BTreeMap<[u64; 1], Count>,
 }
 
-/// The lane of a link whose sender is at this end.
-pub fn lane_from(link: LinkNo, end: End) -> Lane
-    ensures { result ≡ lane_from link end }
-{
-    let way = match end {
-        End::Low => Way::Up,
-        End::High => Way::Down,
-    };
-    Lane { link, way }
-}
-
 /// The table key of the end at which a lane begins.
 pub fn end_key(lane: &Lane) -> [u64; 1]
     ensures { result ≡ end_key lane.now }
 {
-    let way = match lane.way {
-        Way::Up => 0,
-        Way::Down => 1,
-    };
-    [2 * u64::from(lane.link.get()) + way]
+    [lane_place(lane)]
 }
 
 // The lane's share of the first blocks of its link, in bytes.
@@ -193,6 +179,48 @@ impl Counts {
     {
         self.least_received(lane) <= u128::from(bytes)
             && u128::from(bytes) <= self.most_received(lane)
+    }
+
+    // Whether a lane's receiver may have just so many of its bytes.
+    fn may_have_at_end(&self, lane: &Lane, bytes: u64) -> bool
+        ensures { (before : List Told) → AreCounted self.now before → result ≡ may_have_at_end lane.now bytes before }
+    {
+        let count = self.at(&reversed(lane));
+        received_in(lane.way, count.least) <= u128::from(bytes)
+            && u128::from(bytes) <= received_in(lane.way, count.most)
+    }
+
+    // Whether the receiver of a frame has as many bytes as it says where it lacks some.
+    fn lacks_rightly(&self, lane: &Lane, outcome: &FrameResult) -> bool
+        ensures { (before : List Told) → AreCounted self.now before → result ≡ lacks_rightly lane.now outcome.now before }
+    {
+        match outcome {
+            FrameResult::Refused(Refusal::NoBits { have }) => self.may_have_at_end(lane, *have),
+            _ => true,
+        }
+    }
+
+    /// Whether the receiver of a frame, if the item is of one, has as many bytes as it says where it lacks some.
+    pub fn lacks_bytes(&self, item: &Item) -> bool
+        ensures { (before : List Told) → AreCounted self.now before → result ≡ lacks_bytes before item.now }
+    {
+        match item {
+            Item::Passed {
+                lane,
+                result: outcome,
+                ..
+            } => self.lacks_rightly(lane, outcome),
+            Item::Flipped {
+                lane,
+                result: outcome,
+                ..
+            } => self.lacks_rightly(lane, outcome),
+            Item::Forged {
+                lane,
+                result: outcome,
+            } => self.lacks_rightly(lane, outcome),
+            _ => true,
+        }
     }
 
     /// Whether an item fits the count of its end.

@@ -2,7 +2,7 @@
 ghost use Rattle.std.specs.Prelude.{◌≡◌};
 ghost use Rattle.whole_audit.specs.Whole.{least_of};
 
-use crate::asked::Asked;
+use item_audit::Asked;
 
 /// Which of the rules from 7 on an item keeps.
 #[derive(Clone, Copy)]
@@ -11,6 +11,8 @@ pub struct Findings {
     pub order: bool,
     /// Rule 7, of how much a line gives.
     pub gives: bool,
+    /// Rule 7, of the order of a tick's frames.
+    pub turns: bool,
     /// Rule 8.
     pub managers: bool,
     /// Rule 9.
@@ -31,6 +33,10 @@ pub struct Findings {
     pub heard: bool,
     /// Rule 14, of wires.
     pub comes: bool,
+    /// Rule 14, of bytes that a receiver lacks.
+    pub lacks: bool,
+    /// Rule 14, of what senders and receivers know.
+    pub known: bool,
     /// Rule 18, of names.
     pub shown: bool,
     /// Rule 17, of lanes that are short.
@@ -43,7 +49,7 @@ pub struct Findings {
 pub fn least(findings: &Findings) -> Option<u8>
     ensures { result ≡ least_of findings.now }
 {
-    if !(findings.order && findings.gives && findings.asked.parts) {
+    if !(findings.order && findings.gives && findings.turns && findings.asked.parts) {
         return Some(7);
     }
     if !findings.managers {
@@ -64,7 +70,12 @@ pub fn least(findings: &Findings) -> Option<u8>
     if !(findings.handed && findings.asked.handing) {
         return Some(13);
     }
-    if !(findings.heard && findings.comes && findings.asked.passing) {
+    if !(findings.heard
+        && findings.comes
+        && findings.lacks
+        && findings.known
+        && findings.asked.passing)
+    {
         return Some(14);
     }
     if !findings.asked.streaming {

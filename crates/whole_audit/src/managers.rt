@@ -2,13 +2,12 @@
 ghost use Rattle.std.specs.Prelude.{◌≡◌, List, ◌∷◌, OnOk};
 ghost use Rattle.run_types.specs.declared.scenario.Scenario.{Scenario as Lines};
 ghost use Rattle.run_types.specs.declared.item.NumberedItem.{NumberedItem as Told};
-ghost use Rattle.whole_audit.specs.Managers.{said, is_node_up, is_so, start_of, burns};
+ghost use Rattle.whole_audit.specs.Managers.{said, is_node_up, is_so, start_of, was_started, burns};
 ghost use Rattle.whole_audit.specs.Tracks.{was_started_at};
 ghost use Rattle.whole_audit.specs.Kept.{number_entry, AreDownNodes, AreStarted};
 
-use crate::lane_ends::sender;
-use crate::said::Said;
 use declared_site::Site;
+use item_audit::{Said, sender};
 use ordered_set::{Entries, Entry as Numbers};
 use qkd_base::{Lane, Memory};
 use run_types::Item;
@@ -93,6 +92,13 @@ pub fn learn_start(started: &mut Entries, word: &Option<Said>) -> Result<(), Mem
         Some(node) => started.insert(node_entry(node)),
         None => Ok(()),
     }
+}
+
+/// Whether a manager was started.
+pub fn was_started(started: &Entries, node: u64) -> bool
+    ensures { (s : Lines) (before : List Told) → AreStarted s started.now before → result ≡ was_started s node before }
+{
+    started.has(node_entry(node))
 }
 
 /// Whether a ledger tells of no burnt bytes, unless the sender was started.

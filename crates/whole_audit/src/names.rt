@@ -7,7 +7,7 @@ ghost use Rattle.whole_audit.specs.Names.{given, count_behind, names_of, is_next
 ghost use Rattle.whole_audit.specs.Kept.{named_at, AreNamed};
 
 use crate::blocks::{Count, no_count};
-use crate::given::{Given, bounded};
+use item_audit::{Given, bounded};
 use net_model::Held;
 use qkd_base::{KeyName, Memory, Octets};
 use run_types::{FrameResult, Item};

@@ -4,12 +4,11 @@ ghost use Rattle.std.specs.Option.{option_copied};
 ghost use Rattle.run_types.specs.declared.scenario.Scenario.{Scenario as Lines};
 ghost use Rattle.run_types.specs.declared.item.NumberedItem.{NumberedItem as Told};
 ghost use Rattle.whole_audit.specs.Lines.{command_at};
-ghost use Rattle.whole_audit.specs.Rests.{no_rest, blocks_asked, asked, asked_if, behind_took, behind_none, behind_tick, behind, gives_block, gives_tick, comes_next, gives_settle, gives, gives_if, owes, owes_if};
+ghost use Rattle.whole_audit.specs.Rests.{no_rest, blocks_asked, asked, asked_if, behind_took, behind_none, rounds_behind, behind_tick, behind_frame, behind, owes, owes_if};
 ghost use Rattle.whole_audit.specs.Kept.{rest_at, AreRests};
 
-use crate::lane_ends::lane_place;
-use crate::parts::is_among;
-use qkd_base::{Lane, Memory};
+use item_audit::{is_among, lane_place};
+use qkd_base::{Lane, Memory, NodeNo};
 use run_types::{Command, End, Ends, Item, NumberedItem};
 use std::alloc::Global;
 use std::collections::BTreeMap;
@@ -18,19 +17,30 @@ use std::collections::BTreeMap;
 #[derive(Clone, Copy)]
 pub struct Rest {
     // Blocks of the ends of its link.
-    low: u64,
-    high: u64,
+    pub low: u64,
+    pub high: u64,
     // Ticks.
-    ticks: u64,
-    // Frames that its last tick told of, and that weren't put on their wires.
-    frames: u64,
-    // Frames that were put there, and didn't come to their receivers.
-    waiting: u64,
-    // Whether the last item was a frame that came.
-    passing: bool,
+    pub ticks: u64,
+    // Rounds of a settle.
+    pub rounds: u64,
+    // The first node that may tick next in this round.
+    pub node: u64,
+    // Whether the last tick tells of no frame, and not yet of what it lacks.
+    pub lacks: bool,
+    // Whether it may tell of what it lacks.
+    pub shorts: bool,
+    // Frames that it told of, and that weren't put on their wires.
+    pub frames: u64,
+    // The first frame that may be put next, or the first link that may be short: a link, and an offset there.
+    pub link: u64,
+    pub offset: u64,
+    // Frames that were put on their wires, and didn't come to their receivers.
+    pub waiting: u64,
+    // Whether frames come.
+    pub passing: bool,
     // The first frame that may come next: the place of its lane, and its number.
-    lane: u64,
-    number: u64,
+    pub lane: u64,
+    pub number: u64,
 }
 
 /// What lines still have to give, by their numbers.
@@ -46,7 +56,13 @@ fn no_rest() -> Rest
         low: 0,
         high: 0,
         ticks: 0,
+        rounds: 0,
+        node: 0,
+        lacks: false,
+        shorts: false,
         frames: 0,
+        link: 0,
+        offset: 0,
         waiting: 0,
         passing: false,
         lane: 0,
@@ -77,6 +93,11 @@ fn asked(command: &Command) -> Rest
         },
         Command::Tick { .. } => Rest {
             ticks: 1,
+            ..no_rest()
+        },
+        Command::Settle { rounds } => Rest {
+            rounds: u64::from(*rounds),
+            passing: true,
             ..no_rest()
         },
         _ => no_rest(),
@@ -119,16 +140,46 @@ fn behind_none(end: End, rest: &Rest) -> Rest
     }
 }
 
-// Behind a tick that tells of so many frames.
-fn behind_tick(frames: u64, rest: &Rest) -> Rest
-    ensures { result ≡ behind_tick frames rest.now }
+// How many rounds are left behind a tick.
+fn rounds_behind(rest: &Rest) -> u64
+    ensures { result ≡ rounds_behind rest.now }
+{
+    if rest.passing {
+        rest.rounds.saturating_sub(1)
+    } else {
+        rest.rounds
+    }
+}
+
+// Behind a tick of a node that tells of so many frames, or of none.
+fn behind_tick(node: NodeNo, shorts: bool, lacks: bool, frames: u64, rest: &Rest) -> Rest
+    ensures { result ≡ behind_tick node shorts lacks frames rest.now }
 {
     Rest {
         ticks: rest.ticks.saturating_sub(1),
+        rounds: rounds_behind(rest),
+        node: u64::from(node.get()) + 1,
+        lacks,
+        shorts,
         frames,
+        link: 0,
+        offset: 0,
         passing: false,
         lane: 0,
         number: 0,
+        ..*rest
+    }
+}
+
+// Behind a frame that is put on its wire, or that the wire refuses.
+fn behind_frame(lane: &Lane, offset: u64, rest: &Rest) -> Rest
+    ensures { result ≡ behind_frame lane.now offset rest.now }
+{
+    Rest {
+        frames: rest.frames.saturating_sub(1),
+        shorts: false,
+        link: u64::from(lane.link.get()),
+        offset: offset.saturating_add(1),
         ..*rest
     }
 }
@@ -140,22 +191,25 @@ pub fn behind(item: &Item, rest: &Rest) -> Rest
     match item {
         Item::Took { end, .. } => behind_took(*end, rest),
         Item::TookNone { end, .. } => behind_none(*end, rest),
-        Item::Ticked { fresh, again, .. } => {
-            behind_tick(u64::from(*fresh) + u64::from(*again), rest)
+        Item::Ticked { node, fresh, again } => {
+            let frames = u64::from(*fresh) + u64::from(*again);
+            behind_tick(*node, true, frames == 0, frames, rest)
         }
-        Item::Idle { .. } => behind_tick(0, rest),
-        Item::NotTicked { .. } => behind_tick(0, rest),
-        Item::Sent { .. } => Rest {
-            frames: rest.frames.saturating_sub(1),
+        Item::Idle { node } => behind_tick(*node, false, false, 0, rest),
+        Item::NotTicked { node, .. } => behind_tick(*node, false, false, 0, rest),
+        Item::Short { lane, .. } => Rest {
+            lacks: false,
+            link: u64::from(lane.link.get()) + 1,
+            ..*rest
+        },
+        Item::Sent { lane, offset, .. } => Rest {
             waiting: rest.waiting.saturating_add(1),
-            ..*rest
+            ..behind_frame(lane, *offset, rest)
         },
-        Item::Unsent { .. } => Rest {
-            frames: rest.frames.saturating_sub(1),
-            ..*rest
-        },
+        Item::Unsent { lane, offset, .. } => behind_frame(lane, *offset, rest),
         Item::Passed { lane, number, .. } => Rest {
             waiting: rest.waiting.saturating_sub(1),
+            shorts: false,
             passing: true,
             lane: lane_place(lane),
             number: u64::from(*number) + 1,
@@ -165,86 +219,14 @@ pub fn behind(item: &Item, rest: &Rest) -> Rest
     }
 }
 
-// Whether an end may tell of a block.
-fn gives_block(end: End, rest: &Rest) -> bool
-    ensures { result ≡ gives_block end rest.now }
-{
-    match end {
-        End::Low => 0 < rest.low && rest.high <= rest.low,
-        End::High => rest.low < rest.high,
-    }
-}
-
-// Whether a tick may give the item.
-fn gives_tick(item: &Item, rest: &Rest) -> bool
-    ensures { result ≡ gives_tick item.now rest.now }
-{
-    match item {
-        Item::Ticked { .. } | Item::Idle { .. } | Item::NotTicked { .. } => 0 < rest.ticks,
-        Item::Sent { .. } | Item::Unsent { .. } => 0 < rest.frames,
-        Item::Short { .. } => rest.ticks == 0,
-        _ => true,
-    }
-}
-
-// Whether a frame may come next.
-fn comes_next(lane: &Lane, number: u32, rest: &Rest) -> bool
-    ensures { result ≡ comes_next lane.now number rest.now }
-{
-    let place = lane_place(lane);
-    rest.lane < place || (rest.lane == place && rest.number <= u64::from(number))
-}
-
-// Whether a settle may give the item.
-fn gives_settle(item: &Item, rest: &Rest) -> bool
-    ensures { result ≡ gives_settle item.now rest.now }
-{
-    match item {
-        Item::Ticked { .. } | Item::NotTicked { .. } => {
-            rest.frames == 0 && (!rest.passing || rest.waiting == 0)
-        }
-        Item::Sent { .. } | Item::Unsent { .. } => 0 < rest.frames,
-        Item::Passed { lane, number, .. } => {
-            rest.frames == 0 && 0 < rest.waiting && comes_next(lane, *number, rest)
-        }
-        _ => true,
-    }
-}
-
-// Whether a line may give the item.
-fn gives(command: &Command, item: &Item, rest: &Rest) -> bool
-    ensures { result ≡ gives command.now item.now rest.now }
-{
-    match command {
-        Command::Bits { .. } => match item {
-            Item::Took { end, .. } => gives_block(*end, rest),
-            Item::TookNone { end, .. } => gives_block(*end, rest),
-            _ => true,
-        },
-        Command::Tick { .. } => gives_tick(item, rest),
-        Command::Settle { .. } => gives_settle(item, rest),
-        _ => true,
-    }
-}
-
-/// Whether the item may be given, given what its line asks for, if there is one.
-pub fn gives_if(command: &Option<&Command>, item: &Item, rest: &Rest) -> bool
-    ensures { result ≡ gives_if (option_copied command.now) item.now rest.now }
-{
-    match command {
-        Some(command) => gives(command, item, rest),
-        None => true,
-    }
-}
-
 // Whether a line has to give more items.
 fn owes(command: &Command, rest: &Rest) -> bool
     ensures { result ≡ owes command.now rest.now }
 {
     match command {
         Command::Bits { .. } => 0 < rest.low || 0 < rest.high,
-        Command::Tick { .. } => 0 < rest.ticks || 0 < rest.frames,
-        Command::Settle { .. } => 0 < rest.frames || 0 < rest.waiting,
+        Command::Tick { .. } => 0 < rest.ticks || 0 < rest.frames || rest.lacks,
+        Command::Settle { .. } => 0 < rest.frames || 0 < rest.waiting || rest.lacks,
         _ => false,
     }
 }

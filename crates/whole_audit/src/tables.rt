@@ -10,17 +10,17 @@ ghost use Rattle.whole_audit.specs.Tracks.{in_block, has_no_gap};
 ghost use Rattle.whole_audit.specs.Whole.{findings};
 ghost use Rattle.whole_audit.specs.Kept.{number_entry, AreSpots, AreCounted, AreDown, AreStarted, AreTracks, AreTablesOf};
 
-use crate::asked::asked_at;
 use crate::blocks::Counts;
 use crate::findings::Findings;
-use crate::given::given_if;
+use crate::knowledge::Knowledge;
 use crate::lines::Spots;
 use crate::managers::{burns, is_so, learn_manager, learn_start, was_started_at};
 use crate::names::Names;
 use crate::order::number_entry;
-use crate::rests::{Rests, behind, gives_if, owes_if};
-use crate::said::said_in;
+use crate::rests::{Rests, behind, owes_if};
 use crate::tracks::{Tracks, frame_lane};
+use crate::turns::{gives_if, is_in_turn};
+use item_audit::{asked_at, given_if, said_in};
 use ordered_set::{Entries, Entry as Numbers};
 use qkd_base::{Lane, LinkNo, Memory};
 use run_types::{Item, NumberedItem, Scenario};
@@ -40,6 +40,7 @@ pub struct Tables {
     names: Names,
     rests: Rests,
     tracks: Tracks,
+    knowledge: Knowledge,
 }
 
 // The entry of a link in a set.
@@ -94,6 +95,7 @@ impl Tables {
             names: Names::new(alloc),
             rests: Rests::new(alloc),
             tracks: Tracks::new(alloc),
+            knowledge: Knowledge::new(alloc),
         })
     }
 
@@ -131,17 +133,20 @@ impl Tables {
 
     // Whether a ledger's received bytes are what blocks brought.
     fn sums(&self, item: &Item) -> bool
-        ensures { (before : List Told) → AreCounted self.now.counts before → AreDown self.now.down before → result ≡ rule_11 before item.now }
+        ensures { (before : List Told) → AreCounted self.now.counts before → AreTracks self.now.tracks before → result ≡ rule_11 before item.now }
     {
         match item {
-            Item::Counted { lane, counts } => self.counts.may_have_received(lane, counts.received),
+            Item::Counted { lane, counts } => {
+                self.counts.may_have_received(lane, counts.received)
+                    && self.tracks.leaves(lane, counts.unused, counts.received)
+            }
             _ => true,
         }
     }
 
     // Whether what a lane is said to lack passes what it has.
     fn falls_short(&self, item: &Item) -> bool
-        ensures { (before : List Told) → AreCounted self.now.counts before → AreDown self.now.down before → result ≡ rule_17 before item.now }
+        ensures { (before : List Told) → AreCounted self.now.counts before → AreDown self.now.down before → AreTracks self.now.tracks before → result ≡ rule_17 before item.now }
     {
         match item {
             Item::Short {
@@ -155,6 +160,7 @@ impl Tables {
                     && u128::from(*received) < u128::from(*used) + u128::from(*need)
                     && 25 <= *need
                     && *need <= 569
+                    && self.tracks.has_used(lane, *used, *received)
             }
             _ => true,
         }
@@ -181,9 +187,11 @@ impl Tables {
     {
         let item = &told.item;
         let command = self.spots.command(scenario, told.number);
+        let rest = self.rests.at(told.number, &command);
         Findings {
             order: stands,
-            gives: gives_if(&command, item, &self.rests.at(told.number, &command)),
+            gives: gives_if(&command, item, &rest),
+            turns: is_in_turn(inside, item, &rest),
             managers: is_so(
                 &self.down_nodes,
                 &said_in(scenario, &command, told.number, item),
@@ -192,6 +200,8 @@ impl Tables {
             claims: self.claims(item),
             gaps: self.has_no_gap(scenario, item, inside),
             comes: self.tracks.comes(item),
+            lacks: self.counts.lacks_bytes(item),
+            known: self.knowledge.is_known(&self.started, &scenario.site, item),
             sums: self.sums(item),
             burns: burns(&self.started, &scenario.site, item),
             names: self.names.follow(&given_if(&scenario.site, &command, item)),
@@ -217,6 +227,7 @@ impl Tables {
         learn_start(&mut self.started, &said)?;
         self.rests.learn(&command, told)?;
         self.tracks.learn(item)?;
+        self.knowledge.learn(&scenario.site, item)?;
         self.names.learn(&given)
     }
 }

@@ -3,11 +3,11 @@ ghost use Rattle.std.specs.Prelude.{◌≡◌, List, [], ◌∷◌, if◌then◌
 ghost use Rattle.qkd_base.specs.declared.lane.Lane.{Lane as LaneValue};
 ghost use Rattle.qkd_base.specs.Lane.{lane_eq};
 ghost use Rattle.run_types.specs.declared.item.NumberedItem.{NumberedItem as Told};
-ghost use Rattle.whole_audit.specs.Tracks.{no_track, behind_frame, frame_lane, offset_of, reaches, reaches_at, has_come, comes_from, come_lane, comes_at};
+ghost use Rattle.whole_audit.specs.Tracks.{no_track, behind_frame, frame_lane, offset_of, reaches, reaches_at, track_of, leaves, has_used, has_come, comes_from, come_lane, comes_at};
 ghost use Rattle.whole_audit.specs.Kept.{end_key, track_at, AreTracks};
 
 use crate::blocks::end_key;
-use crate::given::bounded;
+use item_audit::bounded;
 use qkd_base::{Lane, Memory};
 use run_types::{FrameResult, Item, Refusal};
 use std::alloc::Global;
@@ -95,6 +95,24 @@ fn reaches(offset: u64, track: &Track) -> bool
     !track.is_told || offset <= track.end
 }
 
+// Whether what is unused lies behind all frames.
+fn leaves(unused: u64, received: u64, track: &Track) -> bool
+    ensures { result ≡ leaves unused received track.now }
+{
+    received == 0 || u128::from(track.end) + u128::from(unused) <= u128::from(received)
+}
+
+// Whether a lane that lacks bytes has used so many of those that it received.
+fn has_used(used: u64, received: u64, track: &Track) -> bool
+    ensures { result ≡ has_used used received track.now }
+{
+    if received == 0 {
+        used == 0
+    } else {
+        track.end <= used && used <= received
+    }
+}
+
 // The lane of a frame that comes to its receiver.
 fn come_lane(item: &Item) -> Option<Lane>
     ensures { result ≡ come_lane item.now }
@@ -173,6 +191,20 @@ impl Tracks {
             Some(lane) => reaches(offset_of(item), &self.at(&lane)),
             None => true,
         }
+    }
+
+    /// Whether what is unused of a lane lies behind all its frames.
+    pub fn leaves(&self, lane: &Lane, unused: u64, received: u64) -> bool
+        ensures { (before : List Told) → AreTracks self.now before → result ≡ leaves unused received (track_of lane.now before) }
+    {
+        leaves(unused, received, &self.at(lane))
+    }
+
+    /// Whether a lane that lacks bytes has used so many of those that it received.
+    pub fn has_used(&self, lane: &Lane, used: u64, received: u64) -> bool
+        ensures { (before : List Told) → AreTracks self.now before → result ≡ has_used used received (track_of lane.now before) }
+    {
+        has_used(used, received, &self.at(lane))
     }
 
     /// Whether the wire may have the frame that comes, if the item is of one.

@@ -1,6 +1,6 @@
 use Rattle.std.proofs.Common.{Option, ap, sym, ◌∙◌}
 use Rattle.whole_audit.specs.declared.blocks.Count.{Count}
-use Rattle.whole_audit.specs.declared.given.Given.{Given}
+use Rattle.item_audit.specs.declared.given.Given.{Given}
 use Rattle.whole_audit.specs.Names.{names_of, is_next_name, names_follow}
 use Rattle.whole_audit.proofs.names.Names.follow.Goals as goal
 

@@ -1,19 +1,24 @@
-use Rattle.std.proofs.Common.{◌≡◌, ℕ, eqb, Option, refl, ap, ◌∙◌}
+use Rattle.std.proofs.Common.{◌≡◌, ℕ, Bool, ◌||◌, eqb, Option, refl, ap, ◌∙◌}
 use Rattle.std.specs.List.{position_from}
 use Rattle.run_types.specs.declared.command.Command.{Command}
 use Rattle.whole_audit.specs.Lines.{command_at}
-use Rattle.whole_audit.specs.Asked.{asked_at}
-use Rattle.whole_audit.specs.declared.said.Said.{Said}
-use Rattle.whole_audit.specs.declared.given.Given.{Given}
-use Rattle.whole_audit.specs.Managers.{said_at, said_of_node, said, is_node_up, is_so, rule_8, burns}
-use Rattle.whole_audit.specs.Names.{given_if, given, names_of, names_follow, keys_were_given, frame_was_given, shown_was_given}
+use Rattle.item_audit.specs.Asked.{asked_at}
+use Rattle.item_audit.specs.declared.said.Said.{Said}
+use Rattle.item_audit.specs.declared.given.Given.{Given}
+use Rattle.item_audit.specs.Sayings.{said_at, said_of_node}
+use Rattle.whole_audit.specs.Managers.{said, is_node_up, is_so, rule_8, burns}
+use Rattle.item_audit.specs.Gifts.{given_if}
+use Rattle.whole_audit.specs.Names.{given, names_of, names_follow, keys_were_given, frame_was_given, shown_was_given}
 use Rattle.whole_audit.specs.declared.blocks.Count.{Count}
-use Rattle.whole_audit.specs.Tracks.{has_no_gap, comes_rightly}
-use Rattle.whole_audit.specs.Rests.{asked_if, rest_of, gives_if, gives_next}
+use Rattle.whole_audit.specs.Tracks.{in_block, has_no_gap, comes_rightly}
+use Rattle.whole_audit.specs.declared.rests.Rest.{Rest}
+use Rattle.whole_audit.specs.Rests.{asked_if, rest_of}
+use Rattle.whole_audit.specs.Turns.{gives_if, gives_next, follows_frame, is_in_turn}
 use Rattle.whole_audit.specs.Kept.{named_at, rest_at}
 use Rattle.whole_audit.specs.Blocks.{rule_9}
 use Rattle.whole_audit.specs.Claims.{rule_10}
-use Rattle.whole_audit.specs.Sums.{rule_11}
+use Rattle.whole_audit.specs.Sums.{rule_11, lacks_bytes}
+use Rattle.whole_audit.specs.Knowledge.{is_known}
 use Rattle.whole_audit.specs.Shorts.{rule_17}
 use Rattle.whole_audit.proofs.tables.Tables.findings.Goals as goal
 
@@ -21,8 +26,8 @@ pub returns : goal.returns
 returns c before kept stands inside =
     let blocks : c.fits.result ≡ rule_9 before c.args.told.now = c.fits.ensures before kept.counts in
     let claims : c.claims.result ≡ rule_10 before c.args.told.now.item = c.claims.ensures before kept.counts kept.down in
-    let sums : c.sums.result ≡ rule_11 before c.args.told.now.item = c.sums.ensures before kept.counts kept.down in
-    let shorts : c.falls_short.result ≡ rule_17 before c.args.told.now.item = c.falls_short.ensures before kept.counts kept.down in
+    let sums : c.sums.result ≡ rule_11 before c.args.told.now.item = c.sums.ensures before kept.counts kept.tracks in
+    let shorts : c.falls_short.result ≡ rule_17 before c.args.told.now.item = c.falls_short.ensures before kept.counts kept.down kept.tracks in
     let asked : c.asked_at.result ≡ asked_at c.args.scenario.now.site (command_at c.args.scenario.now c.args.told.now.number) c.args.told.now.item =
     c.asked_at.ensures ∙ ap (λ (o : Option Command). asked_at c.args.scenario.now.site o c.args.told.now.item) (c.command-command.ensures kept.spots) in
     let said_so : c.said_in.result ≡ said c.args.scenario.now c.args.told.now =
@@ -41,12 +46,18 @@ returns c before kept stands inside =
     c.gave_frame.ensures ∙ ap (λ (names : ℕ → Count). frame_was_given names c.args.told.now.item) same in
     let shown : c.gave_shown.result ≡ shown_was_given (λ v. names_of c.args.scenario.now v before) c.args.told.now.item =
     c.gave_shown.ensures ∙ ap (λ (names : ℕ → Count). shown_was_given names c.args.told.now.item) same in
-    let rest : c.at.result ≡ rest_of c.args.scenario.now c.args.told.now.number before =
-    c.at.ensures ∙ ap (λ (o : Option Command). rest_at c.args.self.now.rests c.args.told.now.number (asked_if o)) (c.command-command.ensures kept.spots) ∙ kept.rests c.args.told.now.number in
+    let rest : c.at-rest.result ≡ rest_of c.args.scenario.now c.args.told.now.number before =
+    c.at-rest.ensures ∙ ap (λ (o : Option Command). rest_at c.args.self.now.rests c.args.told.now.number (asked_if o)) (c.command-command.ensures kept.spots) ∙ kept.rests c.args.told.now.number in
     let gives : c.gives_if.result ≡ gives_next c.args.scenario.now before c.args.told.now =
     c.gives_if.ensures
-    ∙ ap (λ (o : Option Command). gives_if o c.args.told.now.item c.at.result) (c.command-command.ensures kept.spots)
+    ∙ ap (λ (o : Option Command). gives_if o c.args.told.now.item c.at-rest.result) (c.command-command.ensures kept.spots)
     ∙ ap (gives_if (command_at c.args.scenario.now c.args.told.now.number) c.args.told.now.item) rest in
+    let turns : c.is_in_turn.result ≡ is_in_turn c.args.scenario.now before c.args.told.now =
+    c.is_in_turn.ensures
+    ∙ ap (λ (b : Bool). b || follows_frame c.args.told.now.item c.at-rest.result) inside
+    ∙ ap (λ (r : Rest). in_block c.args.scenario.now before c.args.told.now || follows_frame c.args.told.now.item r) rest in
     let gaps : c.has_no_gap.result ≡ has_no_gap c.args.scenario.now before c.args.told.now = c.has_no_gap.ensures c.args.told.now before refl inside kept.started kept.tracks in
     let comes : c.comes.result ≡ comes_rightly before c.args.told.now.item = c.comes.ensures before kept.tracks in
-    λ i. record { order = stands i; gives = gives i; managers = managers i; blocks = blocks i; claims = claims i; gaps = gaps i; comes = comes i; sums = sums i; burns = burnt i; names = names i; handed = handed i; heard = heard i; shown = shown i; shorts = shorts i; asked = asked i }
+    let lacks : c.lacks_bytes.result ≡ lacks_bytes before c.args.told.now.item = c.lacks_bytes.ensures before kept.counts in
+    let known : c.is_known.result ≡ is_known c.args.scenario.now before c.args.told.now.item = c.is_known.ensures c.args.scenario.now before refl kept.started kept.knowledge in
+    λ i. record { order = stands i; gives = gives i; turns = turns i; managers = managers i; blocks = blocks i; claims = claims i; gaps = gaps i; comes = comes i; lacks = lacks i; known = known i; sums = sums i; burns = burnt i; names = names i; handed = handed i; heard = heard i; shown = shown i; shorts = shorts i; asked = asked i }

@@ -2,8 +2,10 @@ use Rattle.std.proofs.Common.{◌≡◌, eqb, Option, refl, ap, ◌∙◌}
 use Rattle.std.specs.List.{position_from}
 use Rattle.run_audit.proofs.Recording.{on_ok_map}
 use Rattle.run_types.specs.declared.command.Command.{Command}
-use Rattle.whole_audit.specs.Managers.{said_at, said_of_node, said}
-use Rattle.whole_audit.specs.Names.{given_if, given}
+use Rattle.item_audit.specs.Sayings.{said_at, said_of_node}
+use Rattle.whole_audit.specs.Managers.{said}
+use Rattle.item_audit.specs.Gifts.{given_if}
+use Rattle.whole_audit.specs.Names.{given}
 use Rattle.whole_audit.proofs.tables.Tables.learn.Goals as goal
 
 pub returns : goal.returns
@@ -12,7 +14,7 @@ returns c before kept =
     c.said_in-said.ensures ∙ ap (λ (o : Option Command). said_of_node (position_from (λ n. eqb n c.args.told.now.number) 0 c.args.scenario.now.node_lines) (said_at c.args.scenario.now.site o c.args.told.now.item)) (c.command-command.ensures kept.spots) in
     let given_so : c.given_if-given.result ≡ given c.args.scenario.now c.args.told.now =
     c.given_if-given.ensures ∙ ap (λ (o : Option Command). given_if c.args.scenario.now.site o c.args.told.now.item) (c.command-command.ensures kept.spots) in
-    on_ok_map c.learn-4.result
+    on_ok_map c.learn-5.result
     (λ names. record {
       spots = kept.spots;
       counts = c.in_ok-learn.ensures {u = tt} c.args.told.now before refl kept.counts;
@@ -22,5 +24,6 @@ returns c before kept =
       names = names;
       rests = c.in_ok-learn-2.ensures {u = tt} c.args.scenario.now before (c.command-command.ensures kept.spots) kept.rests;
       tracks = c.in_ok-learn-3.ensures {u = tt} c.args.told.now before refl kept.tracks;
+      knowledge = c.in_ok-learn-4.ensures {u = tt} c.args.scenario.now c.args.told.now before refl refl kept.knowledge;
     })
-    (c.learn-4.ensures c.args.scenario.now c.args.told.now before given_so kept.names)
+    (c.learn-5.ensures c.args.scenario.now c.args.told.now before given_so kept.names)

@@ -12,4 +12,5 @@ returns c = record {
   names = c.new-6.ensures c.args.scenario.now;
   rests = c.new-7.ensures c.args.scenario.now;
   tracks = c.new-8.ensures;
+  knowledge = c.new-9.ensures c.args.scenario.now;
 }

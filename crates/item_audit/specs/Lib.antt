@@ -1,0 +1,11 @@
+pub mod Entitled
+pub mod Making
+pub mod Handing
+pub mod Passing
+pub mod Streaming
+pub mod Responses
+pub mod Naming
+pub mod Sayings
+pub mod Gifts
+pub mod Parts
+pub mod Asked

@@ -1,6 +1,0 @@
-use Rattle.std.proofs.Common.{◌≡◌, ◌-◌}
-use Rattle.whole_audit.specs.Handing.{are_different}
-use Rattle.whole_audit.proofs.handing.are_different.Given as goal
-
-abbrev pub invariant-loop-steps : goal.invariant-loop-steps
-invariant-loop-steps l = are_different l.names (l.count - l.steps) ≡ are_different l.names l.count

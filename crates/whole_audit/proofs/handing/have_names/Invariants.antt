@@ -1,6 +1,0 @@
-use Rattle.std.proofs.Common.{◌≡◌, drop}
-use Rattle.whole_audit.specs.Handing.{have_names}
-use Rattle.whole_audit.proofs.handing.have_names.Given as goal
-
-abbrev pub invariant-loop-place : goal.invariant-loop-place
-invariant-loop-place l = have_names (drop l.place l.names) (drop l.place l.keys) ≡ have_names l.names l.keys
