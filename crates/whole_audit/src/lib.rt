@@ -8,10 +8,10 @@
 //! 1. to 6. are those of `run_audit`.
 //! 7. The items stand in order of their lines, those of a block in any order, and each line gives all that it asks for. A
 //!    line of blocks gives those of its ends by turns, until an end refuses. A tick tells what it lacks, link by link, and
-//!    puts as many frames as it told, of lanes that leave its node: but in blocks link by link, and in order of their
-//!    offsets. In a settle nodes tick in order, and each frame comes to its receiver, lane by lane, before the next round
-//!    begins. Each other line gives one item. A report that lacks an item at its end breaks this rule on the line behind
-//!    its last one.
+//!    puts as many frames as it told, of lanes that leave its node. Outside of blocks they stand link by link, in order of
+//!    their offsets. In a settle nodes tick in order, and each frame comes to its receiver, lane by lane, before the next
+//!    round begins. Each other line gives one item. A report that lacks an item at its end breaks this rule on the line
+//!    behind its last one.
 //! 8. A manager says that it is down exactly if it is: behind a crash, behind an event in which it stopped, and if its start
 //!    at the beginning failed, until it is started. Only of one that is up is it said that it was up.
 //! 9. The blocks of an end are 0, 1, 2 and so on, and it refuses one for being full exactly if it has 1,024. If an end
