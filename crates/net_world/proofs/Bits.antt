@@ -1,5 +1,5 @@
 -- All links are up at first.
-use Rattle.std.proofs.Common.{◌≡◌, ◌⊎◌, inl, inr, ℕ, zero, suc, ◌-◌, ◌^◌, ◌<◌, Bool, true, ◌&&◌, refl, sym, ap, subst, arith}
+use Rattle.std.proofs.Common.{◌≡◌, ◌⊎◌, inl, inr, ℕ, zero, suc, ◌-◌, ◌^◌, ◌<◌, Bool, true, ◌&&◌, refl, sym, ap, subst, ◌∙◌, arith}
 use Rattle.net_model.specs.World.{first}
 use Rattle.route_table.specs.Layer.{bit_is_set}
 use Rattle.kme_base.specs.Up.{AreUp}
@@ -27,6 +27,9 @@ is_set zero link all below = absurd (omega (arith, below))
 is_set (suc n) link all below =
     by_last n link all (λ less. is_set n link (and_left (set_below n) (bit_is_set (2 ^ 32 - 1) n) all) less) (below_or_at link n below)
 
+pub up_when : (up : ℕ → Bool) → ((link : ℕ) → up link ≡ true) → AreUp (2 ^ 32 - 1) up
+up_when up all link below = all link ∙ sym (is_set 32 link refl below)
+
 pub all_up : AreUp (2 ^ 32 - 1) first.link_up
 unfolding first
-all_up link below = sym (is_set 32 link refl below)
+all_up = up_when first.link_up (λ link. refl)

@@ -49,18 +49,18 @@ made_of (k ∷ ks) (e ∷ es) (suc v) p at =
     let u = made_of ks es v p at in
     record { disk = u.disk; entropy = u.entropy; has_disk = u.has_disk; has_entropy = u.has_entropy; is = u.is }
 
-unstarted_length : {K E : Type 0} (ks : List K) (es : List E) (n : ℕ) → length ks ≡ n → length es ≡ n → length (unstarted ks es) ≡ n
+pub unstarted_length : {K E : Type 0} (ks : List K) (es : List E) (n : ℕ) → length ks ≡ n → length es ≡ n → length (unstarted ks es) ≡ n
 unstarted_length [] es n a b = a
 unstarted_length (k ∷ ks) [] n a b = absurd (omega (arith, a, b))
 unstarted_length (k ∷ ks) (e ∷ es) zero a b = absurd (omega (arith, a))
 unstarted_length (k ∷ ks) (e ∷ es) (suc n) a b = ap suc (unstarted_length ks es n (omega (arith, a)) (omega (arith, b)))
 
-taken_length : {A : Type 0} (n : ℕ) (xs : List A) → n ≤ length xs → length (take n xs) ≡ n
+pub taken_length : {A : Type 0} (n : ℕ) (xs : List A) → n ≤ length xs → length (take n xs) ≡ n
 taken_length zero xs h = refl
 taken_length (suc n) [] h = absurd (omega (arith, h))
 taken_length (suc n) (x ∷ xs) h = ap suc (taken_length n xs (omega (arith, h)))
 
-within_taken : {A : Type 0} (n : ℕ) (xs : List A) (i : ℕ) (x : A) → slice_get (take n xs) i ≡ Some x → i < n
+pub within_taken : {A : Type 0} (n : ℕ) (xs : List A) (i : ℕ) (x : A) → slice_get (take n xs) i ≡ Some x → i < n
 within_taken zero xs i x at = absurd (cc at)
 within_taken (suc n) [] i x at = absurd (cc at)
 within_taken (suc n) (y ∷ xs) zero x at = omega arith
@@ -83,7 +83,7 @@ module _ {K : Type 0} (is_honest : K → Bool) (moment : K → ℕ) (image : K �
   unfolding first
   empty_disk = record { blank = refl; certain = refl; empty = nothing_back net v; unused = inl (inl refl) }
 
-  down_first : (disk : K) → IsTrue (is_honest disk) → Only [] (image disk (moment disk)) → DownStands is_honest moment image net first v disk
+  pub down_first : (disk : K) → IsTrue (is_honest disk) → Only [] (image disk (moment disk)) → DownStands is_honest moment image net first v disk
   unfolding first
   down_first disk honest empty = record {
     down = refl;
@@ -92,11 +92,11 @@ module _ {K : Type 0} (is_honest : K → Bool) (moment : K → ℕ) (image : K �
     images = λ i is. inr (inr (subst (HoldsNothing net first v) (sym (empty i is)) empty_disk));
   }
 
-entropy_first : {E : Type 0} (left : E → Option OctetSequence) (net : Network) (v : ℕ) (entropy : E) → left entropy ≡ Some (net.entropy v) → EntropyStands left net first v entropy
+pub entropy_first : {E : Type 0} (left : E → Option OctetSequence) (net : Network) (v : ℕ) (entropy : E) → left entropy ≡ Some (net.entropy v) → EntropyStands left net first v entropy
 unfolding first
 entropy_first left net v entropy tells = record { rest = net.entropy v; tells = tells; left = all_left (net.entropy v) }
 
-no_frames : (n : ℕ) (o : Option (List (List ℕ))) → IfSome o (λ all. length all ≡ n) → o ≡ Some [] → n ≡ 0
+pub no_frames : (n : ℕ) (o : Option (List (List ℕ))) → IfSome o (λ all. length all ≡ n) → o ≡ Some [] → n ≡ 0
 no_frames n o counted none = sym (subst (λ (x : Option (List (List ℕ))). IfSome x (λ all. length all ≡ n)) none counted)
 
 lane_first : {X : Type 0} (frames : X → Option (List (List ℕ))) (counted : X → ℕ) (net : Network) (l : Lane) (wire : X) → IfSome (frames wire) (λ all. length all ≡ counted wire) → frames wire ≡ Some [] →

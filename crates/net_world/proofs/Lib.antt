@@ -26,3 +26,5 @@ pub mod Octets
 pub mod Opening
 pub mod Sums
 pub mod VeilHeadlines
+pub mod Kept
+pub mod KeptLanes

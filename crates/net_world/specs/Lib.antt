@@ -12,3 +12,4 @@ pub mod Lanes
 pub mod Veiling
 pub mod Shown
 pub mod Asking
+pub mod Kept

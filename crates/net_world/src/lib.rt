@@ -1,4 +1,5 @@
-//! The bench, and what `run`, `load` and `veil` do over it.
+//! The bench, and what `run`, `load` and `veil` do over it. They begin with a new bench. What `Kept` says of a used one is for a process
+//! over the disks of an earlier one: its state goes on where that one ended.
 #![tactic(auto)]
 
 mod bench;
@@ -7,6 +8,8 @@ mod complement;
 mod differences;
 mod frames;
 mod generated;
+mod kept_lane;
+mod kept_laws;
 mod lanes;
 mod laws;
 mod left;
@@ -24,6 +27,8 @@ mod veil_run;
 
 pub use bench::Bench;
 pub use bench_return::put_back;
+pub use kept_lane::KeptLane;
+pub use kept_laws::{law_kept_stands, law_new_is_kept};
 pub use lanes::veil_lanes;
 pub use laws::{
     law_asking_is_promised, law_bench_begins, law_bench_headline, law_bench_is_seen,

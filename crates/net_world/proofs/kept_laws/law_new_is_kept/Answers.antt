@@ -1,0 +1,10 @@
+use Rattle.net_world.proofs.Kept.{new_is_kept}
+use Rattle.net_world.proofs.KeptLanes.{nothing_kept}
+use Rattle.net_world.proofs.kept_laws.law_new_is_kept.Goals as goal
+
+pub returns-clause-kept : goal.returns-clause-kept
+returns-clause-kept g c b site new declared =
+    new_is_kept g.K.Disk.is_honest g.K.Disk.moment g.K.Disk.image g.E.Entropy.left g.Q.Device.told g.X.Wire.frames b new site declared c.frames_of_a_network.ensures
+
+pub returns-clause-lanes : goal.returns-clause-lanes
+returns-clause-lanes g c net = nothing_kept net
