@@ -28,6 +28,7 @@ use Rattle.run_model.specs.Begin.{IsAtRest, MayBegin}
 use Rattle.world_state.specs.Passed.{Post, LaneStands, WireStands, spelled_wire, PostStands}
 use Rattle.world_state.specs.Stands.{place_of, Stands}
 use Rattle.world_state.specs.declared.state.State.{State}
+use Rattle.net_world.specs.Laid.{IsLaidOut}
 use Rattle.net_world.specs.Kept.{IsKept, blocks_of, leased, going_on, IsKeptLane, AreKeptLanes, IsLaidAgain}
 use Rattle.net_world.specs.declared.bench.Bench.{Bench}
 use Rattle.net_world.specs.declared.kept_lane.KeptLane.{KeptLane}
@@ -95,6 +96,10 @@ none_kept Down = refl
 pub nothing_kept : (net : Network) → AreKeptLanes net first []
 unfolding first first_blocks
 nothing_kept net l lane = record { blocks = none_kept l.way; lease = refl }
+
+-- a state with lanes without bytes is one with nothing kept
+pub laid_anew : {K Q E X : Type 0} (old stayed : Bench K Q E X) (site : Declared) (s : State K Q E X) → IsLaidOut old stayed site s → IsLaidAgain old stayed site [] s
+laid_anew old stayed site s laid = record { fresh = s; laid = laid; sited = refl; posts = refl; devices = refl; up = refl; sides = refl; lanes = λ l below. laid.lanes l below }
 
 -- ---- a lane at rest
 

@@ -6,6 +6,7 @@ ghost use Rattle.declared_site.specs.declared.site.Site.{Site as Declared};
 ghost use Rattle.run_model.specs.Begin.{MayBegin};
 ghost use Rattle.world_state.specs.Stands.{Stands};
 ghost use Rattle.world_state.specs.declared.state.State.{State as StateValue};
+ghost use Rattle.net_world.specs.Laid.{IsLaidOut};
 ghost use Rattle.net_world.specs.New.{IsNew, network_on};
 ghost use Rattle.net_world.specs.Kept.{IsKept, AreKeptLanes, IsLaidAgain};
 ghost use Rattle.net_world.specs.declared.bench.Bench.{Bench as BenchValue};
@@ -15,11 +16,13 @@ use disk_model::Disk;
 use hop_frames::frames_of_a_network;
 use source_devices::{Device, Entropy, Wire};
 
-/// A new bench is kept, for the network of a declared site over it and the world before any start. No lane received anything there.
+/// A new bench is kept, for the network of a declared site over it and the world before any start. No lane received anything there, so the
+/// state that `lay_out` makes is the one that goes on with no lane's blocks.
 pub fn law_new_is_kept<K: Disk + Drop, Q: Device + Drop, E: Entropy + Drop, X: Wire + Drop>()
     ensures kept { (b : BenchValue K Q E X) (site : Declared) → IsNew K.is_honest K.moment K.image E.left Q.told X.frames b → IsDeclared site →
         IsKept K.is_honest K.moment K.image E.left Q.told X.frames b site (network_on Q.told E.left b site) first }
     ensures lanes { (net : Network) → AreKeptLanes net first [] }
+    ensures laid { (old stayed : BenchValue K Q E X) (site : Declared) (s : StateValue K Q E X) → IsLaidOut old stayed site s → IsLaidAgain old stayed site [] s }
 {
     frames_of_a_network();
 }
