@@ -28,3 +28,5 @@ pub mod Sums
 pub mod VeilHeadlines
 pub mod Kept
 pub mod KeptLanes
+pub mod GoingOn
+pub mod LaidAgain

@@ -1,6 +1,6 @@
 -- A bench that has been used before, and the lanes that its user had.
 use Rattle.std.specs.Prelude.{◌≡◌, ℕ, ◌*◌, ◌-◌, ◌<◌, ◌≤◌, Bool, true, IsTrue, List, [], length, slice_get, Option, Some, None}
-use Rattle.std.specs.List.{All, flat_map}
+use Rattle.std.specs.List.{All, AllByRecursion, flat_map}
 use Rattle.std.specs.Option.{option_map}
 use Rattle.qkd_base.specs.declared.lane.Lane.{Lane}
 use Rattle.qkd_base.specs.LaneBytes.{way_blocks}
@@ -45,6 +45,13 @@ abbrev pub leased : Option KeptLane → ℕ
 leased None = 0
 leased (Some k) = k.lease
 
+-- A lane has at most 512 blocks. Its lease ends within them, and behind the hash key as soon as there is one.
+pub record MayGoOn (k : KeptLane) : Type 0 where
+  pub whole : AllByRecursion (λ b. length b ≡ 1024) k.blocks.items
+  pub few : length k.blocks.items ≤ 512
+  pub leased : k.lease ≤ 1024 * length k.blocks.items
+  pub key : 0 < length k.blocks.items → 8 ≤ k.lease
+
 -- A lane that goes on at its leased end. Of the bytes below it the first 8 are the hash key, and the others are burnt.
 abbrev pub going_on : {X : Type 0} → Lane → Option KeptLane → X → LaneForm X
 going_on l kept wire =
@@ -54,6 +61,12 @@ going_on l kept wire =
       ledger = record { used = leased kept; end = leased kept; received = 1024 * length (blocks_of kept); burnt = leased kept - 8 };
       wire = wire;
     }
+
+-- the lane that went on at a place
+pub record WentOn {X : Type 0} (kept : List KeptLane) (old : List (LaneForm X)) (place : ℕ) (side : LaneForm X) : Type 0 where
+  pub before : LaneForm X
+  pub at : slice_get old place ≡ Some before
+  pub is : side ≡ going_on before.lane (slice_get kept place) before.wire
 
 -- the lane received these blocks in the network, and had this lease
 pub record IsKeptLane (net : Network) (w : World) (l : Lane) (kept : Option KeptLane) : Type 0 where

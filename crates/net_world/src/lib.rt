@@ -9,6 +9,7 @@ mod differences;
 mod frames;
 mod generated;
 mod kept_lane;
+mod kept_lanes;
 mod kept_laws;
 mod lanes;
 mod laws;
@@ -28,6 +29,7 @@ mod veil_run;
 pub use bench::Bench;
 pub use bench_return::put_back;
 pub use kept_lane::KeptLane;
+pub use kept_lanes::lay_out_again;
 pub use kept_laws::{law_kept_stands, law_new_is_kept};
 pub use lanes::veil_lanes;
 pub use laws::{
