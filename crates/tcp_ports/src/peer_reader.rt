@@ -148,13 +148,13 @@ impl<'a, R: Clock + Wait> PeerReader<'a, R> {
     }
 
     // How many of the octets that came the turn takes. Where others call, those of a request that isn't whole are left to the next
-    // turn.
+    // turn, also of the first read: the requests before them are answered in this one.
     fn part(&mut self, octets: &[u8]) -> usize
         ensures count { result ≤ length octets.now }
         ensures same { self.new ≡ self.old }
     {
         let end = self.ends.take(octets);
-        if end > 0 && end < octets.len() && self.is_called() {
+        if end > 0 && end < octets.len() && self.hall.calls(false) {
             if self.peer.leave(self.rt, &octets[end..]).is_ok() {
                 self.leaves = true;
                 return end;
