@@ -25,7 +25,7 @@ pub trait Disk {
     /// The contents that a crash may have left at a moment, from 0 up to the present one.
     ghost image: { Self → ℕ → List ℕ → Type 0 };
 
-    /// How many calls have failed.
+    /// How many calls have failed. A call that succeeds leaves the count as it is.
     ghost faults: { Self → ℕ };
 
     /// What may still be written before room is given again.
@@ -40,6 +40,7 @@ pub trait Disk {
         ensures content { content self.new ≡ content self.old }
         ensures time { StandsStill (moment self.old) (moment self.new) (image self.old) (image self.new) }
         ensures cause { HasCause (faults self.old) (faults self.new) result }
+        ensures calm { OnOk result (faults self.new ≡ faults self.old) }
         ensures honest { is_honest self.new ≡ is_honest self.old }
         ensures allowance { allowance self.new ≡ allowance self.old }
         ensures armings { armings self.new ≡ armings self.old };
@@ -51,6 +52,7 @@ pub trait Disk {
         ensures content { content self.new ≡ content self.old }
         ensures time { StandsStill (moment self.old) (moment self.new) (image self.old) (image self.new) }
         ensures cause { HasCause (faults self.old) (faults self.new) result }
+        ensures calm { OnOk result (faults self.new ≡ faults self.old) }
         ensures honest { is_honest self.new ≡ is_honest self.old }
         ensures allowance { allowance self.new ≡ allowance self.old }
         ensures armings { armings self.new ≡ armings self.old };
@@ -64,6 +66,7 @@ pub trait Disk {
         ensures images { Follows (Torn at (length bytes.now)) (image self.old (moment self.old)) (image self.new (moment self.new)) }
         ensures time { Passes (moment self.old) (moment self.new) (image self.old) (image self.new) }
         ensures cause { HasCause (faults self.old) (faults self.new) result }
+        ensures calm { OnOk result (faults self.new ≡ faults self.old) }
         ensures honest { is_honest self.new ≡ is_honest self.old }
         ensures allowance { allowance self.new ≡ after_write (length bytes.now) (allowance self.old) }
         ensures armings { armings self.new ≡ armings self.old };
@@ -76,6 +79,7 @@ pub trait Disk {
         ensures images { (c : List ℕ) → image self.new (moment self.new) c → image self.old (moment self.old) c }
         ensures time { Passes (moment self.old) (moment self.new) (image self.old) (image self.new) }
         ensures cause { HasCause (faults self.old) (faults self.new) result }
+        ensures calm { OnOk result (faults self.new ≡ faults self.old) }
         ensures honest { is_honest self.new ≡ is_honest self.old }
         ensures ok { OnOk result (allowance self.new ≡ after_sync (allowance self.old)) }
         ensures err { OnErr result (allowance self.new ≡ allowance self.old) }

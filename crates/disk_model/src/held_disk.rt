@@ -86,6 +86,7 @@ impl HeldDisk {
     pub fn len(&mut self) -> Result<u64, DiskFailed>
         ensures fails { is_err result ≡ fails_in (passage self.old.plan) }
         ensures cause { HasCause self.old.plan.faults self.new.plan.faults result }
+        ensures calm { OnOk result (self.new.plan.faults ≡ self.old.plan.faults) }
         ensures len { IfOk result (λ n. n ≡ length (content_of self.old)) }
         ensures disk { self.new ≡ after_look self.old }
     {
@@ -100,6 +101,7 @@ impl HeldDisk {
         requires { at + length into.old ≤ length (content_of self.old) }
         ensures fails { is_err result ≡ fails_in (passage self.old.plan) }
         ensures cause { HasCause self.old.plan.faults self.new.plan.faults result }
+        ensures calm { OnOk result (self.new.plan.faults ≡ self.old.plan.faults) }
         ensures bytes { OnOk result (into.new ≡ take (length into.old) (drop at (content_of self.old))) }
         ensures disk { self.new ≡ after_look self.old }
     {
@@ -118,6 +120,7 @@ impl HeldDisk {
         requires { MayWrite true (content_of self.old) self.old.allowance at (length bytes.now) }
         ensures fails { is_err result ≡ fails_in (passage self.old.plan) }
         ensures cause { HasCause self.old.plan.faults self.new.plan.faults result }
+        ensures calm { OnOk result (self.new.plan.faults ≡ self.old.plan.faults) }
         ensures written { OnOk result (content_of self.new ≡ overlaid at bytes.now (content_of self.old)) }
         ensures others { Torn at (length bytes.now) (content_of self.old) (content_of self.new) }
         ensures images { Follows (Torn at (length bytes.now)) (images_of self.old (length self.old.used)) (images_of self.new (length self.new.used)) }
@@ -142,6 +145,7 @@ impl HeldDisk {
         requires { self.old.allowance.used < 16 }
         ensures fails { is_err result ≡ fails_in (passage self.old.plan) }
         ensures cause { HasCause self.old.plan.faults self.new.plan.faults result }
+        ensures calm { OnOk result (self.new.plan.faults ≡ self.old.plan.faults) }
         ensures durable { OnOk result (Only (content_of self.old) (images_of self.new (length self.new.used))) }
         ensures content { content_of self.new ≡ content_of self.old }
         ensures images { (c : List ℕ) → images_of self.new (length self.new.used) c → images_of self.old (length self.old.used) c }

@@ -82,6 +82,7 @@ impl<K: Disk, F: OctetFile> Disk for KeptDisk<K, F> {
         ensures content { K.content self.new.disk ≡ K.content self.old.disk }
         ensures time { StandsStill (K.moment self.old.disk) (K.moment self.new.disk) (K.image self.old.disk) (K.image self.new.disk) }
         ensures cause { HasCause self.old.faults self.new.faults result }
+        ensures calm { OnOk result (self.new.faults ≡ self.old.faults) }
         ensures honest { K.is_honest self.new.disk ≡ K.is_honest self.old.disk }
         ensures allowance { K.allowance self.new.disk ≡ K.allowance self.old.disk }
         ensures armings { self.new.armings ≡ self.old.armings }
@@ -100,6 +101,7 @@ impl<K: Disk, F: OctetFile> Disk for KeptDisk<K, F> {
         ensures content { K.content self.new.disk ≡ K.content self.old.disk }
         ensures time { StandsStill (K.moment self.old.disk) (K.moment self.new.disk) (K.image self.old.disk) (K.image self.new.disk) }
         ensures cause { HasCause self.old.faults self.new.faults result }
+        ensures calm { OnOk result (self.new.faults ≡ self.old.faults) }
         ensures honest { K.is_honest self.new.disk ≡ K.is_honest self.old.disk }
         ensures allowance { K.allowance self.new.disk ≡ K.allowance self.old.disk }
         ensures armings { self.new.armings ≡ self.old.armings }
@@ -119,6 +121,7 @@ impl<K: Disk, F: OctetFile> Disk for KeptDisk<K, F> {
         ensures images { Follows (Torn at (length bytes.now)) (K.image self.old.disk (K.moment self.old.disk)) (K.image self.new.disk (K.moment self.new.disk)) }
         ensures time { Passes (K.moment self.old.disk) (K.moment self.new.disk) (K.image self.old.disk) (K.image self.new.disk) }
         ensures cause { HasCause self.old.faults self.new.faults result }
+        ensures calm { OnOk result (self.new.faults ≡ self.old.faults) }
         ensures honest { K.is_honest self.new.disk ≡ K.is_honest self.old.disk }
         ensures allowance { K.allowance self.new.disk ≡ after_write (length bytes.now) (K.allowance self.old.disk) }
         ensures armings { self.new.armings ≡ self.old.armings }
@@ -140,6 +143,7 @@ impl<K: Disk, F: OctetFile> Disk for KeptDisk<K, F> {
         ensures images { (c : List ℕ) → K.image self.new.disk (K.moment self.new.disk) c → K.image self.old.disk (K.moment self.old.disk) c }
         ensures time { Passes (K.moment self.old.disk) (K.moment self.new.disk) (K.image self.old.disk) (K.image self.new.disk) }
         ensures cause { HasCause self.old.faults self.new.faults result }
+        ensures calm { OnOk result (self.new.faults ≡ self.old.faults) }
         ensures honest { K.is_honest self.new.disk ≡ K.is_honest self.old.disk }
         ensures ok { OnOk result (K.allowance self.new.disk ≡ after_sync (K.allowance self.old.disk)) }
         ensures err { OnErr result (K.allowance self.new.disk ≡ K.allowance self.old.disk) }

@@ -1,5 +1,5 @@
 // Which calls of a disk in memory fail.
-ghost use Rattle.std.specs.Prelude.{◌≡◌, ◌≤◌, None, Some, IsTrue};
+ghost use Rattle.std.specs.Prelude.{◌≡◌, ◌≤◌, false, None, Some, IsTrue};
 ghost use Rattle.qkd_base.specs.Faults.{Rose};
 ghost use Rattle.disk_model.specs.Plan.{call_of, due_at, passage_of, cut_after, fails_in, passage as passage_at, after_call};
 
@@ -124,6 +124,7 @@ impl FaultPlan {
         ensures plan { self.new ≡ after_call self.old }
         ensures later { self.old.faults ≤ self.new.faults }
         ensures rose { IsTrue (fails_in result) → Rose self.old.faults self.new.faults }
+        ensures calm { fails_in result ≡ false → self.new.faults ≡ self.old.faults }
     {
         self.calls = self.calls.saturating_add(1);
         self.since = self.since.saturating_add(1);
