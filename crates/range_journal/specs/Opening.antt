@@ -6,7 +6,7 @@ use Rattle.disk_model.specs.declared.allowance.Allowance.{Allowance}
 use Rattle.range_journal.specs.Journal.{JournalForm}
 use Rattle.range_journal.specs.Closing.{IsReadOrClosing}
 use Rattle.range_journal.specs.Header.{is_blank, IsHeaded, HasOtherHead, StandsFor}
-use Rattle.range_journal.specs.Reading.{IsForeign}
+use Rattle.range_journal.specs.Reading.{IsForeign, is_disk}
 use Rattle.range_journal.specs.declared.refusal.JournalRefusal.{JournalRefusal}
 use Rattle.range_journal.specs.declared.refusal.JournalRefusal.TheVariants.{JournalFull, Memory, Disk, Foreign}
 
@@ -23,6 +23,11 @@ pub record MayRead (is_honest : Bool) (content : List ℕ) (images : List ℕ �
 abbrev pub disk_in : {K : Type 0} → Result (JournalForm K) (JournalRefusal × K) → K
 disk_in (Ok journal) = journal.disk
 disk_in (Err refusal) = refusal.1
+
+-- whether a refusal says that the disk failed
+abbrev pub is_refused_by_disk : {T K : Type 0} → Result T (JournalRefusal × K) → Bool
+is_refused_by_disk (Ok done) = false
+is_refused_by_disk (Err refusal) = is_disk refusal.0
 
 -- The disk has `size` octets, all synced, and enough allowance for a new head.
 pub record MayOpen (is_honest : Bool) (content : List ℕ) (images : List ℕ → Type 0) (a : Allowance) (size : ℕ) : Type 0 where

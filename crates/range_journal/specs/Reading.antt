@@ -1,5 +1,5 @@
 -- Reading the batches of a disk.
-use Rattle.std.specs.Prelude.{◌≡◌, ◌≢◌, ◌⊎◌, ◌≤◌, ◌<◌, ℕ, ◌+◌, ◌^◌, List, ◌∷◌, ◌++◌, length, drop, Bool, IsTrue}
+use Rattle.std.specs.Prelude.{◌≡◌, ◌≢◌, ◌⊎◌, ◌≤◌, ◌<◌, ℕ, ◌+◌, ◌^◌, List, ◌∷◌, ◌++◌, length, drop, Bool, true, false, IsTrue, Result, Ok, Err}
 use Rattle.std.specs.Int.{w32, to_be_bytes}
 use Rattle.qkd_base.specs.Faults.{Rose}
 use Rattle.range_journal.specs.Batches.{LacksBatch, AreShort, spelled}
@@ -8,6 +8,17 @@ use Rattle.range_journal.specs.declared.refusal.JournalRefusal.TheVariants.{Jour
 use Rattle.range_journal.specs.declared.batch_reader.Found.{Found}
 use Rattle.range_journal.specs.declared.batch_reader.Next.{Next}
 use Rattle.range_journal.specs.declared.batch_reader.Next.TheVariants.{Shut, Batch}
+
+-- whether the disk failed, by the refusal or by the result
+abbrev pub is_disk : JournalRefusal → Bool
+is_disk Disk = true
+is_disk Memory = false
+is_disk (JournalFull size need) = false
+is_disk (Foreign place) = false
+
+abbrev pub has_failed : {T : Type 0} → Result T JournalRefusal → Bool
+has_failed (Ok done) = false
+has_failed (Err why) = is_disk why
 
 -- The disk failed, and its count of faults rose, or memory ran out.
 abbrev pub IsFaulty : ℕ → ℕ → JournalRefusal → Type 0

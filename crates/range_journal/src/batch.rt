@@ -21,6 +21,7 @@ pub fn write_batch<K: Disk>(disk: &mut K, place: u64, block: &[u8]) -> Result<()
     ensures moments { AtEachMoment K.moment K.image disk.old disk.new
         (λ c. IsTrue (K.is_honest disk.old) → IsHalfWritten place block.now (K.content disk.old) c) }
     ensures cause { HasCause (K.faults disk.old) (K.faults disk.new) result }
+    ensures calm { OnOk result (K.faults disk.new ≡ K.faults disk.old) }
     ensures honest { K.is_honest disk.new ≡ K.is_honest disk.old }
     ensures used { (K.allowance disk.new).used ≤ (K.allowance disk.old).used + 4 }
     ensures armings { K.armings disk.new ≡ K.armings disk.old }

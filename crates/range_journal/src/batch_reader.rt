@@ -1,9 +1,9 @@
 // How the batches of a disk are read, in order.
-ghost use Rattle.std.specs.Prelude.{◌≡◌, ◌≢◌, ◌⊎◌, ◌+◌, ◌<◌, ◌≤◌, ◌∷◌, ◌++◌, [], List, ℕ, length, drop, take, IsTrue, IfOk, OnErr, IfErr};
+ghost use Rattle.std.specs.Prelude.{◌≡◌, ◌≢◌, ◌⊎◌, ◌+◌, ◌<◌, ◌≤◌, ◌∷◌, ◌++◌, [], List, ℕ, length, drop, take, false, IsTrue, IfOk, OnErr, IfErr};
 ghost use Rattle.std.specs.Int.{w32, to_be_bytes};
 ghost use Rattle.qkd_base.specs.Faults.{Rose};
 ghost use Rattle.disk_model.specs.Calls.{OnlyReads};
-ghost use Rattle.range_journal.specs.Reading.{IsFaulty, IsNext, FitsNext, IsUnread, HasFound, FitsFound, StopsReading};
+ghost use Rattle.range_journal.specs.Reading.{IsFaulty, IsNext, FitsNext, IsUnread, HasFound, FitsFound, StopsReading, has_failed};
 
 use crate::JournalRefusal;
 use disk_model::Disk;
@@ -38,6 +38,7 @@ fn read_octets<K: Disk>(
     ensures octets { IsTrue (K.is_honest disk.old) → IfOk result (λ o. o ≡ take count (drop at (K.content disk.old))) }
     ensures count { IfOk result (λ o. length o ≡ count) }
     ensures cause { IfErr result (IsFaulty (K.faults disk.old) (K.faults disk.new)) }
+    ensures calm { has_failed result ≡ false → K.faults disk.new ≡ K.faults disk.old }
     ensures reads { OnlyReads K.is_honest K.content K.moment K.image K.faults K.allowance K.armings disk.old disk.new }
 {
     match vec![in alloc; 0u8; count as usize] {
@@ -54,6 +55,7 @@ fn read_gate<K: Disk>(disk: &mut K, at: u64) -> Result<u8, JournalRefusal>
     requires { IsTrue (K.is_honest disk.old) → at + 1 ≤ length (K.content disk.old) }
     ensures octet { IsTrue (K.is_honest disk.old) → IfOk result (λ g. drop at (K.content disk.old) ≡ g ∷ drop (at + 1) (K.content disk.old)) }
     ensures cause { IfErr result (IsFaulty (K.faults disk.old) (K.faults disk.new)) }
+    ensures calm { has_failed result ≡ false → K.faults disk.new ≡ K.faults disk.old }
     ensures reads { OnlyReads K.is_honest K.content K.moment K.image K.faults K.allowance K.armings disk.old disk.new }
 {
     let mut gate = [0];
@@ -76,6 +78,7 @@ fn read_length<K: Disk>(disk: &mut K, at: u64) -> Result<u32, JournalRefusal>
     requires { IsTrue (K.is_honest disk.old) → at + 4 ≤ length (K.content disk.old) }
     ensures octets { IsTrue (K.is_honest disk.old) → IfOk result (λ n. drop at (K.content disk.old) ≡ to_be_bytes w32 n ++ drop (at + 4) (K.content disk.old)) }
     ensures cause { IfErr result (IsFaulty (K.faults disk.old) (K.faults disk.new)) }
+    ensures calm { has_failed result ≡ false → K.faults disk.new ≡ K.faults disk.old }
     ensures reads { OnlyReads K.is_honest K.content K.moment K.image K.faults K.allowance K.armings disk.old disk.new }
 {
     let mut octets = [0; 4];
@@ -96,6 +99,7 @@ fn next_batch<K: Disk>(
     ensures next { IsTrue (K.is_honest disk.old) → IfOk result (IsNext (K.content disk.old) place) }
     ensures fits { IfOk result (FitsNext place size) }
     ensures cause { IfErr result (IsUnread (K.is_honest disk.old) (K.content disk.old) place (K.faults disk.old) (K.faults disk.new)) }
+    ensures calm { has_failed result ≡ false → K.faults disk.new ≡ K.faults disk.old }
     ensures reads { OnlyReads K.is_honest K.content K.moment K.image K.faults K.allowance K.armings disk.old disk.new }
 {
     if place >= size {
@@ -121,6 +125,7 @@ fn read_body<K: Disk>(
     ensures next { IsTrue (K.is_honest disk.old) → IfOk result (IsNext (K.content disk.old) place) }
     ensures fits { IfOk result (FitsNext place size) }
     ensures cause { IfErr result (IsUnread (K.is_honest disk.old) (K.content disk.old) place (K.faults disk.old) (K.faults disk.new)) }
+    ensures calm { has_failed result ≡ false → K.faults disk.new ≡ K.faults disk.old }
     ensures reads { OnlyReads K.is_honest K.content K.moment K.image K.faults K.allowance K.armings disk.old disk.new }
 {
     if size - place < 5 {
@@ -153,6 +158,7 @@ pub fn read_batches<K: Disk>(
     ensures found { IsTrue (K.is_honest disk.old) → IfOk result (HasFound (K.content disk.old) start) }
     ensures fits { IfOk result (FitsFound start size) }
     ensures cause { IfErr result (StopsReading (K.is_honest disk.old) (K.content disk.old) start (K.faults disk.old) (K.faults disk.new)) }
+    ensures calm { has_failed result ≡ false → K.faults disk.new ≡ K.faults disk.old }
     ensures reads { OnlyReads K.is_honest K.content K.moment K.image K.faults K.allowance K.armings disk.old disk.new }
 {
     let mut batches = Vec::new(alloc);

@@ -18,6 +18,7 @@ pub fn write_synced<K: Disk>(disk: &mut K, at: u64, bytes: &[u8]) -> Result<(), 
     ensures moments { AtEachMoment K.moment K.image disk.old disk.new
         (λ c. IsTrue (K.is_honest disk.old) → Torn at (length bytes.now) (K.content disk.old) c) }
     ensures cause { HasCause (K.faults disk.old) (K.faults disk.new) result }
+    ensures calm { OnOk result (K.faults disk.new ≡ K.faults disk.old) }
     ensures honest { K.is_honest disk.new ≡ K.is_honest disk.old }
     ensures allowance { UsesTwo (length bytes.now) (K.allowance disk.old) (K.allowance disk.new) }
     ensures armings { K.armings disk.new ≡ K.armings disk.old }

@@ -14,6 +14,7 @@ pub fn close<K: Disk>(disk: &mut K, place: u64, gate: u8) -> Result<(), DiskFail
     ensures durable { IsTrue (K.is_honest disk.old) → OnOk result (Only (K.content disk.new) (K.image disk.new (K.moment disk.new))) }
     ensures moments { AtEachMoment K.moment K.image disk.old disk.new (λ i. IsTrue (K.is_honest disk.old) → IsDoubtful place gate (K.content disk.old) i) }
     ensures cause { HasCause (K.faults disk.old) (K.faults disk.new) result }
+    ensures calm { OnOk result (K.faults disk.new ≡ K.faults disk.old) }
     ensures honest { K.is_honest disk.new ≡ K.is_honest disk.old }
     ensures used { (K.allowance disk.new).used ≤ (K.allowance disk.old).used + 2 }
     ensures armings { K.armings disk.new ≡ K.armings disk.old }

@@ -173,6 +173,7 @@ impl<K: Disk> Journal<K> {
         ensures memory { 0 < length batch.now → length batch.now ≤ self.spare → is_memory result ≡ false }
         ensures spent { IsTrue (is_spent result) → Rose (K.faults self.disk) (K.faults (disk_after result)) }
         ensures later { K.faults self.disk ≤ K.faults (disk_after result) }
+        ensures calm { is_spent result ≡ false → K.faults (disk_after result) ≡ K.faults self.disk }
         ensures moments { AtEachMoment K.moment K.image self.disk (disk_after result)
             (λ c. IsTrue (K.is_honest self.disk) → IsAppended (K.content self.disk) self.start self.batches batch.now c) }
         ensures settled { IfOk result (λ new. IsTrue (K.is_honest new.disk) → IsSettled (K.content new.disk) (K.image new.disk (K.moment new.disk)) new.start new.batches) }

@@ -1,13 +1,13 @@
 // How a journal is opened.
-ghost use Rattle.std.specs.Prelude.{[], OnOk, true, not, nat_le, ◌&&◌, min, ◌≡◌, ◌≢◌, ◌⊎◌, ◌+◌, ◌<◌, ◌≤◌, ◌∷◌, ◌++◌, List, ℕ, length, drop, take, IsTrue, IfOk, IfErr};
+ghost use Rattle.std.specs.Prelude.{[], OnOk, true, false, not, nat_le, ◌&&◌, min, ◌≡◌, ◌≢◌, ◌⊎◌, ◌+◌, ◌<◌, ◌≤◌, ◌∷◌, ◌++◌, List, ℕ, length, drop, take, IsTrue, IfOk, IfErr};
 ghost use Rattle.disk_model.specs.Images.{Only, StandsStill, AtEachMoment};
 ghost use Rattle.range_journal.specs.Batches.{Stands, IsSettled};
 ghost use Rattle.range_journal.specs.Closing.{IsReadOrClosing};
-ghost use Rattle.range_journal.specs.Opening.{MayRead, MayOpen, Refuses, IsOpening, IsMadeNew, Opens, disk_in};
+ghost use Rattle.range_journal.specs.Opening.{MayRead, MayOpen, Refuses, IsOpening, IsMadeNew, Opens, disk_in, is_refused_by_disk};
 ghost use Rattle.qkd_base.specs.Faults.{Rose};
 ghost use Rattle.disk_model.specs.Calls.{OnlyReads};
 ghost use Rattle.range_journal.specs.Header.{is_new as is_new_text, is_blank, new_header, IsHeaded, StandsFor};
-ghost use Rattle.range_journal.specs.Reading.{IsFaulty, StopsReading};
+ghost use Rattle.range_journal.specs.Reading.{IsFaulty, StopsReading, has_failed};
 
 use crate::batch_reader::read_batches;
 use crate::durable::write_synced;
@@ -34,6 +34,7 @@ pub fn open_sized<K: Disk>(
     ensures cause { IfErr result (λ e. StopsReading (K.is_honest disk) (K.content disk) start (K.faults disk) (K.faults e.1) e.0) }
     ensures leaves { IfErr result (λ e. e.0 ≢ JournalRefusal.Disk → StandsStill (K.moment disk) (K.moment e.1) (K.image disk) (K.image e.1)) }
     ensures later { K.faults disk ≤ K.faults (disk_in result) }
+    ensures calm { is_refused_by_disk result ≡ false → K.faults (disk_in result) ≡ K.faults disk }
     ensures moments { AtEachMoment K.moment K.image disk (disk_in result) (λ i. IsTrue (K.is_honest disk) → IsReadOrClosing start (K.content disk) i) }
     ensures honest { K.is_honest (disk_in result) ≡ K.is_honest disk }
     ensures used { (K.allowance (disk_in result)).used ≤ 12 }
@@ -57,6 +58,7 @@ pub fn make_new<K: Disk>(alloc: Global, mut disk: K) -> Result<Journal<K>, (Jour
     ensures head { IfOk result (λ j. IsTrue (K.is_honest j.disk) → take 16 (K.content j.disk) ≡ new_header) }
     ensures cause { IfErr result (λ e. (e.0 ≡ JournalRefusal.Disk) × Rose (K.faults disk) (K.faults e.1)) }
     ensures later { K.faults disk ≤ K.faults (disk_in result) }
+    ensures calm { is_refused_by_disk result ≡ false → K.faults (disk_in result) ≡ K.faults disk }
     ensures moments { AtEachMoment K.moment K.image disk (disk_in result) (λ i. IsTrue (K.is_honest disk) → IsMadeNew (K.content disk) i) }
     ensures honest { K.is_honest (disk_in result) ≡ K.is_honest disk }
     ensures used { (K.allowance (disk_in result)).used ≤ 12 }
@@ -74,6 +76,7 @@ fn read_head<K: Disk>(disk: &mut K, size: u64) -> Result<[u8; 17], JournalRefusa
     ensures head { IsTrue (K.is_honest disk.old) → IfOk result (λ h. take (min size 17) h ≡ take (min size 17) (K.content disk.old)) }
     ensures long { IfOk result (λ h. length h ≡ 17) }
     ensures cause { IfErr result (IsFaulty (K.faults disk.old) (K.faults disk.new)) }
+    ensures calm { has_failed result ≡ false → K.faults disk.new ≡ K.faults disk.old }
     ensures reads { OnlyReads K.is_honest K.content K.moment K.image K.faults K.allowance K.armings disk.old disk.new }
 {
     let mut head = [0; 17];
@@ -105,6 +108,7 @@ fn open_synced<K: Disk>(
     ensures cause { IfErr result (λ e. Refuses (K.is_honest disk) (K.content disk) (K.faults disk) (K.faults e.1) e.0) }
     ensures leaves { IfErr result (λ e. e.0 ≢ JournalRefusal.Disk → StandsStill (K.moment disk) (K.moment e.1) (K.image disk) (K.image e.1)) }
     ensures later { K.faults disk ≤ K.faults (disk_in result) }
+    ensures calm { is_refused_by_disk result ≡ false → K.faults (disk_in result) ≡ K.faults disk }
     ensures moments { AtEachMoment K.moment K.image disk (disk_in result) (λ i. IsTrue (K.is_honest disk) → IsOpening (K.content disk) i) }
     ensures honest { K.is_honest (disk_in result) ≡ K.is_honest disk }
     ensures used { (K.allowance (disk_in result)).used ≤ 12 }
@@ -135,6 +139,7 @@ pub fn settle<K: Disk>(disk: &mut K) -> Result<u64, JournalRefusal>
     ensures moments { AtEachMoment K.moment K.image disk.old disk.new (λ i. K.image disk.old (K.moment disk.old) i) }
     ensures cause { IfErr result (λ e. (e ≡ JournalRefusal.Disk) × Rose (K.faults disk.old) (K.faults disk.new)) }
     ensures later { K.faults disk.old ≤ K.faults disk.new }
+    ensures calm { OnOk result (K.faults disk.new ≡ K.faults disk.old) }
     ensures honest { K.is_honest disk.new ≡ K.is_honest disk.old }
     ensures used { (K.allowance disk.new).used ≤ (K.allowance disk.old).used + 1 }
     ensures room { ((K.allowance disk.new).granted ≡ (K.allowance disk.old).granted) × ((K.allowance disk.new).reach ≡ (K.allowance disk.old).reach) × ((K.allowance disk.new).left ≡ (K.allowance disk.old).left) }
@@ -159,6 +164,7 @@ pub fn open<K: Disk>(alloc: Global, mut disk: K) -> Result<Journal<K>, (JournalR
     ensures settled { IfOk result (λ j. IsTrue (K.is_honest j.disk) → IsSettled (K.content j.disk) (K.image j.disk (K.moment j.disk)) j.start j.batches) }
     ensures head { IfOk result (λ j. IsTrue (K.is_honest j.disk) → IsHeaded (take 16 (K.content j.disk))) }
     ensures later { K.faults disk ≤ K.faults (disk_in result) }
+    ensures calm { is_refused_by_disk result ≡ false → K.faults (disk_in result) ≡ K.faults disk }
     ensures honest { K.is_honest (disk_in result) ≡ K.is_honest disk }
     ensures used { (K.allowance (disk_in result)).used ≤ 12 }
     ensures armings { K.armings (disk_in result) ≡ K.armings disk }
@@ -189,6 +195,7 @@ pub fn open_at<K: Disk>(
     ensures cause { IfErr result (λ e. StopsReading (K.is_honest disk) (K.content disk) start (K.faults disk) (K.faults e.1) e.0) }
     ensures leaves { IfErr result (λ e. e.0 ≢ JournalRefusal.Disk → StandsStill (K.moment disk) (K.moment e.1) (K.image disk) (K.image e.1)) }
     ensures later { K.faults disk ≤ K.faults (disk_in result) }
+    ensures calm { is_refused_by_disk result ≡ false → K.faults (disk_in result) ≡ K.faults disk }
     ensures moments { AtEachMoment K.moment K.image disk (disk_in result) (λ i. IsTrue (K.is_honest disk) → IsReadOrClosing start (K.content disk) i) }
     ensures honest { K.is_honest (disk_in result) ≡ K.is_honest disk }
     ensures used { (K.allowance (disk_in result)).used ≤ 12 }

@@ -1,4 +1,4 @@
-use Rattle.std.proofs.Common.{◌≡◌, ◌≤◌, ℕ, ◌+◌, List, [], ◌∷◌, ◌++◌, Bool, IsTrue, length, take, drop, sym, ◌∙◌, ap, subst, arith}
+use Rattle.std.proofs.Common.{◌≡◌, ◌≤◌, ℕ, ◌+◌, List, [], ◌∷◌, ◌++◌, Bool, IsTrue, length, take, drop, refl, sym, ◌∙◌, ap, subst, arith}
 use Rattle.range_journal.specs.Batches.{spelled, AreShort, length_of}
 use Rattle.range_journal.specs.Reading.{IsNext, FitsNext}
 use Rattle.range_journal.specs.declared.batch_reader.Next.{Next}
@@ -26,5 +26,6 @@ batches-preserved g c =
           more_read content c.args.start c.batches.place c.batches.batches.items body (i.is h) here
           ∙ ap (λ (l : List (List ℕ)). spelled l ++ drop (c.batches.place + (5 + length body)) content) (sym more)
           ∙ ap (λ (n : ℕ). spelled c.push_reserved.new.self.items ++ drop (c.batches.place + (5 + n)) content) (sym c.len.ensures);
+      calm = e.calm refl ∙ i.calm;
       reads = read_on disk.is_honest disk.content disk.moment disk.image disk.faults disk.allowance disk.armings c.args.disk.now c.batches.disk c.next_batch.new.disk i.reads c.next_batch.ensures.reads;
     }

@@ -11,6 +11,7 @@ invariant-batches g l =
       within : l.place ≤ l.size;
       short : AreShort l.batches.items;
       is : IsTrue (disk.is_honest l.fn.disk) → drop l.start (disk.content l.fn.disk) ≡ spelled l.batches.items ++ drop l.place (disk.content l.fn.disk);
+      calm : disk.faults l.disk ≡ disk.faults l.fn.disk;
       reads : OnlyReads disk.is_honest disk.content disk.moment disk.image disk.faults disk.allowance disk.armings l.fn.disk l.disk;
     }
 
