@@ -91,6 +91,7 @@ fn clear<K: Disk>(disk: &mut K, older: bool, mark: u64) -> Result<(), DiskFailed
     ensures durable { IsTrue (K.is_honest disk.old) → OnOk result (Only (K.content disk.new) (K.image disk.new (K.moment disk.new))) }
     ensures moments { AtEachMoment K.moment K.image disk.old disk.new (λ i. IsTrue (K.is_honest disk.old) → IsClearing older mark (K.content disk.old) i) }
     ensures cause { HasCause (K.faults disk.old) (K.faults disk.new) result }
+    ensures calm { OnOk result (K.faults disk.new ≡ K.faults disk.old) }
     ensures honest { K.is_honest disk.new ≡ K.is_honest disk.old }
     ensures used { (K.allowance disk.new).used ≤ (K.allowance disk.old).used + 2 }
     ensures left { (K.allowance disk.old).left ≤ (K.allowance disk.new).left + 1 }
@@ -123,6 +124,7 @@ fn write_both<K: Disk>(
     ensures moments { AtEachMoment K.moment K.image disk.old disk.new
         (λ i. IsTrue (K.is_honest disk.old) → TornTwice at (length block.now) place (length fields.now) (K.content disk.old) i) }
     ensures cause { HasCause (K.faults disk.old) (K.faults disk.new) result }
+    ensures calm { OnOk result (K.faults disk.new ≡ K.faults disk.old) }
     ensures honest { K.is_honest disk.new ≡ K.is_honest disk.old }
     ensures used { (K.allowance disk.new).used ≤ (K.allowance disk.old).used + 3 }
     ensures left { (K.allowance disk.old).left ≤ (K.allowance disk.new).left + (length block.now + length fields.now) }
@@ -177,6 +179,7 @@ fn draw<K: Disk>(
     ensures durable { IsTrue (K.is_honest disk.old) → OnOk result (Only (K.content disk.new) (K.image disk.new (K.moment disk.new))) }
     ensures moments { AtEachMoment K.moment K.image disk.old disk.new (λ i. IsTrue (K.is_honest disk.old) → IsDrawing live at block.now place (K.content disk.old) i) }
     ensures cause { HasCause (K.faults disk.old) (K.faults disk.new) result }
+    ensures calm { OnOk result (K.faults disk.new ≡ K.faults disk.old) }
     ensures honest { K.is_honest disk.new ≡ K.is_honest disk.old }
     ensures used { (K.allowance disk.new).used ≤ (K.allowance disk.old).used + 3 }
     ensures left { (K.allowance disk.old).left ≤ (K.allowance disk.new).left + (length block.now + 16) }
@@ -221,6 +224,7 @@ pub fn write_checkpoint<K: Disk>(
     ensures durable { IsTrue (K.is_honest disk.old) → OnOk result (Only (K.content disk.new) (K.image disk.new (K.moment disk.new))) }
     ensures moments { AtEachMoment K.moment K.image disk.old disk.new (λ i. IsTrue (K.is_honest disk.old) → IsStage live older at block.now place (K.content disk.old) i) }
     ensures cause { HasCause (K.faults disk.old) (K.faults disk.new) result }
+    ensures calm { OnOk result (K.faults disk.new ≡ K.faults disk.old) }
     ensures honest { K.is_honest disk.new ≡ K.is_honest disk.old }
     ensures used { (K.allowance disk.new).used ≤ 12 }
     ensures armings { K.armings disk.new ≡ K.armings disk.old }

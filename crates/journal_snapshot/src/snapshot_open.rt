@@ -4,8 +4,8 @@ ghost use Rattle.qkd_base.specs.Faults.{Rose};
 ghost use Rattle.disk_model.specs.Calls.{OnlyReads};
 ghost use Rattle.disk_model.specs.Images.{StandsStill, AtEachMoment};
 ghost use Rattle.range_journal.specs.Header.{is_blank, is_new, IsHeaded};
-ghost use Rattle.range_journal.specs.Opening.{MayOpen};
-ghost use Rattle.range_journal.specs.Reading.{IsFaulty};
+ghost use Rattle.range_journal.specs.Opening.{MayOpen, is_refused_by_disk};
+ghost use Rattle.range_journal.specs.Reading.{IsFaulty, has_failed};
 ghost use Rattle.journal_snapshot.specs.Standing.{IsKept};
 ghost use Rattle.journal_snapshot.specs.Opening.{disk_in, IsOpened, IsOpening, Opens, Refuses};
 
@@ -21,6 +21,7 @@ fn read_head<K: Disk>(disk: &mut K, size: u64) -> Result<[u8; 50], JournalRefusa
     ensures head { IsTrue (K.is_honest disk.old) → IfOk result (λ h. (k : ℕ) → k < 50 → slice_index h k ≡ slice_index (K.content disk.old) k) }
     ensures long { IfOk result (λ h. length h ≡ 50) }
     ensures cause { IfErr result (IsFaulty (K.faults disk.old) (K.faults disk.new)) }
+    ensures calm { has_failed result ≡ false → K.faults disk.new ≡ K.faults disk.old }
     ensures reads { OnlyReads K.is_honest K.content K.moment K.image K.faults K.allowance K.armings disk.old disk.new }
 {
     let mut head = [0; 50];
@@ -50,6 +51,7 @@ fn open_live<K: Disk>(
     ensures cause { IfErr result (λ e. Refuses (K.is_honest disk) (K.content disk) (K.faults disk) (K.faults e.1) e.0) }
     ensures leaves { IfErr result (λ e. e.0 ≢ JournalRefusal.Disk → StandsStill (K.moment disk) (K.moment e.1) (K.image disk) (K.image e.1)) }
     ensures later { K.faults disk ≤ K.faults (disk_in result) }
+    ensures calm { is_refused_by_disk result ≡ false → K.faults (disk_in result) ≡ K.faults disk }
     ensures moments { AtEachMoment K.moment K.image disk (disk_in result) (λ i. IsTrue (K.is_honest disk) → IsOpening (K.content disk) i) }
     ensures honest { K.is_honest (disk_in result) ≡ K.is_honest disk }
     ensures used { (K.allowance (disk_in result)).used ≤ 12 }
@@ -79,6 +81,7 @@ fn open_new<K: Disk>(alloc: Global, disk: K) -> Result<Snapshots<K>, (JournalRef
     ensures kept { IfOk result (λ s. IsTrue (K.is_honest s.disk) → IsKept s.live s.batches (K.content s.disk) (K.image s.disk (K.moment s.disk))) }
     ensures cause { IfErr result (λ e. (e.0 ≡ JournalRefusal.Disk) × Rose (K.faults disk) (K.faults e.1)) }
     ensures later { K.faults disk ≤ K.faults (disk_in result) }
+    ensures calm { is_refused_by_disk result ≡ false → K.faults (disk_in result) ≡ K.faults disk }
     ensures moments { AtEachMoment K.moment K.image disk (disk_in result) (λ i. IsTrue (K.is_honest disk) → IsOpening (K.content disk) i) }
     ensures honest { K.is_honest (disk_in result) ≡ K.is_honest disk }
     ensures used { (K.allowance (disk_in result)).used ≤ 12 }
@@ -103,6 +106,7 @@ fn open_synced<K: Disk>(
     ensures cause { IfErr result (λ e. Refuses (K.is_honest disk) (K.content disk) (K.faults disk) (K.faults e.1) e.0) }
     ensures leaves { IfErr result (λ e. e.0 ≢ JournalRefusal.Disk → StandsStill (K.moment disk) (K.moment e.1) (K.image disk) (K.image e.1)) }
     ensures later { K.faults disk ≤ K.faults (disk_in result) }
+    ensures calm { is_refused_by_disk result ≡ false → K.faults (disk_in result) ≡ K.faults disk }
     ensures moments { AtEachMoment K.moment K.image disk (disk_in result) (λ i. IsTrue (K.is_honest disk) → IsOpening (K.content disk) i) }
     ensures honest { K.is_honest (disk_in result) ≡ K.is_honest disk }
     ensures used { (K.allowance (disk_in result)).used ≤ 12 }
@@ -133,6 +137,7 @@ pub fn open<K: Disk>(alloc: Global, mut disk: K) -> Result<Snapshots<K>, (Journa
     ensures leaves { IfErr result (λ e. e.0 ≢ JournalRefusal.Disk → (i : List ℕ) → K.image e.1 (K.moment e.1) i → K.image disk (K.moment disk) i) }
     ensures kept { IfOk result (λ s. IsTrue (K.is_honest s.disk) → IsKept s.live s.batches (K.content s.disk) (K.image s.disk (K.moment s.disk))) }
     ensures later { K.faults disk ≤ K.faults (disk_in result) }
+    ensures calm { is_refused_by_disk result ≡ false → K.faults (disk_in result) ≡ K.faults disk }
     ensures honest { K.is_honest (disk_in result) ≡ K.is_honest disk }
     ensures used { (K.allowance (disk_in result)).used ≤ 12 }
     ensures armings { K.armings (disk_in result) ≡ K.armings disk }

@@ -71,6 +71,7 @@ fn finish<K: Disk>(
     ensures answer { IsFinished live draft.batches.items place result }
     ensures spent { IsTrue (is_spent result) → Rose (K.faults journal.disk) (K.faults (disk_after result)) }
     ensures later { K.faults journal.disk ≤ K.faults (disk_after result) }
+    ensures calm { is_spent result ≡ false → K.faults (disk_after result) ≡ K.faults journal.disk }
     ensures moments { AtEachMoment K.moment K.image journal.disk (disk_after result) (λ i. IsTrue (K.is_honest journal.disk) → IsStage live older at draft.block.items place (K.content journal.disk) i) }
     ensures kept { IfOk result (λ new. IsTrue (K.is_honest new.disk) → IsKept new.live new.batches (K.content new.disk) (K.image new.disk (K.moment new.disk))) }
     ensures honest { K.is_honest (disk_after result) ≡ K.is_honest journal.disk }
@@ -221,6 +222,7 @@ impl<K: Disk> Snapshots<K> {
         ensures memory { 0 < length batch.now → length batch.now ≤ self.spare → is_memory result ≡ false }
         ensures spent { IsTrue (is_spent result) → Rose (K.faults self.disk) (K.faults (disk_after result)) }
         ensures later { K.faults self.disk ≤ K.faults (disk_after result) }
+        ensures calm { is_spent result ≡ false → K.faults (disk_after result) ≡ K.faults self.disk }
         ensures moments { AtEachMoment K.moment K.image self.disk (disk_after result) (λ i. IsTrue (K.is_honest self.disk) → (is_blank i ≡ false) × HoldsOldOrOneMore self.live self.batches batch.now i) }
         ensures kept { IfOk result (λ new. IsTrue (K.is_honest new.disk) → IsKept new.live new.batches (K.content new.disk) (K.image new.disk (K.moment new.disk))) }
         ensures honest { K.is_honest (disk_after result) ≡ K.is_honest self.disk }
@@ -261,6 +263,7 @@ impl<K: Disk> Snapshots<K> {
         ensures journal { IfOk result (λ new. journal_of new ≡ checkpointed (journal_of self) (need_of batches.now)) }
         ensures spent { IsTrue (is_spent result) → Rose (K.faults self.disk) (K.faults (disk_after result)) }
         ensures later { K.faults self.disk ≤ K.faults (disk_after result) }
+        ensures calm { is_spent result ≡ false → K.faults (disk_after result) ≡ K.faults self.disk }
         ensures moments { AtEachMoment K.moment K.image self.disk (disk_after result)
             (λ i. IsTrue (K.is_honest self.disk) → Holds self.live self.batches [] i ⊎ Holds (moved_to self.live (place_of self batches.now)) batches.now [] i) }
         ensures kept { IfOk result (λ new. IsTrue (K.is_honest new.disk) → IsKept new.live new.batches (K.content new.disk) (K.image new.disk (K.moment new.disk))) }

@@ -54,3 +54,10 @@ returns-in-Some-clause-cause g c =
       sym (looks content c.in-Ok.head c.args.size c.min-count.result e.long (c.requires.long h) (e.head h) c.min-count.ensures) ∙ sym c.looks_blank.ensures ∙ c.if-looks_blank.false,
       inl (other_head content c.in-Ok.head c.in-Some.place (e.head h) c.in-Some.ensures),
     )
+
+pub returns-in-None-clause-batches : goal.returns-in-None-clause-batches
+returns-in-None-clause-batches g c =
+    let d = g.K.Disk in
+    let r = c.read_head.ensures.reads in
+    if_ok c.open_live.result _ (λ (s : SnapshotForm _). IsTrue (d.is_honest c.args.disk) → IsOpened (d.content c.args.disk) s.live s.batches)
+    (λ s there h. subst (λ (o : List ℕ). IsOpened o s.live s.batches) r.same (there (subst (λ (b : Bool). IsTrue b) (sym r.honest) h))) c.open_live.ensures.batches
