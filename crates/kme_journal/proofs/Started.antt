@@ -14,6 +14,7 @@ use Rattle.net_model.specs.World.{Journal}
 use Rattle.net_model.specs.Journal.{checkpoint_batches, checkpoint_need, checkpoint_place, checkpointed, is_checkpoint_due, journal_limit, is_blank as is_blank_journal}
 use Rattle.range_journal.specs.Batches.{spelled}
 use Rattle.range_journal.specs.Header.{is_new, is_blank}
+use Rattle.range_journal.specs.Reading.{is_disk}
 use Rattle.range_journal.specs.declared.refusal.JournalRefusal.{JournalRefusal}
 use Rattle.range_journal.specs.declared.refusal.JournalRefusal.TheVariants as journal
 use Rattle.journal_snapshot.specs.Opening.{IsOpened, IsOpening, LeavesOneKind as OpenLeaves, Refuses as OpenRefuses}
@@ -34,7 +35,7 @@ use Rattle.kme_journal.specs.Putting.{HoldsEither, IsPut, IsStopped, checkpoint_
 use Rattle.kme_journal.specs.declared.manager_recovery.Recovered.{Recovered}
 use Rattle.kme_journal.specs.declared.refusal.RecoverRefusal.{RecoverRefusal}
 use Rattle.kme_journal.specs.declared.refusal.RecoverRefusal.TheVariants.{Stopped, Foreign, Memory}
-use Rattle.kme_journal.specs.Recovery.{GivesBack, IsAfter, IsLeft, IsRecovered, Leaves, LeavesOneKind, MayMove, Refuses, Stands, Stops, disk_in, why_of}
+use Rattle.kme_journal.specs.Recovery.{GivesBack, IsAfter, IsLeft, IsRecovered, Leaves, LeavesOneKind, MayMove, Refuses, Stands, Stops, disk_in, is_stop, is_stopped, why_of}
 use Rattle.kme_journal.proofs.Put.{under, untouched}
 
 long_by : (n : ℕ) (old : Bool) → ((n == 0) || (old && (n == 17))) ≡ false → (nat_le 65536 n || old) ≡ true → 17 ≤ n → 17 < n
@@ -197,6 +198,21 @@ module _ {K : Type 0} (is_honest : Bool) (faults : K → ℕ) (read : List ℕ) 
   refused_on before later (Err (Stopped, disk)) stops = omega (arith, later, stops)
   refused_on before later (Err (Foreign place, disk)) stops = λ h. inr (old.live, (old.batches, opened h, stops.1))
   refused_on before later (Err (Memory, disk)) stops = tt
+
+-- unless the disk failed, its count of faults is as before
+
+pub unopened_calm : (why : JournalRefusal) → is_stop (why_of why) ≡ false → is_disk why ≡ false
+unopened_calm journal.Disk other = other
+unopened_calm journal.Memory other = refl
+unopened_calm (journal.Foreign place) other = refl
+unopened_calm (journal.JournalFull size need) other = refl
+
+pub calm_on : {K : Type 0} (faults : K → ℕ) (before : ℕ) (old : SnapshotForm K) → faults old.disk ≡ before → (result : Result (Recovered K) (RecoverRefusal × K)) →
+    IfOk result (λ r. faults r.journal.disk ≡ faults old.disk) → IfErr result (λ e. Stops faults old e.0 e.1) → is_stopped result ≡ false → faults (disk_in result) ≡ before
+calm_on faults before old same (Ok r) calm stops other = calm ∙ same
+calm_on faults before old same (Err (Stopped, disk)) calm stops other = absurd (cc other)
+calm_on faults before old same (Err (Foreign place, disk)) calm stops other = ap faults stops.0 ∙ same
+calm_on faults before old same (Err (Memory, disk)) calm stops other = ap faults stops ∙ same
 
 -- the crash images after a refusal
 

@@ -28,6 +28,16 @@ abbrev pub disk_in : {K : Type 0} → Result (Recovered K) (RecoverRefusal × K)
 disk_in (Ok recovered) = recovered.journal.disk
 disk_in (Err refusal) = refusal.1
 
+-- whether the disk failed, by the refusal or by the result
+abbrev pub is_stop : RecoverRefusal → Bool
+is_stop Stopped = true
+is_stop (Foreign place) = false
+is_stop Memory = false
+
+abbrev pub is_stopped : {T K : Type 0} → Result T (RecoverRefusal × K) → Bool
+is_stopped (Ok done) = false
+is_stopped (Err refusal) = is_stop refusal.0
+
 -- why a disk wasn't opened, as a refusal of the start
 abbrev pub why_of : JournalRefusal → RecoverRefusal
 why_of journal.Disk = Stopped

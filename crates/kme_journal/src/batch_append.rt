@@ -23,6 +23,7 @@ fn append<K: Disk>(journal: Snapshots<K>, octets: &[u8]) -> Result<Snapshots<K>,
     ensures kept { IfOk result (λ new. IsTrue (K.is_honest new.disk) → IsKept new.live new.batches (K.content new.disk) (K.image new.disk (K.moment new.disk))) }
     ensures honest { K.is_honest (disk_left result) ≡ K.is_honest journal.disk }
     ensures later { K.faults journal.disk ≤ K.faults (disk_left result) }
+    ensures calm { IfOk result (λ new. K.faults new.disk ≡ K.faults journal.disk) }
     ensures armings { K.armings (disk_left result) ≡ K.armings journal.disk }
     ensures used { (K.allowance (disk_left result)).used ≤ 12 }
 {
@@ -43,6 +44,7 @@ pub fn write<K: Disk>(journal: Snapshots<K>, body: Option<Octets>) -> Result<Sna
     ensures kept { IfOk result (λ new. IsTrue (K.is_honest new.disk) → IsKept new.live new.batches (K.content new.disk) (K.image new.disk (K.moment new.disk))) }
     ensures honest { K.is_honest (disk_left result) ≡ K.is_honest journal.disk }
     ensures later { K.faults journal.disk ≤ K.faults (disk_left result) }
+    ensures calm { IfOk result (λ new. K.faults new.disk ≡ K.faults journal.disk) }
     ensures armings { K.armings (disk_left result) ≡ K.armings journal.disk }
     ensures used { IfErr result (λ disk. (K.allowance disk).used ≤ 12) }
 {

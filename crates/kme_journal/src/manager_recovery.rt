@@ -1,10 +1,10 @@
 // Starting a manager.
-ghost use Rattle.std.specs.Prelude.{◌≡◌, ◌⊎◌, ◌≤◌, ℕ, List, IsTrue, IfOk, IfErr};
+ghost use Rattle.std.specs.Prelude.{◌≡◌, ◌⊎◌, ◌≤◌, ℕ, false, List, IsTrue, IfOk, IfErr};
 ghost use Rattle.disk_model.specs.Images.{AtEachMoment};
 ghost use Rattle.declared_site.specs.SiteOf.{IsDeclared, site_of};
 ghost use Rattle.journal_snapshot.specs.Standing.{IsKept};
 ghost use Rattle.kme_node.specs.Holdings.{view};
-ghost use Rattle.kme_journal.specs.Recovery.{GivesBack, IsAfter, IsLeft, IsRecovered, Leaves, LeavesOneKind, MayMove, Refuses, Stands, Stops, disk_in, why_of};
+ghost use Rattle.kme_journal.specs.Recovery.{GivesBack, IsAfter, IsLeft, IsRecovered, Leaves, LeavesOneKind, MayMove, Refuses, Stands, Stops, disk_in, is_stopped, why_of};
 
 use crate::RecoverRefusal;
 use crate::journal_reader::read_back;
@@ -52,6 +52,7 @@ fn go_on<K: Disk>(
     ensures moments { AtEachMoment K.moment K.image journal.disk (disk_in result) (λ i. IsTrue (K.is_honest journal.disk) → Stands (site_of site.now) me journal (MayMove result) i) }
     ensures kept { IfOk result (λ r. IsTrue (K.is_honest r.journal.disk) → IsKept r.journal.live r.journal.batches (K.content r.journal.disk) (K.image r.journal.disk (K.moment r.journal.disk))) }
     ensures later { K.faults journal.disk ≤ K.faults (disk_in result) }
+    ensures calm { IfOk result (λ r. K.faults r.journal.disk ≡ K.faults journal.disk) }
     ensures honest { K.is_honest (disk_in result) ≡ K.is_honest journal.disk }
     ensures armings { K.armings (disk_in result) ≡ K.armings journal.disk }
     ensures used { IfErr result (λ e. (K.allowance e.1).used ≤ 12) }
@@ -99,6 +100,7 @@ pub fn recover<K: Disk>(
     // Afterwards an honest disk has exactly the batches of the journal, and a crash leaves nothing else.
     ensures kept { IfOk result (λ r. IsTrue (K.is_honest r.journal.disk) → IsKept r.journal.live r.journal.batches (K.content r.journal.disk) (K.image r.journal.disk (K.moment r.journal.disk))) }
     ensures later { K.faults disk ≤ K.faults (disk_in result) }
+    ensures calm { is_stopped result ≡ false → K.faults (disk_in result) ≡ K.faults disk }
     ensures honest { K.is_honest (disk_in result) ≡ K.is_honest disk }
     ensures armings { K.armings (disk_in result) ≡ K.armings disk }
     ensures used { IfErr result (λ e. (K.allowance e.1).used ≤ 12) }

@@ -40,6 +40,7 @@ fn put<K: Disk>(
         (λ i. IsTrue (K.is_honest journal.disk) → HoldsEither (fits_in (journal_of journal) (need_of bodies.now)) (Unit {0}) journal.live journal.batches (place_of journal bodies.now) bodies.now i) }
     ensures kept { IfOk result (λ new. IsTrue (K.is_honest new.disk) → IsKept new.live new.batches (K.content new.disk) (K.image new.disk (K.moment new.disk))) }
     ensures later { K.faults journal.disk ≤ K.faults (disk_of result) }
+    ensures calm { IfOk result (λ new. K.faults new.disk ≡ K.faults journal.disk) }
     ensures honest { K.is_honest (disk_of result) ≡ K.is_honest journal.disk }
     ensures armings { K.armings (disk_of result) ≡ K.armings journal.disk }
     ensures used { IfErr result (λ e. (K.allowance e.1).used ≤ 12) }
@@ -70,6 +71,7 @@ pub fn put_due<K: Disk>(
         (checkpoint_place (journal_of journal) (checkpoint_need (view node.now))) (checkpoint_bodies (view node.now)) i) }
     ensures kept { IfOk result (λ new. IsTrue (K.is_honest new.disk) → IsKept new.live new.batches (K.content new.disk) (K.image new.disk (K.moment new.disk))) }
     ensures later { K.faults journal.disk ≤ K.faults (disk_of result) }
+    ensures calm { IfOk result (λ new. K.faults new.disk ≡ K.faults journal.disk) }
     ensures honest { K.is_honest (disk_of result) ≡ K.is_honest journal.disk }
     ensures armings { K.armings (disk_of result) ≡ K.armings journal.disk }
     ensures used { IfErr result (λ e. (K.allowance e.1).used ≤ 12) }

@@ -1,8 +1,8 @@
-use Rattle.std.proofs.Common.{Bool, IsTrue, sym, subst, Err}
+use Rattle.std.proofs.Common.{◌≡◌, Bool, false, IsTrue, refl, sym, ap, subst, ◌∙◌, Err}
 use Rattle.declared_site.specs.SiteOf.{site_of}
 use Rattle.kme_journal.specs.declared.refusal.RecoverRefusal.{RecoverRefusal}
-use Rattle.kme_journal.specs.Recovery.{Leaves, Refuses}
-use Rattle.kme_journal.proofs.Started.{all_moments, left_on, left_unopened, one_kind_after, one_kind_unopened, opening_moments, recovered_as, refused_as, refused_on}
+use Rattle.kme_journal.specs.Recovery.{Leaves, Refuses, is_stop}
+use Rattle.kme_journal.proofs.Started.{all_moments, calm_on, left_on, left_unopened, one_kind_after, one_kind_unopened, opening_moments, recovered_as, refused_as, refused_on, unopened_calm}
 use Rattle.kme_journal.proofs.manager_recovery.recover.Goals as goal
 
 pub returns-in-Err-clause-reads : goal.returns-in-Err-clause-reads
@@ -42,3 +42,12 @@ returns-in-Ok-clause-reads g c =
           (λ h. c.in-Ok.ensures.kept (subst (λ (b : Bool). IsTrue b) (sym c.in-Ok.ensures.honest) h)) c.go_on.result e.refused,
       one_kind_after (d.is_honest disk) (d.is_honest old.disk) d.moment d.image site c.args.me old c.go_on.result read (d.image disk (d.moment disk)) c.in-Ok.ensures.honest opened e.moments,
     )
+
+pub returns-in-Err-clause-calm : goal.returns-in-Err-clause-calm
+returns-in-Err-clause-calm g c = λ other. c.in-Err.ensures.calm (unopened_calm c.in-Err.refusal (ap is_stop (sym c.why.ensures) ∙ other))
+
+pub returns-in-Ok-clause-calm : goal.returns-in-Ok-clause-calm
+returns-in-Ok-clause-calm g c =
+    let d = g.K.Disk in
+    let e = c.go_on.ensures in
+    calm_on d.faults (d.faults c.args.disk) c.in-Ok.journal (c.in-Ok.ensures.calm refl) c.go_on.result e.calm e.refused
