@@ -136,7 +136,8 @@ is_added old new batch body spelled live batches = record {
 module _ {K E : Type 0} (is_honest : K → Bool) (moment : K → ℕ) (image : K → ℕ → List ℕ → Type 0) (disk_faults : K → ℕ) (told : E → Option OctetSequence) (entropy_faults : E → ℕ) (is_up : ℕ → Bool) (event : Event) (old : ManagerForm K E) (journal : SnapshotForm K) (new : ManagerForm K E) (reply : Reply) where
   pub answers : (rest : OctetSequence) (c : Course) → ComesNext (told old.entropy) rest →
       Comes (journal_of journal) rest (random_need old.view event) (decided (site_of old.site) is_up old.view rest event) reply c
-      (Rose (entropy_faults old.entropy) (entropy_faults new.entropy)) (HasDisk (λ disk. Rose (disk_faults journal.disk) (disk_faults disk)) new.standing) →
+      (Rose (entropy_faults old.entropy) (entropy_faults new.entropy)) (HasDisk (λ disk. Rose (disk_faults journal.disk) (disk_faults disk)) new.standing)
+      (entropy_faults new.entropy ≡ entropy_faults old.entropy) (HasDisk (λ disk. disk_faults disk ≡ disk_faults journal.disk) new.standing) →
       IsAfter is_honest moment image told old journal c new reply → Answers is_honest moment image disk_faults told entropy_faults is_up event old journal new reply
   answers rest c next comes after = record {
     rest = rest;
@@ -144,7 +145,10 @@ module _ {K E : Type 0} (is_honest : K → Bool) (moment : K → ℕ) (image : K
     next = next;
     shown = comes.shown;
     entropy_fault = comes.entropy_fault;
+    entropy_asked = comes.entropy_asked;
     disk_fault = comes.disk_fault;
+    entropy_calm = comes.no_entropy_fault;
+    disk_calm = comes.no_disk_fault;
     after = subst (λ (x : Course). IsAfter is_honest moment image told old journal x new reply) (sym comes.course) after;
   }
 
@@ -163,6 +167,12 @@ module _ {K E : Type 0} (is_honest : K → Bool) (content : K → List ℕ) (mom
 
   abbrev Fails : ManagerForm K E → Type 0
   Fails new = HasDisk (λ disk. Rose (disk_faults journal.disk) (disk_faults disk)) new.standing
+
+  abbrev Rests : E → Type 0
+  Rests after = entropy_faults after ≡ entropy_faults before
+
+  abbrev Lasts : ManagerForm K E → Type 0
+  Lasts new = HasDisk (λ disk. disk_faults disk ≡ disk_faults journal.disk) new.standing
 
   -- the manager stays as it was
   pub stayed : (j : SnapshotForm K) (site' : Declared) (v' : View) (after : E) (reply : Reply) → IsRoomier is_honest content moment image disk_faults armings journal j →
@@ -185,7 +195,7 @@ module _ {K E : Type 0} (is_honest : K → Bool) (content : K → List ℕ) (mom
       let rest = some_rest (told before) in
       let random : List ℕ = octets_from rest.0.octet 0 (random_need v event) in
       answers is_honest moment image disk_faults told entropy_faults is_up event old journal new reply rest.0 (Stays reply) rest.1
-      (held_back (journal_of journal) rest.0 (random_need v event) (Rises before) (Fails new) (over random) reply (held random (from_length rest.0.octet 0 (random_need v event))))
+      (held_back (journal_of journal) rest.0 (random_need v event) (Rises before) (Fails new) (Rests before) (Lasts new) (over random) reply (held random (from_length rest.0.octet 0 (random_need v event))) refl r.failed)
       (stayed j site' v' before reply r kept same (untouched (told before)))
 
   -- what is known of a step that was decided over zeros
@@ -217,20 +227,22 @@ module _ {K E : Type 0} (is_honest : K → Bool) (content : K → List ℕ) (mom
   pub undrawn : AreOver → (T : Type 0) (zeros into : List ℕ) (s : Step) (body : Option (List ℕ)) (j : SnapshotForm K) (site' : Declared) (v' : View) (after : E) (why : Shortage) → IsMadeOver zeros s body →
       IsRoomier is_honest content moment image disk_faults armings journal j →
       (IsTrue (is_honest journal.disk) → IsKept journal.live journal.batches (content journal.disk) (image journal.disk (moment journal.disk))) → v' ≡ v →
-      Gives {T = T} (told before) (told after) (Err why) (length zeros) into → (why ≡ Failed → Rises after) →
+      Gives {T = T} (told before) (told after) (Err why) (length zeros) into → (why ≡ Failed → Rises after) → ((why ≡ Failed → ⊥) → Rests after) →
       Answered (record { site = site'; view = v'; standing = Up j; entropy = after }) replies.NoRandom
-  undrawn laws T zeros into s body j site' v' after why made r kept same gives cause =
+  undrawn laws T zeros into s body j site' v' after why made r kept same gives cause calm =
       let new : ManagerForm K E = record { site = site'; view = v'; standing = Up j; entropy = after } in
       let given = not_drawn T (told before) (told after) why (random_need v event) into (subst (λ (n : ℕ). Gives {T = T} (told before) (told after) (Err why) n into) made.need gives) in
       let random : List ℕ = octets_from given.rest.octet 0 (random_need v event) in
       let e = drawn_effect laws zeros random s body made (from_length given.rest.octet 0 (random_need v event)) in
-      let comes : Comes (journal_of journal) given.rest (random_need v event) (Does e.effect) replies.NoRandom (Stays replies.NoRandom) (Rises after) (Fails new) =
+      let comes : Comes (journal_of journal) given.rest (random_need v event) (Does e.effect) replies.NoRandom (Stays replies.NoRandom) (Rises after) (Fails new) (Rests after) (Lasts new) =
       elim given.cause [
-        | inl none ↦ without_end (journal_of journal) given.rest (random_need v event) (Rises after) (Fails new) e.effect e.place given.wanted none
-        | inr failed ↦ with_fault (journal_of journal) given.rest (random_need v event) (Rises after) (Fails new) e.effect e.place given.wanted (cause failed)
+        | inl none ↦
+            let ended : why ≡ Failed → ⊥ = λ is. absurd (cc (sym none.0 ∙ is)) in
+            without_end (journal_of journal) given.rest (random_need v event) (Rises after) (Fails new) (Rests after) (Lasts new) e.effect e.place given.wanted none.1 (calm ended) r.failed
+        | inr failed ↦ with_fault (journal_of journal) given.rest (random_need v event) (Rises after) (Fails new) (Rests after) (Lasts new) e.effect e.place given.wanted (cause failed) r.failed
       ] in
       answers is_honest moment image disk_faults told entropy_faults is_up event old journal new replies.NoRandom given.rest (Stays replies.NoRandom) given.next
-      (subst (λ (d : Decision). Comes (journal_of journal) given.rest (random_need v event) d replies.NoRandom (Stays replies.NoRandom) (Rises after) (Fails new)) (sym e.is) comes)
+      (subst (λ (d : Decision). Comes (journal_of journal) given.rest (random_need v event) d replies.NoRandom (Stays replies.NoRandom) (Rises after) (Fails new) (Rests after) (Lasts new)) (sym e.is) comes)
       (stayed j site' v' after replies.NoRandom r kept same given.left)
 
   -- the drawn octets are the next ones
@@ -271,18 +283,18 @@ module _ {K E : Type 0} (is_honest : K → Bool) (content : K → List ℕ) (mom
 
   -- the manager stopped
   pub stopped : AreOver → {T : Type 0} (zeros random : List ℕ) (s : Step) (body body' : Option (List ℕ)) (after : E) (done : T) (mid : SnapshotForm K) (disk : K) (site' : Declared) (v' : View) (reply : Reply) → IsMadeOver zeros s body → length random ≡ length zeros →
-      Gives (told before) (told after) (Ok done) (length random) random → IsWritten mid (record s { batch = with_random random s.batch }) body' disk → reply ≡ replies.Stopped → IsSome body' → Rose (disk_faults mid.disk) (disk_faults disk) → v' ≡ v →
+      Gives (told before) (told after) (Ok done) (length random) random → IsWritten mid (record s { batch = with_random random s.batch }) body' disk → reply ≡ replies.Stopped → IsSome body' → Rose (disk_faults mid.disk) (disk_faults disk) → v' ≡ v → Rests after →
       Answered (record { site = site'; view = v'; standing = Down disk; entropy = after }) reply
-  stopped laws zeros random s body body' after done mid disk site' v' reply made as_many gives w answer some rose left =
+  stopped laws zeros random s body body' after done mid disk site' v' reply made as_many gives w answer some rose left calm =
       let new : ManagerForm K E = record { site = site'; view = v'; standing = Down disk; entropy = after } in
       let n = is_next laws zeros random s body after done made as_many gives in
       let drawn_step : Step = record s { batch = with_random random s.batch } in
       let written : is_nil n.is.0.batch ≡ false = ap is_nil (sym n.is.2.batch) ∙ body_is_written journal.live.version drawn_step.batch body' w.spelled some in
       let fails : Fails new = subst (λ (m : ℕ). Rose m (disk_faults disk)) w.roomier.failed rose in
-      let comes = stopping (journal_of journal) n.rest (random_need v event) (Rises after) (Fails new) n.is.0 n.is.3 n.there written fails in
+      let comes = stopping (journal_of journal) n.rest (random_need v event) (Rises after) (Fails new) (Rests after) (Lasts new) n.is.0 n.is.3 n.there written fails calm in
       answers is_honest moment image disk_faults told entropy_faults is_up event old journal new reply n.rest (Stops (random_need v event) n.is.0) n.next
-      (subst (λ (r : Reply). Comes (journal_of journal) n.rest (random_need v event) (decided (site_of site) is_up v n.rest event) r (Stops (random_need v event) n.is.0) (Rises after) (Fails new)) (sym answer)
-      (subst (λ (d : Decision). Comes (journal_of journal) n.rest (random_need v event) d replies.Stopped (Stops (random_need v event) n.is.0) (Rises after) (Fails new)) (sym n.is.1) comes))
+      (subst (λ (r : Reply). Comes (journal_of journal) n.rest (random_need v event) (decided (site_of site) is_up v n.rest event) r (Stops (random_need v event) n.is.0) (Rises after) (Fails new) (Rests after) (Lasts new)) (sym answer)
+      (subst (λ (d : Decision). Comes (journal_of journal) n.rest (random_need v event) d replies.Stopped (Stops (random_need v event) n.is.0) (Rises after) (Fails new) (Rests after) (Lasts new)) (sym n.is.1) comes))
       (record {
         answer = answer;
         view = left;
@@ -294,18 +306,18 @@ module _ {K E : Type 0} (is_honest : K → Bool) (content : K → List ℕ) (mom
   -- the effect took place
   pub gone : AreOver → {T : Type 0} (zeros random : List ℕ) (s : Step) (body body' : Option (List ℕ)) (after : E) (done : T) (mid j : SnapshotForm K) (site' : Declared) (v' : View) (reply : Reply) → IsMadeOver zeros s body → length random ≡ length zeros →
       Gives (told before) (told after) (Ok done) (length random) random → IsWritten mid (record s { batch = with_random random s.batch }) body' j.disk →
-      j.live ≡ mid.live → j.batches ≡ with_octets mid.batches body' → IsTaken v (placings_of event) (record s { batch = with_random random s.batch }) v' reply →
+      j.live ≡ mid.live → j.batches ≡ with_octets mid.batches body' → IsTaken v (placings_of event) (record s { batch = with_random random s.batch }) v' reply → Rests after → disk_faults j.disk ≡ disk_faults mid.disk →
       Answered (record { site = site'; view = v'; standing = Up j; entropy = after }) reply
-  gone laws zeros random s body body' after done mid j site' v' reply made as_many gives w live batches taken =
+  gone laws zeros random s body body' after done mid j site' v' reply made as_many gives w live batches taken calm still =
       let new : ManagerForm K E = record { site = site'; view = v'; standing = Up j; entropy = after } in
       let n = is_next laws zeros random s body after done made as_many gives in
       let drawn_step : Step = record s { batch = with_random random s.batch } in
       let answer : reply ≡ n.is.0.reply = taken.answer ∙ n.is.2.reply in
-      let comes = going (journal_of journal) n.rest (random_need v event) (Rises after) (Fails new) n.is.0 n.is.3 n.there in
+      let comes = going (journal_of journal) n.rest (random_need v event) (Rises after) (Fails new) (Rests after) (Lasts new) n.is.0 n.is.3 n.there calm (still ∙ w.roomier.failed) in
       let spelled : IsBody journal.live.version n.is.0.batch body' = subst (λ (rs : List Record). IsBody journal.live.version rs body') n.is.2.batch w.spelled in
       answers is_honest moment image disk_faults told entropy_faults is_up event old journal new reply n.rest (Goes (random_need v event) n.is.0) n.next
-      (subst (λ (r : Reply). Comes (journal_of journal) n.rest (random_need v event) (decided (site_of site) is_up v n.rest event) r (Goes (random_need v event) n.is.0) (Rises after) (Fails new)) (sym answer)
-      (subst (λ (d : Decision). Comes (journal_of journal) n.rest (random_need v event) d n.is.0.reply (Goes (random_need v event) n.is.0) (Rises after) (Fails new)) (sym n.is.1) comes))
+      (subst (λ (r : Reply). Comes (journal_of journal) n.rest (random_need v event) (decided (site_of site) is_up v n.rest event) r (Goes (random_need v event) n.is.0) (Rises after) (Fails new) (Rests after) (Lasts new)) (sym answer)
+      (subst (λ (d : Decision). Comes (journal_of journal) n.rest (random_need v event) d n.is.0.reply (Goes (random_need v event) n.is.0) (Rises after) (Fails new) (Rests after) (Lasts new)) (sym n.is.1) comes))
       (record {
         answer = answer;
         view = taken.view n.is.0 n.is.2;

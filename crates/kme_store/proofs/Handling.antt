@@ -67,19 +67,22 @@ module _ {K E : Type 0} (is_honest : K → Bool) (content : K → List ℕ) (mom
     pub taken : WhereUp (λ j. IsTaken v (placings_of event) (record s { batch = with_random random s.batch }) now reply) standing
     pub down : WhereDown (λ disk. (reply ≡ replies.Stopped) × IsSome body × Rose (disk_faults mid.disk) (disk_faults disk)) standing
     pub left : WhereDown (λ disk. now ≡ v) standing
+    pub calm : WhereUp (λ j. disk_faults j.disk ≡ disk_faults mid.disk) standing
 
   -- the same, from the contracts over the view and the step with drawn octets
   pub is_finished : (mid : SnapshotForm K) (random : List ℕ) (s s' : Step) (body : Option (List ℕ)) (standing : Standing K) (w now : View) (reply : Reply) → w ≡ v → s' ≡ record s { batch = with_random random s.batch } →
       IsBody mid.live.version s'.batch body → HasDisk (λ disk. AtEachMoment moment image mid.disk disk (λ i. IsTrue (is_honest mid.disk) → HoldsEither mid body i)) standing →
       WhereUp (λ j. (j.live ≡ mid.live) × (j.batches ≡ with_octets mid.batches body)) standing → WhereUp (λ j. IsTaken w (placings_of event) s' now reply) standing →
-      WhereDown (λ disk. (reply ≡ replies.Stopped) × IsSome body × Rose (disk_faults mid.disk) (disk_faults disk)) standing → WhereDown (λ disk. now ≡ w) standing → IsFinished mid random s body standing now reply
-  is_finished mid random s s' body standing w now reply same step spelled moments up taken down left = record {
+      WhereDown (λ disk. (reply ≡ replies.Stopped) × IsSome body × Rose (disk_faults mid.disk) (disk_faults disk)) standing → WhereDown (λ disk. now ≡ w) standing →
+      WhereUp (λ j. disk_faults j.disk ≡ disk_faults mid.disk) standing → IsFinished mid random s body standing now reply
+  is_finished mid random s s' body standing w now reply same step spelled moments up taken down left calm = record {
     spelled = subst (λ (x : Step). IsBody mid.live.version x.batch body) step spelled;
     moments = moments;
     up = up;
     taken = subst (λ (x : Step). WhereUp (λ j. IsTaken v (placings_of event) x now reply) standing) step (subst (λ (x : View). WhereUp (λ j. IsTaken x (placings_of event) s' now reply) standing) same taken);
     down = down;
     left = subst (λ (x : View). WhereDown (λ disk. now ≡ x) standing) same left;
+    calm = calm;
   }
 
   is_written : (mid : SnapshotForm K) (zeros random : List ℕ) (s : Step) (body body' : Option (List ℕ)) (disk : K) → IsDrafted mid zeros s body → IsBody mid.live.version (with_random random s.batch) body' →
@@ -94,16 +97,16 @@ module _ {K E : Type 0} (is_honest : K → Bool) (content : K → List ℕ) (mom
 
   -- the effect took place, or the manager stopped
   pub finished : AreOver → {T : Type 0} (zeros random : List ℕ) (s : Step) (body body' : Option (List ℕ)) (after : E) (done : T) (mid : SnapshotForm K) (standing : Standing K) (site' : Declared) (now : View) (reply : Reply) →
-      IsDrafted mid zeros s body → length random ≡ length zeros → Gives (told before) (told after) (Ok done) (length random) random → IsFinished mid random s body' standing now reply →
+      IsDrafted mid zeros s body → length random ≡ length zeros → Gives (told before) (told after) (Ok done) (length random) random → IsFinished mid random s body' standing now reply → entropy_faults after ≡ entropy_faults before →
       Answers is_honest moment image disk_faults told entropy_faults is_up event (record { site = site; view = v; standing = Up journal; entropy = before }) journal
       (record { site = site'; view = now; standing = standing; entropy = after }) reply
-  finished laws {T} zeros random s body body' after done mid (Up j) site' now reply d as_many gives f =
+  finished laws {T} zeros random s body body' after done mid (Up j) site' now reply d as_many gives f calm =
       gone is_honest content moment image disk_faults armings told entropy_faults is_up event site v before journal laws {T = T} zeros random s body body' after done mid j site' now reply
-      (made_over mid zeros s body d) as_many gives (is_written mid zeros random s body body' j.disk d f.spelled f.moments) f.up.0 f.up.1 f.taken
-  finished laws {T} zeros random s body body' after done mid (Down disk) site' now reply d as_many gives f =
+      (made_over mid zeros s body d) as_many gives (is_written mid zeros random s body body' j.disk d f.spelled f.moments) f.up.0 f.up.1 f.taken calm f.calm
+  finished laws {T} zeros random s body body' after done mid (Down disk) site' now reply d as_many gives f calm =
       stopped is_honest content moment image disk_faults armings told entropy_faults is_up event site v before journal laws {T = T} zeros random s body body' after done mid disk site' now reply
-      (made_over mid zeros s body d) as_many gives (is_written mid zeros random s body body' disk d f.spelled f.moments) f.down.0 f.down.1 f.down.2 f.left
-  finished laws {T} zeros random s body body' after done mid Between site' now reply d as_many gives f = absurd f.moments
+      (made_over mid zeros s body d) as_many gives (is_written mid zeros random s body body' disk d f.spelled f.moments) f.down.0 f.down.1 f.down.2 f.left calm
+  finished laws {T} zeros random s body body' after done mid Between site' now reply d as_many gives f calm = absurd f.moments
 
   -- replaying the journal still gives the manager
   pub told_after : AreOver → Appends → Nothing → (zeros random : List ℕ) (s : Step) (body body' : Option (List ℕ)) (mid : SnapshotForm K) (standing : Standing K) (site' : Declared) (now : View) (reply : Reply) →

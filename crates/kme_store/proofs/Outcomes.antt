@@ -24,80 +24,105 @@ pub record HasRoomFor (journal : Journal) (e : Effect) : Type 0 where
   pub numbered : list_all is_numbered e.batch ≡ true
   pub within : journal.length' + added_len journal.version e.batch ≤ journal_limit
 
--- an answer of the environment that gives this course; it shows in the reply, and each failure comes from a fault
-pub record Comes (journal : Journal) (rest : OctetSequence) (octets : ℕ) (d : Decision) (reply : Reply) (c : Course) (entropy_rose disk_rose : Type 0) : Type 0 where
+-- an answer of the environment that gives this course; it shows in the reply; each failure comes from a fault, and without one the count of faults
+-- is as before
+pub record Comes (journal : Journal) (rest : OctetSequence) (octets : ℕ) (d : Decision) (reply : Reply) (c : Course) (entropy_rose disk_rose entropy_calm disk_calm : Type 0) : Type 0 where
   pub environment : Environment
   pub course : resolved journal rest octets environment d ≡ c
   pub shown : is_shown environment (Replies reply) ≡ true
   pub entropy_fault : environment ≡ EntropyFault → entropy_rose
+  pub entropy_asked : environment ≡ EntropyFault → 0 < octets
   pub disk_fault : environment ≡ IoFault → disk_rose
+  pub no_entropy_fault : (environment ≡ EntropyFault → ⊥) → entropy_calm
+  pub no_disk_fault : (environment ≡ IoFault → ⊥) → disk_calm
 
-module _ (journal : Journal) (rest : OctetSequence) (octets : ℕ) (entropy_rose disk_rose : Type 0) where
-  by_past : (e : Effect) (reply : Reply) → IsPast journal e.batch reply → Comes journal rest octets (Does e) reply (Stays reply) entropy_rose disk_rose
-  by_past e reply p = record {
+module _ (journal : Journal) (rest : OctetSequence) (octets : ℕ) (entropy_rose disk_rose entropy_calm disk_calm : Type 0) where
+  by_past : (e : Effect) (reply : Reply) → IsPast journal e.batch reply → entropy_calm → disk_calm → Comes journal rest octets (Does e) reply (Stays reply) entropy_rose disk_rose entropy_calm disk_calm
+  by_past e reply p drawn written = record {
     environment = Fine;
     course = past journal rest octets e p.numbered p.past ∙ ap (λ (r : Reply). Stays r) (sym p.answer);
     shown = refl;
     entropy_fault = λ other. absurd (cc other);
+    entropy_asked = λ other. absurd (cc other);
     disk_fault = λ other. absurd (cc other);
+    no_entropy_fault = λ other. drawn;
+    no_disk_fault = λ other. written;
   }
 
-  by_memory : (e : Effect) (reply : Reply) → reply ≡ replies.Memory → Comes journal rest octets (Does e) reply (Stays reply) entropy_rose disk_rose
-  by_memory e reply is = record {
+  by_memory : (e : Effect) (reply : Reply) → reply ≡ replies.Memory → entropy_calm → disk_calm → Comes journal rest octets (Does e) reply (Stays reply) entropy_rose disk_rose entropy_calm disk_calm
+  by_memory e reply is drawn written = record {
     environment = OutOfMemory;
     course = no_memory journal rest octets e ∙ ap (λ (r : Reply). Stays r) (sym is);
     shown = ap (λ (r : Reply). is_shown OutOfMemory (Replies r)) is;
     entropy_fault = λ other. absurd (cc other);
+    entropy_asked = λ other. absurd (cc other);
     disk_fault = λ other. absurd (cc other);
+    no_entropy_fault = λ other. drawn;
+    no_disk_fault = λ other. written;
   }
 
   -- an event that makes no step
-  pub held_back : (d : Decision) (reply : Reply) → IsHeldBack journal d reply → Comes journal rest octets d reply (Stays reply) entropy_rose disk_rose
-  held_back (Refuses refusal) reply is = record {
+  pub held_back : (d : Decision) (reply : Reply) → IsHeldBack journal d reply → entropy_calm → disk_calm → Comes journal rest octets d reply (Stays reply) entropy_rose disk_rose entropy_calm disk_calm
+  held_back (Refuses refusal) reply is drawn written = record {
     environment = Fine;
     course = ap (λ (r : Reply). Stays r) (sym is);
     shown = refl;
     entropy_fault = λ other. absurd (cc other);
+    entropy_asked = λ other. absurd (cc other);
     disk_fault = λ other. absurd (cc other);
+    no_entropy_fault = λ other. drawn;
+    no_disk_fault = λ other. written;
   }
-  held_back (Does e) reply (inl is) = by_memory e reply is
-  held_back (Does e) reply (inr p) = by_past e reply p
+  held_back (Does e) reply (inl is) drawn written = by_memory e reply is drawn written
+  held_back (Does e) reply (inr p) drawn written = by_past e reply p drawn written
 
-  pub without_end : (e : Effect) → HasRoomFor journal e → 0 < octets → has_octets rest octets ≡ false → Comes journal rest octets (Does e) replies.NoRandom (Stays replies.NoRandom) entropy_rose disk_rose
-  without_end e h wanted none = record {
+  pub without_end : (e : Effect) → HasRoomFor journal e → 0 < octets → has_octets rest octets ≡ false → entropy_calm → disk_calm → Comes journal rest octets (Does e) replies.NoRandom (Stays replies.NoRandom) entropy_rose disk_rose entropy_calm disk_calm
+  without_end e h wanted none drawn written = record {
     environment = Fine;
     course = not_there journal rest octets e h.numbered h.within wanted none;
     shown = refl;
     entropy_fault = λ other. absurd (cc other);
+    entropy_asked = λ other. absurd (cc other);
     disk_fault = λ other. absurd (cc other);
+    no_entropy_fault = λ other. drawn;
+    no_disk_fault = λ other. written;
   }
 
-  pub with_fault : (e : Effect) → HasRoomFor journal e → 0 < octets → entropy_rose → Comes journal rest octets (Does e) replies.NoRandom (Stays replies.NoRandom) entropy_rose disk_rose
-  with_fault e h wanted rose = record {
+  pub with_fault : (e : Effect) → HasRoomFor journal e → 0 < octets → entropy_rose → disk_calm → Comes journal rest octets (Does e) replies.NoRandom (Stays replies.NoRandom) entropy_rose disk_rose entropy_calm disk_calm
+  with_fault e h wanted rose written = record {
     environment = EntropyFault;
     course = not_given journal rest octets e h.numbered h.within wanted;
     shown = refl;
     entropy_fault = λ is. rose;
+    entropy_asked = λ is. wanted;
     disk_fault = λ other. absurd (cc other);
+    no_entropy_fault = λ other. absurd (other refl);
+    no_disk_fault = λ other. written;
   }
 
-  pub stopping : (e : Effect) → HasRoomFor journal e → (0 < octets → has_octets rest octets ≡ true) → is_nil e.batch ≡ false → disk_rose →
-      Comes journal rest octets (Does e) replies.Stopped (Stops octets e) entropy_rose disk_rose
-  stopping e h there written rose = record {
+  pub stopping : (e : Effect) → HasRoomFor journal e → (0 < octets → has_octets rest octets ≡ true) → is_nil e.batch ≡ false → disk_rose → entropy_calm →
+      Comes journal rest octets (Does e) replies.Stopped (Stops octets e) entropy_rose disk_rose entropy_calm disk_calm
+  stopping e h there some rose drawn = record {
     environment = IoFault;
-    course = stops journal rest octets e h.numbered h.within there written;
+    course = stops journal rest octets e h.numbered h.within there some;
     shown = refl;
     entropy_fault = λ other. absurd (cc other);
+    entropy_asked = λ other. absurd (cc other);
     disk_fault = λ is. rose;
+    no_entropy_fault = λ other. drawn;
+    no_disk_fault = λ other. absurd (other refl);
   }
 
-  pub going : (e : Effect) → HasRoomFor journal e → (0 < octets → has_octets rest octets ≡ true) → Comes journal rest octets (Does e) e.reply (Goes octets e) entropy_rose disk_rose
-  going e h there = record {
+  pub going : (e : Effect) → HasRoomFor journal e → (0 < octets → has_octets rest octets ≡ true) → entropy_calm → disk_calm → Comes journal rest octets (Does e) e.reply (Goes octets e) entropy_rose disk_rose entropy_calm disk_calm
+  going e h there drawn written = record {
     environment = Fine;
     course = goes journal rest octets e h.numbered h.within there;
     shown = refl;
     entropy_fault = λ other. absurd (cc other);
+    entropy_asked = λ other. absurd (cc other);
     disk_fault = λ other. absurd (cc other);
+    no_entropy_fault = λ other. drawn;
+    no_disk_fault = λ other. written;
   }
 
 -- the rest of an entropy, and what was drawn of it
@@ -139,14 +164,14 @@ pub record HasNotDrawn (told now : Option OctetSequence) (octets : ℕ) (why : S
   pub rest : OctetSequence
   pub next : ComesNext told rest
   pub wanted : 0 < octets
-  pub cause : (has_octets rest octets ≡ false) ⊎ (why ≡ Failed)
+  pub cause : ((why ≡ End) × (has_octets rest octets ≡ false)) ⊎ (why ≡ Failed)
   pub left : IsDrawn told 0 now
 
 pub not_drawn : (T : Type 0) (told now : Option OctetSequence) (why : Shortage) (octets : ℕ) (into : List ℕ) → Gives {T = T} told now (Err why) octets into → HasNotDrawn told now octets why
 not_drawn T None now Failed octets into g = record { rest = told_as []; next = tt; wanted = g.0; cause = inr refl; left = tt }
 not_drawn T None now End octets into g = absurd g.1
 not_drawn T (Some t) now Failed octets into g = record { rest = t; next = refl; wanted = g.0; cause = inr refl; left = g.1.1 }
-not_drawn T (Some t) now End octets into g = record { rest = t; next = refl; wanted = g.0; cause = inl g.1.0; left = g.1.1 }
+not_drawn T (Some t) now End octets into g = record { rest = t; next = refl; wanted = g.0; cause = inl (refl, g.1.0); left = g.1.1 }
 
 pub untouched : (told : Option OctetSequence) → IsDrawn told 0 told
 untouched None = tt

@@ -1,5 +1,5 @@
 -- A manager as a value, and how an event changes it.
-use Rattle.std.specs.Prelude.{◌≡◌, ◌⊎◌, ℕ, zero, suc, Bool, true, false, IsTrue, ◌+◌, List, [], Option, Some, None}
+use Rattle.std.specs.Prelude.{◌≡◌, ◌⊎◌, ℕ, zero, suc, Bool, true, false, IsTrue, ◌+◌, ◌<◌, List, [], Option, Some, None}
 use Rattle.qkd_base.specs.Faults.{Rose}
 use Rattle.net_model.specs.declared.event.Event.{Event}
 use Rattle.net_model.specs.declared.placing.Placing.{Placing}
@@ -8,6 +8,7 @@ use Rattle.net_model.specs.declared.reply.Reply.{Reply}
 use Rattle.net_model.specs.declared.reply.Reply.TheVariants as replies
 use Rattle.net_model.specs.OctetSequence.{OctetSequence}
 use Rattle.net_model.specs.View.{View, Port}
+use Rattle.net_model.specs.Decide.{random_need}
 use Rattle.net_model.specs.Decision.{Effect}
 use Rattle.net_model.specs.Journal.{added_len, extended}
 use Rattle.net_model.specs.Fold.{view_after}
@@ -161,14 +162,19 @@ IsAfter is_honest moment image told old journal (Stays refusal) new reply = HasS
 IsAfter is_honest moment image told old journal (Stops octets effect) new reply = HasStopped is_honest moment image told old journal octets effect new reply
 IsAfter is_honest moment image told old journal (Goes octets effect) new reply = HasGone is_honest moment image told old journal octets effect new reply
 
--- An event is answered. The environment gave these octets and this answer, and each failure comes from a fault.
+-- An event is answered. The environment gave these octets and this answer. Each failure comes from a fault, and without one the
+-- count of faults is as before.
 pub record Answers {K E : Type 0} (is_honest : K → Bool) (moment : K → ℕ) (image : K → ℕ → List ℕ → Type 0) (disk_faults : K → ℕ) (told : E → Option OctetSequence) (entropy_faults : E → ℕ) (is_up : ℕ → Bool) (event : Event) (old : ManagerForm K E) (journal : SnapshotForm K) (new : ManagerForm K E) (reply : Reply) : Type 0 where
   pub rest : OctetSequence
   pub environment : Environment
   pub next : ComesNext (told old.entropy) rest
   pub shown : is_shown environment (Replies reply) ≡ true
   pub entropy_fault : environment ≡ EntropyFault → Rose (entropy_faults old.entropy) (entropy_faults new.entropy)
+  -- The entropy fails only where it is asked.
+  pub entropy_asked : environment ≡ EntropyFault → 0 < random_need old.view event
   pub disk_fault : environment ≡ IoFault → HasDisk (λ disk. Rose (disk_faults journal.disk) (disk_faults disk)) new.standing
+  pub entropy_calm : (environment ≡ EntropyFault → ⊥) → entropy_faults new.entropy ≡ entropy_faults old.entropy
+  pub disk_calm : (environment ≡ IoFault → ⊥) → HasDisk (λ disk. disk_faults disk ≡ disk_faults journal.disk) new.standing
   pub after : IsAfter is_honest moment image told old journal (course (site_of old.site) is_up old.view (journal_of journal) rest event environment) new reply
 
 -- a manager that is up answers the event, and one that is down stays as it is

@@ -1,5 +1,5 @@
 -- A manager that was recovered from its disk.
-use Rattle.std.specs.Prelude.{◌≡◌, ◌⊎◌, ◌≤◌, ℕ, Bool, IsTrue, List, Result, Ok, Err, IfOk, IfErr}
+use Rattle.std.specs.Prelude.{◌≡◌, ◌⊎◌, ◌≤◌, ℕ, Bool, false, IsTrue, List, Result, Ok, Err, IfOk, IfErr}
 use Rattle.disk_model.specs.Images.{AtEachMoment}
 use Rattle.disk_model.specs.declared.allowance.Allowance.{Allowance}
 use Rattle.disk_model.specs.declared.arm.Armings.{Armings}
@@ -7,7 +7,7 @@ use Rattle.declared_site.specs.SiteOf.{site_of}
 use Rattle.declared_site.specs.declared.site.Site.{Site as Declared}
 use Rattle.journal_snapshot.specs.Standing.{IsKept}
 use Rattle.kme_node.specs.Holdings.{view as seen_by}
-use Rattle.kme_journal.specs.Recovery.{GivesBack, IsAfter, IsRecovered, Leaves, LeavesOneKind, Refuses, disk_in}
+use Rattle.kme_journal.specs.Recovery.{GivesBack, IsAfter, IsRecovered, Leaves, LeavesOneKind, Refuses, disk_in, is_stopped}
 use Rattle.kme_journal.specs.declared.manager_recovery.Recovered.{Recovered}
 use Rattle.kme_journal.specs.declared.refusal.RecoverRefusal.{RecoverRefusal}
 use Rattle.kme_store.specs.Manager.{ManagerForm}
@@ -33,6 +33,7 @@ pub record Recovers {K : Type 0} (is_honest : K → Bool) (content : K → List 
   pub told : IfOk back (λ r. GivesBack (site_of site) me r.journal (seen_by r.node))
   pub kept : IfOk back (λ r. IsTrue (is_honest r.journal.disk) → IsKept r.journal.live r.journal.batches (content r.journal.disk) (image r.journal.disk (moment r.journal.disk)))
   pub later : faults disk ≤ faults (disk_in back)
+  pub calm : is_stopped back ≡ false → faults (disk_in back) ≡ faults disk
   pub honest : is_honest (disk_in back) ≡ is_honest disk
   pub arms : armings (disk_in back) ≡ armings disk
   pub used : IfErr back (λ e. (allowance e.1).used ≤ 12)

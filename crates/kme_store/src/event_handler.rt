@@ -44,6 +44,7 @@ fn finish<K: Disk>(
     ensures kept { WhereUp (λ j. IsTrue (K.is_honest j.disk) → IsKept j.live j.batches (K.content j.disk) (K.image j.disk (K.moment j.disk))) result.0 }
     ensures same { HasDisk (λ disk. (K.is_honest disk ≡ K.is_honest journal.disk) × (K.armings disk ≡ K.armings journal.disk)) result.0 }
     ensures later { HasDisk (λ disk. K.faults journal.disk ≤ K.faults disk) result.0 }
+    ensures calm { WhereUp (λ j. K.faults j.disk ≡ K.faults journal.disk) result.0 }
     ensures used { WhereDown (λ disk. (K.allowance disk).used ≤ 12) result.0 }
 {
     let Draft { step, body, .. } = draft;

@@ -11,6 +11,7 @@ pub fn draw<E: Entropy>(entropy: &mut E, random: &mut [u8]) -> Result<(), Shorta
     ensures given { Gives (E.left entropy.old) (E.left entropy.new) result (length random.old) random.new }
     ensures cause { IsErrOf result ShortageFailed → Rose (E.faults entropy.old) (E.faults entropy.new) }
     ensures later { E.faults entropy.old ≤ E.faults entropy.new }
+    ensures calm { (IsErrOf result ShortageFailed → ⊥) → E.faults entropy.new ≡ E.faults entropy.old }
 {
     if random.is_empty() {
         return Ok(());

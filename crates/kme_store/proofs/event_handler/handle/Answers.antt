@@ -42,7 +42,7 @@ returns-in-Err-draw-clause-answers g c = λ is_up up.
     laws (Unit {0}) draft.random.items c.draw.new.random draft.step draft.body c.new.new.journal c.new.new.node.site (view c.new.new.node) c.draw.new.entropy c.in-Err-draw.field-0
     (made_over d.is_honest d.content d.moment d.image d.faults d.armings e.left e.faults is_up c.args.event.now c.args.node.now.site v c.args.entropy.now c.args.journal c.new.new.journal draft.random.items draft.step draft.body
     (record { roomier = c.in-Ok.ensures.journal; kept = c.stands.ensures; over = c.in-Ok.ensures.zeros; step = c.in-Ok.ensures.step is_up up; spelled = c.in-Ok.ensures.ready.body; place = c.in-Ok.ensures.place }))
-    c.in-Ok.ensures.journal c.stands.ensures c.in-Ok.ensures.view gives (λ why. c.in-Err-draw.ensures.cause (refused c.in-Err-draw.field-0 Failed why))
+    c.in-Ok.ensures.journal c.stands.ensures c.in-Ok.ensures.view gives (λ why. c.in-Err-draw.ensures.cause (refused c.in-Err-draw.field-0 Failed why)) (λ other. c.in-Err-draw.ensures.calm (λ is. other (cc is)))
 
 pub returns-in-Err-clause-told : goal.returns-in-Err-clause-told
 returns-in-Err-clause-told g c = λ was.
@@ -78,11 +78,11 @@ returns-clause-answers g c = λ is_up up.
     let ended =
     is_finished d.is_honest d.content d.moment d.image d.faults d.armings e.left e.faults is_up c.args.event.now c.args.node.now.site v c.args.entropy.now c.args.journal
     mid random draft.step new.step new.body c.finish.result.0 (view c.new.new.node) (view c.finish.new.node) c.finish.result.1 c.in-Ok.ensures.view step (c.put_random.ensures.body mid.live.version c.in-Ok.ensures.ready.body)
-    c.finish.ensures.moments c.finish.ensures.up c.finish.ensures.taken c.finish.ensures.down c.finish.ensures.left in
+    c.finish.ensures.moments c.finish.ensures.up c.finish.ensures.taken c.finish.ensures.down c.finish.ensures.left c.finish.ensures.calm in
     finished d.is_honest d.content d.moment d.image d.faults d.armings e.left e.faults is_up c.args.event.now c.args.node.now.site v c.args.entropy.now c.args.journal
     laws {T = Unit {0}} draft.random.items random draft.step draft.body new.body c.draw.new.entropy tt mid c.finish.result.0 c.finish.new.node.site (view c.finish.new.node) c.finish.result.1
     (record { roomier = c.in-Ok.ensures.journal; kept = c.stands.ensures; over = c.in-Ok.ensures.zeros; step = c.in-Ok.ensures.step is_up up; spelled = c.in-Ok.ensures.ready.body; place = c.in-Ok.ensures.place })
-    as_many (subst (λ (n : ℕ). Gives {T = Unit {0}} (e.left c.args.entropy.now) (e.left c.draw.new.entropy) (Ok tt) n random) (sym c.draw.auto.random) c.in-Ok-draw.ensures.given) ended
+    as_many (subst (λ (n : ℕ). Gives {T = Unit {0}} (e.left c.args.entropy.now) (e.left c.draw.new.entropy) (Ok tt) n random) (sym c.draw.auto.random) c.in-Ok-draw.ensures.given) ended (c.in-Ok-draw.ensures.calm (λ is. absurd (cc is)))
 
 -- the view doesn't depend on which links are up, so any choice that agrees with the bits will do
 pub returns-clause-told : goal.returns-clause-told
@@ -102,7 +102,7 @@ returns-clause-told g c = λ was.
     let ended =
     is_finished d.is_honest d.content d.moment d.image d.faults d.armings e.left e.faults is_up c.args.event.now c.args.node.now.site v c.args.entropy.now c.args.journal
     mid random draft.step new.step new.body c.finish.result.0 (view c.new.new.node) (view c.finish.new.node) c.finish.result.1 c.in-Ok.ensures.view step (c.put_random.ensures.body mid.live.version c.in-Ok.ensures.ready.body)
-    c.finish.ensures.moments c.finish.ensures.up c.finish.ensures.taken c.finish.ensures.down c.finish.ensures.left in
+    c.finish.ensures.moments c.finish.ensures.up c.finish.ensures.taken c.finish.ensures.down c.finish.ensures.left c.finish.ensures.calm in
     told_after d.is_honest d.content d.moment d.image d.faults d.armings e.left e.faults is_up c.args.event.now c.args.node.now.site v c.args.entropy.now c.args.journal
     laws c.law_effect_is_given_back.ensures.appended c.law_effect_is_given_back.ensures.nothing draft.random.items random draft.step draft.body new.body mid c.finish.result.0 c.finish.new.node.site (view c.finish.new.node) c.finish.result.1
     (record { roomier = c.in-Ok.ensures.journal; kept = c.stands.ensures; over = c.in-Ok.ensures.zeros; step = c.in-Ok.ensures.step is_up (λ link within. refl); spelled = c.in-Ok.ensures.ready.body; place = c.in-Ok.ensures.place })
