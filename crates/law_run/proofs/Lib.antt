@@ -14,6 +14,7 @@ pub mod Keys
 pub mod Nothing
 pub mod Telling
 pub mod Counts
+pub mod Places
 pub mod Made
 pub mod Walking
 pub mod Given

@@ -7,7 +7,7 @@ use Rattle.net_model.specs.OctetSequence.{OctetSequence}
 use Rattle.net_model.specs.Sealing.{Sealing, IsSealing}
 use Rattle.net_model.specs.Premises.{IsSite, IsNetwork}
 use Rattle.net_model.specs.World.{first}
-use Rattle.net_model.specs.Faults.{disk_faults, entropy_faults, device_faults, wire_faults, armings}
+use Rattle.net_model.specs.Faults.{armings}
 use Rattle.net_model.specs.Step.{run, is_run, IsRun}
 use Rattle.route_table.specs.Table.{no_links}
 use Rattle.sae_entitlements.specs.Pair.{pair_cmp}
@@ -61,9 +61,6 @@ some_same x y h = cc
 nothing_more : (before : List ℕ) → Some [] ≡ Some before → Some [] ≡ Some (before ++ [])
 nothing_more before e = subst (λ (xs : List ℕ). Some [] ≡ Some (xs ++ [])) (some_same [] before e) refl
 
-no_more : (n : ℕ) → n ≡ 0 → 0 + n ≤ 0
-no_more n e = omega (arith, e)
-
 none_below : (v : ℕ) → v < 0 → ⊥
 none_below v h = omega (arith, h)
 
@@ -80,7 +77,7 @@ is_course sealing http f begins =
     }
 
 pub headline : (sealing : Sealing) (http : HttpTexts) (reading : DiskBatches) → IsSealing sealing → MayBegin (course sealing).net first → KeysAndBytes (course sealing) → Headline (Run 1) Done http reading nothing_asked untouched (Some []) (Some []) (course sealing)
-unfolding report report_text actions_of run first wire_octets disk_faults entropy_faults device_faults wire_faults armings
+unfolding report report_text actions_of run first wire_octets armings
 headline sealing http reading f begins keys =
     record {
       run = is_course sealing http f begins;
@@ -90,9 +87,9 @@ headline sealing http reading f begins keys =
       other_disks = λ v h. refl;
       left = λ v octets rest e k. cc;
       keys = keys;
-      disk_faults = λ v. inl (no_more _ refl);
-      entropy_faults = λ v. inl (no_more _ refl);
-      device_faults = λ link. inl (no_more _ refl);
-      wire_faults = λ l. inl (no_more _ refl);
+      disk_faults = λ v. refl;
+      entropy_faults = λ v. refl;
+      device_faults = λ link. refl;
+      wire_faults = λ l. refl;
       armed = λ v. (refl, refl);
     }

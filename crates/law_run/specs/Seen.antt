@@ -1,5 +1,5 @@
 -- What the sink and the bench's parts show after the lines of a scenario.
-use Rattle.std.specs.Prelude.{◌≡◌, ℕ, ◌<◌, ◌≤◌, Bool, true, false, List, [], drop, Option, Some}
+use Rattle.std.specs.Prelude.{◌≡◌, ℕ, ◌<◌, ◌≤◌, Bool, true, false, List, [], map, drop, Option, Some}
 use Rattle.qkd_base.specs.declared.lane.Lane.{Lane}
 use Rattle.net_model.specs.declared.record.Record.{Record}
 use Rattle.net_model.specs.OctetSequence.{sequence_of}
@@ -7,11 +7,11 @@ use Rattle.net_model.specs.World.{Network, World}
 use Rattle.net_model.specs.Journal.{is_blank}
 use Rattle.net_model.specs.Start.{may_resolve}
 use Rattle.net_model.specs.Action.{Action}
-use Rattle.net_model.specs.Faults.{disk_faults, entropy_faults, device_faults, wire_faults, armings}
+use Rattle.net_model.specs.Faults.{is_disk_fault, is_random_fault, is_block_fault, is_wire_fault, armings}
 use Rattle.run_types.specs.Texts.{report_text}
 use Rattle.run_model.specs.Play.{Played, Whole, ForgedAt}
 use Rattle.run_model.specs.Left.{wire_octets}
-use Rattle.run_model.specs.Bench.{DiskBatches, Seen, RoseBy, IsArmedWith}
+use Rattle.run_model.specs.Bench.{DiskBatches, Seen, RoseWith, IsArmedWith}
 use Rattle.run_model.specs.Headline.{Stop, Done, ForgedMatch, ListenFault, WriteFault, Memory, Took, TookFirst}
 use Rattle.law_recovery.specs.GivesBack.{GivesBack}
 use Rattle.law_run.specs.Benched.{kept_view}
@@ -38,8 +38,8 @@ pub record IsSeen (reading : DiskBatches) (net : Network) (w : World) (actions :
       (batches : List (List Record)) × (reading (seen.disk v) ≡ Some batches) × IsKept net w v batches
   pub other_disks : (v : ℕ) → net.site.nodes ≤ v → seen.disk v ≡ []
   pub left : (v : ℕ) (told rest : List ℕ) → net.entropy v ≡ sequence_of told → seen.entropy v ≡ Some rest → rest ≡ drop (w.drawn v) told
-  pub disk_faults : (v : ℕ) → RoseBy (seen.disk_count v) (disk_faults net.site v actions)
-  pub entropy_faults : (v : ℕ) → RoseBy (seen.entropy_count v) (entropy_faults v actions)
-  pub device_faults : (link : ℕ) → RoseBy (seen.device_count link) (device_faults link actions)
-  pub wire_faults : (l : Lane) → RoseBy (seen.wire_count l) (wire_faults l actions)
+  pub disk_faults : (v : ℕ) → RoseWith (seen.disk_count v) (map (is_disk_fault net.site v) actions)
+  pub entropy_faults : (v : ℕ) → RoseWith (seen.entropy_count v) (map (is_random_fault v) actions)
+  pub device_faults : (link : ℕ) → RoseWith (seen.device_count link) (map (is_block_fault link) actions)
+  pub wire_faults : (l : Lane) → RoseWith (seen.wire_count l) (map (is_wire_fault l) actions)
   pub armed : (v : ℕ) → IsArmedWith (seen.arming v) (armings v actions)

@@ -1,5 +1,5 @@
 // Laws of a scenario's course: what was done for its tasks has a headline, with its report, keys, disks and fault
-ghost use Rattle.std.specs.Prelude.{◌≡◌, ℕ, ◌+◌, ◌-◌, ◌^◌, ◌<◌, ◌≤◌, min, Bool, true, List, ◌++◌, drop, Option, option_map};
+ghost use Rattle.std.specs.Prelude.{◌≡◌, ℕ, ◌+◌, ◌-◌, ◌^◌, ◌<◌, ◌≤◌, min, Bool, true, List, ◌∷◌, ◌++◌, map, count_by, drop, Option, option_map};
 ghost use Rattle.qkd_base.specs.declared.lane.Lane.{Lane};
 ghost use Rattle.net_model.specs.declared.record.Record.{Record};
 ghost use Rattle.net_model.specs.OctetSequence.{sequence_of};
@@ -11,16 +11,16 @@ ghost use Rattle.net_model.specs.Needed.{view_of};
 ghost use Rattle.net_model.specs.Start.{may_resolve};
 ghost use Rattle.net_model.specs.Action.{Action};
 ghost use Rattle.net_model.specs.Step.{run, IsRun};
-ghost use Rattle.net_model.specs.Faults.{disk_faults, entropy_faults, device_faults, wire_faults, armings};
+ghost use Rattle.net_model.specs.Faults.{disk_faults, entropy_faults, device_faults, wire_faults, armings, is_disk_fault, is_random_fault, is_block_fault, is_wire_fault};
 ghost use Rattle.run_types.specs.declared.scenario.Scenario.{Scenario};
 ghost use Rattle.run_types.specs.Texts.{report_text};
 ghost use Rattle.run_model.specs.Play.{Whole, ForgedAt};
-ghost use Rattle.run_model.specs.Report.{Performed, report, actions_of, IsRunOf};
+ghost use Rattle.run_model.specs.Report.{Performed, report, actions_for, actions_of, IsRunOf};
 ghost use Rattle.run_model.specs.Load.{load_scenario};
 ghost use Rattle.run_model.specs.Left.{batches_made, IsFoldOf};
 ghost use Rattle.run_model.specs.Turn.{HttpTexts};
 ghost use Rattle.run_model.specs.Begin.{MayBegin};
-ghost use Rattle.run_model.specs.Bench.{DiskBatches, Seen, RoseBy};
+ghost use Rattle.run_model.specs.Bench.{DiskBatches, Seen, Count, Rises, RoseWith, RoseBy};
 ghost use Rattle.run_model.specs.Course.{Words, Run, Load, Course, tasks_of, whole_run, last_world, lines_played, IsCourseOf};
 ghost use Rattle.run_model.specs.Keys.{KeysAndBytes};
 ghost use Rattle.run_model.specs.Headline.{Stop, Took, TookFirst, Done, ForgedMatch, WriteFault, Memory, IsReported, Headline};
@@ -95,6 +95,24 @@ pub fn law_fault_counts()
     ensures device { (link : ℕ) (xs ys : List Action) → device_faults link (xs ++ ys) ≡ device_faults link xs + device_faults link ys }
     ensures wire { (l : Lane) (xs ys : List Action) → wire_faults l (xs ++ ys) ≡ wire_faults l xs + wire_faults l ys }
     ensures armed { (v : ℕ) (xs ys : List Action) → armings v (xs ++ ys) ≡ armings v xs ++ armings v ys }
+{}
+
+/// The counts of faults that the headline speaks of. From faults in their actions follow the totals, and from totals that
+/// a fault caused follow the actions. Of two lists of actions behind one another, each has its own part of the count. So
+/// each task has its own, and a task that reports no fault left the count as it was.
+pub fn law_faults_in_place()
+    ensures disk { (s : Site) (v : ℕ) (c : Count) (actions : List Action) → c.new ≤ c.greatest → RoseWith c (map (is_disk_fault s v) actions) → RoseBy c (disk_faults s v actions) }
+    ensures entropy { (v : ℕ) (c : Count) (actions : List Action) → c.new ≤ c.greatest → RoseWith c (map (is_random_fault v) actions) → RoseBy c (entropy_faults v actions) }
+    ensures device { (link : ℕ) (c : Count) (actions : List Action) → c.new ≤ c.greatest → RoseWith c (map (is_block_fault link) actions) → RoseBy c (device_faults link actions) }
+    ensures wire { (l : Lane) (c : Count) (actions : List Action) → c.new ≤ c.greatest → RoseWith c (map (is_wire_fault l) actions) → RoseBy c (wire_faults l actions) }
+    ensures calm { (p : Action → Bool) (c : Count) (actions : List Action) → RoseWith c (map p actions) → count_by p actions ≡ 0 → c.new ≡ c.old }
+    ensures places { (p : Action → Bool) (c : Count) (actions : List Action) → RoseBy c (count_by p actions) → (count_by p actions ≡ 0 → c.new ≡ c.old) → RoseWith c (map p actions) }
+    ensures apart { (greatest : ℕ) (xs ys : List Bool) (before now : ℕ) → Rises greatest (xs ++ ys) before now → (mid : ℕ) × Rises greatest xs before mid × Rises greatest ys mid now }
+    ensures together { (greatest : ℕ) (xs ys : List Bool) (before mid now : ℕ) → Rises greatest xs before mid → Rises greatest ys mid now → Rises greatest (xs ++ ys) before now }
+    ensures task { (net : Network) (p : Action → Bool) (greatest : ℕ) (earlier : List Performed) (task : Performed) (later : List Performed) (before now : ℕ) →
+        Rises greatest (map p (actions_of net (earlier ++ task ∷ later))) before now →
+        (start : ℕ) × (end : ℕ) × Rises greatest (map p (actions_of net earlier)) before start × Rises greatest (map p (actions_for net task)) start end
+        × Rises greatest (map p (actions_of net later)) end now × (count_by p (actions_for net task) ≡ 0 → end ≡ start) }
 {}
 
 /// A list that has the octets and the end that another list has after its first n octets is that list without these.

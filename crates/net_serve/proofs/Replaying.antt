@@ -9,7 +9,7 @@ use Rattle.net_model.specs.declared.event.Event.TheVariants.{Enc, Dec, Status, E
 use Rattle.net_model.specs.OctetSequence.{OctetSequence}
 use Rattle.net_model.specs.Site.{Site}
 use Rattle.net_model.specs.World.{Network, World}
-use Rattle.net_model.specs.Action.{Action, Ask, Ok, is_io_fault, is_entropy_fault}
+use Rattle.net_model.specs.Action.{Action, Ask, Ok}
 use Rattle.net_model.specs.BlockOrder.{is_block_event, is_turn_of}
 use Rattle.net_model.specs.Events.{is_valid_event}
 use Rattle.net_model.specs.Step.{step, is_asked, is_enabled, run, IsRun}
@@ -125,7 +125,7 @@ module _ {K Q E X : Type 0} (is_honest : K → Bool) (moment : K → ℕ) (image
       pub one_armed : most_armed armed goes.posts.items ≡ most_armed armed s.posts.items
       one_armed =
           most_same armed s.posts.items v (post m) (post k) at
-          (times_same armed disk_count entropy_count (is_io_fault asked.environment) (is_entropy_fault asked.environment) (post m) (post k) asked.counts)
+          (times_same armed disk_count entropy_count _ _ (post m) (post k) asked.counts)
 
       pub one_turn : is_turn_of net.site v action ≡ true
       one_turn = and_both (v == v) (is_block_event event) (eq_same v) (block_request event h.may.request)

@@ -1,5 +1,5 @@
 -- What is seen of a bench after a run is what the run says.
-use Rattle.std.proofs.Common.{◌≡◌, ◌⊎◌, inl, inr, ℕ, ◌*◌, ◌<◌, ◌≤◌, Bool, false, List, [], ◌++◌, drop, refl, sym, ap, subst, ◌∙◌, arith, Option, Some, None}
+use Rattle.std.proofs.Common.{◌≡◌, ◌⊎◌, inl, inr, ℕ, ◌*◌, ◌<◌, ◌≤◌, Bool, false, List, [], ◌++◌, map, drop, refl, sym, ap, subst, ◌∙◌, arith, Option, Some, None}
 use Rattle.std.specs.Prelude.{slice_get, unwrap_or}
 use Rattle.std.proofs.lemmas.Bool.{lt-ltb}
 use Rattle.qkd_base.specs.declared.lane.Lane.{Lane}
@@ -11,7 +11,7 @@ use Rattle.net_model.specs.World.{Network, World, first}
 use Rattle.net_model.specs.Journal.{is_blank}
 use Rattle.net_model.specs.Step.{run, IsRun}
 use Rattle.net_model.specs.Action.{Action}
-use Rattle.net_model.specs.Faults.{disk_faults, entropy_faults, device_faults, wire_faults, armings}
+use Rattle.net_model.specs.Faults.{is_disk_fault, is_random_fault, is_block_fault, is_wire_fault, disk_faults, entropy_faults, device_faults, wire_faults, armings}
 use Rattle.net_model.specs.Premises.{IsNetwork}
 use Rattle.declared_site.specs.SiteOf.{IsDeclared}
 use Rattle.declared_site.specs.declared.site.Site.{Site as Declared}
@@ -21,7 +21,7 @@ use Rattle.hop_frames.specs.Sealing.{hop_sealing}
 use Rattle.source_devices.specs.Telling.{IsRest}
 use Rattle.lane_sender.specs.Lane.{LaneForm}
 use Rattle.run_model.specs.Left.{wire_octets}
-use Rattle.run_model.specs.Bench.{DiskBatches, Seen, Count, RoseBy, Arming, IsArmedWith}
+use Rattle.run_model.specs.Bench.{DiskBatches, Seen, Count, RoseWith, Arming, IsArmedWith}
 use Rattle.law_run.specs.Seen.{IsKept as IsGiven, IsSeen}
 use Rattle.world_state.specs.Passed.{Post, Off, disk_of, entropy_of}
 use Rattle.world_state.specs.Stands.{place_of}
@@ -123,24 +123,26 @@ module _ {K Q E X : Type 0} (is_honest : K → Bool) (content : K → List ℕ) 
 
   -- the counts of faults rose as the run says
 
-  disks_rose : (v : ℕ) → RoseBy (counted_in disk_count old.disks.items new.disks.items v) (disk_faults net.site v actions)
+  disks_rose : (v : ℕ) → RoseWith (counted_in disk_count old.disks.items new.disks.items v) (map (is_disk_fault net.site v) actions)
+  unfolding disk_faults
   disks_rose v = by (below_or_past v nodes)
     where
-      by : (v < nodes) ⊎ (nodes ≤ v) → RoseBy (counted_in disk_count old.disks.items new.disks.items v) (disk_faults net.site v actions)
+      by : (v < nodes) ⊎ (nodes ≤ v) → RoseWith (counted_in disk_count old.disks.items new.disks.items v) (map (is_disk_fault net.site v) actions)
       by (inl below) =
           let n = node_ran v below in
-          seen_risen disk_count old.disks.items new.disks.items v (disk_faults net.site v actions) n.tallied.before n.tallied.now (n.had_disk ∙ n.tallied.was)
+          seen_risen disk_count (is_disk_fault net.site v) actions old.disks.items new.disks.items v n.tallied.before n.tallied.now (n.had_disk ∙ n.tallied.was)
           (n.back.has_disk ∙ sym n.back.is_disk ∙ n.tallied.is) n.tallied.failed
-      by (inr past) = seen_still disk_count old.disks.items new.disks.items v (disk_faults net.site v actions) (no_disk_faults net network v past actions may) (disk_stays v past)
+      by (inr past) = seen_still disk_count (is_disk_fault net.site v) actions old.disks.items new.disks.items v (no_disk_faults net network v past actions may) (disk_stays v past)
 
-  entropies_rose : (v : ℕ) → RoseBy (counted_in entropy_count old.entropies.items new.entropies.items v) (entropy_faults v actions)
+  entropies_rose : (v : ℕ) → RoseWith (counted_in entropy_count old.entropies.items new.entropies.items v) (map (is_random_fault v) actions)
+  unfolding entropy_faults
   entropies_rose v = by (below_or_past v nodes)
     where
-      by : (v < nodes) ⊎ (nodes ≤ v) → RoseBy (counted_in entropy_count old.entropies.items new.entropies.items v) (entropy_faults v actions)
+      by : (v < nodes) ⊎ (nodes ≤ v) → RoseWith (counted_in entropy_count old.entropies.items new.entropies.items v) (map (is_random_fault v) actions)
       by (inl below) =
           let n = node_ran v below in
-          seen_risen entropy_count old.entropies.items new.entropies.items v (entropy_faults v actions) n.first_entropy (entropy_of n.back.post) n.had_entropy n.back.has_entropy n.tallied.refused
-      by (inr past) = seen_still entropy_count old.entropies.items new.entropies.items v (entropy_faults v actions) (no_entropy_faults net network v past actions may) (entropy_stays v past)
+          seen_risen entropy_count (is_random_fault v) actions old.entropies.items new.entropies.items v n.first_entropy (entropy_of n.back.post) n.had_entropy n.back.has_entropy n.tallied.refused
+      by (inr past) = seen_still entropy_count (is_random_fault v) actions old.entropies.items new.entropies.items v (no_entropy_faults net network v past actions may) (entropy_stays v past)
 
   disks_armed : (v : ℕ) → IsArmedWith (armed_between (armings_of armed (slice_get old.disks.items v)) (armings_of armed (slice_get new.disks.items v))) (armings v actions)
   disks_armed v = by (below_or_past v nodes)
@@ -154,21 +156,22 @@ module _ {K Q E X : Type 0} (is_honest : K → Bool) (content : K → List ℕ) 
 
   -- the counts of the links' devices
 
-  devices_rose : (link : ℕ) → RoseBy (counted_in device_count old.devices.items new.devices.items link) (device_faults link actions)
+  devices_rose : (link : ℕ) → RoseWith (counted_in device_count old.devices.items new.devices.items link) (map (is_block_fault link) actions)
+  unfolding device_faults
   devices_rose link = by (below_or_past link links)
     where
       are : new.devices.items ≡ s.devices.items ++ drop links old.devices.items
       are = h.back.devices ∙ ap (λ (qs : List Q). s.devices.items ++ qs) h.laid.other_devices
 
-      by : (link < links) ⊎ (links ≤ link) → RoseBy (counted_in device_count old.devices.items new.devices.items link) (device_faults link actions)
+      by : (link < links) ⊎ (links ≤ link) → RoseWith (counted_in device_count old.devices.items new.devices.items link) (map (is_block_fault link) actions)
       by (inl below) =
           let now = there s.devices.items link (omega (arith, below, h.rests.links)) in
           let before = there h.begin.devices.items link (omega (arith, below, h.rests.links, h.tallied.links)) in
-          seen_risen device_count old.devices.items new.devices.items link (device_faults link actions) before.0 now.0
+          seen_risen device_count (is_block_fault link) actions old.devices.items new.devices.items link before.0 now.0
           (sym (at_take links old.devices.items link below) ∙ ap (λ (qs : List Q). slice_get qs link) (sym h.laid.devices) ∙ before.1)
           (in_front s.devices.items old.devices.items new.devices.items links h.rests.links are link below ∙ now.1) (h.tallied.devices link before.0 now.0 before.1 now.1)
       by (inr past) =
-          seen_still device_count old.devices.items new.devices.items link (device_faults link actions) (no_device_faults net network link past actions may)
+          seen_still device_count (is_block_fault link) actions old.devices.items new.devices.items link (no_device_faults net network link past actions may)
           (behind s.devices.items old.devices.items new.devices.items links h.rests.links are link past)
 
   -- the wires of the lanes
@@ -183,19 +186,20 @@ module _ {K Q E X : Type 0} (is_honest : K → Bool) (content : K → List ℕ) 
       stays_there (λ (x : LaneForm X). x.wire) s.lanes.items old.wires.items h.stayed.wires.items new.wires.items (2 * links) h.rests.sides h.laid.other_wires h.back.wires (place_of l)
       (place_past links l past)
 
-  wires_rose : (l : Lane) → RoseBy (counted_in wire_count old.wires.items new.wires.items (place_of l)) (wire_faults l actions)
+  wires_rose : (l : Lane) → RoseWith (counted_in wire_count old.wires.items new.wires.items (place_of l)) (map (is_wire_fault l) actions)
+  unfolding wire_faults
   wires_rose l = by (below_or_past l.link links)
     where
-      by : (l.link < links) ⊎ (links ≤ l.link) → RoseBy (counted_in wire_count old.wires.items new.wires.items (place_of l)) (wire_faults l actions)
+      by : (l.link < links) ⊎ (links ≤ l.link) → RoseWith (counted_in wire_count old.wires.items new.wires.items (place_of l)) (map (is_wire_fault l) actions)
       by (inl below) =
           let place = pair_place links l below in
           let now = there s.lanes.items (place_of l) (omega (arith, place, h.rests.sides)) in
           let before = there h.begin.lanes.items (place_of l) (omega (arith, place, h.rests.sides, h.tallied.sides)) in
           let m = mapped (without_bytes l) (slice_get old.wires.items (place_of l)) before.0 (sym (h.laid.lanes l below) ∙ before.1) in
-          seen_risen wire_count old.wires.items new.wires.items (place_of l) (wire_faults l actions) m.0 now.0.wire m.1 (wire_back l now.0 below now.1)
+          seen_risen wire_count (is_wire_fault l) actions old.wires.items new.wires.items (place_of l) m.0 now.0.wire m.1 (wire_back l now.0 below now.1)
           (subst (λ (x : LaneForm X). Counted (wire_faults l actions) (wire_count x.wire) (wire_count now.0.wire)) m.2 (h.tallied.wires l before.0 now.0 before.1 now.1))
       by (inr past) =
-          seen_still wire_count old.wires.items new.wires.items (place_of l) (wire_faults l actions) (no_wire_faults net network l (no_lane net.site l past) actions may) (wire_stays l past)
+          seen_still wire_count (is_wire_fault l) actions old.wires.items new.wires.items (place_of l) (no_wire_faults net network l (no_lane net.site l past) actions may) (wire_stays l past)
 
   wires_hold : (l : Lane) (all : List (List ℕ)) → frames_on frames (slice_get new.wires.items (place_of l)) ≡ Some all → all ≡ wire_octets net w l
   wires_hold l all is = by (below_or_past l.link links)
@@ -269,9 +273,9 @@ module _ {K Q E X : Type 0} (is_honest : K → Bool) (content : K → List ℕ) 
     disks = λ v below started. disks_give reading reads v below started (seen.disk v) (on.disks v);
     other_disks = λ v past. disks_empty v past (seen.disk v) (on.disks v);
     left = λ v all rest was is. left_of all rest (w.drawn v) (still_left seen.entropy on.entropies v all rest was is);
-    disk_faults = λ v. subst (λ (c : Count). RoseBy c (disk_faults net.site v actions)) (sym (on.disk_counts v)) (disks_rose v);
-    entropy_faults = λ v. subst (λ (c : Count). RoseBy c (entropy_faults v actions)) (sym (on.entropy_counts v)) (entropies_rose v);
-    device_faults = λ link. subst (λ (c : Count). RoseBy c (device_faults link actions)) (sym (on.device_counts link)) (devices_rose link);
-    wire_faults = λ l. subst (λ (c : Count). RoseBy c (wire_faults l actions)) (sym (on.wire_counts l)) (wires_rose l);
+    disk_faults = λ v. subst (λ (c : Count). RoseWith c (map (is_disk_fault net.site v) actions)) (sym (on.disk_counts v)) (disks_rose v);
+    entropy_faults = λ v. subst (λ (c : Count). RoseWith c (map (is_random_fault v) actions)) (sym (on.entropy_counts v)) (entropies_rose v);
+    device_faults = λ link. subst (λ (c : Count). RoseWith c (map (is_block_fault link) actions)) (sym (on.device_counts link)) (devices_rose link);
+    wire_faults = λ l. subst (λ (c : Count). RoseWith c (map (is_wire_fault l) actions)) (sym (on.wire_counts l)) (wires_rose l);
     armed = λ v. subst (λ (a : Arming). IsArmedWith a (armings v actions)) (sym (on.armings v)) (disks_armed v);
   }

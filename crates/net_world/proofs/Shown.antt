@@ -1,11 +1,12 @@
 -- Counts of faults and armings, as they are seen.
-use Rattle.std.proofs.Common.{◌≡◌, ◌⊎◌, inl, inr, ℕ, ◌+◌, ◌-◌, ◌^◌, ◌<◌, ◌≤◌, true, false, List, [], refl, sym, subst, arith, Option, Some}
-use Rattle.std.specs.Prelude.{min, nat_le, slice_get}
+use Rattle.std.proofs.Common.{◌≡◌, ◌⊎◌, inl, inr, ℕ, ◌+◌, ◌-◌, ◌^◌, ◌<◌, ◌≤◌, Bool, true, false, List, [], map, refl, sym, ap, subst, arith, Option, Some}
+use Rattle.std.specs.Prelude.{min, nat_le, count_by, slice_get}
 use Rattle.std.proofs.lemmas.Bool.Decides.{nat_tests}
 use Rattle.disk_model.specs.declared.arm.Armings.{Armings}
-use Rattle.net_model.specs.Action.{Fault}
-use Rattle.run_model.specs.Bench.{RoseBy, IsArmedWith}
+use Rattle.net_model.specs.Action.{Action, Fault}
+use Rattle.run_model.specs.Bench.{RoseWith, IsArmedWith}
 use Rattle.law_run.specs.Benched.{counter}
+use Rattle.law_run.proofs.Places.{placed}
 use Rattle.world_state.specs.Tallied.{Counted, IsArmedBy}
 use Rattle.net_world.specs.Seen.{shown, counted_in, armings_of, armed_between}
 
@@ -28,22 +29,27 @@ rose n before now top least =
     few : now < top → min before top + n ≤ min now top
     few h = omega (arith, h, least)
 
-pub rises_shown : {T : Type 0} (faults : T → ℕ) (n : ℕ) (before now : T) → Counted n (faults before) (faults now) → RoseBy (counter (shown faults (Some before)) (shown faults (Some now))) n
-rises_shown faults n before now h = rose n (faults before) (faults now) (2 ^ 64 - 1) h
+still_shown : (a n top : ℕ) → n ≡ 0 → (a + n ≤ a) ⊎ (a ≡ top)
+still_shown a n top none = inl (omega (arith, none))
 
-still_shown : (a top : ℕ) → (a + 0 ≤ a) ⊎ (a ≡ top)
-still_shown a top = inl (omega arith)
+-- the count of a part, over the actions in which it failed
+module _ {T : Type 0} (faults : T → ℕ) (p : Action → Bool) (actions : List Action) where
+  rises_shown : (before now : T) → Counted (count_by p actions) (faults before) (faults now) → RoseWith (counter (shown faults (Some before)) (shown faults (Some now))) (map p actions)
+  rises_shown before now h =
+      placed p (2 ^ 64 - 1) actions (shown faults (Some before)) (shown faults (Some now)) (rose (count_by p actions) (faults before) (faults now) (2 ^ 64 - 1) h.rose)
+      (λ none. ap (λ (n : ℕ). min n (2 ^ 64 - 1)) (h.calm none))
 
-module _ {T : Type 0} (faults : T → ℕ) (olds news : List T) (i : ℕ) where
-  pub seen_risen : (n : ℕ) (before now : T) → slice_get olds i ≡ Some before → slice_get news i ≡ Some now → Counted n (faults before) (faults now) → RoseBy (counted_in faults olds news i) n
-  seen_risen n before now was is h =
-      subst (λ (o : Option T). RoseBy (counter (shown faults o) (shown faults (slice_get news i))) n) (sym was)
-      (subst (λ (o : Option T). RoseBy (counter (shown faults (Some before)) (shown faults o)) n) (sym is) (rises_shown faults n before now h))
+  module _ (olds news : List T) (i : ℕ) where
+    pub seen_risen : (before now : T) → slice_get olds i ≡ Some before → slice_get news i ≡ Some now → Counted (count_by p actions) (faults before) (faults now) →
+        RoseWith (counted_in faults olds news i) (map p actions)
+    seen_risen before now was is h =
+        subst (λ (o : Option T). RoseWith (counter (shown faults o) (shown faults (slice_get news i))) (map p actions)) (sym was)
+        (subst (λ (o : Option T). RoseWith (counter (shown faults (Some before)) (shown faults o)) (map p actions)) (sym is) (rises_shown before now h))
 
-  pub seen_still : (n : ℕ) → n ≡ 0 → slice_get news i ≡ slice_get olds i → RoseBy (counted_in faults olds news i) n
-  seen_still n none same =
-      subst (λ (m : ℕ). RoseBy (counted_in faults olds news i) m) (sym none)
-      (subst (λ (o : Option T). RoseBy (counter (shown faults (slice_get olds i)) (shown faults o)) 0) (sym same) (still_shown (shown faults (slice_get olds i)) (2 ^ 64 - 1)))
+    pub seen_still : count_by p actions ≡ 0 → slice_get news i ≡ slice_get olds i → RoseWith (counted_in faults olds news i) (map p actions)
+    seen_still none same =
+        subst (λ (o : Option T). RoseWith (counter (shown faults (slice_get olds i)) (shown faults o)) (map p actions)) (sym same)
+        (placed p (2 ^ 64 - 1) actions (shown faults (slice_get olds i)) (shown faults (slice_get olds i)) (still_shown (shown faults (slice_get olds i)) (count_by p actions) (2 ^ 64 - 1) none) (λ _. refl))
 
 -- the armings that are seen are those of the run
 

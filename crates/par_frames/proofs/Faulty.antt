@@ -1,6 +1,6 @@
 -- The count of faults of a lane's wire.
-use Rattle.std.proofs.Common.{◌≡◌, ℕ, ◌+◌, ◌-◌, ◌^◌, ◌≤◌, Bool, List, [], ◌∷◌, map, refl, sym, ◌∙◌, ap, subst, arith, Option, Result, Ok, Err}
-use Rattle.std.specs.Prelude.{min, count_by, IsErrOf}
+use Rattle.std.proofs.Common.{◌≡◌, ℕ, ◌+◌, Bool, List, [], ◌∷◌, map, refl, sym, ◌∙◌, ap, subst, arith, Option, Result, Ok, Err}
+use Rattle.std.specs.Prelude.{count_by, IsErrOf}
 use Rattle.qkd_base.specs.Faults.{Rose}
 use Rattle.qkd_base.specs.declared.lane.Lane.{Lane}
 use Rattle.net_model.specs.Action.{Environment, is_io_fault}
@@ -12,26 +12,19 @@ use Rattle.law_locality.proofs.Counting.{one_if, count_more}
 use Rattle.law_parallel.specs.Logs.{Deed, Puts, Repeats, is_wire_failure}
 use Rattle.law_parallel.specs.Places.{with_number}
 use Rattle.world_state.specs.Passed.{wire_answer}
-use Rattle.par_frames.specs.Counts.{Counted}
+use Rattle.world_state.specs.Tallied.{Counted}
 use Rattle.par_frames.specs.LaneCalls.{LaneCall, ClaimsFor, PutsFor, RepeatsFor, deed_of}
+use Rattle.world_state.proofs.Tallies.{counted_more, none_counted}
 use Rattle.par_frames.proofs.Stepping.{Leading}
 
-both_below : (m n before between after top : ℕ) → min (before + m) top ≤ between → min (between + n) top ≤ after → min (before + (m + n)) top ≤ after
-both_below m n before between after top h k = omega (arith, h, k)
+same_counted : (before after : ℕ) → after ≡ before → Counted 0 before after
+same_counted before after same = subst (Counted 0 before) (sym same) (none_counted before)
 
-both_counted : (m n before between after : ℕ) → Counted m before between → Counted n between after → Counted (m + n) before after
-both_counted m n before between after h k = both_below m n before between after (2 ^ 64 - 1) h k
-
-none_below : (before after top : ℕ) → before ≤ after → min (before + 0) top ≤ after
-none_below before after top h = omega (arith, h)
-
-none_counted : (before after : ℕ) → before ≤ after → Counted 0 before after
-none_counted before after h = none_below before after (2 ^ 64 - 1) h
-
-one_counted : (answer : Result ℕ WireFailed) (before after : ℕ) → (IsErrOf answer Fault → Rose before after) → before ≤ after → Counted (one_if (is_io_fault (wire_answer answer))) before after
-one_counted (Ok n) before after cause later = none_counted before after later
-one_counted (Err Fault) before after cause later = cause refl
-one_counted (Err Memory) before after cause later = none_counted before after later
+one_counted : (answer : Result ℕ WireFailed) (before after : ℕ) → (IsErrOf answer Fault → Rose before after) → ((IsErrOf answer Fault → ⊥) → after ≡ before) →
+    Counted (one_if (is_io_fault (wire_answer answer))) before after
+one_counted (Ok n) before after cause calm = same_counted before after (calm (λ fault. cc fault))
+one_counted (Err Fault) before after cause calm = record { rose = cause refl; calm = λ none. omega (arith, none) }
+one_counted (Err Memory) before after cause calm = same_counted before after (calm (λ fault. cc fault))
 
 module _ {X : Type 0} (frames : X → Option (List (List ℕ))) (counted faults : X → ℕ) (cap : ℕ) (l : Lane) (bytes : List ℕ) (ds : List Deed) where
   abbrev failures : List LaneCall → ℕ
@@ -42,17 +35,17 @@ module _ {X : Type 0} (frames : X → Option (List (List ℕ))) (counted faults 
   one_more d e log before between after is one rest =
       subst (λ (n : ℕ). Counted n before after)
       (sym (count_more is_wire_failure d (map (with_number ds) (map deed_of log)) ∙ ap (λ (t : Bool). one_if t + failures log) is))
-      (both_counted (one_if (is_io_fault e)) (failures log) before between after one rest)
+      (counted_more (one_if (is_io_fault e)) (failures log) before between after one rest)
 
   pub faulty : (log : List LaneCall) (old new : LaneForm X) → Leading frames counted faults cap l bytes old log new → Counted (failures log) (faults old.wire) (faults new.wire)
-  faulty [] old new h = none_counted (faults old.wire) (faults new.wire) (let same = ap (λ (s : LaneForm X). faults s.wire) h in omega (arith, same))
+  faulty [] old new h = same_counted (faults old.wire) (faults new.wire) (sym (ap (λ (s : LaneForm X). faults s.wire) h))
   faulty (ClaimsFor line o grant claimed ∷ log) old new h =
       subst (λ (n : ℕ). Counted (failures log) n (faults new.wire)) (ap (λ (s : LaneForm X). faults s.wire) h.1.after) (faulty log h.0 new h.2)
   faulty (PutsFor claim o claimed out ∷ log) old new h =
       let e = wire_answer (answer_of out.sent) in
       one_more (with_number ds (Puts claim e)) e log (faults old.wire) (faults h.0.wire) (faults new.wire) refl
-      (one_counted (answer_of out.sent) (faults old.wire) (faults h.0.wire) h.1.cause h.1.later) (faulty log h.0 new h.2)
+      (one_counted (answer_of out.sent) (faults old.wire) (faults h.0.wire) h.1.cause h.1.calm) (faulty log h.0 new h.2)
   faulty (RepeatsFor r out ∷ log) old new h =
       let e = wire_answer (answer_of out.sent) in
       one_more (with_number ds (Repeats out.line r e)) e log (faults old.wire) (faults h.0.wire) (faults new.wire) refl
-      (one_counted (answer_of out.sent) (faults old.wire) (faults h.0.wire) h.1.cause h.1.later) (faulty log h.0 new h.2)
+      (one_counted (answer_of out.sent) (faults old.wire) (faults h.0.wire) h.1.cause h.1.calm) (faulty log h.0 new h.2)

@@ -10,7 +10,7 @@ use Rattle.net_model.specs.Action.{Environment}
 use Rattle.net_model.specs.Frames.{frame_octets, octets_sent}
 use Rattle.lane_sender.specs.Lane.{LaneForm}
 use Rattle.world_state.specs.Passed.{IsRunning, WireStands, LaneStands}
-use Rattle.par_frames.specs.Counts.{Counted}
+use Rattle.world_state.specs.Tallied.{Counted}
 use Rattle.law_parallel.specs.Logs.{Deed, claims_in}
 use Rattle.law_parallel.specs.Puts.{LaneFrame, octets_claimed, octets_on_wire, octets_taken, own_after, frames_put, reported_from, placings_from}
 use Rattle.law_parallel.specs.LaneWorks.{world_after, wire_faults_in, IsLeft}

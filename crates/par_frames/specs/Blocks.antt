@@ -19,7 +19,7 @@ use Rattle.par_lanes.specs.declared.ask.LaneAsk.{LaneAsk}
 use Rattle.par_lanes.specs.declared.ask.LaneAnswer.{LaneAnswer}
 use Rattle.par_lanes.specs.Turns.{Turns}
 use Rattle.world_state.specs.Passed.{IsRunning, LaneStands}
-use Rattle.par_frames.specs.Counts.{Counted}
+use Rattle.world_state.specs.Tallied.{Counted}
 use Rattle.shared_objects.specs.Rising.{together}
 use Rattle.law_parallel.specs.Putting.{wanted_by}
 use Rattle.law_parallel.specs.Remaining.{Remains}

@@ -8,7 +8,7 @@ use Rattle.run_model.specs.Block.{PutDone, is_put}
 use Rattle.lane_sender.specs.Lane.{LaneForm}
 use Rattle.lane_sender.specs.Sending.{answer_of, number_of}
 use Rattle.world_state.specs.Passed.{LaneStands, wire_outcome, offset_of, length_of, frame_of}
-use Rattle.par_frames.specs.Counts.{Counted}
+use Rattle.world_state.specs.Tallied.{Counted}
 use Rattle.law_parallel.specs.Logs.{Deed}
 use Rattle.law_parallel.specs.Puts.{reported_on, placings_on}
 use Rattle.law_parallel.specs.LaneWorks.{world_after, wire_faults_in}

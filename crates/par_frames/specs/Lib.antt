@@ -1,6 +1,5 @@
 pub mod LaneCalls
 pub mod Working
-pub mod Counts
 pub mod Leaving
 pub mod Sorting
 pub mod Blocks

@@ -1,5 +1,5 @@
 -- A manager's turn is an action of the network.
-use Rattle.std.proofs.Common.{◌≡◌, ℕ, Bool, true, ◌&&◌, List, refl, ap, Option, Some, None}
+use Rattle.std.proofs.Common.{◌≡◌, ℕ, Bool, true, false, ◌&&◌, List, refl, Option, Some, None}
 use Rattle.std.specs.Prelude.{◌==◌, nat_lt, slice_get}
 use Rattle.qkd_base.specs.declared.lane.Lane.{Lane}
 use Rattle.disk_model.specs.declared.arm.Armings.{Armings}
@@ -9,7 +9,7 @@ use Rattle.net_model.specs.OctetSequence.{OctetSequence}
 use Rattle.net_model.specs.Site.{Site, receiver}
 use Rattle.net_model.specs.World.{Network, World}
 use Rattle.net_model.specs.Events.{is_valid_event}
-use Rattle.net_model.specs.Action.{Environment, Ask, Deliver, Ok, is_io_fault, is_entropy_fault}
+use Rattle.net_model.specs.Action.{Environment, Ask, Deliver, Ok, is_io_fault}
 use Rattle.net_model.specs.BlockOrder.{is_block_event}
 use Rattle.net_model.specs.Step.{is_asked, is_enabled}
 use Rattle.world_state.specs.Passed.{Post, MayAsk, Asked, MayHear, HasHeard}
@@ -20,7 +20,8 @@ use Rattle.world_state.proofs.AsksOne.{asks_post}
 use Rattle.world_state.proofs.Changes.{OnePost}
 use Rattle.world_state.proofs.Disks.{has_disks}
 use Rattle.world_state.proofs.OnePost.{ChangesPost, stands_after}
-use Rattle.world_state.proofs.OneTallied.{CountsOne, one_post_tallied}
+use Rattle.world_state.proofs.OneTallied.{one_post_tallied}
+use Rattle.world_state.proofs.Passing.{delivers_counted}
 use Rattle.world_state.proofs.PostTallies.{asked_tallied}
 use Rattle.world_state.proofs.Receivers.{elsewhere}
 use Rattle.par_managers.specs.TurnTaking.{MayTurn, TookTurn}
@@ -35,15 +36,6 @@ job_enabled net w v event fit =
 
 delivers_post : (s : Site) (l : Lane) (number : ℕ) (environment : Environment) → ChangesPost s (Deliver l number environment) (receiver s l)
 delivers_post s l number environment = record { nodes = λ u other. elsewhere (receiver s l) u other; lanes = λ k. refl; links = λ link. refl }
-
-delivers_counted : (s : Site) (l : Lane) (number : ℕ) (environment : Environment) → CountsOne s (Deliver l number environment) (receiver s l) (is_io_fault environment) (is_entropy_fault environment)
-delivers_counted s l number environment = record {
-  disk = and_right (receiver s l == receiver s l) (is_io_fault environment);
-  entropy = λ none. absurd (cc none);
-  armed = λ u. refl;
-  disks = λ u other. ap (λ (b : Bool). b && is_io_fault environment) (elsewhere (receiver s l) u other);
-  entropies = λ u other. refl;
-}
 
 module _ {K Q E X : Type 0} (is_honest : K → Bool) (moment : K → ℕ) (image : K → ℕ → List ℕ → Type 0) (left : E → Option OctetSequence) (told : Q → Option OctetSequence)
     (frames : X → Option (List (List ℕ))) (counted : X → ℕ) (old : State K Q E X) (net : Network) (w : World) where
@@ -86,6 +78,6 @@ module _ {K Q E X : Type 0} (is_honest : K → Bool) (moment : K → ℕ) (image
       stands = stands_after is_honest moment image left told frames counted old new net w (receiver net.site l) p q change may.stands (Deliver l number h.environment) h.may
           (delivers_post net.site l number h.environment) h.stands;
       tallied = one_post_tallied disk_count armed entropy_count device_count wire_count net.site (Deliver l number h.environment) old new
-          (has_disks is_honest moment image left told frames counted old net w may.stands) (receiver net.site l) p q (is_io_fault h.environment) (is_entropy_fault h.environment) change
+          (has_disks is_honest moment image left told frames counted old net w may.stands) (receiver net.site l) p q (is_io_fault h.environment) false change
           (delivers_counted net.site l number h.environment) (record { devices = λ link. refl; wires = λ k. refl }) h.counts;
     }

@@ -7,7 +7,6 @@ use Rattle.net_model.specs.declared.reply.Reply.{Reply}
 use Rattle.net_model.specs.OctetSequence.{OctetSequence}
 use Rattle.net_model.specs.Site.{Site}
 use Rattle.net_model.specs.World.{Network, World}
-use Rattle.net_model.specs.Action.{is_io_fault, is_entropy_fault}
 use Rattle.net_model.specs.Step.{run}
 use Rattle.world_state.specs.Passed.{Post}
 use Rattle.run_ops.specs.Acting.{IsReady}
@@ -103,7 +102,7 @@ module _ {K Q E X : Type 0} (is_honest : K → Bool) (moment : K → ℕ) (image
       pub one_armed : most_armed armed goes.posts.items ≡ most_armed armed s.posts.items
       one_armed =
           most_same armed s.posts.items v (post d) (post n) at
-          (times_same armed disk_count entropy_count (is_io_fault happens.environment) (is_entropy_fault happens.environment) (post d) (post n) happens.counts)
+          (times_same armed disk_count entropy_count _ _ (post d) (post n) happens.counts)
 
     -- ---- all turns
 

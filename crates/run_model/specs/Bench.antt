@@ -1,5 +1,5 @@
 -- What the parts of the bench show after a run.
-use Rattle.std.specs.Prelude.{◌≡◌, ◌⊎◌, ℕ, ◌+◌, ◌≤◌, List, [], ◌∷◌, length, Option, Some}
+use Rattle.std.specs.Prelude.{◌≡◌, ◌⊎◌, ℕ, ◌+◌, ◌≤◌, Bool, true, false, List, [], ◌∷◌, length, Option, Some}
 use Rattle.qkd_base.specs.declared.lane.Lane.{Lane}
 use Rattle.net_model.specs.declared.record.Record.{Record}
 use Rattle.net_model.specs.Action.{Fault}
@@ -13,6 +13,21 @@ pub record Count : Type 0 where
   pub old : ℕ
   pub new : ℕ
   pub greatest : ℕ
+
+-- The count over one action. A fault raised it, or left it at its greatest value, and then nothing more is known. Without a fault it stayed.
+abbrev pub Went : (greatest : ℕ) → (fault : Bool) → (before now : ℕ) → Type 0
+Went greatest true before now = (before + 1 ≤ now) ⊎ (now ≡ greatest)
+Went greatest false before now = now ≡ before
+
+-- The count over actions in order, each with a fault or without one: there is a count after each action, which comes from the one before as that action
+-- says.
+abbrev pub Rises : (greatest : ℕ) → (faults : List Bool) → (before now : ℕ) → Type 0
+Rises greatest [] before now = now ≡ before
+Rises greatest (fault ∷ faults) before now = (mid : ℕ) × Went greatest fault before mid × Rises greatest faults mid now
+
+-- The count rose with these faults, and with them alone.
+abbrev pub RoseWith : Count → List Bool → Type 0
+RoseWith c faults = Rises c.greatest faults c.old c.new
 
 -- the count rose by at least n, or it has reached its greatest value, and then nothing is known
 abbrev pub RoseBy : Count → ℕ → Type 0

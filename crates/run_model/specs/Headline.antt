@@ -1,10 +1,10 @@
 -- The headline: what the top call promises of a run. A plain sentence precedes each field.
-use Rattle.std.specs.Prelude.{◌≡◌, ℕ, ◌<◌, ◌≤◌, Bool, true, false, List, [], ◌++◌, filter, drop, Option, Some, length}
+use Rattle.std.specs.Prelude.{◌≡◌, ℕ, ◌<◌, ◌≤◌, Bool, true, false, List, [], ◌++◌, map, filter, drop, Option, Some, length}
 use Rattle.qkd_base.specs.declared.lane.Lane.{Lane}
 use Rattle.net_model.specs.declared.record.Record.{Record}
 use Rattle.net_model.specs.OctetSequence.{sequence_of}
 use Rattle.net_model.specs.Journal.{is_blank}
-use Rattle.net_model.specs.Faults.{disk_faults, entropy_faults, device_faults, wire_faults, armings}
+use Rattle.net_model.specs.Faults.{is_disk_fault, is_random_fault, is_block_fault, is_wire_fault, armings}
 use Rattle.run_types.specs.declared.scenario.Scenario.{Scenario}
 use Rattle.run_types.specs.declared.item.Item.{Item}
 use Rattle.run_types.specs.declared.item.Item.TheVariants.{Counted, NotCounted}
@@ -13,7 +13,7 @@ use Rattle.run_types.specs.Texts.{report_text, handed_text, served_text}
 use Rattle.run_model.specs.Play.{Ending, Whole, ForgedAt}
 use Rattle.run_model.specs.Left.{wire_octets, IsFoldOf, to_masters, to_slaves}
 use Rattle.run_model.specs.Turn.{HttpTexts}
-use Rattle.run_model.specs.Bench.{DiskBatches, Seen, RoseBy, IsArmedWith}
+use Rattle.run_model.specs.Bench.{DiskBatches, Seen, RoseWith, IsArmedWith}
 use Rattle.run_model.specs.Course.{Words, Run, Load, Serve, served_by, Course, whole_run, last_world, lines_played, handed_out, IsCourseOf}
 use Rattle.run_model.specs.Keys.{KeysAndBytes}
 
@@ -100,12 +100,15 @@ pub record Headline (words : Words) (stop : Stop) (http : HttpTexts) (reading : 
   pub left : (v : ℕ) (told rest : List ℕ) → course.net.entropy v ≡ sequence_of told → seen.entropy v ≡ Some rest → rest ≡ drop ((last_world course).drawn v) told
   -- all that is promised of keys and of lane bytes
   pub keys : KeysAndBytes course
-  -- Failures have causes. A node answers `stopped`, at a start or later, at most as often as its disk failed. It
-  -- answers `no-random`, with enough octets left in its entropy, at most as often as the entropy failed. A link answers
-  -- `device-fault` at most as often as its device failed, and a lane `wire-fault` at most as often as its wire failed.
-  pub disk_faults : (v : ℕ) → RoseBy (seen.disk_count v) (disk_faults course.net.site v (whole_run course))
-  pub entropy_faults : (v : ℕ) → RoseBy (seen.entropy_count v) (entropy_faults v (whole_run course))
-  pub device_faults : (link : ℕ) → RoseBy (seen.device_count link) (device_faults link (whole_run course))
-  pub wire_faults : (l : Lane) → RoseBy (seen.wire_count l) (wire_faults l (whole_run course))
+  -- Failures have causes, each in its own action. The count of faults of a part went through the actions of the whole
+  -- run, one by one: an action that reports a fault of the part raised it, or left it at its greatest value, and any
+  -- other action left it as it was. A fault of its disk is reported where a node answers `stopped`, at a start or later;
+  -- a fault of its entropy where it answers `no-random` though enough octets were left; a fault of a link's device is
+  -- the answer `device-fault`, and one of a lane's wire `wire-fault`. Only the first and the last count are seen, so of
+  -- those in between the clauses say that there are such.
+  pub disk_faults : (v : ℕ) → RoseWith (seen.disk_count v) (map (is_disk_fault course.net.site v) (whole_run course))
+  pub entropy_faults : (v : ℕ) → RoseWith (seen.entropy_count v) (map (is_random_fault v) (whole_run course))
+  pub device_faults : (link : ℕ) → RoseWith (seen.device_count link) (map (is_block_fault link) (whole_run course))
+  pub wire_faults : (l : Lane) → RoseWith (seen.wire_count l) (map (is_wire_fault l) (whole_run course))
   -- each disk was armed with exactly the faults of those `cut` and `fail` lines of its node that were run, in order
   pub armed : (v : ℕ) → IsArmedWith (seen.arming v) (armings v (whole_run course))

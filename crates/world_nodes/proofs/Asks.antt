@@ -1,6 +1,6 @@
 -- Asking a node's manager to handle an event.
 use Rattle.std.proofs.Common.{◌≡◌, ℕ, ◌<◌, Bool, true, ◌&&◌, List, refl, sym, ap, subst, ◌∙◌, arith}
-use Rattle.std.specs.Prelude.{nat_lt, Option}
+use Rattle.std.specs.Prelude.{◌==◌, nat_lt, Option}
 use Rattle.std.proofs.lemmas.Bool.Decides.{nat_tests}
 use Rattle.net_model.specs.declared.event.Event.{Event}
 use Rattle.net_model.specs.declared.reply.Reply.{Reply}
@@ -8,15 +8,17 @@ use Rattle.net_model.specs.OctetSequence.{OctetSequence}
 use Rattle.net_model.specs.World.{Network, World}
 use Rattle.net_model.specs.Events.{is_valid_event}
 use Rattle.net_model.specs.Handle.{handle}
-use Rattle.net_model.specs.Action.{Environment, Ask, Outcome, is_shown, Ok as Fine}
+use Rattle.net_model.specs.Action.{Environment, Ask, Outcome, is_shown, is_io_fault, is_entropy_fault, Ok as Fine}
+use Rattle.net_model.specs.Faults.{is_random_fault}
 use Rattle.net_model.specs.Step.{step, is_enabled, is_node, is_asked}
 use Rattle.disk_model.specs.declared.arm.Armings.{Armings}
-use Rattle.law_base.proofs.Base.{and_left, and_right, and_both}
+use Rattle.law_base.proofs.Base.{and_left, and_right, and_both, eq_same}
 use Rattle.law_recovery.proofs.Asked.{event_goes, event_fits}
 use Rattle.kme_store.specs.declared.post.Post.{Post}
 use Rattle.world_nodes.specs.Stands.{PostStands}
 use Rattle.world_nodes.specs.Handled.{MayHandle, Handled}
 use Rattle.world_nodes.specs.Asking.{MayAsk, Asked}
+use Rattle.world_nodes.proofs.Counted.{here_too, spared}
 
 module _ (net : Network) (w : World) (v : ℕ) (event : Event) where
   parts : is_enabled net w (Ask v event Fine) ≡ true → ((is_node net v && is_asked event) && is_valid_event net.site v event) ≡ true
@@ -61,5 +63,6 @@ module _ {K E : Type 0} (is_honest : K → Bool) (moment : K → ℕ) (image : K
             (ap (λ (x : World × Outcome). is_shown h.environment x.1) same ∙ ap (is_shown h.environment) h.said ∙ h.shown);
         said = ap (λ (x : World × Outcome). x.1) same ∙ h.said;
         stands = subst (λ (x : World × Outcome). PostStands is_honest moment image told net x.0 v new) (sym same) h.stands;
-        counts = h.counts;
+        counts = spared disk_faults armings entropy_faults (is_io_fault h.environment) (is_entropy_fault h.environment) (is_random_fault v (Ask v event h.environment)) old new
+            (sym (here_too (v == v) (is_entropy_fault h.environment) (eq_same v))) h.counts;
       }

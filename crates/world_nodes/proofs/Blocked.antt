@@ -51,7 +51,7 @@ module _ {K E : Type 0} (is_honest : K → Bool) (moment : K → ℕ) (image : K
 
     pub taken_down : (next : Option ℕ) → next ≡ None → IsNext net w v link next → Stays (Replies replies.Down)
     taken_down next none is =
-        stays_fine is_honest moment image told net w v old link up m disk_faults armings entropy_faults (Replies replies.Down) (says_down net w v link (subst (IsNext net w v link) none is))
+        stays_fine is_honest moment image told net w v old link up m disk_faults armings entropy_faults (Replies replies.Down) (says_down net w v link (subst (IsNext net w v link) none is)) (λ failed. cc failed)
 
     module _ (next : Option ℕ) (number : ℕ) (some : next ≡ Some number) (is : IsNext net w v link next) where
       known : (w.up v ≡ true) × (number ≡ blocks_at net w v link)
@@ -59,7 +59,7 @@ module _ {K E : Type 0} (is_honest : K → Bool) (moment : K → ℕ) (image : K
 
       pub taken_full : number ≡ 1024 → Stays (Replies replies.LinkFull)
       taken_full full =
-          stays_fine is_honest moment image told net w v old link up m disk_faults armings entropy_faults (Replies replies.LinkFull) (says_full net w v link known.0 (eq-eqb (blocks_at net w v link) 1024 (sym known.1 ∙ full)))
+          stays_fine is_honest moment image told net w v old link up m disk_faults armings entropy_faults (Replies replies.LinkFull) (says_full net w v link known.0 (eq-eqb (blocks_at net w v link) 1024 (sym known.1 ∙ full))) (λ failed. cc failed)
 
       whole : (t : Bool) → has_octets (net.device link) (1024 + 1024 * number) ≡ t → has_octets (net.device link) (1024 + 1024 * blocks_at net w v link) ≡ t
       whole t h = ap (λ (n : ℕ). has_octets (net.device link) (1024 + 1024 * n)) (sym known.1) ∙ h
@@ -75,7 +75,7 @@ module _ {K E : Type 0} (is_honest : K → Bool) (moment : K → ℕ) (image : K
         pub taken_ended : (why : Shortage) → why ≡ End → GivesBlock {T = T} device number (Err why) into → Stays NoBlock
         taken_ended why is' h =
             stays_fine is_honest moment image told net w v old link up m disk_faults armings entropy_faults NoBlock
-            (says_ended net w v link known.0 (room_there room) (whole false (given {T = T} device (net.device link) number into tells (Err End) (subst (λ (e : Shortage). GivesBlock {T = T} device number (Err e) into) is' h))))
+            (says_ended net w v link known.0 (room_there room) (whole false (given {T = T} device (net.device link) number into tells (Err End) (subst (λ (e : Shortage). GivesBlock {T = T} device number (Err e) into) is' h)))) (λ failed. cc failed)
 
         pub taken_failed : (why : Shortage) → why ≡ Failed → GivesBlock {T = T} device number (Err why) into → Stays DeviceFailed
         taken_failed why is' h =

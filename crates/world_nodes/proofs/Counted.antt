@@ -1,10 +1,13 @@
 -- The counts of a post.
-use Rattle.std.proofs.Common.{◌≡◌, ℕ, ◌≤◌, Bool, true, false, List, refl, subst, arith}
+use Rattle.std.proofs.Common.{◌≡◌, ℕ, ◌<◌, ◌≤◌, Bool, true, false, ◌&&◌, List, refl, sym, ap, subst, ◌∙◌, arith}
 use Rattle.std.specs.Prelude.{Option, Some}
 use Rattle.qkd_base.specs.Faults.{Rose}
+use Rattle.qkd_base.specs.declared.lane.Lane.{Lane}
 use Rattle.net_model.specs.OctetSequence.{OctetSequence}
 use Rattle.net_model.specs.World.{Network, World}
 use Rattle.net_model.specs.View.{View}
+use Rattle.net_model.specs.Decide.{random_need}
+use Rattle.net_model.specs.declared.event.Event.TheVariants.{Block, Heard}
 use Rattle.net_model.specs.Action.{Environment, OutOfMemory, EntropyFault, IoFault, DeviceFault, is_entropy_fault, is_io_fault, Ok as Fine}
 use Rattle.declared_site.specs.declared.site.Site.{Site as Declared}
 use Rattle.disk_model.specs.declared.arm.Armings.{Armings}
@@ -62,36 +65,55 @@ fails_entropy EntropyFault h = refl
 fails_entropy IoFault h = absurd (cc h)
 fails_entropy DeviceFault h = absurd (cc h)
 
-pub still : (n : ℕ) → IsCounted false n n
-still n = record { later = omega arith; rose = λ other. absurd (cc other) }
+pub no_disk_fault : (environment : Environment) → is_io_fault environment ≡ false → environment ≡ IoFault → ⊥
+no_disk_fault environment none is = let bad : true ≡ false = sym (ap is_io_fault is) ∙ none in cc bad
 
-calm : (fault : Bool) (before now : ℕ) → IsCounted fault before now → IsCounted false before now
-calm fault before now h = record { later = h.later; rose = λ other. absurd (cc other) }
+pub no_entropy_fault : (environment : Environment) → is_entropy_fault environment ≡ false → environment ≡ EntropyFault → ⊥
+no_entropy_fault environment none is = let bad : true ≡ false = sym (ap is_entropy_fault is) ∙ none in cc bad
+
+pub here_too : (a b : Bool) → a ≡ true → (a && b) ≡ b
+here_too true b h = refl
+here_too false b h = cc
+
+-- An entropy that wasn't asked didn't fail.
+
+pub not_asked : (environment : Environment) (n : ℕ) → n ≡ 0 → (environment ≡ EntropyFault → 0 < n) → is_entropy_fault environment ≡ false
+not_asked Fine n none asked = refl
+not_asked OutOfMemory n none asked = refl
+not_asked EntropyFault n none asked = let some = asked refl in absurd (omega (arith, none, some))
+not_asked IoFault n none asked = refl
+not_asked DeviceFault n none asked = refl
+
+pub none_heard : (view : View) (l : Lane) (octets : List ℕ) → random_need view (Heard l octets) ≡ 0
+unfolding random_need
+none_heard view l octets = refl
+
+pub none_taken : (view : View) (link number : ℕ) (octets : List ℕ) → random_need view (Block link number octets) ≡ 0
+unfolding random_need
+none_taken view link number octets = refl
+
+pub still : (n : ℕ) → IsCounted false n n
+still n = record { later = omega arith; rose = λ other. absurd (cc other); calm = λ none. refl }
 
 module _ {K E : Type 0} (disk_count : K → ℕ) (armed : K → Armings) (entropy_count : E → ℕ) where
   -- Nothing changed.
   pub unchanged : (post : Post K E) (disk : K) → disk_of post ≡ Some disk → Counts disk_count armed entropy_count false false post post
   unchanged post disk is = record { before = disk; now = disk; was = is; is = is; disk = still (disk_count disk); arms = refl; entropy = still (entropy_count (entropy_of post)) }
 
-  -- The counts also hold if it isn't said which parts failed.
-  pub calmed : (disk_fault entropy_fault : Bool) (old new : Post K E) → Counts disk_count armed entropy_count disk_fault entropy_fault old new → Counts disk_count armed entropy_count false false old new
-  calmed disk_fault entropy_fault old new h = record {
-    before = h.before;
-    now = h.now;
-    was = h.was;
-    is = h.is;
-    disk = calm disk_fault (disk_count h.before) (disk_count h.now) h.disk;
-    arms = h.arms;
-    entropy = calm entropy_fault (entropy_count (entropy_of old)) (entropy_count (entropy_of new)) h.entropy;
-  }
+  -- the same counts, where the entropy can't have failed
+  pub spared : (disk_fault entropy_fault other : Bool) (old new : Post K E) → entropy_fault ≡ other → Counts disk_count armed entropy_count disk_fault entropy_fault old new →
+      Counts disk_count armed entropy_count disk_fault other old new
+  spared disk_fault entropy_fault other old new same h = subst (λ (f : Bool). Counts disk_count armed entropy_count disk_fault f old new) same h
 
   -- a manager that handles an event
   pub counted : (is_honest : K → Bool) (disk_fault entropy_fault : Bool) (old new : ManagerForm K E) →
       HasDisk (λ before. HasDisk (λ disk. (is_honest disk ≡ is_honest before) × (armed disk ≡ armed before)) new.standing) old.standing →
       HasDisk (λ before. HasDisk (λ disk. disk_count before ≤ disk_count disk) new.standing) old.standing → entropy_count old.entropy ≤ entropy_count new.entropy →
       (disk_fault ≡ true → HasDisk (λ before. HasDisk (λ disk. Rose (disk_count before) (disk_count disk)) new.standing) old.standing) →
-      (entropy_fault ≡ true → Rose (entropy_count old.entropy) (entropy_count new.entropy)) → Counts disk_count armed entropy_count disk_fault entropy_fault (On old) (On new)
-  counted is_honest disk_fault entropy_fault old new same later drawn fails refused =
+      (disk_fault ≡ false → HasDisk (λ before. HasDisk (λ disk. disk_count disk ≡ disk_count before) new.standing) old.standing) →
+      (entropy_fault ≡ true → Rose (entropy_count old.entropy) (entropy_count new.entropy)) → (entropy_fault ≡ false → entropy_count new.entropy ≡ entropy_count old.entropy) →
+      Counts disk_count armed entropy_count disk_fault entropy_fault (On old) (On new)
+  counted is_honest disk_fault entropy_fault old new same later drawn fails calm refused spared =
       let p = disk_there (λ before. HasDisk (λ disk. (is_honest disk ≡ is_honest before) × (armed disk ≡ armed before)) new.standing) old.standing same in
       let q = disk_there (λ disk. (is_honest disk ≡ is_honest p.0) × (armed disk ≡ armed p.0)) new.standing p.2 in
       let at : (R : K → K → Type 0) → HasDisk (λ before. HasDisk (λ disk. R before disk) new.standing) old.standing → R p.0 q.0 =
@@ -104,7 +126,8 @@ module _ {K E : Type 0} (disk_count : K → ℕ) (armed : K → Armings) (entrop
         disk = record {
           later = at (λ before disk. disk_count before ≤ disk_count disk) later;
           rose = λ fault. at (λ before disk. Rose (disk_count before) (disk_count disk)) (fails fault);
+          calm = λ none. at (λ before disk. disk_count disk ≡ disk_count before) (calm none);
         };
         arms = q.2.1;
-        entropy = record { later = drawn; rose = refused };
+        entropy = record { later = drawn; rose = refused; calm = spared };
       }

@@ -1,5 +1,5 @@
 -- Delivering a frame is the same as hearing its octets.
-use Rattle.std.proofs.Common.{◌≡◌, ℕ, Bool, true, ◌&&◌, List, refl, sym, ap, subst, ◌∙◌}
+use Rattle.std.proofs.Common.{◌≡◌, ℕ, Bool, true, false, ◌&&◌, List, refl, sym, ap, subst, ◌∙◌}
 use Rattle.std.specs.Prelude.{◌==◌, slice_get, Option, Some}
 use Rattle.qkd_base.specs.declared.lane.Lane.{Lane}
 use Rattle.net_model.specs.declared.event.Event.TheVariants.{Heard}
@@ -7,10 +7,12 @@ use Rattle.net_model.specs.declared.reply.Reply.{Reply}
 use Rattle.net_model.specs.OctetSequence.{OctetSequence}
 use Rattle.net_model.specs.Site.{receiver}
 use Rattle.net_model.specs.World.{Network, World, Allocation}
+use Rattle.net_model.specs.Needed.{view_of}
+use Rattle.net_model.specs.Decide.{random_need}
 use Rattle.net_model.specs.Events.{is_lane, is_valid_event}
 use Rattle.net_model.specs.Frames.{frame_octets, deliver_frame}
 use Rattle.net_model.specs.Handle.{handle}
-use Rattle.net_model.specs.Action.{Environment, Deliver, Outcome, is_shown}
+use Rattle.net_model.specs.Action.{Environment, Deliver, Outcome, is_shown, is_io_fault, is_entropy_fault}
 use Rattle.net_model.specs.Step.{step, is_enabled}
 use Rattle.disk_model.specs.declared.arm.Armings.{Armings}
 use Rattle.law_base.proofs.Base.{and_both, eq_same}
@@ -18,6 +20,7 @@ use Rattle.kme_store.specs.declared.post.Post.{Post}
 use Rattle.world_nodes.specs.Stands.{PostStands}
 use Rattle.world_nodes.specs.Handled.{MayHandle, Handled}
 use Rattle.world_nodes.specs.Hearing.{MayHear, HasHeard}
+use Rattle.world_nodes.proofs.Counted.{not_asked, none_heard, spared}
 use Rattle.world_nodes.proofs.Hears.{frame_there, payload_there, delivered_heard, hearing_goes, hearing_fits, delivers_number}
 
 -- Hearing any octets on a lane is a valid event for the lane's receiver.
@@ -73,5 +76,6 @@ module _ {K E : Type 0} (is_honest : K → Bool) (moment : K → ℕ) (image : K
             (ap (λ (x : World × Outcome). is_shown h.environment x.1) same ∙ ap (is_shown h.environment) h.said ∙ h.shown);
         said = ap (λ (x : World × Outcome). x.1) same ∙ h.said;
         stands = subst (λ (x : World × Outcome). PostStands is_honest moment image told net x.0 v new) (sym same) h.stands;
-        counts = h.counts;
+        counts = spared disk_faults armings entropy_faults (is_io_fault h.environment) (is_entropy_fault h.environment) false old new
+            (not_asked h.environment (random_need (view_of net w v) (Heard l octets)) (none_heard (view_of net w v) l octets) h.entropy_asked) h.counts;
       }

@@ -1,5 +1,5 @@
 -- An event does the same to a post as to its node in the network.
-use Rattle.std.proofs.Common.{◌≡◌, ◌≤◌, ℕ, Bool, true, false, IsTrue, List, refl, sym, ap, subst, ◌∙◌, add-zero}
+use Rattle.std.proofs.Common.{◌≡◌, ◌<◌, ◌≤◌, ℕ, Bool, true, false, IsTrue, List, refl, sym, ap, subst, ◌∙◌, add-zero}
 use Rattle.std.specs.Prelude.{Option, if◌then◌else◌}
 use Rattle.net_model.specs.declared.event.Event.{Event}
 use Rattle.net_model.specs.declared.reply.Reply.{Reply}
@@ -10,7 +10,8 @@ use Rattle.net_model.specs.Needed.{view_of}
 use Rattle.net_model.specs.Decision.{Effect}
 use Rattle.net_model.specs.Decide.{decide, random_need}
 use Rattle.net_model.specs.Handle.{commit, stopped, resolve, handle}
-use Rattle.net_model.specs.Action.{Environment, Outcome, Replies, is_shown, is_entropy_fault, is_io_fault, Ok as Fine}
+use Rattle.net_model.specs.View.{View}
+use Rattle.net_model.specs.Action.{Environment, EntropyFault, Outcome, Replies, is_shown, is_entropy_fault, is_io_fault, Ok as Fine}
 use Rattle.declared_site.specs.SiteOf.{site_of}
 use Rattle.disk_model.specs.declared.arm.Armings.{Armings}
 use Rattle.journal_snapshot.specs.Snapshots.{SnapshotForm}
@@ -25,7 +26,7 @@ use Rattle.world_nodes.specs.LaneStands.{IsRunning}
 use Rattle.world_nodes.specs.Stands.{UpStands, DownStands, StandingStands, ManagerStands}
 use Rattle.world_nodes.specs.Handled.{BatchFits, ViewGoesOn, Handled}
 use Rattle.world_nodes.specs.Counts.{Counts}
-use Rattle.world_nodes.proofs.Counted.{disk_weaker, counted, fails_disk, fails_entropy}
+use Rattle.world_nodes.proofs.Counted.{disk_weaker, counted, fails_disk, fails_entropy, no_disk_fault, no_entropy_fault}
 use Rattle.world_nodes.proofs.Draws.{comes_next, drawn_on}
 use Rattle.world_nodes.proofs.Effects.{commit_drawn, stopped_drawn, kept_up, gone_up, stopped_down}
 use Rattle.world_nodes.proofs.Takes.{goes_as_decided, stops_as_decided}
@@ -58,11 +59,12 @@ module _ {K E : Type 0} (is_honest : K → Bool) (moment : K → ℕ) (image : K
   NoneFalls s = (HasDisk (λ before. HasDisk (λ disk. disk_faults before ≤ disk_faults disk) new.standing) s) × (entropy_faults old.entropy ≤ entropy_faults new.entropy)
 
   -- The network handles the event with this reply, and the post stands for the node and counts its faults.
-  handled : (s : Standing K) (environment : Environment) (w' : World) → handle net w v event environment ≡ (w', Replies reply) → is_shown environment (Replies reply) ≡ true → Stands w' new →
-      Counted environment s → IsHandled s
-  handled s environment w' says shown stands counts = record {
+  handled : (s : Standing K) (environment : Environment) (w' : World) → handle net w v event environment ≡ (w', Replies reply) → is_shown environment (Replies reply) ≡ true →
+      (environment ≡ EntropyFault → 0 < random_need (view_of net w v) event) → Stands w' new → Counted environment s → IsHandled s
+  handled s environment w' says shown asked stands counts = record {
     environment = environment;
     shown = shown;
+    entropy_asked = asked;
     said = ap (λ (x : World × Outcome). x.1) says;
     stands = subst (λ (x : World × Outcome). Stands x.0 new) (sym says) stands;
     counts = counts;
@@ -93,10 +95,13 @@ module _ {K E : Type 0} (is_honest : K → Bool) (moment : K → ℕ) (image : K
       next : IsRest (net.entropy v) (w.drawn v) a.rest
       next = comes_next told net w v old.entropy h.entropy a.rest a.next
 
+      asked : a.environment ≡ EntropyFault → 0 < random_need (view_of net w v) event
+      asked fault = subst (λ (view : View). 0 < random_need view event) u.sees (a.entropy_asked fault)
+
       by_course : (c : Course) → course net.site w.link_up (view_of net w v) (w.journal v) a.rest event a.environment ≡ c → IsAfter is_honest moment image told old journal c new reply →
           handle net w v event a.environment ≡ in_world net w v c → IsHandled (Up journal)
       by_course (Stays refusal) is after says =
-          handled (Up journal) a.environment w (says ∙ ap (λ (x : Reply). (w, Replies x)) (sym after.answer)) a.shown
+          handled (Up journal) a.environment w (says ∙ ap (λ (x : Reply). (w, Replies x)) (sym after.answer)) a.shown asked
           (record {
             entropy = drawn_on told net w v old.entropy h.entropy w new.entropy 0 after.entropy (sym (add-zero (w.drawn v)));
             standing = up_as w (λ j p same. kept_up is_honest moment image net w v r old.site old.view journal u new.site new.view j site after.view p.0 p.1 same) new.standing after.up honest;
@@ -105,7 +110,7 @@ module _ {K E : Type 0} (is_honest : K → Bool) (moment : K → ℕ) (image : K
       by_course (Stops octets e) is after says =
           let w' : World = stopped w v octets e in
           let decides = stops_as_decided net w v event a.rest r.sealing next a.environment octets e is in
-          handled (Up journal) a.environment w' (says ∙ ap (λ (x : Reply). (w', Replies x)) (sym after.answer)) a.shown
+          handled (Up journal) a.environment w' (says ∙ ap (λ (x : Reply). (w', Replies x)) (sym after.answer)) a.shown asked
           (record {
             entropy = drawn_on told net w v old.entropy h.entropy w' new.entropy octets after.entropy (stopped_drawn w v octets e);
             standing = down_as w' (λ disk p same. stopped_down is_honest moment image net w v r old.site old.view journal u octets e disk p after.spelled same (fits e decides)) new.standing after.down honest;
@@ -114,7 +119,7 @@ module _ {K E : Type 0} (is_honest : K → Bool) (moment : K → ℕ) (image : K
       by_course (Goes octets e) is after says =
           let w' : World = commit net.site w v octets e in
           let d = goes_as_decided net w v event a.rest r.sealing next a.environment octets e is in
-          handled (Up journal) a.environment w' (says ∙ ap (λ (x : Reply). (w', Replies x)) (sym after.answer)) a.shown
+          handled (Up journal) a.environment w' (says ∙ ap (λ (x : Reply). (w', Replies x)) (sym after.answer)) a.shown asked
           (record {
             entropy = drawn_on told net w v old.entropy h.entropy w' new.entropy octets after.entropy (commit_drawn net w v octets e);
             standing = up_as w' (λ j p same. gone_up is_honest moment image net w v r old.site old.view journal u octets e new.site new.view j site after.view p.0 after.spelled same (goes octets e d.0 d.1)) new.standing after.up honest;
@@ -131,7 +136,7 @@ module _ {K E : Type 0} (is_honest : K → Bool) (moment : K → ℕ) (image : K
   -- A manager that is down stays as it is.
   stayed : (disk : K) → Stands w (with_standing (Down disk)) → with_standing (Down disk) ≡ old → (new ≡ old) × (reply ≡ replies.Down) → Counted Fine (Down disk) → IsHandled (Down disk)
   stayed disk h same a counts =
-      handled (Down disk) Fine w (down_says net w v event Fine h.standing.down ∙ ap (λ (x : Reply). (w, Replies x)) (sym a.1)) refl
+      handled (Down disk) Fine w (down_says net w v event Fine h.standing.down ∙ ap (λ (x : Reply). (w, Replies x)) (sym a.1)) refl (λ fault. absurd (cc fault))
       (subst (λ (m : ManagerForm K E). Stands w m) (same ∙ sym a.0) h)
       counts
 
@@ -140,7 +145,10 @@ module _ {K E : Type 0} (is_honest : K → Bool) (moment : K → ℕ) (image : K
   acted (Up journal) same a h site stays falls goes fits =
       answered journal h site (disk_weaker (λ disk. (is_honest disk ≡ is_honest journal.disk) × (armings disk ≡ armings journal.disk)) (λ disk. is_honest disk ≡ is_honest journal.disk) (λ disk is. is.0) new.standing stays) goes fits a
       (counted disk_faults armings entropy_faults is_honest (is_io_fault a.environment) (is_entropy_fault a.environment) (with_standing (Up journal)) new stays falls.0 falls.1
-      (λ fault. a.disk_fault (fails_disk a.environment fault)) (λ fault. a.entropy_fault (fails_entropy a.environment fault)))
+      (λ fault. a.disk_fault (fails_disk a.environment fault)) (λ none. a.disk_calm (no_disk_fault a.environment none))
+      (λ fault. a.entropy_fault (fails_entropy a.environment fault)) (λ none. a.entropy_calm (no_entropy_fault a.environment none)))
   acted (Down disk) same a h site stays falls goes fits =
-      stayed disk h same a (counted disk_faults armings entropy_faults is_honest false false (with_standing (Down disk)) new stays falls.0 falls.1 (λ other. absurd (cc other)) (λ other. absurd (cc other)))
+      stayed disk h same a (counted disk_faults armings entropy_faults is_honest false false (with_standing (Down disk)) new stays falls.0 falls.1
+      (λ other. absurd (cc other)) (λ none. subst (λ (m : ManagerForm K E). HasDisk (λ d. disk_faults d ≡ disk_faults disk) m.standing) (same ∙ sym a.0) refl)
+      (λ other. absurd (cc other)) (λ none. ap (λ (m : ManagerForm K E). entropy_faults m.entropy) a.0))
   acted Between same a h site stays falls goes fits = absurd a

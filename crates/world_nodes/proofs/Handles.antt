@@ -77,6 +77,7 @@ module _ {K E : Type 0} (is_honest : K → Bool) (moment : K → ℕ) (image : K
       record {
         environment = Fine;
         shown = refl;
+        entropy_asked = λ fault. absurd (cc fault);
         said = ap (λ (x : World × Outcome). x.1) says;
         stands = subst (λ (x : World × Outcome). PostStands is_honest moment image told net x.0 v post) (sym says) m.stands;
         counts = let d = post_disk is_honest moment image net w v told post m.stands in unchanged disk_faults armings entropy_faults post d.0 d.1;

@@ -14,7 +14,7 @@ use Rattle.net_model.specs.Window.{complete}
 use Rattle.net_model.specs.Decision.{Effect}
 use Rattle.net_model.specs.Decide.{decide, random_need}
 use Rattle.net_model.specs.Handle.{commit, perform, handle}
-use Rattle.net_model.specs.Action.{Environment, OutOfMemory, EntropyFault, IoFault, DeviceFault, Outcome, Replies, Complete, is_entropy_fault, is_io_fault, Ok as Fine}
+use Rattle.net_model.specs.Action.{Environment, OutOfMemory, EntropyFault, IoFault, DeviceFault, Outcome, Replies, Complete, is_entropy_fault, is_io_fault, is_shown, Ok as Fine}
 use Rattle.net_model.specs.Step.{step, is_enabled}
 use Rattle.disk_model.specs.declared.arm.Armings.{Armings}
 use Rattle.law_base.proofs.Base.{and_both}
@@ -26,7 +26,6 @@ use Rattle.world_nodes.specs.Stands.{PostStands}
 use Rattle.world_nodes.specs.Handled.{MayHandle, Handled}
 use Rattle.world_nodes.specs.Noting.{MayNote, HasNoted, is_memory}
 use Rattle.world_nodes.specs.Counts.{Counts}
-use Rattle.world_nodes.proofs.Counted.{calmed}
 use Rattle.world_nodes.proofs.Events.{down_says}
 use Rattle.world_nodes.proofs.Going.{post_on}
 
@@ -94,6 +93,32 @@ module _ (net : Network) (w : World) (v : ℕ) (ps : List Placing) where
     kept true up is = up_kept reply environment up (said_as reply environment up said) is
     kept false down is = ap (λ (x : World × Outcome). x.0) (down_says net w v (Note ps) environment down)
 
+  -- A note asks neither the disk nor the entropy, so neither of them fails in it.
+
+  hides_disk : (t : Bool) → is_shown IoFault (noted_if t).1 ≡ false
+  hides_disk true = refl
+  hides_disk false = refl
+
+  hides_entropy : (t : Bool) → is_shown EntropyFault (noted_if t).1 ≡ false
+  hides_entropy true = refl
+  hides_entropy false = refl
+
+  no_disk : (t : Bool) → w.up v ≡ t → is_shown IoFault (handle net w v (Note ps) IoFault).1 ≡ false
+  no_disk true up = ap (λ (x : World × Outcome). is_shown IoFault x.1) (by IoFault up) ∙ hides_disk (nat_lt journal_limit ((w.journal v).length' + 0))
+  no_disk false down = ap (λ (x : World × Outcome). is_shown IoFault x.1) (down_says net w v (Note ps) IoFault down)
+
+  no_entropy : (t : Bool) → w.up v ≡ t → is_shown EntropyFault (handle net w v (Note ps) EntropyFault).1 ≡ false
+  no_entropy true up = ap (λ (x : World × Outcome). is_shown EntropyFault x.1) (by EntropyFault up) ∙ hides_entropy (nat_lt journal_limit ((w.journal v).length' + 0))
+  no_entropy false down = ap (λ (x : World × Outcome). is_shown EntropyFault x.1) (down_says net w v (Note ps) EntropyFault down)
+
+  no_fault : (reply : Reply) (environment : Environment) → (handle net w v (Note ps) environment).1 ≡ Replies reply → is_shown environment (Replies reply) ≡ true →
+      (is_io_fault environment ≡ false) × (is_entropy_fault environment ≡ false)
+  no_fault reply Fine said shown = (refl, refl)
+  no_fault reply OutOfMemory said shown = (refl, refl)
+  no_fault reply DeviceFault said shown = (refl, refl)
+  no_fault reply EntropyFault said shown = (let bad : true ≡ false = sym shown ∙ sym (ap (is_shown EntropyFault) said) ∙ no_entropy (w.up v) refl in absurd (cc bad))
+  no_fault reply IoFault said shown = (let bad : true ≡ false = sym shown ∙ sym (ap (is_shown IoFault) said) ∙ no_disk (w.up v) refl in absurd (cc bad))
+
 -- Placings are no part of what a post stands for.
 aside : (net : Network) (v : ℕ) (w : World) (placings : ℕ → List Placing) → ManagerStays net v w (record w { placings = placings })
 unfolding view_of
@@ -120,9 +145,12 @@ module _ {K E : Type 0} (is_honest : K → Bool) (moment : K → ℕ) (image : K
     abbrev Stands : World → Type 0
     Stands x = PostStands is_honest moment image told net x v new
 
-    -- The note lowers no count of faults, and leaves the disk armed as it was.
+    -- The note raises no count of faults, and leaves the disk armed as it was.
     pub counts : Counts disk_faults armings entropy_faults false false old new
-    counts = calmed disk_faults armings entropy_faults (is_io_fault h.environment) (is_entropy_fault h.environment) old new h.counts
+    counts =
+        let none = no_fault net w v placings reply h.environment h.said h.shown in
+        subst (λ (f : Bool). Counts disk_faults armings entropy_faults f false old new) none.0
+        (subst (λ (f : Bool). Counts disk_faults armings entropy_faults (is_io_fault h.environment) f old new) none.1 h.counts)
 
     pub has_noted : is_memory reply ≡ false → HasNoted is_honest moment image disk_faults armings told entropy_faults net w v old new reply
     has_noted isnt =

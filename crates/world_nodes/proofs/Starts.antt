@@ -69,27 +69,30 @@ module _ {K E : Type 0} (is_honest : K → Bool) (content : K → List ℕ) (mom
   entropy_on w' e = let h = m.stands.0 in record { rest = h.rest; tells = h.tells; left = subst (λ (n : ℕ). IsRest (net.entropy v) n h.rest) (sym e) h.left }
 
   -- The disk is still there.
-  counted : (fault : Bool) (new : K) → faults disk ≤ faults new → (fault ≡ true → Rose (faults disk) (faults new)) → armings new ≡ armings disk → Counts faults armings entropy_faults fault false (Off disk entropy) (Off new entropy)
-  counted fault new later rose arms = record { before = disk; now = new; was = refl; is = refl; disk = record { later = later; rose = rose }; arms = arms; entropy = still (entropy_faults entropy) }
+  counted : (fault : Bool) (new : K) → IsCounted fault (faults disk) (faults new) → armings new ≡ armings disk → Counts faults armings entropy_faults fault false (Off disk entropy) (Off new entropy)
+  counted fault new count arms = record { before = disk; now = new; was = refl; is = refl; disk = count; arms = arms; entropy = still (entropy_faults entropy) }
+
+  no_fault : (fault : Bool) (before now : ℕ) → fault ≡ false → now ≡ before → IsCounted fault before now
+  no_fault fault before now calm same = record { later = omega (arith, same); rose = λ is. absurd (false≢true (sym calm ∙ is)); calm = λ none. same }
 
   -- The start is refused, and the node stays as it was.
   refused : (recovery : Recovery) (outcome : Outcome) (result : StartResult) (new : K) → is_interrupted recovery ≡ false → IsStep net w (Start v recovery) → step net w (Start v recovery) ≡ (w, outcome) → outcome ≡ started result →
-      is_honest new ≡ is_honest disk → ((i : List ℕ) → image new (moment new) i → MayFind net w v i) → faults disk ≤ faults new → armings new ≡ armings disk → Began (Off new entropy) result
-  refused recovery outcome result new calm step_may is reports honest images later arms = record {
+      is_honest new ≡ is_honest disk → ((i : List ℕ) → image new (moment new) i → MayFind net w v i) → faults new ≡ faults disk → armings new ≡ armings disk → Began (Off new entropy) result
+  refused recovery outcome result new calm step_may is reports honest images same arms = record {
     recovery = recovery;
     may = step_may;
     said = ap (λ (x : World × Outcome). x.1) is ∙ reports;
     stands = subst (λ (x : World × Outcome). PostStands is_honest moment image told net x.0 v (Off new entropy)) (sym is)
         (entropy_on w refl, record { down = down.down; honest = subst (λ (b : Bool). IsTrue b) (sym honest) down.honest; fits = down.fits; images = images });
-    counts = counted (is_interrupted recovery) new later (λ fault. absurd (false≢true (sym calm ∙ fault))) arms;
+    counts = counted (is_interrupted recovery) new (no_fault (is_interrupted recovery) (faults disk) (faults new) calm same) arms;
   }
 
-  pub no_memory : (new : K) → is_honest new ≡ is_honest disk → ((i : List ℕ) → image new (moment new) i → MayFind net w v i) → faults disk ≤ faults new → armings new ≡ armings disk → Began (Off new entropy) starts.Memory
-  no_memory new honest images later arms = let law = wants_memory net w v may in refused NoMemory StartMemory starts.Memory new refl law.0 law.1 refl honest images later arms
+  pub no_memory : (new : K) → is_honest new ≡ is_honest disk → ((i : List ℕ) → image new (moment new) i → MayFind net w v i) → faults new ≡ faults disk → armings new ≡ armings disk → Began (Off new entropy) starts.Memory
+  no_memory new honest images same arms = let law = wants_memory net w v may in refused NoMemory StartMemory starts.Memory new refl law.0 law.1 refl honest images same arms
 
   -- There was no memory for the start, and the disk stays as it was.
   pub no_room : (new : K) → new ≡ disk → Began (Off new entropy) starts.Memory
-  no_room new same = no_memory new (ap is_honest same) (λ i is. down.images i (subst (λ (d : K). image d (moment d) i) same is)) (omega (arith, ap faults same)) (ap armings same)
+  no_room new same = no_memory new (ap is_honest same) (λ i is. down.images i (subst (λ (d : K). image d (moment d) i) same is)) (ap faults same) (ap armings same)
 
   module _ (given : K) (time : StandsStill (moment disk) (moment given) (image disk) (image given)) (honest : is_honest given ≡ is_honest disk) (same_faults : faults given ≡ faults disk) (same_arms : armings given ≡ armings disk) where
     trusted : IsTrue (is_honest given)
@@ -192,7 +195,7 @@ module _ {K E : Type 0} (is_honest : K → Bool) (content : K → List ℕ) (mom
             now = back.journal.disk;
             was = refl;
             is = refl;
-            disk = record { later = omega (arith, rec.later, same_faults); rose = λ fault. absurd (false≢true (sym f.calm ∙ fault)) };
+            disk = no_fault (is_interrupted f.recovery) (faults disk) (faults back.journal.disk) f.calm (rec.calm refl ∙ same_faults);
             arms = rec.arms ∙ same_arms;
             entropy = still (entropy_faults entropy);
           };
@@ -212,7 +215,8 @@ module _ {K E : Type 0} (is_honest : K → Bool) (content : K → List ℕ) (mom
         may = s.may;
         said = s.said;
         stands = (entropy_on (step net w (Start v (Interrupted made))).0 s.drawn, record { down = s.down; honest = trusted_new; fits = fits; images = images });
-        counts = counted true new (omega (arith, later, same_faults)) (λ fault. subst (λ (n : ℕ). Rose n (faults new)) same_faults rose) (arms ∙ same_arms);
+        counts = counted true new
+            (record { later = omega (arith, later, same_faults); rose = λ fault. subst (λ (n : ℕ). Rose n (faults new)) same_faults rose; calm = λ none. absurd (false≢true (sym none)) }) (arms ∙ same_arms);
       }
 
       fits_there : (w' : World) → view_of net w' v ≡ view_of net w v → (w'.in_doubt v).batch ≡ (w.in_doubt v).batch → AllFit net (view_of net w' v) (w'.in_doubt v).batch
@@ -268,14 +272,14 @@ module _ {K E : Type 0} (is_honest : K → Bool) (content : K → List ℕ) (mom
 
     pub forgets : (new : K) → Recovers is_honest content moment image faults allowance armings site v given (Err (refusals.Memory, new)) → Began (Off new entropy) starts.Memory
     forgets new rec =
-        no_memory new (rec.honest ∙ honest) (left refusals.Memory new (λ e. absurd (cc e)) rec) (omega (arith, rec.later, same_faults)) (rec.arms ∙ same_arms)
+        no_memory new (rec.honest ∙ honest) (left refusals.Memory new (λ e. absurd (cc e)) rec) (rec.calm refl ∙ same_faults) (rec.arms ∙ same_arms)
 
     pub refuses : (place : ℕ) (new : K) → Recovers is_honest content moment image faults allowance armings site v given (Err (refusals.Foreign place, new)) → Began (Off new entropy) (starts.Foreign place)
     refuses place new rec =
         let f = foreign_found net w v rec.read place (was rec.read (rec.was trusted)) (rec.refused trusted) in
         let law = is_foreign net w v may f.0 f.1 in
         refused IsForeign (ForeignAt 16) (starts.Foreign place) new refl law.0 law.1 (ap (λ (n : ℕ). ForeignAt n) (sym f.2)) (rec.honest ∙ honest)
-        (left (refusals.Foreign place) new (λ e. absurd (cc e)) rec) (omega (arith, rec.later, same_faults)) (rec.arms ∙ same_arms)
+        (left (refusals.Foreign place) new (λ e. absurd (cc e)) rec) (rec.calm refl ∙ same_faults) (rec.arms ∙ same_arms)
 
     -- ---- the answer of the start
 

@@ -28,7 +28,7 @@ use Rattle.world_nodes.specs.Stands.{PostStands}
 use Rattle.world_nodes.specs.Handled.{BatchFits, ViewGoesOn, MayHandle, Handled}
 use Rattle.world_nodes.specs.Blocks.{MayTake, MayPut, IsTaken}
 use Rattle.world_nodes.specs.Counts.{Counts}
-use Rattle.world_nodes.proofs.Counted.{post_disk, unchanged}
+use Rattle.world_nodes.proofs.Counted.{post_disk, unchanged, spared, not_asked, none_taken}
 use Rattle.world_nodes.proofs.Ports.{blocks_there}
 
 module _ (net : Network) (w : World) (v link : ℕ) where
@@ -111,8 +111,9 @@ module _ {K E : Type 0} (is_honest : K → Bool) (moment : K → ℕ) (image : K
   Taken new outcome = IsTaken is_honest moment image disk_faults armings told entropy_faults net w v link old new outcome
 
   is_taken : (environment : Environment) (new : Post K E) (w' : World) (outcome : Outcome) → step net w (TakeBlock v link environment) ≡ (w', outcome) → is_shown environment outcome ≡ true →
-      PostStands is_honest moment image told net w' v new → Counts disk_faults armings entropy_faults (is_io_fault environment) (is_entropy_fault environment) old new → Taken new outcome
-  is_taken environment new w' outcome is shown stands counts = record {
+      (outcome ≡ DeviceFailed → environment ≡ DeviceFault) →
+      PostStands is_honest moment image told net w' v new → Counts disk_faults armings entropy_faults (is_io_fault environment) false old new → Taken new outcome
+  is_taken environment new w' outcome is shown named stands counts = record {
     environment = environment;
     may = and_both (is_enabled net w (TakeBlock v link environment)) (is_shown environment (step net w (TakeBlock v link environment)).1) (enabled net w v link m.enabled environment)
         (ap (λ (x : World × Outcome). is_shown environment x.1) is ∙ shown);
@@ -120,6 +121,7 @@ module _ {K E : Type 0} (is_honest : K → Bool) (moment : K → ℕ) (image : K
     stands = subst (λ (x : World × Outcome). PostStands is_honest moment image told net x.0 v new) (sym is) stands;
     counts = counts;
     device = λ fault. shows_device outcome (ap (λ (e : Environment). is_shown e outcome) (sym fault) ∙ shown);
+    no_device = named;
   }
 
   -- Nothing changed and no part failed.
@@ -127,11 +129,11 @@ module _ {K E : Type 0} (is_honest : K → Bool) (moment : K → ℕ) (image : K
   pub none_failed : Counts disk_faults armings entropy_faults false false old old
   none_failed = let d = post_disk is_honest moment image net w v told old m.stands in unchanged disk_faults armings entropy_faults old d.0 d.1
 
-  pub stays_fine : (outcome : Outcome) → step net w (TakeBlock v link Fine) ≡ (w, outcome) → Taken old outcome
-  stays_fine outcome is = is_taken Fine old w outcome is refl m.stands none_failed
+  pub stays_fine : (outcome : Outcome) → step net w (TakeBlock v link Fine) ≡ (w, outcome) → (outcome ≡ DeviceFailed → ⊥) → Taken old outcome
+  stays_fine outcome is other = is_taken Fine old w outcome is refl (λ failed. absurd (other failed)) m.stands none_failed
 
   pub stays_failed : step net w (TakeBlock v link DeviceFault) ≡ (w, DeviceFailed) → Taken old DeviceFailed
-  stays_failed is = is_taken DeviceFault old w DeviceFailed is refl m.stands none_failed
+  stays_failed is = is_taken DeviceFault old w DeviceFailed is refl (λ failed. refl) m.stands none_failed
 
 -- the block that is given to the manager
 
@@ -180,11 +182,13 @@ module _ {K E : Type 0} (is_honest : K → Bool) (moment : K → ℕ) (image : K
       let is = says_handled net w v link h.environment (of_reply h.environment reply h.shown) p.is_up room there
       ∙ ap (λ (x : Event). handle net w v x h.environment) (sym same ∙ sym (ap (λ (bs : List ℕ). Block link number bs) copied)) in
       let out : World × Outcome = handle net w v (Block link number copy) h.environment in
-      is_taken is_honest moment image told net w v old link up p.may disk_faults armings entropy_faults h.environment new out.0 (Replies reply) (is ∙ λ i. (out.0, h.said i)) h.shown h.stands h.counts
+      is_taken is_honest moment image told net w v old link up p.may disk_faults armings entropy_faults h.environment new out.0 (Replies reply) (is ∙ λ i. (out.0, h.said i)) h.shown (λ failed. absurd (cc failed)) h.stands
+      (spared disk_faults armings entropy_faults (is_io_fault h.environment) (is_entropy_fault h.environment) false old new
+      (not_asked h.environment (random_need (view_of net w v) (Block link number copy)) (none_taken (view_of net w v) link number copy) h.entropy_asked) h.counts)
 
   pub put_wanting : (disk_faults : K → ℕ) (armings : K → Armings) (entropy_faults : E → ℕ) → IsTaken is_honest moment image disk_faults armings told entropy_faults net w v link old old (Replies replies.Memory)
   put_wanting disk_faults armings entropy_faults =
       let seen = blocks_there net w v link (incident net w v link p.may.enabled) (below net w v link p.may.enabled) in
       is_taken is_honest moment image told net w v old link up p.may disk_faults armings entropy_faults OutOfMemory old w (Replies replies.Memory)
-      (says_handled net w v link OutOfMemory refl p.is_up room there ∙ refused net w v link p.is_up (ap (λ (n : ℕ). n == 1024) seen ∙ room)) refl p.may.stands
+      (says_handled net w v link OutOfMemory refl p.is_up room there ∙ refused net w v link p.is_up (ap (λ (n : ℕ). n == 1024) seen ∙ room)) refl (λ failed. absurd (cc failed)) p.may.stands
       (none_failed is_honest moment image told net w v old link up p.may disk_faults armings entropy_faults)

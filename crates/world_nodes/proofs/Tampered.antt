@@ -9,9 +9,11 @@ use Rattle.net_model.specs.OctetSequence.{OctetSequence}
 use Rattle.net_model.specs.Site.{receiver}
 use Rattle.net_model.specs.World.{Network, World}
 use Rattle.net_model.specs.View.{View, port_of, incoming_octets}
+use Rattle.net_model.specs.Needed.{view_of}
+use Rattle.net_model.specs.Decide.{random_need}
 use Rattle.net_model.specs.Events.{is_lane}
 use Rattle.net_model.specs.Frames.{frame_octets, octets_received, with_flipped, tampered, flip_octets, flip_number, flip}
-use Rattle.net_model.specs.Action.{Environment, Outcome, Replies, NoBit, Forge, Flip, is_shown, Ok as Fine}
+use Rattle.net_model.specs.Action.{Environment, Outcome, Replies, NoBit, Forge, Flip, is_shown, is_io_fault, is_entropy_fault, Ok as Fine}
 use Rattle.net_model.specs.Step.{step, is_enabled}
 use Rattle.declared_site.specs.declared.site.Site.{Site as Declared}
 use Rattle.disk_model.specs.declared.arm.Armings.{Armings}
@@ -27,7 +29,7 @@ use Rattle.world_nodes.specs.LaneStands.{IsRunning}
 use Rattle.world_nodes.specs.Stands.{StandingStands, PostStands}
 use Rattle.world_nodes.specs.Handled.{MayHandle, Handled}
 use Rattle.world_nodes.specs.Tampering.{put_as, would_match, ReceiverStands, MayTamper, tampered_outcome, HasTampered, MayForge, MayFlip, HasForged, HasFlipped}
-use Rattle.world_nodes.proofs.Counted.{post_disk, unchanged}
+use Rattle.world_nodes.proofs.Counted.{post_disk, unchanged, spared, not_asked, none_heard}
 use Rattle.world_nodes.proofs.Delivered.{hearing_valid}
 use Rattle.world_nodes.proofs.Hears.{received}
 use Rattle.world_nodes.proofs.Tampers.{IsHeard, put_heard, wrong_heard, match_found, tampered_down}
@@ -120,7 +122,8 @@ module _ {K E : Type 0} (is_honest : K → Bool) (moment : K → ℕ) (image : K
           shown = h.shown;
           said = ap (λ (x : World × Outcome). x.1) same ∙ h.said;
           stands = subst (λ (x : World × Outcome). PostStands is_honest moment image told net x.0 v new) (sym same) h.stands;
-          counts = h.counts;
+          counts = spared disk_faults armings entropy_faults (is_io_fault h.environment) (is_entropy_fault h.environment) false old new
+              (not_asked h.environment (random_need (view_of net w v) (Heard l octets)) (none_heard (view_of net w v) l octets) h.entropy_asked) h.counts;
         }
 
 -- the outcomes, as actions of the network

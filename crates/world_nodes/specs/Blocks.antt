@@ -3,7 +3,7 @@ use Rattle.std.specs.Prelude.{◌≡◌, ℕ, ◌+◌, ◌*◌, ◌==◌, Bool, 
 use Rattle.net_model.specs.OctetSequence.{OctetSequence, has_octets, block_at}
 use Rattle.net_model.specs.World.{Network, World}
 use Rattle.net_model.specs.Handle.{blocks_at}
-use Rattle.net_model.specs.Action.{Environment, Ok, DeviceFault, TakeBlock, Outcome, DeviceFailed, is_entropy_fault, is_io_fault}
+use Rattle.net_model.specs.Action.{Environment, Ok, DeviceFault, TakeBlock, Outcome, DeviceFailed, is_io_fault}
 use Rattle.net_model.specs.Step.{step, is_enabled, IsStep}
 use Rattle.disk_model.specs.declared.arm.Armings.{Armings}
 use Rattle.kme_base.specs.Up.{AreUp}
@@ -32,11 +32,13 @@ pub record MayPut {K E : Type 0} (is_honest : K → Bool) (moment : K → ℕ) (
   pub there : has_octets (net.device link) (1024 + 1024 * number) ≡ true
   pub bytes : block ≡ block_at (net.device link) number
 
--- The network takes the block, with an answer of the environment that agrees with the outcome. A fault of the device is reported as a fault.
+-- The network takes the block, with an answer of the environment that agrees with the outcome. A fault of the device is reported, and only a fault is
+-- reported as one.
 pub record IsTaken {K E : Type 0} (is_honest : K → Bool) (moment : K → ℕ) (image : K → ℕ → List ℕ → Type 0) (disk_faults : K → ℕ) (armings : K → Armings) (told : E → Option OctetSequence) (entropy_faults : E → ℕ) (net : Network) (w : World) (v link : ℕ) (old new : Post K E) (outcome : Outcome) : Type 0 where
   pub environment : Environment
   pub may : IsStep net w (TakeBlock v link environment)
   pub said : (step net w (TakeBlock v link environment)).1 ≡ outcome
   pub stands : PostStands is_honest moment image told net (step net w (TakeBlock v link environment)).0 v new
-  pub counts : Counts disk_faults armings entropy_faults (is_io_fault environment) (is_entropy_fault environment) old new
+  pub counts : Counts disk_faults armings entropy_faults (is_io_fault environment) false old new
   pub device : environment ≡ DeviceFault → outcome ≡ DeviceFailed
+  pub no_device : outcome ≡ DeviceFailed → environment ≡ DeviceFault

@@ -1,5 +1,5 @@
 -- Counts of a node's post: how often its disk and its entropy failed, and how its disk is armed.
-use Rattle.std.specs.Prelude.{◌≡◌, ℕ, ◌≤◌, Bool, true, Option, Some, None}
+use Rattle.std.specs.Prelude.{◌≡◌, ℕ, ◌≤◌, Bool, true, false, Option, Some, None}
 use Rattle.qkd_base.specs.Faults.{Rose}
 use Rattle.disk_model.specs.declared.arm.Armings.{Armings}
 use Rattle.kme_store.specs.declared.manager_state.Standing.{Standing}
@@ -22,12 +22,13 @@ abbrev pub entropy_of : {K E : Type 0} → Post K E → E
 entropy_of (On m) = m.entropy
 entropy_of (Off disk entropy) = entropy
 
--- A count of faults never falls, and a fault raises it.
+-- A count of faults never falls, and a fault raises it. Without a fault, it stays.
 pub record IsCounted (fault : Bool) (before now : ℕ) : Type 0 where
   pub later : before ≤ now
   pub rose : fault ≡ true → Rose before now
+  pub calm : fault ≡ false → now ≡ before
 
--- Between two posts, the disk was armed in this way, and these parts failed.
+-- Between two posts, the disk was armed in this way, and exactly these parts failed.
 pub record CountsBy {K E : Type 0} (Arms : Armings → Armings → Type 0) (disk_count : K → ℕ) (armed : K → Armings) (entropy_count : E → ℕ) (disk_fault entropy_fault : Bool) (old new : Post K E) : Type 0 where
   pub before : K
   pub now : K
@@ -37,6 +38,6 @@ pub record CountsBy {K E : Type 0} (Arms : Armings → Armings → Type 0) (disk
   pub arms : Arms (armed before) (armed now)
   pub entropy : IsCounted entropy_fault (entropy_count (entropy_of old)) (entropy_count (entropy_of new))
 
--- Between two posts, these parts failed, and the disk stayed armed as it was.
+-- Between two posts, exactly these parts failed, and the disk stayed armed as it was.
 abbrev pub Counts : {K E : Type 0} → (K → ℕ) → (K → Armings) → (E → ℕ) → Bool → Bool → Post K E → Post K E → Type 0
 Counts disk_count armed entropy_count disk_fault entropy_fault old new = CountsBy (λ before now. now ≡ before) disk_count armed entropy_count disk_fault entropy_fault old new

@@ -1,5 +1,5 @@
 -- How the network handles an event at a post.
-use Rattle.std.specs.Prelude.{◌≡◌, ℕ, Bool, true, List, Option}
+use Rattle.std.specs.Prelude.{◌≡◌, ℕ, ◌<◌, Bool, true, List, Option}
 use Rattle.std.specs.List.{list_all}
 use Rattle.net_model.specs.declared.event.Event.{Event}
 use Rattle.net_model.specs.declared.reply.Reply.{Reply}
@@ -7,10 +7,12 @@ use Rattle.net_model.specs.OctetSequence.{OctetSequence}
 use Rattle.net_model.specs.World.{Network, World}
 use Rattle.net_model.specs.Needed.{view_of}
 use Rattle.net_model.specs.Decision.{Does, Effect}
+use Rattle.net_model.specs.Decide.{random_need}
 use Rattle.net_model.specs.Events.{is_valid_event}
 use Rattle.net_model.specs.Handle.{is_numbered, commit, handle}
 use Rattle.net_model.specs.Fold.{view_after}
-use Rattle.net_model.specs.Action.{Action, Environment, Outcome, Replies, is_shown, is_entropy_fault, is_io_fault}
+use Rattle.net_model.specs.Faults.{is_random_fault}
+use Rattle.net_model.specs.Action.{Action, Environment, EntropyFault, Outcome, Replies, is_shown, is_entropy_fault, is_io_fault}
 use Rattle.net_model.specs.Step.{step, IsStep}
 use Rattle.law_invariant.specs.May.{decided}
 use Rattle.law_recovery.specs.Fitting.{AllFit}
@@ -46,19 +48,21 @@ pub record MayHandle {K E : Type 0} (is_honest : K → Bool) (moment : K → ℕ
   pub fits : BatchFits net w v event
   pub links : AreUp up w.link_up
 
--- The action happens with an answer of the environment that agrees with the outcome. The post stands for the node afterwards. The counts show each
--- fault of its disk and its entropy.
+-- The action happens with an answer of the environment that agrees with the outcome. The post stands for the node afterwards. The counts of its
+-- disk and its entropy rise with their faults alone.
 pub record Happens {K E : Type 0} (is_honest : K → Bool) (moment : K → ℕ) (image : K → ℕ → List ℕ → Type 0) (disk_faults : K → ℕ) (armings : K → Armings) (told : E → Option OctetSequence) (entropy_faults : E → ℕ) (action : Environment → Action) (net : Network) (w : World) (v : ℕ) (old new : Post K E) (outcome : Outcome) : Type 0 where
   pub environment : Environment
   pub may : IsStep net w (action environment)
   pub said : (step net w (action environment)).1 ≡ outcome
   pub stands : PostStands is_honest moment image told net (step net w (action environment)).0 v new
-  pub counts : Counts disk_faults armings entropy_faults (is_io_fault environment) (is_entropy_fault environment) old new
+  pub counts : Counts disk_faults armings entropy_faults (is_io_fault environment) (is_random_fault v (action environment)) old new
 
 -- The network handles the event with an answer of the environment that agrees with the reply. The post stands for the node afterwards.
+-- The entropy fails only in an event that asks it.
 pub record Handled {K E : Type 0} (is_honest : K → Bool) (moment : K → ℕ) (image : K → ℕ → List ℕ → Type 0) (disk_faults : K → ℕ) (armings : K → Armings) (told : E → Option OctetSequence) (entropy_faults : E → ℕ) (net : Network) (w : World) (v : ℕ) (event : Event) (old new : Post K E) (reply : Reply) : Type 0 where
   pub environment : Environment
   pub shown : is_shown environment (Replies reply) ≡ true
+  pub entropy_asked : environment ≡ EntropyFault → 0 < random_need (view_of net w v) event
   pub said : (handle net w v event environment).1 ≡ Replies reply
   pub stands : PostStands is_honest moment image told net (handle net w v event environment).0 v new
   pub counts : Counts disk_faults armings entropy_faults (is_io_fault environment) (is_entropy_fault environment) old new

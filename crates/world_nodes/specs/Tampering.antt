@@ -7,7 +7,7 @@ use Rattle.net_model.specs.Site.{receiver}
 use Rattle.net_model.specs.World.{Network, World}
 use Rattle.net_model.specs.Events.{is_lane}
 use Rattle.net_model.specs.Frames.{frame_octets, octets_eq, octets_received, with_flipped, tampered}
-use Rattle.net_model.specs.Action.{Environment, Ok, Flip, Forge, Outcome, Replies, ForgedMatch, is_shown, is_entropy_fault, is_io_fault}
+use Rattle.net_model.specs.Action.{Environment, Ok, Flip, Forge, Outcome, Replies, ForgedMatch, is_shown, is_io_fault}
 use Rattle.net_model.specs.Step.{is_enabled}
 use Rattle.disk_model.specs.declared.arm.Armings.{Armings}
 use Rattle.hop_frames.specs.Opening.{open_of}
@@ -53,7 +53,7 @@ pub record HasTampered {K E : Type 0} (is_honest : K → Bool) (moment : K → �
   pub shown : is_shown environment (tampered_outcome reply) ≡ true
   pub said : (tampered net w lane octets environment).1 ≡ tampered_outcome reply
   pub stands : PostStands is_honest moment image told net (tampered net w lane octets environment).0 (receiver net.site lane) new
-  pub counts : Counts disk_faults armings entropy_faults (is_io_fault environment) (is_entropy_fault environment) old new
+  pub counts : Counts disk_faults armings entropy_faults (is_io_fault environment) false old new
 
 -- octets that anybody made
 pub record MayForge {K E : Type 0} (is_honest : K → Bool) (moment : K → ℕ) (image : K → ℕ → List ℕ → Type 0) (told : E → Option OctetSequence) (net : Network) (w : World) (lane : Lane) (post : Post K E) (octets : List ℕ) (forged : Bool) (up : ℕ) : Type 0 where

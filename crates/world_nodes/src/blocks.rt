@@ -80,6 +80,7 @@ pub fn take_block<K: Disk + Drop, E: Entropy, Q: Device>(
     ensures cause { taken result ≡ DeviceFailed → Rose (Q.faults device.old) (Q.faults device.new) }
     ensures told { Q.told device.new ≡ Q.told device.old }
     ensures later { Q.faults device.old ≤ Q.faults device.new }
+    ensures calm { (taken result ≡ DeviceFailed → ⊥) → Q.faults device.new ≡ Q.faults device.old }
 {
     let number = match next_number(post, link) {
         None => return BlockTake::Replied(Reply::Down),

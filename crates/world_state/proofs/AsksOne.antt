@@ -7,6 +7,7 @@ use Rattle.net_model.specs.declared.event.Event.TheVariants.{Plan}
 use Rattle.net_model.specs.Site.{Site, sender}
 use Rattle.net_model.specs.World.{Network, World}
 use Rattle.net_model.specs.Events.{is_valid_event}
+use Rattle.net_model.specs.Faults.{is_random_fault}
 use Rattle.net_model.specs.Action.{Environment, Ask, Ok, Replies, is_io_fault, is_entropy_fault}
 use Rattle.net_model.specs.declared.reply.Reply.{Reply}
 use Rattle.net_model.specs.OctetSequence.{OctetSequence}
@@ -14,11 +15,12 @@ use Rattle.declared_site.specs.SiteOf.{site_of}
 use Rattle.world_nodes.specs.Passed.{Post}
 use Rattle.run_ops.specs.Acting.{IsReady, Does}
 use Rattle.world_nodes.specs.Asking.{MayAsk, Asked}
+use Rattle.world_nodes.proofs.Counted.{here_too}
 use Rattle.world_state.specs.Stands.{Stands}
 use Rattle.world_state.specs.Tallied.{Tallied}
 use Rattle.world_state.specs.declared.state.State.{State}
 use Rattle.net_model.specs.Step.{is_asked, is_enabled}
-use Rattle.law_base.proofs.Base.{and_left, and_right, eq_from, not_false, was_not}
+use Rattle.law_base.proofs.Base.{and_left, and_right, eq_from, eq_same, not_false, was_not}
 use Rattle.law_invariant.specs.May.{is_plan}
 use Rattle.run_ops.specs.Fitting.{is_fit}
 use Rattle.run_ops.specs.Fitting as fitting
@@ -61,10 +63,10 @@ asks_post s v event environment = record { nodes = λ u other. elsewhere v u oth
 pub asks_one : (s : Site) (v : ℕ) (event : Event) (environment : Environment) → is_plan event ≡ false → ChangesOne s (Ask v event environment) v
 asks_one s v event environment none = let post = asks_post s v event environment in record { nodes = post.nodes; lanes = post.lanes; links = post.links; sends = none }
 
-pub asks_counted : (s : Site) (v : ℕ) (event : Event) (environment : Environment) → CountsOne s (Ask v event environment) v (is_io_fault environment) (is_entropy_fault environment)
+pub asks_counted : (s : Site) (v : ℕ) (event : Event) (environment : Environment) → CountsOne s (Ask v event environment) v (is_io_fault environment) (is_random_fault v (Ask v event environment))
 asks_counted s v event environment = record {
-  disk = and_right (v == v) (is_io_fault environment);
-  entropy = and_right (v == v) (is_entropy_fault environment);
+  disk = here_too (v == v) (is_io_fault environment) (eq_same v);
+  entropy = refl;
   armed = λ u. refl;
   disks = λ u other. ap (λ (b : Bool). b && is_io_fault environment) (elsewhere v u other);
   entropies = λ u other. ap (λ (b : Bool). b && is_entropy_fault environment) (elsewhere v u other);

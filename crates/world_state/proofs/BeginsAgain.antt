@@ -81,8 +81,8 @@ no_forgery starts.Memory = refl
 -- A start adds only to the counts of its own node.
 start_counted : (s : Site) (v : ℕ) (recovery : Recovery) → CountsOne s (Start v recovery) v (is_interrupted recovery) false
 start_counted s v recovery = record {
-  disk = λ h. sym (when_same (v == v) (is_interrupted recovery) (eq_same v)) ∙ h;
-  entropy = λ h. h;
+  disk = when_same (v == v) (is_interrupted recovery) (eq_same v);
+  entropy = refl;
   armed = λ u. refl;
   disks = λ u other. ap (λ (b : Bool). b && is_interrupted recovery) (elsewhere v u other);
   entropies = λ u other. refl;

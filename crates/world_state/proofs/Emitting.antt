@@ -83,7 +83,7 @@ module _ {K Q E X : Type 0} (is_honest : K → Bool) (moment : K → ℕ) (image
 
   module _ (disk_count : K → ℕ) (armed : K → Armings) (entropy_count : E → ℕ) (device_count : Q → ℕ) (wire_count : X → ℕ)
       (new : State K Q E X) (before now : LaneForm X) (one : OneSide old new l before now) (s : Sent) (e : Emitted frames counted net w now order s)
-      (cause : IsErrOf (answer_of s) Fault → Rose (wire_count before.wire) (wire_count now.wire)) (later : wire_count before.wire ≤ wire_count now.wire) where
+      (cause : IsErrOf (answer_of s) Fault → Rose (wire_count before.wire) (wire_count now.wire)) (calm : (IsErrOf (answer_of s) Fault → ⊥) → wire_count now.wire ≡ wire_count before.wire) where
     abbrev environment : Environment
     environment = wire_answer (answer_of s)
 
@@ -199,7 +199,7 @@ module _ {K Q E X : Type 0} (is_honest : K → Bool) (moment : K → ℕ) (image
       said = λ number rest. played_as number rest ∙ ap (λ (xs : List Item). reporting (numbered number xs) (play net number w₂ (emitted v es) rest)) (sym is);
       sending = sending_after;
       tallied = emitted_tallied disk_count armed entropy_count device_count wire_count net.site old new l before now one
-          (has_disks is_honest moment image left told frames counted old net w sending.stands) (length (w.frames l)) (answer_of s) cause later (ordered order);
+          (has_disks is_honest moment image left told frames counted old net w sending.stands) (length (w.frames l)) (answer_of s) cause calm (ordered order);
     }
 
     module _ (item : Item) (offset size : ℕ) (out : Outcome) (is : item ∷ [] ≡ put_items l offset size out) (from : offset ≡ offset_of s) (long : size ≡ payload_len order.payload)

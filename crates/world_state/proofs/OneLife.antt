@@ -71,7 +71,7 @@ crash_one : (s : Site) (v : ℕ) → ChangesOne s (Crash v) v
 crash_one s v = record { nodes = λ u other. elsewhere v u other; lanes = λ l. refl; links = λ link. refl; sends = refl }
 
 crash_counted : (s : Site) (v : ℕ) → CountsOne s (Crash v) v false false
-crash_counted s v = record { disk = λ h. h; entropy = λ h. h; armed = λ u. refl; disks = λ u other. refl; entropies = λ u other. refl }
+crash_counted s v = record { disk = refl; entropy = refl; armed = λ u. refl; disks = λ u other. refl; entropies = λ u other. refl }
 
 pub node_below : {K Q E X : Type 0} (is_honest : K → Bool) (moment : K → ℕ) (image : K → ℕ → List ℕ → Type 0) (left : E → Option OctetSequence) (told : Q → Option OctetSequence)
     (frames : X → Option (List (List ℕ))) (counted : X → ℕ) (old : State K Q E X) (net : Network) (w : World) (v : ℕ) → IsReady (Stands is_honest moment image left told frames counted) old net w →

@@ -6,7 +6,8 @@ use Rattle.disk_model.specs.declared.arm.Armings.{Armings}
 use Rattle.net_model.specs.Site.{Site}
 use Rattle.net_model.specs.OctetSequence.{OctetSequence}
 use Rattle.net_model.specs.World.{Network, World}
-use Rattle.net_model.specs.Action.{Environment, Action, Outcome, is_io_fault, is_entropy_fault}
+use Rattle.net_model.specs.Action.{Environment, Action, Outcome, is_io_fault}
+use Rattle.net_model.specs.Faults.{is_random_fault}
 use Rattle.net_model.specs.Step.{step, IsStep}
 use Rattle.declared_site.specs.SiteOf.{site_of}
 use Rattle.world_nodes.specs.Passed.{Post}
@@ -106,8 +107,8 @@ module _ {K Q E X : Type 0} (is_honest : K → Bool) (moment : K → ℕ) (image
 
   -- The action happened at the post, with an answer of the environment.
   pub happened : (action : Environment → Action) (asked : Action) (outcome : Outcome) → ((environment : Environment) → ChangesOne net.site (action environment) v) →
-      ((environment : Environment) → CountsOne net.site (action environment) v (is_io_fault environment) (is_entropy_fault environment)) → ((environment : Environment) → CountsNoOther (action environment)) →
+      ((environment : Environment) → CountsOne net.site (action environment) v (is_io_fault environment) (is_random_fault v (action environment))) → ((environment : Environment) → CountsNoOther (action environment)) →
       ((environment : Environment) → plain (action environment) ≡ asked) →
       Happens is_honest moment image disk_count armed left entropy_count action net w v p q outcome → Done asked outcome
   happened action asked outcome one counts rest is h =
-      done_counted (action h.environment) h.may (one h.environment) h.stands asked outcome (is h.environment) h.said (is_io_fault h.environment) (is_entropy_fault h.environment) (counts h.environment) (rest h.environment) h.counts
+      done_counted (action h.environment) h.may (one h.environment) h.stands asked outcome (is h.environment) h.said (is_io_fault h.environment) (is_random_fault v (action h.environment)) (counts h.environment) (rest h.environment) h.counts

@@ -26,18 +26,9 @@ some_is h = cc
 abbrev once : Bool → ℕ
 once fault = 0 + cond fault 1 0
 
-no_less : (a b : ℕ) → a ≤ b → Counted 0 a b
-no_less a b h = least a b (2 ^ 64 - 1) h
-  where
-    least : (a b top : ℕ) → a ≤ b → min (a + 0) top ≤ b
-    least a b top h = omega (arith, h)
-
 pub counted_once : (fault : Bool) (before now : ℕ) → IsCounted fault before now → Counted (once fault) before now
-counted_once true before now h = h.rose refl
-counted_once false before now h = no_less before now h.later
-
-pub fewer : (fault other : Bool) (before now : ℕ) → (other ≡ true → fault ≡ true) → IsCounted fault before now → IsCounted other before now
-fewer fault other before now f h = record { later = h.later; rose = λ is. h.rose (f is) }
+counted_once true before now h = record { rose = h.rose refl; calm = λ none. omega (arith, none) }
+counted_once false before now h = subst (Counted 0 before) (sym (h.calm refl)) (none_counted before)
 
 pub still_counted : (fault : Bool) (n : ℕ) → fault ≡ false → Counted (once fault) n n
 still_counted false n is = none_counted n
@@ -50,10 +41,10 @@ not_armed : (f : Action → Option Fault) (a : Action) (before now : Armings) �
 not_armed f a before now none same =
     subst (λ (fs : List Fault). IsArmedBy fs before now) (sym (no_item f a none)) (subst (λ (n : Armings). IsArmedBy [] before n) (sym same) (record { times = omega arith; last = refl }))
 
--- The action is one at this post: only parts of this post can fail in it, and it arms no disk.
+-- The action is one at this post: only parts of this post can fail in it, and just these did. It arms no disk.
 pub record CountsOne (site : Site) (a : Action) (v : ℕ) (disk_fault entropy_fault : Bool) : Type 0 where
-  pub disk : is_disk_fault site v a ≡ true → disk_fault ≡ true
-  pub entropy : is_random_fault v a ≡ true → entropy_fault ≡ true
+  pub disk : is_disk_fault site v a ≡ disk_fault
+  pub entropy : is_random_fault v a ≡ entropy_fault
   pub armed : (u : ℕ) → fault_armed u a ≡ None
   pub disks : (u : ℕ) → (u ≡ v → ⊥) → is_disk_fault site u a ≡ false
   pub entropies : (u : ℕ) → (u ≡ v → ⊥) → is_random_fault u a ≡ false
@@ -65,7 +56,7 @@ pub record CountsNoOther (a : Action) : Type 0 where
 
 module _ {K Q E X : Type 0} (disk_count : K → ℕ) (armed : K → Armings) (entropy_count : E → ℕ) (device_count : Q → ℕ) (wire_count : X → ℕ) (site : Site) (a : Action) where
   -- the counts at the post of the action
-  pub post_once : (v : ℕ) (disk_fault entropy_fault : Bool) (p q : Post K E) → (is_disk_fault site v a ≡ true → disk_fault ≡ true) → (is_random_fault v a ≡ true → entropy_fault ≡ true) →
+  pub post_once : (v : ℕ) (disk_fault entropy_fault : Bool) (p q : Post K E) → is_disk_fault site v a ≡ disk_fault → is_random_fault v a ≡ entropy_fault →
       fault_armed v a ≡ None → Counts disk_count armed entropy_count disk_fault entropy_fault p q → PostTallied disk_count armed entropy_count site v (a ∷ []) p q
   unfolding disk_faults entropy_faults armings
   post_once v disk_fault entropy_fault p q disk entropy none c = record {
@@ -73,16 +64,16 @@ module _ {K Q E X : Type 0} (disk_count : K → ℕ) (armed : K → Armings) (en
     now = c.now;
     was = c.was;
     is = c.is;
-    failed = counted_once (is_disk_fault site v a) (disk_count c.before) (disk_count c.now) (fewer disk_fault (is_disk_fault site v a) (disk_count c.before) (disk_count c.now) disk c.disk);
+    failed = counted_once (is_disk_fault site v a) (disk_count c.before) (disk_count c.now) (subst (λ (f : Bool). IsCounted f (disk_count c.before) (disk_count c.now)) (sym disk) c.disk);
     armed_with = not_armed (fault_armed v) a (armed c.before) (armed c.now) none c.arms;
     refused = counted_once (is_random_fault v a) (entropy_count (entropy_of p)) (entropy_count (entropy_of q))
-        (fewer entropy_fault (is_random_fault v a) (entropy_count (entropy_of p)) (entropy_count (entropy_of q)) entropy c.entropy);
+        (subst (λ (f : Bool). IsCounted f (entropy_count (entropy_of p)) (entropy_count (entropy_of q))) (sym entropy) c.entropy);
   }
 
   -- the counts at a post that doesn't change
   pub post_still : (v : ℕ) (p : Post K E) → (k : K) × (disk_of p ≡ Some k) → is_disk_fault site v a ≡ false → is_random_fault v a ≡ false → fault_armed v a ≡ None →
       PostTallied disk_count armed entropy_count site v (a ∷ []) p p
-  post_still v p k disk entropy none = post_once v false false p p (λ is. sym disk ∙ is) (λ is. sym entropy ∙ is) none (unchanged disk_count armed entropy_count p k.0 k.1)
+  post_still v p k disk entropy none = post_once v false false p p disk entropy none (unchanged disk_count armed entropy_count p k.0 k.1)
 
   abbrev HasDisks : State K Q E X → Type 0
   HasDisks s = (v : ℕ) (p : Post K E) → slice_get s.posts.items v ≡ Some p → (k : K) × (disk_of p ≡ Some k)

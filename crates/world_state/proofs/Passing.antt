@@ -1,5 +1,5 @@
 -- A frame comes to its receiver, and one post changes. If there is no such frame, nothing changes.
-use Rattle.std.proofs.Common.{◌≡◌, ℕ, ◌≤◌, Bool, true, ◌&&◌, List, length, take, length-take, refl, sym, ap, subst, ◌∙◌, arith, Option, Some, None}
+use Rattle.std.proofs.Common.{◌≡◌, ℕ, ◌≤◌, Bool, true, false, ◌&&◌, List, length, take, length-take, refl, sym, ap, subst, ◌∙◌, arith, Option, Some, None}
 use Rattle.std.specs.Prelude.{◌==◌, slice_get, is_some}
 use Rattle.qkd_base.specs.declared.lane.Lane.{Lane}
 use Rattle.disk_model.specs.declared.arm.Armings.{Armings}
@@ -9,11 +9,12 @@ use Rattle.net_model.specs.OctetSequence.{OctetSequence}
 use Rattle.net_model.specs.World.{Network, World}
 use Rattle.net_model.specs.Events.{is_lane}
 use Rattle.net_model.specs.Frames.{deliver, deliver_number}
-use Rattle.net_model.specs.Action.{Environment, Deliver, Outcome, Replies, NoFrame, is_io_fault, is_entropy_fault, Ok as Fine}
+use Rattle.net_model.specs.Action.{Environment, Deliver, Outcome, Replies, NoFrame, is_io_fault, Ok as Fine}
 use Rattle.net_model.specs.Step.{step, is_enabled}
 use Rattle.declared_site.specs.SiteOf.{site_of}
 use Rattle.world_nodes.specs.Passed.{Post}
-use Rattle.law_base.proofs.Base.{and_right}
+use Rattle.law_base.proofs.Base.{eq_same}
+use Rattle.world_nodes.proofs.Counted.{here_too}
 use Rattle.run_ops.specs.Acting.{IsReady, Does}
 use Rattle.world_nodes.specs.LaneStands.{LaneStands}
 use Rattle.world_nodes.specs.Seeing.{IsTold, IsSeen}
@@ -40,10 +41,10 @@ nothing_there net w l number none = ap (deliver_number net w l Fine) none
 delivers_one : (s : Site) (l : Lane) (number : ℕ) (environment : Environment) → ChangesOne s (Deliver l number environment) (receiver s l)
 delivers_one s l number environment = record { nodes = λ u other. elsewhere (receiver s l) u other; lanes = λ k. refl; links = λ link. refl; sends = refl }
 
-delivers_counted : (s : Site) (l : Lane) (number : ℕ) (environment : Environment) → CountsOne s (Deliver l number environment) (receiver s l) (is_io_fault environment) (is_entropy_fault environment)
+pub delivers_counted : (s : Site) (l : Lane) (number : ℕ) (environment : Environment) → CountsOne s (Deliver l number environment) (receiver s l) (is_io_fault environment) false
 delivers_counted s l number environment = record {
-  disk = and_right (receiver s l == receiver s l) (is_io_fault environment);
-  entropy = λ none. absurd (cc none);
+  disk = here_too (receiver s l == receiver s l) (is_io_fault environment) (eq_same (receiver s l));
+  entropy = refl;
   armed = λ u. refl;
   disks = λ u other. ap (λ (b : Bool). b && is_io_fault environment) (elsewhere (receiver s l) u other);
   entropies = λ u other. refl;

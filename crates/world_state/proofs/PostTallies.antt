@@ -4,8 +4,8 @@ use Rattle.std.specs.Prelude.{slice_get}
 use Rattle.disk_model.specs.declared.arm.Armings.{Armings}
 use Rattle.net_model.specs.declared.event.Event.{Event}
 use Rattle.net_model.specs.Site.{Site}
-use Rattle.net_model.specs.Action.{Environment, Ask, Complete, is_io_fault, is_entropy_fault}
-use Rattle.net_model.specs.Faults.{disk_faults, entropy_faults, armings}
+use Rattle.net_model.specs.Action.{Environment, Ask, Complete, is_io_fault}
+use Rattle.net_model.specs.Faults.{is_random_fault, disk_faults, entropy_faults, armings}
 use Rattle.world_nodes.specs.Passed.{Post}
 use Rattle.lane_sender.specs.Lane.{LaneForm}
 use Rattle.world_nodes.specs.Counts.{disk_of, entropy_of, Counts}
@@ -17,12 +17,12 @@ use Rattle.world_state.proofs.Changes.{OnePost, posts_same, each_post}
 use Rattle.world_state.proofs.OneSide.{some_same}
 use Rattle.world_state.proofs.OneTallied.{CountsOne, CountsNoOther, one_post_tallied}
 use Rattle.world_state.proofs.Tallies.{none_tallied}
-use Rattle.world_state.proofs.Tallying.{no_less}
+use Rattle.world_state.proofs.Tallying.{same_counted}
 
 -- A note adds to no count.
 
 note_one : (s : Site) (v : ℕ) → CountsOne s (Complete v) v false false
-note_one s v = record { disk = λ h. h; entropy = λ h. h; armed = λ u. refl; disks = λ u apart. refl; entropies = λ u apart. refl }
+note_one s v = record { disk = refl; entropy = refl; armed = λ u. refl; disks = λ u apart. refl; entropies = λ u apart. refl }
 
 note_no_other : (v : ℕ) → CountsNoOther (Complete v)
 note_no_other v = record { devices = λ link. refl; wires = λ l. refl }
@@ -33,10 +33,10 @@ unarmed before now same = subst (λ (n : Armings). IsArmedBy [] before n) (sym s
 
 module _ {K Q E X : Type 0} (disk_count : K → ℕ) (armed : K → Armings) (entropy_count : E → ℕ) (device_count : Q → ℕ) (wire_count : X → ℕ) (site : Site) (old new : State K Q E X) (v : ℕ) (p q : Post K E)
     (one : OnePost old new v p q) (disks : (u : ℕ) (x : Post K E) → slice_get old.posts.items u ≡ Some x → (k : K) × (disk_of x ≡ Some k)) where
-  pub asked_tallied : (event : Event) (environment : Environment) → Counts disk_count armed entropy_count (is_io_fault environment) (is_entropy_fault environment) p q →
+  pub asked_tallied : (event : Event) (environment : Environment) → Counts disk_count armed entropy_count (is_io_fault environment) (is_random_fault v (Ask v event environment)) p q →
       Tallied disk_count armed entropy_count device_count wire_count old new site (Ask v event environment ∷ [])
   asked_tallied event environment c =
-      one_post_tallied disk_count armed entropy_count device_count wire_count site (Ask v event environment) old new disks v p q (is_io_fault environment) (is_entropy_fault environment) one
+      one_post_tallied disk_count armed entropy_count device_count wire_count site (Ask v event environment) old new disks v p q (is_io_fault environment) (is_random_fault v (Ask v event environment)) one
       (asks_counted site v event environment) (asks_no_other v event environment) c
 
   module _ (c : Counts disk_count armed entropy_count false false p q) where
@@ -50,9 +50,9 @@ module _ {K Q E X : Type 0} (disk_count : K → ℕ) (armed : K → Armings) (en
       now = c.now;
       was = c.was;
       is = c.is;
-      failed = no_less (disk_count c.before) (disk_count c.now) c.disk.later;
+      failed = same_counted (disk_count c.before) (disk_count c.now) (c.disk.calm refl);
       armed_with = unarmed (armed c.before) (armed c.now) c.arms;
-      refused = no_less (entropy_count (entropy_of p)) (entropy_count (entropy_of q)) c.entropy.later;
+      refused = same_counted (entropy_count (entropy_of p)) (entropy_count (entropy_of q)) (c.entropy.calm refl);
     }
 
     abbrev none : Tallied disk_count armed entropy_count device_count wire_count old old site []

@@ -73,7 +73,7 @@ module _ {K Q E X : Type 0} (is_honest : K → Bool) (moment : K → ℕ) (image
 
   module _ (disk_count : K → ℕ) (armed : K → Armings) (entropy_count : E → ℕ) (device_count : Q → ℕ) (wire_count : X → ℕ)
       (new : State K Q E X) (before now : LaneForm X) (one : OneSide old new l before now) (s : Sent) (e : Repeated frames counted net w now repeat s)
-      (cause : IsErrOf (answer_of s) Fault → Rose (wire_count before.wire) (wire_count now.wire)) (later : wire_count before.wire ≤ wire_count now.wire) where
+      (cause : IsErrOf (answer_of s) Fault → Rose (wire_count before.wire) (wire_count now.wire)) (calm : (IsErrOf (answer_of s) Fault → ⊥) → wire_count now.wire ≡ wire_count before.wire) where
     abbrev environment : Environment
     environment = wire_answer (answer_of s)
 
@@ -139,7 +139,7 @@ module _ {K Q E X : Type 0} (is_honest : K → Bool) (moment : K → ℕ) (image
       said = λ number rest. played_as number rest ∙ ap (λ (xs : List Item). reporting (numbered number xs) (play net number after (emitted v es) rest)) (sym is);
       sending = sending_after;
       tallied = put_tallied disk_count armed entropy_count device_count wire_count net.site old new l before now one
-          (has_disks is_honest moment image left told frames counted old net w sending.stands) j (answer_of s) cause later;
+          (has_disks is_honest moment image left told frames counted old net w sending.stands) j (answer_of s) cause calm;
     }
 
     module _ (item : Item) (size : ℕ) (out : Outcome) (is : item ∷ [] ≡ put_items l repeat.offset size out) (long : size ≡ repeat.length - 24) (said : out ≡ wire_outcome (answer_of s)) where

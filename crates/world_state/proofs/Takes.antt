@@ -14,14 +14,14 @@ use Rattle.net_model.specs.OctetSequence.{OctetSequence, block_at}
 use Rattle.net_model.specs.World.{Network, World, Durable, Allocation}
 use Rattle.net_model.specs.Events.{is_lane}
 use Rattle.net_model.specs.Handle.{blocks_at}
-use Rattle.net_model.specs.Action.{Environment, OutOfMemory, EntropyFault, IoFault, DeviceFault, Action, TakeBlock, Outcome, Replies, DeviceFailed, is_io_fault, is_entropy_fault, is_device_fault, Ok as Fine}
+use Rattle.net_model.specs.Action.{Environment, OutOfMemory, EntropyFault, IoFault, DeviceFault, Action, TakeBlock, Outcome, Replies, DeviceFailed, is_io_fault, is_device_fault, Ok as Fine}
 use Rattle.net_model.specs.Faults.{is_block_fault, wire_faults}
 use Rattle.net_model.specs.Step.{step, is_enabled}
 use Rattle.declared_site.specs.SiteOf.{site_of}
 use Rattle.declared_site.specs.declared.site.Site.{Site as Declared}
 use Rattle.world_nodes.specs.Passed.{Post}
 use Rattle.route_table.specs.Layer.{bit_is_set}
-use Rattle.law_base.proofs.Base.{and_left, and_right}
+use Rattle.law_base.proofs.Base.{eq_same, and_left, and_right}
 use Rattle.law_base.proofs.Extending.{end_of}
 use Rattle.law_locality.proofs.Links.{step_link}
 use Rattle.lane_sender.specs.Lane.{LaneForm}
@@ -35,6 +35,7 @@ use Rattle.world_nodes.specs.Taking.{MayTake, TakesBlock, TakesOrStays}
 use Rattle.world_nodes.proofs.LaneGoing.{goes_on, batch_goes_on}
 use Rattle.world_nodes.proofs.TakeBlocks.{take_makes}
 use Rattle.world_nodes.specs.Stands.{PostStands}
+use Rattle.world_nodes.proofs.Counted.{here_too}
 use Rattle.world_nodes.specs.Blocks.{MayTake as MayTakeBlock, IsTaken}
 use Rattle.world_nodes.proofs.Going.{post_on}
 use Rattle.world_state.specs.Blocks.{IsBlockTaken}
@@ -60,6 +61,9 @@ fails_device OutOfMemory h = absurd (cc h)
 fails_device EntropyFault h = absurd (cc h)
 fails_device IoFault h = absurd (cc h)
 fails_device DeviceFault h = refl
+
+spares_device : (environment : Environment) → is_device_fault environment ≡ false → environment ≡ DeviceFault → ⊥
+spares_device environment none is = let bad : true ≡ false = sym (ap is_device_fault is) ∙ none in cc bad
 
 fit_enabled : (net : Network) (w : World) (v link : ℕ) → is_fit net.site (TakeBlock v link Fine) ≡ true → is_enabled net w (TakeBlock v link Fine) ≡ true
 unfolding is_enabled
@@ -113,21 +117,26 @@ module _ {K Q E X : Type 0} (is_honest : K → Bool) (moment : K → ℕ) (image
     module _ (disk_count : K → ℕ) (armed : K → Armings) (entropy_count : E → ℕ) (device_count : Q → ℕ) (wire_count : X → ℕ) (new : State K Q E X) (q : Post K E) (e : Q)
         (site : new.site ≡ old.site) (posts : new.posts.items ≡ slice_set old.posts.items v q) (devices : new.devices.items ≡ slice_set old.devices.items link e)
         (lanes : new.lanes.items ≡ old.lanes.items) (up : new.up ≡ old.up) (outcome : Outcome) (h : IsTaken is_honest moment image disk_count armed left entropy_count net w v link p q outcome)
-        (cause : outcome ≡ DeviceFailed → Rose (device_count d) (device_count e)) (same : told e ≡ told d) (later : device_count d ≤ device_count e) where
+        (cause : outcome ≡ DeviceFailed → Rose (device_count d) (device_count e)) (same : told e ≡ told d) (later : device_count d ≤ device_count e)
+        (calm : (outcome ≡ DeviceFailed → ⊥) → device_count e ≡ device_count d) where
       abbrev a : Action
       a = TakeBlock v link h.environment
 
       device_counted : Counted (0 + cond (is_block_fault link a) 1 0) (device_count d) (device_count e)
       device_counted = counted_once (is_block_fault link a) (device_count d) (device_count e)
-          (record { later = later; rose = λ fault. cause (h.device (fails_device h.environment (and_right (link == link) (is_device_fault h.environment) fault))) })
+          (record {
+            later = later;
+            rose = λ fault. cause (h.device (fails_device h.environment (and_right (link == link) (is_device_fault h.environment) fault)));
+            calm = λ none. calm (λ failed. spares_device h.environment (sym (here_too (link == link) (is_device_fault h.environment) (eq_same link)) ∙ none) (h.no_device failed));
+          })
 
       tallied : Tallied disk_count armed entropy_count device_count wire_count old new net.site (a ∷ [])
       tallied =
           all_tallied disk_count armed entropy_count device_count wire_count net.site a old new (placed_length old.posts.items new.posts.items v q posts)
           (placed_length old.devices.items new.devices.items link e devices) (ap length lanes)
           (posts_one disk_count armed entropy_count device_count wire_count net.site a old new (has_disks is_honest moment image left told frames counted old net w ready.stands) v p q there posts
-          (post_once disk_count armed entropy_count device_count wire_count net.site a v (is_io_fault h.environment) (is_entropy_fault h.environment) p q
-          (and_right (v == v) (is_io_fault h.environment)) (λ none. absurd (cc none)) refl h.counts)
+          (post_once disk_count armed entropy_count device_count wire_count net.site a v (is_io_fault h.environment) false p q
+          (here_too (v == v) (is_io_fault h.environment) (eq_same v)) refl refl h.counts)
           (λ u other. (ap (λ (b : Bool). b && is_io_fault h.environment) (elsewhere v u other), refl, refl)))
           (λ k x y was is.
           each_placed old.devices.items new.devices.items link e devices

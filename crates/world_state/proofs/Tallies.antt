@@ -29,11 +29,17 @@ counted_most m n a b c top h k = omega (arith, h, k)
 none_most : (a top : ℕ) → min (a + 0) top ≤ a
 none_most a top = omega arith
 
+none_before : (m n : ℕ) → m + n ≡ 0 → m ≡ 0
+none_before m n none = omega arith
+
+none_after : (m n : ℕ) → m + n ≡ 0 → n ≡ 0
+none_after m n none = omega arith
+
 pub counted_more : (m n a b c : ℕ) → Counted m a b → Counted n b c → Counted (m + n) a c
-counted_more m n a b c h k = counted_most m n a b c (2 ^ 64 - 1) h k
+counted_more m n a b c h k = record { rose = counted_most m n a b c (2 ^ 64 - 1) h.rose k.rose; calm = λ none. k.calm (none_after m n none) ∙ h.calm (none_before m n none) }
 
 pub none_counted : (a : ℕ) → Counted 0 a a
-none_counted a = none_most a (2 ^ 64 - 1)
+none_counted a = record { rose = none_most a (2 ^ 64 - 1); calm = λ none. refl }
 
 count_both : {A : Type 0} (p : A → Bool) (xs ys : List A) → count_by p (xs ++ ys) ≡ count_by p xs + count_by p ys
 count_both p xs ys = sum_by-append (λ x. cond (p x) 1 0) xs ys

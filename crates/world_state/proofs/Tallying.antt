@@ -23,21 +23,19 @@ use Rattle.world_state.specs.declared.state.State.{State}
 use Rattle.world_state.proofs.Tallies.{none_counted, none_tallied}
 use Rattle.world_state.proofs.OneSide.{some_same, OneSide, sides_same, each_side}
 
-pub no_less : (a b : ℕ) → a ≤ b → Counted 0 a b
-no_less a b h = least a b (2 ^ 64 - 1) h
-  where
-    least : (a b top : ℕ) → a ≤ b → min (a + 0) top ≤ b
-    least a b top h = omega (arith, h)
+pub same_counted : (a b : ℕ) → b ≡ a → Counted 0 a b
+same_counted a b same = subst (Counted 0 a) (sym same) (none_counted a)
 
 -- the number of failures of a wire, by its answer
 abbrev pub failed : Bool → ℕ
 failed t = 0 + cond t 1 0
 
-mine_counted : (answer : Result ℕ WireFailed) (t : Bool) (before now : ℕ) → t ≡ true → (IsErrOf answer Fault → Rose before now) → before ≤ now → Counted (failed (t && is_io_fault (wire_answer answer))) before now
-mine_counted (Ok n) true before now is cause later = no_less before now later
-mine_counted (Err Fault) true before now is cause later = cause refl
-mine_counted (Err Memory) true before now is cause later = no_less before now later
-mine_counted answer false before now is cause later = cc
+mine_counted : (answer : Result ℕ WireFailed) (t : Bool) (before now : ℕ) → t ≡ true → (IsErrOf answer Fault → Rose before now) → ((IsErrOf answer Fault → ⊥) → now ≡ before) →
+    Counted (failed (t && is_io_fault (wire_answer answer))) before now
+mine_counted (Ok n) true before now is cause calm = same_counted before now (calm (λ fault. cc fault))
+mine_counted (Err Fault) true before now is cause calm = record { rose = cause refl; calm = λ none. omega (arith, none) }
+mine_counted (Err Memory) true before now is cause calm = same_counted before now (calm (λ fault. cc fault))
+mine_counted answer false before now is cause calm = cc
 
 other_counted : (t : Bool) (fault : Bool) (count : ℕ) → t ≡ false → Counted (failed (t && fault)) count count
 other_counted false fault count is = none_counted count
@@ -46,7 +44,8 @@ other_counted true fault count is = cc
 module _ {K Q E X : Type 0} (disk_count : K → ℕ) (armed : K → Armings) (entropy_count : E → ℕ) (device_count : Q → ℕ) (wire_count : X → ℕ) (site : Site)
     (old new : State K Q E X) (l : Lane) (before now : LaneForm X) (one : OneSide old new l before now)
     (disks : (v : ℕ) (p : Post K E) → slice_get old.posts.items v ≡ Some p → (k : K) × (disk_of p ≡ Some k))
-    (j : ℕ) (answer : Result ℕ WireFailed) (cause : IsErrOf answer Fault → Rose (wire_count before.wire) (wire_count now.wire)) (later : wire_count before.wire ≤ wire_count now.wire) where
+    (j : ℕ) (answer : Result ℕ WireFailed) (cause : IsErrOf answer Fault → Rose (wire_count before.wire) (wire_count now.wire))
+    (calm : (IsErrOf answer Fault → ⊥) → wire_count now.wire ≡ wire_count before.wire) where
   abbrev All : List Action → Type 0
   All actions = Tallied disk_count armed entropy_count device_count wire_count old new site actions
 
@@ -67,7 +66,7 @@ module _ {K Q E X : Type 0} (disk_count : K → ℕ) (armed : K → Armings) (en
       (λ y at.
       let same : before ≡ y = some_same (sym one.there ∙ at) in
       subst (λ (x : LaneForm X). Counted (failed (lane_eq l l && is_io_fault (wire_answer answer))) (wire_count x.wire) (wire_count now.wire)) same
-      (mine_counted answer (lane_eq l l) (wire_count before.wire) (wire_count now.wire) (lane_same l) cause later))
+      (mine_counted answer (lane_eq l l) (wire_count before.wire) (wire_count now.wire) (lane_same l) cause calm))
       (λ m x apart at y was.
       let same : x ≡ y = some_same (sym at ∙ was) in
       subst (λ (z : LaneForm X). Counted (failed (lane_eq l m && is_io_fault (wire_answer answer))) (wire_count z.wire) (wire_count x.wire)) same

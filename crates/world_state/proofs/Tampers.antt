@@ -10,11 +10,12 @@ use Rattle.net_model.specs.OctetSequence.{OctetSequence}
 use Rattle.net_model.specs.World.{Network, World}
 use Rattle.net_model.specs.Events.{is_lane}
 use Rattle.net_model.specs.Frames.{with_flipped, flip_octets, flip_number, flip, tampered}
-use Rattle.net_model.specs.Action.{Environment, Flip, Forge, Outcome, NoFrame, NoBit, is_io_fault, is_entropy_fault, Ok as Fine}
+use Rattle.net_model.specs.Action.{Environment, Flip, Forge, Outcome, NoFrame, NoBit, is_io_fault, Ok as Fine}
 use Rattle.net_model.specs.Step.{step, is_enabled}
 use Rattle.declared_site.specs.SiteOf.{site_of}
 use Rattle.world_nodes.specs.Passed.{Post}
-use Rattle.law_base.proofs.Base.{and_left, and_right}
+use Rattle.law_base.proofs.Base.{eq_same, and_left, and_right}
+use Rattle.world_nodes.proofs.Counted.{here_too}
 use Rattle.run_ops.specs.Fitting.{is_fit, fits_a_frame}
 use Rattle.run_ops.specs.Acting.{IsReady, Does}
 use Rattle.world_nodes.specs.Tampering.{put_as, would_match, is_forged, ReceiverStands, MayTamper, MayForge, MayFlip, HasForged, HasFlipped, tampered_outcome}
@@ -31,10 +32,10 @@ use Rattle.world_state.proofs.Staying.{stays_done}
 flips_one : (s : Site) (l : Lane) (number bit : ℕ) (environment : Environment) → ChangesOne s (Flip l number bit environment) (receiver s l)
 flips_one s l number bit environment = record { nodes = λ u other. elsewhere (receiver s l) u other; lanes = λ k. refl; links = λ link. refl; sends = refl }
 
-flips_counted : (s : Site) (l : Lane) (number bit : ℕ) (environment : Environment) → CountsOne s (Flip l number bit environment) (receiver s l) (is_io_fault environment) (is_entropy_fault environment)
+flips_counted : (s : Site) (l : Lane) (number bit : ℕ) (environment : Environment) → CountsOne s (Flip l number bit environment) (receiver s l) (is_io_fault environment) false
 flips_counted s l number bit environment = record {
-  disk = and_right (receiver s l == receiver s l) (is_io_fault environment);
-  entropy = λ none. absurd (cc none);
+  disk = here_too (receiver s l == receiver s l) (is_io_fault environment) (eq_same (receiver s l));
+  entropy = refl;
   armed = λ u. refl;
   disks = λ u other. ap (λ (b : Bool). b && is_io_fault environment) (elsewhere (receiver s l) u other);
   entropies = λ u other. refl;
@@ -43,10 +44,10 @@ flips_counted s l number bit environment = record {
 forges_one : (s : Site) (l : Lane) (octets : List ℕ) (environment : Environment) → ChangesOne s (Forge l octets environment) (receiver s l)
 forges_one s l octets environment = record { nodes = λ u other. elsewhere (receiver s l) u other; lanes = λ k. refl; links = λ link. refl; sends = refl }
 
-forges_counted : (s : Site) (l : Lane) (octets : List ℕ) (environment : Environment) → CountsOne s (Forge l octets environment) (receiver s l) (is_io_fault environment) (is_entropy_fault environment)
+forges_counted : (s : Site) (l : Lane) (octets : List ℕ) (environment : Environment) → CountsOne s (Forge l octets environment) (receiver s l) (is_io_fault environment) false
 forges_counted s l octets environment = record {
-  disk = and_right (receiver s l == receiver s l) (is_io_fault environment);
-  entropy = λ none. absurd (cc none);
+  disk = here_too (receiver s l == receiver s l) (is_io_fault environment) (eq_same (receiver s l));
+  entropy = refl;
   armed = λ u. refl;
   disks = λ u other. ap (λ (b : Bool). b && is_io_fault environment) (elsewhere (receiver s l) u other);
   entropies = λ u other. refl;

@@ -15,9 +15,11 @@ use Rattle.world_nodes.specs.Counts.{disk_of, entropy_of}
 use Rattle.world_state.specs.Stands.{place_of}
 use Rattle.world_state.specs.declared.state.State.{State}
 
--- The count rose by at least n, or it is at its highest value, 2^64 - 1.
-abbrev pub Counted : (n before now : ℕ) → Type 0
-Counted n before now = min (before + n) (2 ^ 64 - 1) ≤ now
+-- A part failed n times: its count rose by at least n, or it is at its highest value, 2^64 - 1. Where the part didn't fail, the count stayed. So if the
+-- faults come in some order, the count may have risen with each of them, and only with them.
+pub record Counted (n before now : ℕ) : Type 0 where
+  pub rose : min (before + n) (2 ^ 64 - 1) ≤ now
+  pub calm : n ≡ 0 → now ≡ before
 
 -- The disk was armed with exactly these faults, in this order.
 pub record IsArmedBy (faults : List Fault) (before now : Armings) : Type 0 where

@@ -66,5 +66,5 @@ returns-clause-taken g c net w ready =
     c.index_mut-post.result.now there c.index_mut-device.result.now at g.K.Disk.faults g.K.Disk.armings g.E.Entropy.faults g.Q.Device.faults g.X.Wire.faults
     _ c.take_block.new.post c.take_block.new.device refl (ap (λ n. slice_set c.args.state.now.posts.items n c.take_block.new.post) place)
     (ap (λ n. slice_set c.args.state.now.devices.items n c.take_block.new.device) slot) refl refl (taken c.take_block.result)
-    (c.take_block.ensures.taken net w c.args.node told may) c.take_block.ensures.cause c.take_block.ensures.told c.take_block.ensures.later
+    (c.take_block.ensures.taken net w c.args.node told may) c.take_block.ensures.cause c.take_block.ensures.told c.take_block.ensures.later c.take_block.ensures.calm
     c.take_block.new.into (λ number is. c.take_block.ensures.block net w c.args.node number told may is)

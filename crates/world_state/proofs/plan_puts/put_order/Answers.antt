@@ -40,7 +40,7 @@ returns-clause-ok g c =
     (c.lease-end.ensures net w h.stands h.up h.sends.each.0.site h.sends.each.0.lane) in
     order_puts_on g.K.Disk.is_honest g.K.Disk.moment g.K.Disk.image g.E.Entropy.left g.Q.Device.told g.X.Wire.frames g.X.Wire.counted net w c.args.node c.args.order.now es
     c.args.state.now c.args.progress.now.placings h g.K.Disk.faults g.K.Disk.armings g.E.Entropy.faults g.Q.Device.faults g.X.Wire.faults
-    (with_side c.args.state.now c.lane_place.result c.emit-sent.new.side) c.index_mut.result.now c.emit-sent.new.side one c.emit-sent.result (c.emit-sent.ensures.emitted net w may) c.emit-sent.ensures.cause c.emit-sent.ensures.later
+    (with_side c.args.state.now c.lane_place.result c.emit-sent.new.side) c.index_mut.result.now c.emit-sent.new.side one c.emit-sent.result (c.emit-sent.ensures.emitted net w may) c.emit-sent.ensures.cause c.emit-sent.ensures.calm
     c.put_item-item.result c.offset.result c.spelled_len-size.result _ c.put_item-item.ensures c.offset.ensures c.spelled_len-size.ensures.length c.answer.ensures
     c.order_placing.result c.order_placing.ensures c.args.progress.now.items c.add.new.progress.items c.add.new.progress.placings items noted)
     c.add.ensures.items c.add.ensures.placings
@@ -57,5 +57,5 @@ returns-clause-err g c =
     (c.lease-end.ensures net w h.stands h.up h.sends.each.0.site h.sends.each.0.lane) in
     order_breaks g.K.Disk.is_honest g.K.Disk.moment g.K.Disk.image g.E.Entropy.left g.Q.Device.told g.X.Wire.frames g.X.Wire.counted net w c.args.node c.args.order.now es
     c.args.state.now c.args.progress.now.placings h g.K.Disk.faults g.K.Disk.armings g.E.Entropy.faults g.Q.Device.faults g.X.Wire.faults
-    (with_side c.args.state.now c.lane_place.result c.emit-sent.new.side) c.index_mut.result.now c.emit-sent.new.side one c.emit-sent.result (c.emit-sent.ensures.emitted net w may) c.emit-sent.ensures.cause c.emit-sent.ensures.later
+    (with_side c.args.state.now c.lane_place.result c.emit-sent.new.side) c.index_mut.result.now c.emit-sent.new.side one c.emit-sent.result (c.emit-sent.ensures.emitted net w may) c.emit-sent.ensures.cause c.emit-sent.ensures.calm
     c.put_item-item.result c.offset.result c.spelled_len-size.result _ c.put_item-item.ensures c.offset.ensures c.spelled_len-size.ensures.length c.answer.ensures)

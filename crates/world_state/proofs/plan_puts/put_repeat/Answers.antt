@@ -35,7 +35,7 @@ returns-clause-ok g c =
     repeat_puts_on g.K.Disk.is_honest g.K.Disk.moment g.K.Disk.image g.E.Entropy.left g.Q.Device.told g.X.Wire.frames g.X.Wire.counted net w c.args.node c.args.repeat.now es
     c.args.state.now c.args.progress.now.placings h g.K.Disk.faults g.K.Disk.armings g.E.Entropy.faults g.Q.Device.faults g.X.Wire.faults
     (with_side c.args.state.now c.lane_place.result c.again-sent.new.side) c.index_mut.result.now c.again-sent.new.side one c.again-sent.result (c.again-sent.ensures.repeated net w may)
-    c.again-sent.ensures.cause c.again-sent.ensures.later c.put_item-item.result c.saturating_sub-size.result _ c.put_item-item.ensures c.saturating_sub-size.ensures c.answer.ensures
+    c.again-sent.ensures.cause c.again-sent.ensures.calm c.put_item-item.result c.saturating_sub-size.result _ c.put_item-item.ensures c.saturating_sub-size.ensures c.answer.ensures
     c.repeat_placing.result c.repeat_placing.ensures c.args.progress.now.items c.add.new.progress.items c.add.new.progress.placings items noted)
     c.add.ensures.items c.add.ensures.placings
 
@@ -52,4 +52,4 @@ returns-clause-err g c =
     repeat_breaks g.K.Disk.is_honest g.K.Disk.moment g.K.Disk.image g.E.Entropy.left g.Q.Device.told g.X.Wire.frames g.X.Wire.counted net w c.args.node c.args.repeat.now es
     c.args.state.now c.args.progress.now.placings h g.K.Disk.faults g.K.Disk.armings g.E.Entropy.faults g.Q.Device.faults g.X.Wire.faults
     (with_side c.args.state.now c.lane_place.result c.again-sent.new.side) c.index_mut.result.now c.again-sent.new.side one c.again-sent.result (c.again-sent.ensures.repeated net w may)
-    c.again-sent.ensures.cause c.again-sent.ensures.later c.put_item-item.result c.saturating_sub-size.result _ c.put_item-item.ensures c.saturating_sub-size.ensures c.answer.ensures)
+    c.again-sent.ensures.cause c.again-sent.ensures.calm c.put_item-item.result c.saturating_sub-size.result _ c.put_item-item.ensures c.saturating_sub-size.ensures c.answer.ensures)
