@@ -18,7 +18,7 @@ use Rattle.net_model.specs.World.{Network, World, Allocation, Transmission, Outg
 use Rattle.net_model.specs.Needed.{view_of}
 use Rattle.net_model.specs.Decision.{Decision, Refuses, Does, Effect}
 use Rattle.net_model.specs.Decide.{decide, random_need}
-use Rattle.net_model.specs.Action.{Environment, Ok, Outcome, Action, Start, Crash, Arm, SetLink, TakeBlock, Ask, Allocate, Transmit, Complete, Deliver, Flip, Forge, WantMemory, Recovery, Recovers, Resumes, Interrupted, NoMemory, Foreign, is_no_memory, is_entropy_fault, is_io_fault, is_device_fault}
+use Rattle.net_model.specs.Action.{Environment, Ok, Outcome, Action, Start, Crash, Arm, SetLink, TakeBlock, Ask, Allocate, Transmit, Complete, Deliver, Flip, Forge, Recovery, Recovers, Resumes, Interrupted, NoMemory, Foreign, is_no_memory, is_entropy_fault, is_io_fault, is_device_fault}
 use Rattle.net_model.specs.Handle.{is_numbered, commit, stopped, perform, resolve, handle, blocks_at, take_block}
 use Rattle.net_model.specs.Frames.{frame_octets, octets_received, octets_eq, with_flipped, allocate, put, transmit_one, transmit, outgoing_of, unmatched, receive_item, deliver_frame, deliver_number, deliver, tampered_or_put, tampered, flip_octets, flip_number, flip}
 use Rattle.net_model.specs.Start.{resolved, restarted, interrupted_start, recovers, start}
@@ -170,4 +170,3 @@ module _ (net : Network) (w : World) (P : World → Type 0) (k : IsPreserved net
   step_walk (Deliver l number environment) = deliver_walk net w P k.same l environment (any_frame l environment) number
   step_walk (Flip l number bit environment) = flip_walk net w P k.same l environment (any_frame l environment) number bit
   step_walk (Forge l octets environment) = tampered_walk net w P k.same l environment (any_frame l environment) octets
-  step_walk WantMemory = k.same

@@ -9,7 +9,7 @@ use Rattle.qkd_base.specs.declared.lane.Way.TheVariants.{Up, Down}
 use Rattle.net_model.specs.Premises.{IsNetwork}
 use Rattle.net_model.specs.Site.{of_way, is_incident}
 use Rattle.net_model.specs.World.{Network, World, first}
-use Rattle.net_model.specs.Action.{Environment, Action, Start, Crash, Arm, SetLink, TakeBlock, Ask, Allocate, Transmit, Complete, Deliver, Flip, Forge, WantMemory, is_shown, environment_of}
+use Rattle.net_model.specs.Action.{Environment, Action, Start, Crash, Arm, SetLink, TakeBlock, Ask, Allocate, Transmit, Complete, Deliver, Flip, Forge, is_shown, environment_of}
 use Rattle.net_model.specs.Invariant.{Invariant, Conserved}
 use Rattle.net_model.specs.Step.{step, is_node, is_link, is_enabled, is_step, IsStep, run, is_run, IsRun}
 use Rattle.law_base.proofs.Base.{and_left, and_right}
@@ -41,7 +41,6 @@ action_keeps net w network c (Complete v) may = complete_keeps net w v network c
 action_keeps net w network c (Deliver l number environment) may = deliver_keeps net w network c l environment number
 action_keeps net w network c (Flip l number bit environment) may = flip_keeps net w network c l environment number bit
 action_keeps net w network c (Forge l octets environment) may = tampered_keeps net w network c l environment octets
-action_keeps net w network c WantMemory may = c
 
 pub step_keeps : (net : Network) (w : World) (a : Action) → IsNetwork net → IsStep net w a → Conserved net w → Conserved net (step net w a).0
 step_keeps net w a network may c =

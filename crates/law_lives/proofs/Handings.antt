@@ -10,7 +10,7 @@ use Rattle.net_model.specs.Events.{is_valid_event}
 use Rattle.net_model.specs.Handings.{PairsDiffer}
 use Rattle.net_model.specs.Handle.{handle}
 use Rattle.net_model.specs.Invariant.{Conserved}
-use Rattle.net_model.specs.Action.{Action, Start, Crash, Arm, SetLink, TakeBlock, Ask, Allocate, Transmit, Complete, Deliver, Flip, Forge, WantMemory, is_shown, environment_of}
+use Rattle.net_model.specs.Action.{Action, Start, Crash, Arm, SetLink, TakeBlock, Ask, Allocate, Transmit, Complete, Deliver, Flip, Forge, is_shown, environment_of}
 use Rattle.net_model.specs.Step.{step, is_node, is_asked, is_enabled, is_step, run, is_run, IsRun}
 use Rattle.net_model.specs.Deliveries.{Delivery, of_step, deliveries, pairs_of, IsTrueDelivery}
 use Rattle.law_base.proofs.Base.{and_left, and_right, get_cases, name_eq_same, eq_same, and_both, name_eq_from, eq_from, not_false, not_both, or_left, or_right, or_cases}
@@ -92,7 +92,6 @@ step_new net w (Complete v) network c c' enabled k d at = absurd (cc)
 step_new net w (Deliver l number environment) network c c' enabled k d at = absurd (cc)
 step_new net w (Flip l number bit environment) network c c' enabled k d at = absurd (cc)
 step_new net w (Forge l octets environment) network c c' enabled k d at = absurd (cc)
-step_new net w WantMemory network c c' enabled k d at = absurd (cc)
 
 pub run_new : (net : Network) → IsNetwork net → (actions : List Action) (w : World) → Conserved net w → Conserved net (run net w actions) → IsRun net w actions →
     (k : ℕ) (d : Delivery) → slice_get (deliveries net w actions) k ≡ Some d → IsNewHanding w (run net w actions) d

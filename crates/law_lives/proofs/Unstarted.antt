@@ -8,7 +8,7 @@ use Rattle.net_model.specs.Journal.{is_blank}
 use Rattle.net_model.specs.Needed.{view_of}
 use Rattle.net_model.specs.Invariant.{Conserved}
 use Rattle.net_model.specs.Start.{recovers, start, restarted, may_resolve}
-use Rattle.net_model.specs.Action.{Action, Recovery, Outcome, Start, Crash, Arm, SetLink, TakeBlock, Ask, Allocate, Transmit, Complete, Deliver, Flip, Forge, WantMemory, Recovers, Resumes, Interrupted, NoMemory, Foreign, WasUp}
+use Rattle.net_model.specs.Action.{Action, Recovery, Outcome, Start, Crash, Arm, SetLink, TakeBlock, Ask, Allocate, Transmit, Complete, Deliver, Flip, Forge, Recovers, Resumes, Interrupted, NoMemory, Foreign, WasUp}
 use Rattle.net_model.specs.Step.{step, is_step, run, is_run, IsRun}
 use Rattle.run_model.specs.Begin.{MayBegin}
 use Rattle.run_model.specs.Left.{found, batch_made, batches_made}
@@ -65,7 +65,6 @@ module _ (net : Network) (w : World) where
   none_found (Deliver l number environment) v down after = refl
   none_found (Flip l number bit environment) v down after = refl
   none_found (Forge l octets environment) v down after = refl
-  none_found WantMemory v down after = refl
 
   -- A manager whose journal is blank is down.
   blank_down : Conserved net w → (v : ℕ) → is_blank (w.journal v) ≡ true → w.up v ≡ false

@@ -25,7 +25,7 @@ use Rattle.net_model.specs.Decision.{Refuses, Does, Effect, makes}
 use Rattle.net_model.specs.Decide.{decide, random_need}
 use Rattle.net_model.specs.Events.{is_lane, is_valid_event}
 use Rattle.net_model.specs.Invariant.{Conserved}
-use Rattle.net_model.specs.Action.{Environment, Ok, Action, Start, Crash, Arm, SetLink, TakeBlock, Ask, Allocate, Transmit, Complete, Deliver, Flip, Forge, WantMemory, Recovery, Recovers, Resumes, Interrupted, NoMemory, Foreign, Outcome, is_no_memory, is_io_fault}
+use Rattle.net_model.specs.Action.{Environment, Ok, Action, Start, Crash, Arm, SetLink, TakeBlock, Ask, Allocate, Transmit, Complete, Deliver, Flip, Forge, Recovery, Recovers, Resumes, Interrupted, NoMemory, Foreign, Outcome, is_no_memory, is_io_fault}
 use Rattle.net_model.specs.Handle.{perform, handle, blocks_at, take_block}
 use Rattle.net_model.specs.Frames.{receive_item, allocate, outgoing_of, put, transmit_one, transmit}
 use Rattle.net_model.specs.Start.{resolved, resolved_durable, burnt_to, leaves, restarted, interrupted_start, recovers, start}
@@ -243,4 +243,3 @@ module _ (net : Network) (w : World) (l : Lane) where
   step_lane network c (Deliver k number environment) may h = deliver_walk net w (LaneStays l w) (unchanged l w) k environment (frame_lane k environment) number
   step_lane network c (Flip k number bit environment) may h = flip_walk net w (LaneStays l w) (unchanged l w) k environment (frame_lane k environment) number bit
   step_lane network c (Forge k octets environment) may h = tampered_walk net w (LaneStays l w) (unchanged l w) k environment (frame_lane k environment) octets
-  step_lane network c WantMemory may h = unchanged l w

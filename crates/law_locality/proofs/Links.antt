@@ -13,7 +13,7 @@ use Rattle.net_model.specs.World.{Network, World, Allocation, Transmission, Outg
 use Rattle.net_model.specs.Needed.{view_of}
 use Rattle.net_model.specs.Decision.{Effect}
 use Rattle.net_model.specs.Decide.{random_need}
-use Rattle.net_model.specs.Action.{Environment, Ok, Action, Start, Crash, Arm, SetLink, TakeBlock, Ask, Allocate, Transmit, Complete, Deliver, Flip, Forge, WantMemory, Recovery, Recovers, Resumes, Interrupted, NoMemory, Foreign, Outcome, is_no_memory, is_io_fault}
+use Rattle.net_model.specs.Action.{Environment, Ok, Action, Start, Crash, Arm, SetLink, TakeBlock, Ask, Allocate, Transmit, Complete, Deliver, Flip, Forge, Recovery, Recovers, Resumes, Interrupted, NoMemory, Foreign, Outcome, is_no_memory, is_io_fault}
 use Rattle.net_model.specs.Handle.{commit, stopped, perform, handle, blocks_at, take_block}
 use Rattle.net_model.specs.Frames.{receive_item, allocate, outgoing_of, transmit_one, transmit}
 use Rattle.net_model.specs.Start.{restarted, recovers, start}
@@ -102,4 +102,3 @@ step_link net w (Complete v) link h = at link (event_same net w v (Note (w.placi
 step_link net w (Deliver l number environment) link h = at link (deliver_walk net w (Same net w) refl l environment (frame_same net w l environment) number)
 step_link net w (Flip l number bit environment) link h = at link (flip_walk net w (Same net w) refl l environment (frame_same net w l environment) number bit)
 step_link net w (Forge l octets environment) link h = at link (tampered_walk net w (Same net w) refl l environment (frame_same net w l environment) octets)
-step_link net w WantMemory link h = refl

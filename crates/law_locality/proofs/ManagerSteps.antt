@@ -19,7 +19,7 @@ use Rattle.net_model.specs.Decision.{Refuses, makes}
 use Rattle.net_model.specs.Decide.{decide}
 use Rattle.net_model.specs.Events.{is_lane}
 use Rattle.net_model.specs.Invariant.{Conserved}
-use Rattle.net_model.specs.Action.{Environment, Ok, Action, Start, Crash, Arm, SetLink, TakeBlock, Ask, Allocate, Transmit, Complete, Deliver, Flip, Forge, WantMemory, Recovery, Recovers, Resumes, Interrupted, NoMemory, Foreign, Outcome, is_no_memory, is_io_fault}
+use Rattle.net_model.specs.Action.{Environment, Ok, Action, Start, Crash, Arm, SetLink, TakeBlock, Ask, Allocate, Transmit, Complete, Deliver, Flip, Forge, Recovery, Recovers, Resumes, Interrupted, NoMemory, Foreign, Outcome, is_no_memory, is_io_fault}
 use Rattle.net_model.specs.Handle.{handle, blocks_at, take_block}
 use Rattle.net_model.specs.Frames.{receive_item, allocate, is_unclaimed, without, outgoing_of, put, transmit_one, transmit}
 use Rattle.net_model.specs.Start.{resolved, resolved_durable, burnt_to, leaves, restarted, interrupted_start, recovers, start}
@@ -250,4 +250,3 @@ module _ (net : Network) (w : World) (network : IsNetwork net) (c : Conserved ne
       flip_walk net w (StaysAt net u w) (stays net u w) l environment (frame_unseen l environment (untouched (receiver net.site l) u h)) number bit
   step_unseen (Forge l octets environment) may h =
       tampered_walk net w (StaysAt net u w) (stays net u w) l environment (frame_unseen l environment (untouched (receiver net.site l) u h)) octets
-  step_unseen WantMemory may h = stays net u w

@@ -5,7 +5,7 @@ use Rattle.qkd_base.specs.declared.lane.Lane.{Lane}
 use Rattle.net_model.specs.Site.{Site, sender, receiver, outgoing_lane}
 use Rattle.net_model.specs.World.{Network, World}
 use Rattle.net_model.specs.Needed.{view_of}
-use Rattle.net_model.specs.Action.{Action, Start, Crash, Arm, SetLink, TakeBlock, Ask, Allocate, Transmit, Complete, Deliver, Flip, Forge, WantMemory}
+use Rattle.net_model.specs.Action.{Action, Start, Crash, Arm, SetLink, TakeBlock, Ask, Allocate, Transmit, Complete, Deliver, Flip, Forge}
 use Rattle.law_invariant.specs.May.{is_plan}
 
 -- The manager that the action changes. Putting a frame changes its lane's sender, which has to be told of it. A claim
@@ -23,7 +23,6 @@ touches_node s (Complete v) u = v == u
 touches_node s (Deliver l number environment) u = receiver s l == u
 touches_node s (Flip l number bit environment) u = receiver s l == u
 touches_node s (Forge l octets environment) u = receiver s l == u
-touches_node s WantMemory u = false
 
 -- The lanes that the action changes: one lane, or at a start and at a plan all lanes that leave the node. A frame
 -- that comes changes no lane.
@@ -40,7 +39,6 @@ touches_lane s (Complete v) l = false
 touches_lane s (Deliver k number environment) l = false
 touches_lane s (Flip k number bit environment) l = false
 touches_lane s (Forge k octets environment) l = false
-touches_lane s WantMemory l = false
 
 -- The link that the action sets up or down.
 abbrev pub touches_link : Action → ℕ → Bool

@@ -19,7 +19,7 @@ use Rattle.net_model.specs.Window.{transmission_eq, complete}
 use Rattle.net_model.specs.Decision.{Effect}
 use Rattle.net_model.specs.Decide.{decide, random_need}
 use Rattle.net_model.specs.Invariant.{Conserved}
-use Rattle.net_model.specs.Action.{Ok, Action, Start, Crash, Arm, SetLink, TakeBlock, Ask, Allocate, Transmit, Complete, Deliver, Flip, Forge, WantMemory, Outcome, is_shown, environment_of}
+use Rattle.net_model.specs.Action.{Ok, Action, Start, Crash, Arm, SetLink, TakeBlock, Ask, Allocate, Transmit, Complete, Deliver, Flip, Forge, Outcome, is_shown, environment_of}
 use Rattle.net_model.specs.Handle.{commit, perform, handle}
 use Rattle.net_model.specs.Step.{complete_node, step, is_node, is_sent, is_enabled, is_step, run, is_run, IsRun}
 use Rattle.law_base.proofs.Base.{by_number, by_test, and_left, and_right, or_cases, not_both, lane_eq_from, eq_from}
@@ -219,7 +219,6 @@ action_awaited net w network c h (Complete v) may = completes net w c h v may
 action_awaited net w network c h (Deliver l number environment) may = deliver_awaited net w c h l environment number
 action_awaited net w network c h (Flip l number bit environment) may = flip_awaited net w c h l environment number bit
 action_awaited net w network c h (Forge l octets environment) may = tampered_awaited net w c h l environment octets
-action_awaited net w network c h WantMemory may = h
 
 pub first_awaited : (net : Network) → IsAwaited net first
 unfolding first

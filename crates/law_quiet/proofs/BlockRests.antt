@@ -13,7 +13,7 @@ use Rattle.net_model.specs.Site.{sender, receiver, count_up}
 use Rattle.net_model.specs.World.{Network, World, Transmission, Outgoing}
 use Rattle.net_model.specs.Events.{is_lane, is_valid_event}
 use Rattle.net_model.specs.Invariant.{Conserved}
-use Rattle.net_model.specs.Action.{Action, Start, Crash, Arm, SetLink, TakeBlock, Ask, Allocate, Transmit, Complete, Deliver, Flip, Forge, WantMemory, is_shown, environment_of}
+use Rattle.net_model.specs.Action.{Action, Start, Crash, Arm, SetLink, TakeBlock, Ask, Allocate, Transmit, Complete, Deliver, Flip, Forge, is_shown, environment_of}
 use Rattle.net_model.specs.Step.{step, is_node, is_link, is_asked, is_enabled, IsStep, run, IsRun}
 use Rattle.net_model.specs.BlockOrder.{Parts, all_histories, completions, block_actions, IsBlock}
 use Rattle.law_base.proofs.Base.{by_number, and_left, or_cases, eq_from, number_set_same}
@@ -73,7 +73,6 @@ module _ (net : Network) (network : IsNetwork net) where
   far_untouched w u far (Deliver l number environment) may = receiver_apart l u may far
   far_untouched w u far (Flip l number bit environment) may = receiver_apart l u may far
   far_untouched w u far (Forge l octets environment) may = receiver_apart l u (and_left (is_lane net.site l) _ (and_left _ _ (and_left _ _ may))) far
-  far_untouched w u far WantMemory may = refl
 
   none_far : (u : ℕ) → nat_lt u net.site.nodes ≡ false → (xs : List Action) (w : World) → Conserved net w → IsRun net w xs → w.placings u ≡ [] → (run net w xs).placings u ≡ []
   none_far u far [] w c h none = ap (λ (x : World). x.placings u) (run_none net w) ∙ none

@@ -23,7 +23,7 @@ use Rattle.net_model.specs.Records.{block_taken, apply_record, replay}
 use Rattle.net_model.specs.Decision.{Refuses, Effect, makes}
 use Rattle.net_model.specs.Decide.{decide}
 use Rattle.net_model.specs.Events.{is_valid_event}
-use Rattle.net_model.specs.Action.{Environment, Ok, Action, Start, Crash, Arm, SetLink, TakeBlock, Ask, Allocate, Transmit, Complete, Deliver, Flip, Forge, WantMemory, Recovery, Recovers, Resumes, Interrupted, NoMemory, Foreign, Outcome, is_no_memory, is_io_fault, is_shown, environment_of}
+use Rattle.net_model.specs.Action.{Environment, Ok, Action, Start, Crash, Arm, SetLink, TakeBlock, Ask, Allocate, Transmit, Complete, Deliver, Flip, Forge, Recovery, Recovers, Resumes, Interrupted, NoMemory, Foreign, Outcome, is_no_memory, is_io_fault, is_shown, environment_of}
 use Rattle.net_model.specs.Handle.{blocks_at, take_block, commit, stopped, perform, handle}
 use Rattle.net_model.specs.Frames.{receive_item, allocate, transmit_one, transmit, outgoing_of}
 use Rattle.net_model.specs.Start.{resolved, restarted, recovers, start}
@@ -182,7 +182,6 @@ module _ (net : Network) (w : World) (h : AreChained net w) where
   action_chained (Deliver l number environment) may = deliver_walk net w (AreChained net) h l environment (came l environment) number
   action_chained (Flip l number bit environment) may = flip_walk net w (AreChained net) h l environment (came l environment) number bit
   action_chained (Forge l octets environment) may = tampered_walk net w (AreChained net) h l environment (came l environment) octets
-  action_chained WantMemory may = h
 
 -- Runs.
 

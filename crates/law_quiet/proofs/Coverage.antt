@@ -8,7 +8,7 @@ use Rattle.net_model.specs.Events.{is_lane}
 use Rattle.net_model.specs.Site.{sender, receiver}
 use Rattle.net_model.specs.World.{Network, World}
 use Rattle.net_model.specs.Invariant.{Conserved}
-use Rattle.net_model.specs.Action.{Environment, Action, Start, Crash, Arm, SetLink, TakeBlock, Ask, Allocate, Transmit, Complete, Deliver, Flip, Forge, WantMemory, is_shown, environment_of}
+use Rattle.net_model.specs.Action.{Environment, Action, Start, Crash, Arm, SetLink, TakeBlock, Ask, Allocate, Transmit, Complete, Deliver, Flip, Forge, is_shown, environment_of}
 use Rattle.net_model.specs.Step.{step, is_enabled, IsStep}
 use Rattle.run_model.specs.Play.{plain}
 use Rattle.law_base.proofs.Base.{split, by_other_lane, and_left, and_both, or_left, or_right, eq_same, lane_same}
@@ -35,7 +35,6 @@ plain_start (Complete v) = refl
 plain_start (Deliver l number environment) = refl
 plain_start (Flip l number bit environment) = refl
 plain_start (Forge l octets environment) = refl
-plain_start WantMemory = refl
 
 module _ (net : Network) (network : IsNetwork net) (l : Lane) where
   -- The lane is passing, and the frames below these numbers count as passed.

@@ -21,7 +21,7 @@ use Rattle.net_model.specs.Decision.{Decision, Refuses, Does, Effect, makes}
 use Rattle.net_model.specs.Decide.{decide}
 use Rattle.net_model.specs.Events.{is_valid_event}
 use Rattle.net_model.specs.Invariant.{Conserved}
-use Rattle.net_model.specs.Action.{Environment, Action, Start, Crash, Arm, SetLink, TakeBlock, Ask, Allocate, Transmit, Complete, Deliver, Flip, Forge, WantMemory, Recovery, Recovers, Resumes, Interrupted, NoMemory, Foreign, Outcome}
+use Rattle.net_model.specs.Action.{Environment, Action, Start, Crash, Arm, SetLink, TakeBlock, Ask, Allocate, Transmit, Complete, Deliver, Flip, Forge, Recovery, Recovers, Resumes, Interrupted, NoMemory, Foreign, Outcome}
 use Rattle.net_model.specs.Handle.{blocks_at, take_block, with_orders, with_repeats, commit, stopped, perform, handle}
 use Rattle.net_model.specs.Frames.{receive_item, deliver, tampered, flip}
 use Rattle.net_model.specs.Start.{restarted, recovers, start}
@@ -153,4 +153,3 @@ module _ (net : Network) (w : World) (c : Conserved net w) (q : IsQuiet w) where
   stays_quiet network (Deliver l number environment) may none = delivers l environment number
   stays_quiet network (Flip l number bit environment) may none = flips l environment number bit
   stays_quiet network (Forge l octets environment) may none = tampers l environment octets
-  stays_quiet network WantMemory may none = q

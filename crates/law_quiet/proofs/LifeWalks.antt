@@ -29,7 +29,7 @@ use Rattle.net_model.specs.Plan.{plan}
 use Rattle.net_model.specs.Relay.{receive_fact, receive_ack}
 use Rattle.net_model.specs.Events.{is_valid_event}
 use Rattle.net_model.specs.Invariant.{IsJournal, Conserved}
-use Rattle.net_model.specs.Action.{Environment, Action, Start, Crash, Arm, SetLink, TakeBlock, Ask, Allocate, Transmit, Complete, Deliver, Flip, Forge, WantMemory, Outcome, is_no_memory, is_io_fault}
+use Rattle.net_model.specs.Action.{Environment, Action, Start, Crash, Arm, SetLink, TakeBlock, Ask, Allocate, Transmit, Complete, Deliver, Flip, Forge, Outcome, is_no_memory, is_io_fault}
 use Rattle.net_model.specs.Handle.{blocks_at, take_block, commit, stopped, perform, handle}
 use Rattle.net_model.specs.Frames.{receive_item, allocate, put, transmit_one, transmit, outgoing_of}
 use Rattle.net_model.specs.Step.{complete_node, step, is_node, is_asked, is_enabled}
@@ -165,4 +165,3 @@ module _ (net : Network) (w : World) (network : IsNetwork net) (c : Conserved ne
   life_walk (Deliver l number environment) other may = deliver_walk net w P k.same l environment (came l environment) number
   life_walk (Flip l number bit environment) other may = flip_walk net w P k.same l environment (came l environment) number bit
   life_walk (Forge l octets environment) other may = tampered_walk net w P k.same l environment (came l environment) octets
-  life_walk WantMemory other may = k.same

@@ -20,7 +20,7 @@ use Rattle.net_model.specs.Decision.{Refuses, makes}
 use Rattle.net_model.specs.Decide.{decide}
 use Rattle.net_model.specs.Events.{is_valid_event}
 use Rattle.net_model.specs.Invariant.{Conserved}
-use Rattle.net_model.specs.Action.{Environment, Ok, Action, Start, Crash, Arm, SetLink, TakeBlock, Ask, Allocate, Transmit, Complete, Deliver, Flip, Forge, WantMemory, Recovery, Recovers, Resumes, Interrupted, NoMemory, Foreign, Outcome, is_no_memory, is_io_fault, is_shown, environment_of}
+use Rattle.net_model.specs.Action.{Environment, Ok, Action, Start, Crash, Arm, SetLink, TakeBlock, Ask, Allocate, Transmit, Complete, Deliver, Flip, Forge, Recovery, Recovers, Resumes, Interrupted, NoMemory, Foreign, Outcome, is_no_memory, is_io_fault, is_shown, environment_of}
 use Rattle.net_model.specs.Handle.{blocks_at, take_block, handle}
 use Rattle.net_model.specs.Frames.{receive_item, deliver, tampered, flip, allocate, transmit_one, transmit, outgoing_of}
 use Rattle.net_model.specs.Start.{resolved, restarted, interrupted_start, recovers, start}
@@ -181,7 +181,6 @@ module _ (net : Network) (w : World) (c : Conserved net w) (noted : IsNoted w) w
   action_noted network (Deliver l number environment) may = deliver_noted l environment number
   action_noted network (Flip l number bit environment) may = flip_noted l environment number bit
   action_noted network (Forge l octets environment) may = tampered_noted l environment octets
-  action_noted network WantMemory may = noted
 
 -- Lemmas on runs.
 

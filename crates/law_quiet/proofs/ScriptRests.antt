@@ -8,7 +8,7 @@ use Rattle.net_model.specs.World.{Network, World, Allocation, Transmission}
 use Rattle.net_model.specs.Invariant.{Conserved}
 use Rattle.net_model.specs.Frames.{allocate}
 use Rattle.net_model.specs.Handle.{frame_at}
-use Rattle.net_model.specs.Action.{Environment, Ok, Recovers, Action, Start, Crash, Arm, SetLink, TakeBlock, Ask, Allocate, Transmit, Complete, Deliver, Flip, Forge, WantMemory, Outcome, Replies, StartStopped, StartMemory, ForeignAt, is_shown, environment_of}
+use Rattle.net_model.specs.Action.{Environment, Ok, Recovers, Action, Start, Crash, Arm, SetLink, TakeBlock, Ask, Allocate, Transmit, Complete, Deliver, Flip, Forge, Outcome, Replies, StartStopped, StartMemory, ForeignAt, is_shown, environment_of}
 use Rattle.net_model.specs.Step.{step, is_enabled, IsStep, run}
 use Rattle.net_model.specs.Tick.{Emission, Again, New, tick_order, ordered}
 use Rattle.run_types.specs.declared.item.Item.{Item}
@@ -57,7 +57,6 @@ module _ (net : Network) (network : IsNetwork net) where
   plain_sends (Deliver l number environment) = refl
   plain_sends (Flip l number bit environment) = refl
   plain_sends (Forge l octets environment) = refl
-  plain_sends WantMemory = refl
 
   pub rests_on : (w : World) → Rests w → (a action : Action) → plain a ≡ action → IsStep net w a → sends_nothing action ≡ true → Rests (step net w a).0
   rests_on w h a action asked may none = (

@@ -31,7 +31,7 @@ use Rattle.net_model.specs.Plan.{plan}
 use Rattle.net_model.specs.Relay.{owed, stored_note, receive_fact, receive_ack}
 use Rattle.net_model.specs.Events.{is_lane, is_valid_event}
 use Rattle.net_model.specs.Invariant.{Conserved}
-use Rattle.net_model.specs.Action.{Environment, Ok, Action, Start, Crash, Arm, SetLink, TakeBlock, Ask, Allocate, Transmit, Complete, Deliver, Flip, Forge, WantMemory, Recovery, Recovers, Resumes, Interrupted, NoMemory, Foreign, Outcome, is_no_memory, is_io_fault, is_shown, environment_of}
+use Rattle.net_model.specs.Action.{Environment, Ok, Action, Start, Crash, Arm, SetLink, TakeBlock, Ask, Allocate, Transmit, Complete, Deliver, Flip, Forge, Recovery, Recovers, Resumes, Interrupted, NoMemory, Foreign, Outcome, is_no_memory, is_io_fault, is_shown, environment_of}
 use Rattle.net_model.specs.Handle.{blocks_at, take_block, commit, stopped, perform, handle}
 use Rattle.net_model.specs.Frames.{receive_item, allocate, transmit_one, transmit, outgoing_of}
 use Rattle.net_model.specs.Start.{resolved_durable, restarted, recovers, start}
@@ -248,7 +248,6 @@ module _ (net : Network) (w : World) (network : IsNetwork net) (c : Conserved ne
   action_unanswered (Deliver l number environment) may = deliver_walk net w AreUnanswered h l environment (came l may environment) number
   action_unanswered (Flip l number bit environment) may = flip_walk net w AreUnanswered h l environment (came l may environment) number bit
   action_unanswered (Forge l octets environment) may = tampered_walk net w AreUnanswered h l environment (came l (and_left (is_lane net.site l) _ (and_left _ _ (and_left _ _ may))) environment) octets
-  action_unanswered WantMemory may = h
 
 -- Runs.
 

@@ -8,7 +8,7 @@ use Rattle.net_model.specs.Item.{payload}
 use Rattle.net_model.specs.Site.{receiver}
 use Rattle.net_model.specs.World.{Network, World, Allocation}
 use Rattle.net_model.specs.Decision.{Effect}
-use Rattle.net_model.specs.Action.{Environment, Action, Start, Crash, Arm, SetLink, TakeBlock, Ask, Allocate, Transmit, Complete, Deliver, Flip, Forge, WantMemory, Outcome}
+use Rattle.net_model.specs.Action.{Environment, Action, Start, Crash, Arm, SetLink, TakeBlock, Ask, Allocate, Transmit, Complete, Deliver, Flip, Forge, Outcome}
 use Rattle.net_model.specs.Frames.{receive_item}
 use Rattle.net_model.specs.Handle.{commit, stopped, perform, handle}
 use Rattle.net_model.specs.Step.{step}
@@ -57,4 +57,3 @@ module _ (net : Network) (w : World) where
   same_wires (Deliver l number environment) mute other = deliver_walk net w Same refl l environment (came l environment) number
   same_wires (Flip l number bit environment) mute other = flip_walk net w Same refl l environment (came l environment) number bit
   same_wires (Forge l octets environment) mute other = tampered_walk net w Same refl l environment (came l environment) octets
-  same_wires WantMemory mute other = refl

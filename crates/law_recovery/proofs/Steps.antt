@@ -23,7 +23,7 @@ use Rattle.net_model.specs.Decision.{Refuses, Does, Effect, makes}
 use Rattle.net_model.specs.Decide.{decide, random_need}
 use Rattle.net_model.specs.Events.{is_valid_event}
 use Rattle.net_model.specs.Invariant.{Conserved}
-use Rattle.net_model.specs.Action.{Environment, Ok, Action, Start, Crash, Arm, SetLink, TakeBlock, Ask, Allocate, Transmit, Complete, Deliver, Flip, Forge, WantMemory, Recovery, Recovers, Resumes, Interrupted, NoMemory, Foreign, Outcome, WasUp, is_no_memory, is_io_fault}
+use Rattle.net_model.specs.Action.{Environment, Ok, Action, Start, Crash, Arm, SetLink, TakeBlock, Ask, Allocate, Transmit, Complete, Deliver, Flip, Forge, Recovery, Recovers, Resumes, Interrupted, NoMemory, Foreign, Outcome, WasUp, is_no_memory, is_io_fault}
 use Rattle.net_model.specs.Handle.{handle, blocks_at, take_block}
 use Rattle.net_model.specs.Frames.{receive_item, allocate, outgoing_of, put, transmit_one, transmit}
 use Rattle.net_model.specs.Start.{resolved, resolved_durable, restarted, interrupted_start, recovers, start}
@@ -258,4 +258,3 @@ module _ (net : Network) (w : World) (network : IsNetwork net) (c : Conserved ne
   step_moves fits (Deliver l number environment) may v = deliver_walk net w (λ (x : World). Moves net w x v) (stays net w v) l environment (frame_moves l environment v) number
   step_moves fits (Flip l number bit environment) may v = flip_walk net w (λ (x : World). Moves net w x v) (stays net w v) l environment (frame_moves l environment v) number bit
   step_moves fits (Forge l octets environment) may v = tampered_walk net w (λ (x : World). Moves net w x v) (stays net w v) l environment (frame_moves l environment v) octets
-  step_moves fits WantMemory may v = stays net w v

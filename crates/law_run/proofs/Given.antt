@@ -9,7 +9,7 @@ use Rattle.net_model.specs.View.{View, handed_at}
 use Rattle.net_model.specs.Doubt.{Extends}
 use Rattle.net_model.specs.Needed.{view_of}
 use Rattle.net_model.specs.Invariant.{Conserved}
-use Rattle.net_model.specs.Action.{Action, Start, Crash, Arm, SetLink, TakeBlock, Ask, Allocate, Transmit, Complete, Deliver, Flip, Forge, WantMemory, Environment, Recovery, Recovers, Resumes, Interrupted, NoMemory, Foreign, Outcome, WasUp, is_io_fault, is_no_memory}
+use Rattle.net_model.specs.Action.{Action, Start, Crash, Arm, SetLink, TakeBlock, Ask, Allocate, Transmit, Complete, Deliver, Flip, Forge, Environment, Recovery, Recovers, Resumes, Interrupted, NoMemory, Foreign, Outcome, WasUp, is_io_fault, is_no_memory}
 use Rattle.net_model.specs.Frames.{allocate, outgoing_of, transmit_one, transmit}
 use Rattle.net_model.specs.Start.{resolved, resolved_durable, restarted, interrupted_start, recovers, start}
 use Rattle.net_model.specs.Step.{step, crash, is_enabled}
@@ -221,4 +221,3 @@ module _ (net : Network) (w : World) (network : IsNetwork net) (c : Conserved ne
   step_given fits (Deliver l number environment) may v = made_given net w (Deliver l number environment) v refl (deliver_made net w network c v l environment number)
   step_given fits (Flip l number bit environment) may v = made_given net w (Flip l number bit environment) v refl (flip_made net w network c v l environment number bit)
   step_given fits (Forge l octets environment) may v = made_given net w (Forge l octets environment) v refl (tampered_made net w network c v l environment octets)
-  step_given fits WantMemory may v = quiet_given net w WantMemory v (quiet_same net w v) refl

@@ -11,7 +11,7 @@ use Rattle.net_model.specs.Handings.{PairsDiffer}
 use Rattle.net_model.specs.Invariant.{Conserved}
 use Rattle.net_model.specs.Premises.{IsNetwork}
 use Rattle.net_model.specs.Events.{is_valid_event}
-use Rattle.net_model.specs.Action.{Action, Start, Crash, Arm, SetLink, TakeBlock, Ask, Allocate, Transmit, Complete, Deliver, Flip, Forge, WantMemory, is_shown, environment_of}
+use Rattle.net_model.specs.Action.{Action, Start, Crash, Arm, SetLink, TakeBlock, Ask, Allocate, Transmit, Complete, Deliver, Flip, Forge, is_shown, environment_of}
 use Rattle.net_model.specs.Handle.{handle}
 use Rattle.net_model.specs.Step.{step, is_asked, is_node, is_enabled, is_step, run, is_run, IsRun}
 use Rattle.net_model.specs.Deliveries.{Delivery, of_step, deliveries, IsTrueDelivery, pairs_of, IsWithin, Empty, Next, Skip, AreTrueDeliveries}
@@ -115,7 +115,6 @@ true_step net w (Complete v) good c after enabled = silent_step w _ (longer_step
 true_step net w (Deliver l number environment) good c after enabled = silent_step w _ (longer_step net w (Deliver l number environment))
 true_step net w (Flip l number bit environment) good c after enabled = silent_step w _ (longer_step net w (Flip l number bit environment))
 true_step net w (Forge l octets environment) good c after enabled = silent_step w _ (longer_step net w (Forge l octets environment))
-true_step net w WantMemory good c after enabled = silent_step w _ (longer_step net w WantMemory)
 
 -- A run hands out true bytes and marks them.
 

@@ -9,7 +9,7 @@ use Rattle.net_model.specs.Premises.{IsNetwork}
 use Rattle.net_model.specs.Table.{fact_at}
 use Rattle.net_model.specs.Site.{is_incident}
 use Rattle.net_model.specs.World.{Network, World, Durable, InDoubt, Transmission, Outgoing, no_doubt, first}
-use Rattle.net_model.specs.Action.{Environment, Action, Start, Crash, Arm, SetLink, TakeBlock, Ask, Allocate, Transmit, Complete, Deliver, Flip, Forge, WantMemory, Recovery, Recovers, Resumes, Interrupted, NoMemory, Foreign, Outcome, is_no_memory, is_io_fault, is_shown, environment_of}
+use Rattle.net_model.specs.Action.{Environment, Action, Start, Crash, Arm, SetLink, TakeBlock, Ask, Allocate, Transmit, Complete, Deliver, Flip, Forge, Recovery, Recovers, Resumes, Interrupted, NoMemory, Foreign, Outcome, is_no_memory, is_io_fault, is_shown, environment_of}
 use Rattle.net_model.specs.Invariant.{Conserved}
 use Rattle.net_model.specs.Frames.{allocate, transmit_one, transmit, outgoing_of}
 use Rattle.net_model.specs.Start.{resolved, restarted, interrupted_start, recovers, start}
@@ -140,7 +140,6 @@ module _ (net : Network) (w : World) (network : IsNetwork net) (c : Conserved ne
   action_lays (Deliver l number environment) may = deliver_lays net w c laid l environment number
   action_lays (Flip l number bit environment) may = flip_lays net w c laid l environment number bit
   action_lays (Forge l octets environment) may = tampered_lays net w c laid l environment octets
-  action_lays WantMemory may = laid
 
 -- Lemmas on runs.
 

@@ -58,8 +58,6 @@ pub data Action : Type 0 where
   Deliver : (lane : Lane) (number : ℕ) (environment : Environment) → Action
   Flip : (lane : Lane) (number bit : ℕ) (environment : Environment) → Action
   Forge : (lane : Lane) (octets : List ℕ) (environment : Environment) → Action
-  -- memory runs out before anybody is asked
-  WantMemory : Action
 
 pub data Outcome : Type 0 where
   Replies : (reply : Reply) → Outcome

@@ -4,12 +4,11 @@ use Rattle.std.specs.List.{list_all}
 use Rattle.qkd_base.specs.Family.{number_set}
 use Rattle.net_model.specs.declared.event.Event.{Event}
 use Rattle.net_model.specs.declared.event.Event.TheVariants.{Block, Heard, Note}
-use Rattle.net_model.specs.declared.reply.Reply.TheVariants.{Memory}
 use Rattle.net_model.specs.Site.{outgoing_lanes, is_incident}
 use Rattle.net_model.specs.World.{Network, World, no_volatile}
 use Rattle.net_model.specs.Journal.{is_nil}
 use Rattle.net_model.specs.Events.{is_valid_event, is_lane}
-use Rattle.net_model.specs.Action.{Ok, Action, Start, Crash, Arm, SetLink, TakeBlock, Ask, Allocate, Transmit, Complete, Deliver, Flip, Forge, WantMemory, Outcome, Replies, Crashed, WasDown, Armed, LinkSet, is_shown, environment_of}
+use Rattle.net_model.specs.Action.{Ok, Action, Start, Crash, Arm, SetLink, TakeBlock, Ask, Allocate, Transmit, Complete, Deliver, Flip, Forge, Outcome, Replies, Crashed, WasDown, Armed, LinkSet, is_shown, environment_of}
 use Rattle.net_model.specs.Handle.{handle, take_block}
 use Rattle.net_model.specs.Frames.{allocate, transmit, deliver, flip, tampered, is_unclaimed, outgoing_of}
 use Rattle.net_model.specs.Start.{start, may_recover, is_plain}
@@ -36,7 +35,6 @@ step net w (Complete v) = complete_node net w v
 step net w (Deliver l number environment) = deliver net w l number environment
 step net w (Flip l number bit environment) = flip net w l number bit environment
 step net w (Forge l octets environment) = tampered net w l octets environment
-step net w WantMemory = (w, Replies Memory)
 
 -- ---- when an action may happen
 
@@ -74,7 +72,6 @@ is_enabled net w (Complete v) = is_node net v && is_sent net w v
 is_enabled net w (Deliver l number environment) = is_lane net.site l
 is_enabled net w (Flip l number bit environment) = is_lane net.site l
 is_enabled net w (Forge l octets environment) = is_lane net.site l && nat_le 1 (length octets) && nat_le (length octets) 600 && list_all (λ b. nat_lt b 256) octets
-is_enabled net w WantMemory = true
 
 -- the action may happen, and the answer of the outside is visible in the outcome
 abbrev pub is_step : Network → World → Action → Bool

@@ -12,7 +12,7 @@ use Rattle.net_model.specs.World.{Network, World, first}
 use Rattle.net_model.specs.Premises.{IsNetwork, IsSite}
 use Rattle.net_model.specs.Invariant.{Conserved}
 use Rattle.net_model.specs.Events.{is_lane, is_valid_event}
-use Rattle.net_model.specs.Action.{Action, Start, Crash, Arm, SetLink, TakeBlock, Ask, Allocate, Transmit, Complete, Deliver, Flip, Forge, WantMemory, is_shown, environment_of, is_io_fault, is_entropy_fault, is_device_fault}
+use Rattle.net_model.specs.Action.{Action, Start, Crash, Arm, SetLink, TakeBlock, Ask, Allocate, Transmit, Complete, Deliver, Flip, Forge, is_shown, environment_of, is_io_fault, is_entropy_fault, is_device_fault}
 use Rattle.net_model.specs.Start.{may_recover, is_plain}
 use Rattle.net_model.specs.Faults.{is_interrupted, is_disk_fault, is_random_fault, is_block_fault, is_wire_fault, disk_faults, entropy_faults, device_faults, wire_faults, fault_armed, armings}
 use Rattle.net_model.specs.Step.{step, is_enabled, is_step, is_node, is_link, is_quiet, is_sent, is_asked, run, is_run, IsRun}
@@ -90,7 +90,6 @@ module _ (net : Network) (w : World) (network : IsNetwork net) where
     untouched (Deliver l number environment) may = receiver_off l may
     untouched (Flip l number bit environment) may = receiver_off l may
     untouched (Forge l octets environment) may = receiver_off l (first_of_four (is_lane net.site l) _ _ _ may)
-    untouched WantMemory may = refl
 
     no_disk_fault : (a : Action) → is_enabled net w a ≡ true → is_disk_fault net.site v a ≡ false
     no_disk_fault (Start u recovery) may = no_and (u == v) (is_interrupted recovery) (untouched (Start u recovery) may)

@@ -5,20 +5,24 @@ use Rattle.net_model.specs.declared.event.Event.{Event}
 use Rattle.net_model.specs.declared.event.Event.TheVariants.{Plan}
 use Rattle.net_model.specs.declared.reply.Reply.{Reply}
 use Rattle.net_model.specs.declared.reply.Reply.TheVariants.{Planned}
-use Rattle.net_model.specs.Action.{Environment, Action, Ok, Ask, Deliver, WantMemory}
+use Rattle.net_model.specs.Action.{Environment, Action, Ok, Arm, Fail, Ask, Deliver}
 use Rattle.run_model.specs.Works.{Work}
 use Rattle.run_ops.specs.declared.job.Job.{Job}
 use Rattle.run_ops.specs.declared.job.Job.TheVariants as jobs
 use Rattle.par_managers.specs.declared.next.Next.{Next}
 
+-- an action that is no manager's turn
+abbrev unasked : Action
+unasked = Arm 0 (Fail 0)
+
 -- the action that a job asks for, with an answer of the environment
 abbrev pub asked_with : Job → Environment → Action
-asked_with jobs.Nothing environment = WantMemory
+asked_with jobs.Nothing environment = unasked
 asked_with (jobs.Ask node event) environment = Ask node event environment
 asked_with (jobs.Pass lane number) environment = Deliver lane number environment
 
 abbrev pub action_at : Option Job → Action
-action_at None = WantMemory
+action_at None = unasked
 action_at (Some job) = asked_with job Ok
 
 -- the turn, if nothing in the environment fails

@@ -15,7 +15,7 @@ use Rattle.net_model.specs.World.{Network, World, Allocation, received_there}
 use Rattle.net_model.specs.Decision.{Effect}
 use Rattle.net_model.specs.Handle.{perform, commit, stopped, is_numbered}
 use Rattle.net_model.specs.Frames.{deliver, deliver_frame, deliver_number, receive_item}
-use Rattle.net_model.specs.Action.{Action, Replies, is_no_memory, is_entropy_fault, is_io_fault, Outcome, Environment, Ok, Start, Crash, Arm, SetLink, TakeBlock, Ask, Allocate, Transmit, Complete, Deliver, Flip, Forge, WantMemory}
+use Rattle.net_model.specs.Action.{Action, Replies, is_no_memory, is_entropy_fault, is_io_fault, Outcome, Environment, Ok, Start, Crash, Arm, SetLink, TakeBlock, Ask, Allocate, Transmit, Complete, Deliver, Flip, Forge}
 use Rattle.net_model.specs.Step.{step}
 use Rattle.run_model.specs.Script.{Script, Ends, Reports, Looks, Asks, GivesUp, then_comes}
 use Rattle.run_model.specs.Play.{ForgedAt, Played, plain, is_forged, stopped_at, play, OneOf, IsPlay}
@@ -82,7 +82,6 @@ module _ (net : Network) (w : World) where
   delivery_keeps l number (Deliver k n environment) is = number_keeps k environment (slice_get (w.wire k) n)
   delivery_keeps l number (Flip k n bit environment) is = cc
   delivery_keeps l number (Forge k octets environment) is = cc
-  delivery_keeps l number WantMemory is = cc
 
 -- ---- scripts whose only actions bring frames
 

@@ -6,7 +6,7 @@ use Rattle.net_model.specs.declared.event.Event.TheVariants.{Plan}
 use Rattle.net_model.specs.Site.{Site, is_incident}
 use Rattle.net_model.specs.Events.{is_valid_event, is_lane}
 use Rattle.net_model.specs.Step.{is_asked}
-use Rattle.net_model.specs.Action.{Action, Start, Crash, Arm, SetLink, TakeBlock, Ask, Allocate, Transmit, Complete, Deliver, Flip, Forge, WantMemory}
+use Rattle.net_model.specs.Action.{Action, Start, Crash, Arm, SetLink, TakeBlock, Ask, Allocate, Transmit, Complete, Deliver, Flip, Forge}
 
 -- The event is a plan. Only a tick asks for a plan. The tick then puts the plan's frames on the wires and notes the
 -- result, before anything else happens.
@@ -31,4 +31,3 @@ is_fit s (Forge l octets environment) = is_lane s l && fits_a_frame (length octe
 is_fit s (Allocate t) = false
 is_fit s (Transmit l j environment) = false
 is_fit s (Complete v) = false
-is_fit s WantMemory = true

@@ -15,7 +15,7 @@ use Rattle.net_model.specs.Plan.{end_on, raise, leases_on, plan}
 use Rattle.net_model.specs.Decision.{Does, Effect}
 use Rattle.net_model.specs.Decide.{decide, random_need}
 use Rattle.net_model.specs.Events.{is_lane}
-use Rattle.net_model.specs.Action.{Environment, Action, Start, Crash, Arm, SetLink, TakeBlock, Ask, Allocate, Transmit, Complete, Deliver, Flip, Forge, WantMemory}
+use Rattle.net_model.specs.Action.{Environment, Action, Start, Crash, Arm, SetLink, TakeBlock, Ask, Allocate, Transmit, Complete, Deliver, Flip, Forge}
 use Rattle.net_model.specs.Handle.{commit, stopped, perform, handle}
 use Rattle.net_model.specs.Step.{step, is_enabled}
 use Rattle.law_base.proofs.Base.{or_first, or_second, and_left}
@@ -111,7 +111,6 @@ module _ (net : Network) (w : World) (r : IsRunning net w) (l : Lane) where
   later (Deliver k number environment) may none = unchanged (Deliver k number environment) may refl
   later (Flip k number bit environment) may none = unchanged (Flip k number bit environment) may refl
   later (Forge k octets environment) may none = unchanged (Forge k octets environment) may refl
-  later WantMemory may none = unchanged WantMemory may refl
 
   pub lane_goes_on : {X : Type 0} (frames : X → Option (List (List ℕ))) (counted : X → ℕ) (a : Action) (side : LaneForm X) → is_lane net.site l ≡ true →
       is_enabled net w a ≡ true → changes_lane net.site a l ≡ false → LaneStands frames counted net w l side → LaneStands frames counted net (step net w a).0 l side

@@ -10,7 +10,7 @@ use Rattle.net_model.specs.Item.{payload}
 use Rattle.net_model.specs.Site.{receiver}
 use Rattle.net_model.specs.World.{Network, World}
 use Rattle.net_model.specs.Decision.{Effect}
-use Rattle.net_model.specs.Action.{Environment, Ok, Outcome, Action, Start, Crash, Arm, SetLink, TakeBlock, Ask, Allocate, Transmit, Complete, Deliver, Flip, Forge, WantMemory, Recovery, Recovers, Resumes, Interrupted, NoMemory, Foreign}
+use Rattle.net_model.specs.Action.{Environment, Ok, Outcome, Action, Start, Crash, Arm, SetLink, TakeBlock, Ask, Allocate, Transmit, Complete, Deliver, Flip, Forge, Recovery, Recovers, Resumes, Interrupted, NoMemory, Foreign}
 use Rattle.net_model.specs.Handle.{commit, stopped, perform, handle}
 use Rattle.net_model.specs.Frames.{receive_item}
 use Rattle.net_model.specs.Start.{resolved, restarted, interrupted_start, recovers, start}
@@ -38,7 +38,6 @@ unclaimed_stays (Complete v) none = refl
 unclaimed_stays (Deliver l number environment) none = refl
 unclaimed_stays (Flip l number bit environment) none = refl
 unclaimed_stays (Forge l octets environment) none = refl
-unclaimed_stays WantMemory none = refl
 
 outgoing_stays : (a : Action) → sends a ≡ false → changes_part Outgoing a ≡ false
 outgoing_stays (Ask v event environment) none = none
@@ -53,7 +52,6 @@ outgoing_stays (Complete v) none = refl
 outgoing_stays (Deliver l number environment) none = refl
 outgoing_stays (Flip l number bit environment) none = refl
 outgoing_stays (Forge l octets environment) none = refl
-outgoing_stays WantMemory none = refl
 
 with_none : (touched changed : Bool) → changed ≡ false → (touched && changed) ≡ false
 with_none true changed none = none
@@ -102,7 +100,6 @@ module _ (net : Network) (w : World) (empty : (v : ℕ) → w.placings v ≡ [])
   noted_all (Deliver l number environment) none = deliver_walk net w Noted empty l environment (λ j a at up. item l environment a.offset _) number
   noted_all (Flip l number bit environment) none = flip_walk net w Noted empty l environment (λ j a at up. item l environment a.offset _) number bit
   noted_all (Forge l octets environment) none = tampered_walk net w Noted empty l environment (λ j a at up. item l environment a.offset _) octets
-  noted_all WantMemory none = empty
 
 pub quiet_stays : (net : Network) (w : World) (a : Action) → IsRunning net w → is_enabled net w a ≡ true → sends a ≡ false → IsQuiet w → IsQuiet (step net w a).0
 quiet_stays net w a r may none quiet = record {

@@ -5,7 +5,7 @@ use Rattle.qkd_base.specs.declared.lane.Lane.{Lane}
 use Rattle.net_model.specs.OctetSequence.{OctetSequence}
 use Rattle.net_model.specs.World.{Network, World}
 use Rattle.net_model.specs.Events.{is_lane}
-use Rattle.net_model.specs.Action.{Action, Start, Crash, Arm, SetLink, TakeBlock, Ask, Allocate, Transmit, Complete, Deliver, Flip, Forge, WantMemory, is_shown, environment_of}
+use Rattle.net_model.specs.Action.{Action, Start, Crash, Arm, SetLink, TakeBlock, Ask, Allocate, Transmit, Complete, Deliver, Flip, Forge, is_shown, environment_of}
 use Rattle.net_model.specs.Step.{step, is_enabled, IsStep}
 use Rattle.declared_site.specs.SiteOf.{site_of}
 use Rattle.world_nodes.specs.Passed.{Post}
@@ -43,7 +43,6 @@ manager_on net w (Complete u) v r may none = (step_unseen net w r.network r.cons
 manager_on net w (Deliver l number environment) v r may none = (step_unseen net w r.network r.conserved v (Deliver l number environment) may none).manager
 manager_on net w (Flip l number bit environment) v r may none = (step_unseen net w r.network r.conserved v (Flip l number bit environment) may none).manager
 manager_on net w (Forge l octets environment) v r may none = (step_unseen net w r.network r.conserved v (Forge l octets environment) may none).manager
-manager_on net w WantMemory v r may none = (step_unseen net w r.network r.conserved v WantMemory may none).manager
 
 module _ {K Q E X : Type 0} (is_honest : K → Bool) (moment : K → ℕ) (image : K → ℕ → List ℕ → Type 0) (left : E → Option OctetSequence) (told : Q → Option OctetSequence)
     (frames : X → Option (List (List ℕ))) (counted : X → ℕ) (old new : State K Q E X) (net : Network) (w : World) (a : Action) where
