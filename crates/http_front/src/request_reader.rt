@@ -16,7 +16,7 @@ use std::mem;
 const FRONT: usize = 8193;
 
 // The most octets of one read.
-const PIECE: usize = 4096;
+const PIECE: usize = 2048;
 
 /// Reads one request, first from the kept octets and then from the source. Octets of the next request are kept. After an `Err`
 /// all octets read so far are kept. If the kept octets suffice, nothing is read from the source.
@@ -77,10 +77,9 @@ fn read_head<S: Source>(
     ensures still { HasSome octets.old.items → (octets.new.items ≡ octets.old.items) × (source.new ≡ source.old) }
 {
     'look: loop {
-        match head_of(alloc, front(octets)) {
-            Ok(Some(head)) => return Ok(head),
-            Ok(None) => {}
-            Err(refusal) => return Err(refusal),
+        match head_of(alloc, front(octets))? {
+            Some(head) => return Ok(head),
+            None => {}
         }
         if octets.len() > HEAD_LIMIT {
             return Err(FrontRefusal::HeadTooLong);

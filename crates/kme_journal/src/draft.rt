@@ -92,10 +92,7 @@ fn prepared(
     ensures refused { (is_up : ℕ → Bool) (random : List ℕ) → AreUp up is_up
         → IfErr result (λ reply. IsStep (view node.old) (placings_of event.now) (decide (site_of node.old.site) hop_sealing is_up (view node.old) random event.now) (Err reply)) }
 {
-    let (step, random) = match decided_over_zeros(alloc, node, event, up) {
-        Err(reply) => return Err(reply),
-        Ok(made) => made,
-    };
+    let (step, random) = decided_over_zeros(alloc, node, event, up)?;
     match node.reserve(&step) {
         Err(_) => return Err(Reply::Memory),
         Ok(()) => {}
@@ -131,10 +128,7 @@ impl Draft {
         law_fill_over_other_octets();
         law_group_fill_over_other_octets();
         law_feed_over_other_octets();
-        let draft = match prepared(alloc, node, event, up, journal.version()) {
-            Err(reply) => return Err(reply),
-            Ok(draft) => draft,
-        };
+        let draft = prepared(alloc, node, event, up, journal.version())?;
         let more = added(&draft.body);
         if is_past(journal.length(), more) {
             return Err(Reply::JournalFull {

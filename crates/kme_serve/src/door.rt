@@ -48,10 +48,8 @@ pub fn serve_door<R: Wait, M: Managers, D: Listener>(
         if connections.are_served(rt, served) {
             return Ok(());
         }
-        match serve_next(rt, alloc, managers, api, pass, node, door) {
-            Ok(()) => served += 1,
-            Err(failed) => return Err(failed),
-        }
+        serve_next(rt, alloc, managers, api, pass, node, door)?;
+        served += 1;
     }
     unreachable!()
 }
@@ -80,10 +78,7 @@ fn serve_next<R: Wait, M: Managers, D: Listener>(
     ensures cause { HasCause (D.faults door.old) (D.faults door.new) result }
     ensures calm { OnOk result (D.faults door.new ≡ D.faults door.old) }
 {
-    let (mut source, mut sink) = match door.accept() {
-        Ok(ends) => ends,
-        Err(failed) => return Err(failed),
-    };
+    let (mut source, mut sink) = door.accept()?;
     let ended = serve_connection(rt, alloc, managers, api, pass, node, &mut source, &mut sink);
     door.finish(source, sink, ended);
     Ok(())

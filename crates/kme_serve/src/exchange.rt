@@ -45,10 +45,7 @@ pub(crate) fn exchange<R: Wait, M: Managers, S: Source, W: Sink>(
         (record { left = S.left source.new; taken = W.taken sink.new; read_faults = S.faults source.new; write_faults = W.faults sink.new; pass = pass.new })
         result }
 {
-    let request = match next(alloc, source, kept, sink, owed) {
-        Ok(request) => request,
-        Err(ended) => return Err(ended),
-    };
+    let request = next(alloc, source, kept, sink, owed)?;
     let close = request.close || count + 1 == RESPONSE_LIMIT;
     let text = match answer(rt, alloc, managers, api, pass, node, &request, close) {
         Ok(text) => text,

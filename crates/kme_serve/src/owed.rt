@@ -16,10 +16,7 @@ pub(crate) fn pay<W: Sink>(alloc: Global, sink: &mut W, owed: &mut Octets) -> Re
     if owed.is_empty() {
         return Ok(());
     }
-    match sink.write_all(owed.as_slice()) {
-        Ok(()) => {}
-        Err(failed) => return Err(failed),
-    }
+    sink.write_all(owed.as_slice())?;
     *owed = Octets::new(alloc);
     Ok(())
 }
@@ -36,10 +33,7 @@ pub(crate) fn owe<W: Sink>(
     if joins(owed, &octets) && owed.extend(octets.as_slice()).is_ok() {
         return Ok(());
     }
-    match pay(alloc, sink, owed) {
-        Ok(()) => {}
-        Err(failed) => return Err(failed),
-    }
+    pay(alloc, sink, owed)?;
     *owed = octets;
     Ok(())
 }

@@ -3,7 +3,7 @@ use Rattle.kme_serve.proofs.door.serve_next.Goals as goal
 
 pub returns-clause-served : goal.returns-clause-served
 returns-clause-served g c =
-    let came = c.in-Ok.ensures in
+    let came = c.in_ok-source.ensures in
     let gone = c.finish.ensures in
     one_served _ _ _ _ _ _
     (record { port = g.D.Listener.port c.accept.new.self; accepted = g.D.Listener.accepted c.accept.new.self; finished = g.D.Listener.finished c.accept.new.self; waiting = g.D.Listener.waiting c.accept.new.self; done = g.D.Listener.done c.accept.new.self })
