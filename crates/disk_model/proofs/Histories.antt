@@ -1,246 +1,372 @@
 -- How the record of a disk in memory grows.
-use Rattle.std.proofs.Common.{◌≡◌, ◌≤◌, ◌<◌, ℕ, zero, suc, ◌+◌, List, [], ◌∷◌, ◌++◌, length, take, drop, map, get_or, set, refl, sym, ◌∙◌, ap, subst, arith, length-append, vec_capacity}
-use Rattle.std.proofs.lemmas.List.{take_all, take-append-le, drop-append-le, drop_all, length-drop, nil_from_length, length-map, take-append-drop, drop_more, get_or_default}
+use Rattle.std.proofs.Common.{◌≡◌, ◌≤◌, ◌<◌, inl, inr, ℕ, zero, suc, ◌+◌, ◌-◌, min, List, [], ◌∷◌, ◌++◌, length, take, drop, map, replicate, get_or, set, refl, sym, ◌∙◌, ap, subst, arith, length-append, append_assoc, vec_capacity}
+use Rattle.std.proofs.lemmas.Bool.{cases_lt}
+use Rattle.std.proofs.lemmas.Bool.Decides.{nat_tests}
+use Rattle.std.proofs.lemmas.List.{take_all, take-take, take-append-le, drop-append-le, drop_all, drop-drop, drop-take, length-drop, length-take, length-take-le, length-replicate, nil_from_length, map-append, take-append-drop, get_or_default, take_at, drop_at}
 use Rattle.std.proofs.lemmas.List.Edits.{map_over_more}
-use Rattle.disk_model.specs.Images.{overlaid}
+use Rattle.disk_model.specs.Images.{Torn, overlaid}
+use Rattle.disk_model.specs.Laws.{torn_overlaid}
 use Rattle.disk_model.specs.Record.{Used, held, replayed, marked, revived, AreUnsynced}
 use Rattle.disk_model.proofs.Replays.{replayed_more}
 use Rattle.disk_model.specs.Record.Used.{Wrote, Synced}
-use Rattle.disk_model.specs.History.{with_octets, octets_of, octets_in, used_in, marked_call, EndWithin, IsHistory, used_of}
+use Rattle.disk_model.specs.History.{with_octets, octets_of, marked_write, EndWithin, IsHistory, used_of, past_of, base_of, calls_past, kept_of, restored, back_from, laid_back, undone}
 use Rattle.disk_model.specs.declared.history.History.{History}
 use Rattle.disk_model.specs.declared.arm.Image.TheVariants.{Lost, Kept, Torn as Filled}
 use Rattle.disk_model.specs.declared.arm.Image.{Image}
 use Rattle.disk_model.specs.declared.history.Range.{Range}
-use Rattle.disk_model.specs.declared.history.UsedCall.{UsedCall}
-use Rattle.disk_model.specs.declared.history.UsedCall.TheVariants.{Wrote as Write, Synced as Sync}
 
-pub octets_wrote : (calls : List UsedCall) (r : Range) → octets_of (calls ++ Write r ∷ []) ≡ octets_of calls + r.len
+-- ---- one more write
+
+pub octets_wrote : (writes : List Range) (r : Range) → octets_of (writes ++ r ∷ []) ≡ octets_of writes + r.len
 octets_wrote [] r = omega arith
-octets_wrote (Write w ∷ calls) r = omega (arith, octets_wrote calls r)
-octets_wrote (Sync ∷ calls) r = octets_wrote calls r
+octets_wrote (w ∷ writes) r = omega (arith, octets_wrote writes r)
 
-pub octets_synced : (calls : List UsedCall) → octets_of (calls ++ Sync ∷ []) ≡ octets_of calls
-octets_synced [] = refl
-octets_synced (Write w ∷ calls) = ap (λ n. w.len + n) (octets_synced calls)
-octets_synced (Sync ∷ calls) = octets_synced calls
-
-pub used_wrote : (calls : List UsedCall) (log bytes : List ℕ) (r : Range) → length log ≡ octets_of calls → r.len ≡ length bytes
-    → with_octets (calls ++ Write r ∷ []) (log ++ bytes) ≡ with_octets calls log ++ Wrote r.at bytes r.inside r.state ∷ []
+pub used_wrote : (writes : List Range) (log bytes : List ℕ) (r : Range) → length log ≡ octets_of writes → r.len ≡ length bytes
+    → with_octets (writes ++ r ∷ []) (log ++ bytes) ≡ with_octets writes log ++ Wrote r.at bytes r.inside r.state ∷ []
 used_wrote [] log bytes r long is =
     let none : log ≡ [] = nil_from_length log long in
     let same : take r.len (log ++ bytes) ≡ bytes = ap (λ (l : List ℕ). take r.len (l ++ bytes)) none ∙ take_all r.len bytes (omega (arith, is)) in
     ap (λ (l : List ℕ). Wrote r.at l r.inside r.state ∷ []) same
-used_wrote (Write w ∷ calls) log bytes r long is =
+used_wrote (w ∷ writes) log bytes r long is =
     let within : w.len ≤ length log = omega (arith, long) in
-    let rest : length (drop w.len log) ≡ octets_of calls = omega (arith, length-drop w.len log, long) in
-    ap (λ (l : List ℕ). Wrote w.at l w.inside w.state ∷ with_octets (calls ++ Write r ∷ []) (drop w.len (log ++ bytes))) (take-append-le w.len log bytes within)
-    ∙ ap (λ (l : List ℕ). Wrote w.at (take w.len log) w.inside w.state ∷ with_octets (calls ++ Write r ∷ []) l) (drop-append-le w.len log bytes within)
-    ∙ ap (λ (l : List Used). Wrote w.at (take w.len log) w.inside w.state ∷ l) (used_wrote calls (drop w.len log) bytes r rest is)
-used_wrote (Sync ∷ calls) log bytes r long is = ap (λ (l : List Used). Synced ∷ l) (used_wrote calls log bytes r long is)
+    let rest : length (drop w.len log) ≡ octets_of writes = omega (arith, length-drop w.len log, long) in
+    ap (λ (l : List ℕ). Wrote w.at l w.inside w.state ∷ with_octets (writes ++ r ∷ []) (drop w.len (log ++ bytes))) (take-append-le w.len log bytes within)
+    ∙ ap (λ (l : List ℕ). Wrote w.at (take w.len log) w.inside w.state ∷ with_octets (writes ++ r ∷ []) l) (drop-append-le w.len log bytes within)
+    ∙ ap (λ (l : List Used). Wrote w.at (take w.len log) w.inside w.state ∷ l) (used_wrote writes (drop w.len log) bytes r rest is)
 
-pub used_synced : (calls : List UsedCall) (log : List ℕ) → with_octets (calls ++ Sync ∷ []) log ≡ with_octets calls log ++ Synced ∷ []
-used_synced [] log = refl
-used_synced (Write w ∷ calls) log = ap (λ (l : List Used). Wrote w.at (take w.len log) w.inside w.state ∷ l) (used_synced calls (drop w.len log))
-used_synced (Sync ∷ calls) log = ap (λ (l : List Used). Synced ∷ l) (used_synced calls log)
-
-pub used_long : (calls : List UsedCall) (log : List ℕ) → length (with_octets calls log) ≡ length calls
-used_long [] log = refl
-used_long (Write w ∷ calls) log = ap (λ n. suc n) (used_long calls (drop w.len log))
-used_long (Sync ∷ calls) log = ap (λ n. suc n) (used_long calls log)
-
-pub ends_more : (end more : ℕ) (calls : List UsedCall) → end ≤ more → EndWithin end calls → EndWithin more calls
+pub ends_more : (end more : ℕ) (writes : List Range) → end ≤ more → EndWithin end writes → EndWithin more writes
 ends_more end more [] le e = tt
-ends_more end more (Write w ∷ calls) le e = (omega (arith, e.0, le), e.1, ends_more end more calls le e.2)
-ends_more end more (Sync ∷ calls) le e = ends_more end more calls le e
+ends_more end more (w ∷ writes) le e = (omega (arith, e.0, le), e.1, ends_more end more writes le e.2)
 
-pub ends_wrote : (end : ℕ) (calls : List UsedCall) (r : Range) → EndWithin end calls → r.at + r.len ≤ end → r.inside ≤ r.len → EndWithin end (calls ++ Write r ∷ [])
+pub ends_wrote : (end : ℕ) (writes : List Range) (r : Range) → EndWithin end writes → r.at + r.len ≤ end → r.inside ≤ r.len → EndWithin end (writes ++ r ∷ [])
 ends_wrote end [] r e within inside = (within, inside, tt)
-ends_wrote end (Write w ∷ calls) r e within inside = (e.0, e.1, ends_wrote end calls r e.2 within inside)
-ends_wrote end (Sync ∷ calls) r e within inside = ends_wrote end calls r e within inside
+ends_wrote end (w ∷ writes) r e within inside = (e.0, e.1, ends_wrote end writes r e.2 within inside)
 
-pub ends_synced : (end : ℕ) (calls : List UsedCall) → EndWithin end calls → EndWithin end (calls ++ Sync ∷ [])
-ends_synced end [] e = tt
-ends_synced end (Write w ∷ calls) e = (e.0, e.1, ends_synced end calls e.2)
-ends_synced end (Sync ∷ calls) e = ends_synced end calls e
+-- ---- taking writes back
 
-pub unsynced_wrote : (used : List Used) (at : ℕ) (bytes : List ℕ) (size : ℕ) (state : Image) → AreUnsynced used → AreUnsynced (used ++ Wrote at bytes size state ∷ [])
-unsynced_wrote [] at bytes size state none = tt
-unsynced_wrote (Wrote a b s t ∷ used) at bytes size state none = unsynced_wrote used at bytes size state none
-unsynced_wrote (Synced ∷ used) at bytes size state none = absurd none
+overlaid_in : (at : ℕ) (bytes old : List ℕ) → at ≤ length old → overlaid at bytes old ≡ take at old ++ bytes ++ drop (at + length bytes) old
+overlaid_in at bytes old le = grind (arith, nat_tests)
 
-pub unsynced_behind : (n : ℕ) (used : List Used) (at : ℕ) (bytes : List ℕ) (size : ℕ) (state : Image) → n ≤ length used → AreUnsynced (drop n used) → AreUnsynced (drop n (used ++ Wrote at bytes size state ∷ []))
-unsynced_behind n used at bytes size state le none =
-    subst AreUnsynced (sym (drop-append-le n used (Wrote at bytes size state ∷ []) le)) (unsynced_wrote (drop n used) at bytes size state none)
+overlaid_out : (at : ℕ) (bytes old : List ℕ) → length old < at → overlaid at bytes old ≡ old
+overlaid_out at bytes old lt = grind (arith, nat_tests)
 
-pub none_behind : (n : ℕ) (used : List Used) → length used ≤ n → AreUnsynced (drop n used)
-none_behind n used le = subst AreUnsynced (sym (drop_all n used le)) tt
+-- a list is what stands before a place, a part behind it, and the rest
+parts : (at k : ℕ) (c : List ℕ) → take at c ++ take k (drop at c) ++ drop (at + k) c ≡ c
+parts at k c =
+    append_assoc (take at c) (take k (drop at c)) (drop (at + k) c)
+    ∙ ap (λ (l : List ℕ). take at c ++ (take k (drop at c) ++ l)) (sym (drop-drop k at c))
+    ∙ ap (λ (l : List ℕ). take at c ++ l) (take-append-drop k (drop at c))
+    ∙ take-append-drop at c
 
-module _ (old new : History) (is : IsHistory old) (first : new.first ≡ old.first) (grows : vec_capacity old.content ≤ vec_capacity new.content) where
-  first_fits : length new.first.items ≤ vec_capacity new.content
-  first_fits = omega (arith, is.first, grows, ap (λ v. length v.items) first)
+-- Behind the range, the first `size` octets of a torn content are those of the old one.
+module _ (at n : ℕ) (old new : List ℕ) (torn : Torn at n old new) (inside : at ≤ length old) where
+  abbrev shorter : List ℕ
+  shorter = take (length old) new
+
+  front_same : take at shorter ≡ take at old
+  front_same = take-take at (length old) new inside ∙ torn.before
+
+  long : length shorter ≡ length old
+  long = length-take-le (length old) new torn.no_shorter
+
+  back_same : (k : ℕ) → k ≡ min n (length old - at) → drop (at + k) shorter ≡ drop (at + k) old
+  back_same k is = elim (cases_lt (length old) (at + n)) [
+    | inl past ↦
+        let all : length old ≤ at + k = omega (arith, is, past, inside) in
+        drop_all (at + k) shorter (omega (arith, all, long)) ∙ sym (drop_all (at + k) old all)
+    | inr within ↦
+        let whole : k ≡ n = omega (arith, is, within, inside) in
+        let sum : length old ≡ at + n + (length old - (at + n)) = omega (arith, within) in
+        ap (λ (m : ℕ). drop (at + m) shorter) whole
+        ∙ ap (λ (m : ℕ). drop (at + n) (take m new)) sum
+        ∙ drop-take (at + n) (length old - (at + n)) new
+        ∙ ap (λ (l : List ℕ). take (length old - (at + n)) l) torn.after
+        ∙ take_all (length old - (at + n)) (drop (at + n) old) (omega (arith, length-drop (at + n) old))
+        ∙ ap (λ (m : ℕ). drop (at + m) old) (sym whole)
+  ]
+
+-- What was kept of a range brings the old content back.
+restored_torn : (r : Range) (saved old new : List ℕ) → Torn r.at r.len old new → r.before ≡ length old
+    → take (min r.len (length old - r.at)) saved ≡ take (min r.len (length old - r.at)) (drop r.at old) → restored r saved new ≡ old
+restored_torn r saved old new torn before kept =
+    let k = min r.len (length old - r.at) in
+    ap (λ (m : ℕ). overlaid r.at (take (min r.len (m - r.at)) saved) (take m new)) before ∙ elim (cases_lt (length old) r.at) [
+      | inl out ↦
+          let short : length (take (length old) new) ≡ length old = length-take-le (length old) new torn.no_shorter in
+          overlaid_out r.at (take k saved) (take (length old) new) (omega (arith, out, short))
+          ∙ sym (take-take (length old) r.at new (omega (arith, out)))
+          ∙ ap (λ (l : List ℕ). take (length old) l) torn.before
+          ∙ take-take (length old) r.at old (omega (arith, out))
+          ∙ take_all (length old) old (omega arith)
+      | inr inside ↦
+          let size : length (take k (drop r.at old)) ≡ k = length-take-le k (drop r.at old) (omega (arith, length-drop r.at old)) in
+          ap (λ (l : List ℕ). overlaid r.at l (take (length old) new)) kept
+          ∙ overlaid_in r.at (take k (drop r.at old)) (take (length old) new) (omega (arith, inside, long r.at r.len old new torn inside))
+          ∙ ap (λ (l : List ℕ). l ++ take k (drop r.at old) ++ drop (r.at + length (take k (drop r.at old))) (take (length old) new)) (front_same r.at r.len old new torn inside)
+          ∙ ap (λ (m : ℕ). take r.at old ++ take k (drop r.at old) ++ drop (r.at + m) (take (length old) new)) size
+          ∙ ap (λ (l : List ℕ). take r.at old ++ take k (drop r.at old) ++ l) (back_same r.at r.len old new torn inside k refl)
+          ∙ parts r.at k old
+    ]
+
+-- the octets that are kept, whose zeros behind the content's end are never laid back
+kept_front : (at n : ℕ) (c : List ℕ) → take (min n (length c - at)) (kept_of at n c) ≡ take (min n (length c - at)) (drop at c)
+kept_front at n c =
+    let k = min n (length c - at) in
+    let size : length (take n (drop at c)) ≡ k = omega (arith, length-take n (drop at c), length-drop at c) in
+    take-append-le k (take n (drop at c)) (replicate (n - length (take n (drop at c))) 0) (omega (arith, size)) ∙ take-take k n (drop at c) (omega arith)
+
+pub kept_long : (at n : ℕ) (c : List ℕ) → length (kept_of at n c) ≡ n
+kept_long at n c =
+    omega (
+      arith,
+      length-append (take n (drop at c)) (replicate (n - length (take n (drop at c))) 0),
+      length-replicate {A = ℕ} (n - length (take n (drop at c))) 0,
+      length-take n (drop at c),
+    )
+
+-- a write is taken back by what was kept of its range
+pub back_held : (r : Range) (bytes content : List ℕ) → r.before ≡ length content → r.len ≡ length bytes
+    → laid_back r (kept_of r.at r.len content) (held content (Wrote r.at bytes r.inside r.state)) ≡ content
+back_held r bytes content before long = by_state r.state
+  where
+    by_state : (state : Image) → back_from state r (kept_of r.at r.len content) (held content (Wrote r.at bytes r.inside state)) ≡ content
+    by_state Lost = refl
+    by_state Kept =
+        restored_torn r (kept_of r.at r.len content) content (overlaid r.at bytes content) (torn_overlaid r.at r.len bytes content (omega (arith, long))) before (kept_front r.at r.len content)
+    by_state Filled =
+        let filled = replicate (min r.inside (length bytes)) 238 in
+        restored_torn r (kept_of r.at r.len content) content (overlaid r.at filled content)
+        (torn_overlaid r.at r.len filled content (omega (arith, long, length-replicate {A = ℕ} (min r.inside (length bytes)) 238))) before (kept_front r.at r.len content)
+
+-- only the kept octets of a write's own range are laid back
+back_front : (r : Range) (saved more content : List ℕ) → r.len ≤ length saved → laid_back r (saved ++ more) content ≡ laid_back r saved content
+back_front r saved more content le = by_state r.state
+  where
+    same : restored r (saved ++ more) content ≡ restored r saved content
+    same = ap (λ (l : List ℕ). overlaid r.at l (take r.before content)) (take-append-le (min r.len (r.before - r.at)) saved more (omega (arith, le)))
+
+    by_state : (state : Image) → back_from state r (saved ++ more) content ≡ back_from state r saved content
+    by_state Lost = refl
+    by_state Kept = same
+    by_state Filled = same
+
+-- the last of several writes is taken back first
+pub undone_more : (writes : List Range) (r : Range) (saved kept content : List ℕ) → length saved ≡ octets_of writes → undone (writes ++ r ∷ []) (saved ++ kept) content ≡ undone writes saved (laid_back r kept content)
+undone_more [] r saved kept content long = ap (λ (l : List ℕ). laid_back r (l ++ kept) content) (nil_from_length saved long)
+undone_more (w ∷ writes) r saved kept content long =
+    let within : w.len ≤ length saved = omega (arith, long) in
+    let rest : length (drop w.len saved) ≡ octets_of writes = omega (arith, length-drop w.len saved, long) in
+    ap (λ (l : List ℕ). laid_back w (saved ++ kept) (undone (writes ++ r ∷ []) l content)) (drop-append-le w.len saved kept within)
+    ∙ ap (λ (l : List ℕ). laid_back w (saved ++ kept) l) (undone_more writes r (drop w.len saved) kept content rest)
+    ∙ back_front w saved kept (undone writes (drop w.len saved) (laid_back r kept content)) within
+
+-- one step of taking writes back
+pub undone_last : (writes : List Range) (i : ℕ) (d : Range) (saved content : List ℕ) → i < length writes
+    → undone (take (suc i) writes) saved content ≡ undone (take i writes) saved (laid_back (get_or writes i d) (drop (octets_of (take i writes)) saved) content)
+undone_last [] i d saved content lt = absurd (omega (arith, lt))
+undone_last (w ∷ writes) zero d saved content lt = refl
+undone_last (w ∷ writes) (suc i) d saved content lt =
+    ap (λ (l : List ℕ). laid_back w saved l) (undone_last writes i d (drop w.len saved) content (omega (arith, lt)))
+    ∙ ap (λ (l : List ℕ). laid_back w saved (undone (take i writes) (drop w.len saved) (laid_back (get_or writes i d) l content))) (drop-drop (octets_of (take i writes)) w.len saved)
+
+pub octets_last : (writes : List Range) (i : ℕ) (d : Range) → i < length writes → octets_of (take (suc i) writes) ≡ octets_of (take i writes) + (get_or writes i d).len
+octets_last [] i d lt = absurd (omega (arith, lt))
+octets_last (w ∷ writes) zero d lt = omega arith
+octets_last (w ∷ writes) (suc i) d lt = omega (arith, octets_last writes i d (omega (arith, lt)))
+
+pub octets_take : (n : ℕ) (writes : List Range) → octets_of (take n writes) ≤ octets_of writes
+octets_take zero writes = omega arith
+octets_take (suc n) [] = omega arith
+octets_take (suc n) (w ∷ writes) = omega (arith, octets_take n writes)
+
+pub end_at : (end : ℕ) (writes : List Range) (i : ℕ) (d : Range) → i < length writes → EndWithin end writes → (get_or writes i d).at + (get_or writes i d).len ≤ end
+end_at end [] i d lt e = absurd (omega (arith, lt))
+end_at end (w ∷ writes) zero d lt e = e.0
+end_at end (w ∷ writes) (suc i) d lt e = end_at end writes i d (omega (arith, lt)) e.2
+
+module _ (writes : List Range) (place : ℕ) (d : Range) (below : place ≤ length writes) (some : 0 < place) where
+  abbrev last : Range
+  last = get_or writes (place - 1) d
+
+  one_more : place ≡ suc (place - 1)
+  one_more = omega (arith, some)
+
+  pub octets_here : octets_of (take place writes) ≡ octets_of (take (place - 1) writes) + last.len
+  octets_here = ap (λ (n : ℕ). octets_of (take n writes)) one_more ∙ octets_last writes (place - 1) d (omega (arith, below, some))
+
+  pub undone_here : (end : ℕ) (saved content : List ℕ) → end ≡ octets_of (take place writes)
+      → undone (take (place - 1) writes) saved (laid_back last (drop (end - last.len) saved) content) ≡ undone (take place writes) saved content
+  undone_here end saved content is =
+      let at : end - last.len ≡ octets_of (take (place - 1) writes) = omega (arith, is, octets_here) in
+      ap (λ (n : ℕ). undone (take (place - 1) writes) saved (laid_back last (drop n saved) content)) at
+      ∙ sym (undone_last writes (place - 1) d saved content (omega (arith, below, some)))
+      ∙ ap (λ (n : ℕ). undone (take n writes) saved content) (sym one_more)
+
+  pub end_here : (end : ℕ) → EndWithin end writes → last.at + last.len ≤ end
+  end_here end e = end_at end writes (place - 1) d (omega (arith, below, some)) e
+
+-- ---- the calls up to the last sync
+
+pub past_synced : (rounds : List (List Range × List ℕ)) (writes : List Range) (log : List ℕ) → calls_past (rounds ++ (writes, log) ∷ []) ≡ calls_past rounds ++ with_octets writes log ++ Synced ∷ []
+past_synced [] writes log = refl
+past_synced ((w, l) ∷ rounds) writes log =
+    ap (λ (u : List Used). with_octets w l ++ Synced ∷ u) (past_synced rounds writes log)
+    ∙ ap (λ (u : List Used). with_octets w l ++ Synced ∷ u) (append_assoc (calls_past rounds) (with_octets writes log) (Synced ∷ []))
+    ∙ sym (append_assoc (with_octets w l) (Synced ∷ calls_past rounds) (with_octets writes log ++ Synced ∷ []))
+    ∙ sym (append_assoc (with_octets w l ++ Synced ∷ calls_past rounds) (with_octets writes log) (Synced ∷ []))
+
+pub rounds_more : {A B : Type 0} (writes_of : A → List Range) (log_of : B → List ℕ) (items : List (A × B)) (a : A) (b : B)
+    → calls_past (map (λ round. (writes_of round.0, log_of round.1)) (items ++ (a, b) ∷ [])) ≡ calls_past (map (λ round. (writes_of round.0, log_of round.1)) items) ++ with_octets (writes_of a) (log_of b) ++ Synced ∷ []
+rounds_more writes_of log_of items a b =
+    ap calls_past (map-append (λ round. (writes_of round.0, log_of round.1)) items ((a, b) ∷ [])) ∙ past_synced (map (λ round. (writes_of round.0, log_of round.1)) items) (writes_of a) (log_of b)
+
+pub replayed_on : (content : List ℕ) (used more : List Used) → replayed content (used ++ more) ≡ replayed (replayed content used) more
+replayed_on content [] more = refl
+replayed_on content (u ∷ used) more = replayed_on (held content u) used more
+
+pub unsynced_with : (writes : List Range) (log : List ℕ) → AreUnsynced (with_octets writes log)
+unsynced_with [] log = tt
+unsynced_with (w ∷ writes) log = unsynced_with writes (drop w.len log)
+
+-- the calls behind the last sync are writes
+pub unsynced_behind : (h : History) → AreUnsynced (drop (length (past_of h)) (used_of h))
+unsynced_behind h = subst AreUnsynced (sym (drop_at (past_of h) (with_octets h.writes.items h.log.items) (length (past_of h)) refl)) (unsynced_with h.writes.items h.log.items)
+
+-- the content follows from the first one and all used calls
+whole : (h : History) → base_of h ≡ replayed h.first.items (past_of h) → h.content.items ≡ replayed (base_of h) (with_octets h.writes.items h.log.items) → h.content.items ≡ replayed h.first.items (used_of h)
+whole h past behind =
+    behind ∙ ap (λ (l : List ℕ). replayed l (with_octets h.writes.items h.log.items)) past ∙ sym (replayed_on h.first.items (past_of h) (with_octets h.writes.items h.log.items))
+
+module _ (old new : History) (is : IsHistory old) (first : new.first ≡ old.first) (grows : vec_capacity old.content ≤ vec_capacity new.content)
+    (base : base_of new ≡ base_of old) (past : past_of new ≡ past_of old) where
+  past_on : base_of new ≡ replayed new.first.items (past_of new)
+  past_on = base ∙ is.past ∙ ap (λ v. replayed v.items (past_of old)) (sym first) ∙ ap (λ u. replayed new.first.items u) (sym past)
 
   -- more memory, and no other change
-  pub grown : new.content.items ≡ old.content.items → new.log.items ≡ old.log.items → new.calls.items ≡ old.calls.items → new.synced ≡ old.synced → IsHistory new × (used_of new ≡ used_of old)
-  grown content log calls synced =
-      let same : used_of new ≡ used_of old = ap (λ (l : List ℕ). with_octets new.calls.items l) log ∙ ap (λ (k : List UsedCall). with_octets k old.log.items) calls in (
+  pub grown : new.content.items ≡ old.content.items → new.log.items ≡ old.log.items → new.saved.items ≡ old.saved.items → new.writes.items ≡ old.writes.items → IsHistory new × (used_of new ≡ used_of old)
+  grown content log saved writes =
+      let tail : with_octets new.writes.items new.log.items ≡ with_octets old.writes.items old.log.items =
+      ap (λ (l : List ℕ). with_octets new.writes.items l) log ∙ ap (λ (k : List Range). with_octets k old.log.items) writes in
+      let behind : new.content.items ≡ replayed (base_of new) (with_octets new.writes.items new.log.items) =
+      content ∙ is.behind ∙ ap (λ u. replayed (base_of old) u) (sym tail) ∙ ap (λ l. replayed l (with_octets new.writes.items new.log.items)) (sym base) in (
         record {
-          log = ap length log ∙ is.log ∙ ap octets_of (sym calls);
-          content = content ∙ is.content ∙ ap (λ v. replayed v.items (used_of old)) (sym first) ∙ ap (λ u. replayed new.first.items u) (sym same);
-          first = first_fits;
-          ends = ends_more (vec_capacity old.content) (vec_capacity new.content) new.calls.items grows (subst (λ k. EndWithin (vec_capacity old.content) k) (sym calls) is.ends);
-          synced = omega (arith, is.synced, synced, ap length calls);
-          unsynced = subst (λ u. AreUnsynced (drop new.synced u)) (sym same) (subst (λ n. AreUnsynced (drop n (used_of old))) (sym synced) is.unsynced);
+          log = ap length log ∙ is.log ∙ ap octets_of (sym writes);
+          saved = ap length saved ∙ is.saved ∙ ap octets_of (sym writes);
+          past = past_on;
+          content = whole new past_on behind;
+          behind = behind;
+          back =
+              ap (λ k. undone k new.saved.items new.content.items) writes
+              ∙ ap (λ l. undone old.writes.items l new.content.items) saved
+              ∙ ap (λ l. undone old.writes.items old.saved.items l) content
+              ∙ is.back
+              ∙ sym base;
+          ends = ends_more (vec_capacity old.content) (vec_capacity new.content) new.writes.items grows (subst (λ k. EndWithin (vec_capacity old.content) k) (sym writes) is.ends);
         },
-        same,
+        ap (λ u. u ++ with_octets new.writes.items new.log.items) past ∙ ap (λ u. past_of old ++ u) tail,
       )
 
   -- the record after a write
   pub wrote : (at : ℕ) (bytes : List ℕ) → new.content.items ≡ overlaid at bytes old.content.items → new.log.items ≡ old.log.items ++ bytes
-      → new.calls.items ≡ old.calls.items ++ Write (record { at = at; len = length bytes; inside = length bytes; state = Kept }) ∷ [] → new.synced ≡ old.synced
+      → new.saved.items ≡ old.saved.items ++ kept_of at (length bytes) old.content.items
+      → new.writes.items ≡ old.writes.items ++ record { at = at; len = length bytes; inside = length bytes; before = length old.content.items; state = Kept } ∷ []
       → at + length bytes ≤ vec_capacity old.content → IsHistory new × (used_of new ≡ used_of old ++ Wrote at bytes (length bytes) Kept ∷ [])
-  wrote at bytes content log calls synced fits =
-      let r : Range = record { at = at; len = length bytes; inside = length bytes; state = Kept } in
+  wrote at bytes content log saved writes fits =
+      let r : Range = record { at = at; len = length bytes; inside = length bytes; before = length old.content.items; state = Kept } in
       let u : Used = Wrote at bytes (length bytes) Kept in
-      let more : used_of new ≡ used_of old ++ u ∷ [] =
-      ap (λ (l : List ℕ). with_octets new.calls.items l) log ∙ ap (λ (k : List UsedCall). with_octets k (old.log.items ++ bytes)) calls ∙ used_wrote old.calls.items old.log.items bytes r is.log refl in (
+      let kept = kept_of at (length bytes) old.content.items in
+      let tail : with_octets new.writes.items new.log.items ≡ with_octets old.writes.items old.log.items ++ u ∷ [] =
+      ap (λ (l : List ℕ). with_octets new.writes.items l) log ∙ ap (λ (k : List Range). with_octets k (old.log.items ++ bytes)) writes ∙ used_wrote old.writes.items old.log.items bytes r is.log refl in
+      let behind : new.content.items ≡ replayed (base_of new) (with_octets new.writes.items new.log.items) =
+      content ∙ ap (λ (l : List ℕ). overlaid at bytes l) is.behind ∙ sym (replayed_more (base_of old) (with_octets old.writes.items old.log.items) u)
+      ∙ ap (λ w. replayed (base_of old) w) (sym tail) ∙ ap (λ l. replayed l (with_octets new.writes.items new.log.items)) (sym base) in (
         record {
-          log = ap length log ∙ length-append old.log.items bytes ∙ ap (λ n. n + length bytes) is.log ∙ sym (octets_wrote old.calls.items r) ∙ ap octets_of (sym calls);
-          content =
-              content ∙ ap (λ (l : List ℕ). overlaid at bytes l) is.content ∙ sym (replayed_more old.first.items (used_of old) u)
-              ∙ ap (λ v. replayed v.items (used_of old ++ u ∷ [])) (sym first) ∙ ap (λ w. replayed new.first.items w) (sym more);
-          first = first_fits;
-          ends = subst (λ k. EndWithin (vec_capacity new.content) k) (sym calls)
-              (ends_wrote (vec_capacity new.content) old.calls.items r (ends_more (vec_capacity old.content) (vec_capacity new.content) old.calls.items grows is.ends) (omega (arith, fits, grows)) (omega arith));
-          synced = omega (arith, is.synced, synced, ap length calls, length-append old.calls.items (Write r ∷ []));
-          unsynced = subst (λ w. AreUnsynced (drop new.synced w)) (sym more) (subst (λ n. AreUnsynced (drop n (used_of old ++ u ∷ []))) (sym synced)
-              (unsynced_behind old.synced (used_of old) at bytes (length bytes) Kept (omega (arith, is.synced, used_long old.calls.items old.log.items)) is.unsynced));
+          log = ap length log ∙ length-append old.log.items bytes ∙ ap (λ n. n + length bytes) is.log ∙ sym (octets_wrote old.writes.items r) ∙ ap octets_of (sym writes);
+          saved =
+              ap length saved ∙ length-append old.saved.items kept ∙ ap (λ n. n + length kept) is.saved ∙ ap (λ n. octets_of old.writes.items + n) (kept_long at (length bytes) old.content.items)
+              ∙ sym (octets_wrote old.writes.items r)
+              ∙ ap octets_of (sym writes);
+          past = past_on;
+          content = whole new past_on behind;
+          behind = behind;
+          back =
+              ap (λ k. undone k new.saved.items new.content.items) writes
+              ∙ ap (λ l. undone (old.writes.items ++ r ∷ []) l new.content.items) saved
+              ∙ undone_more old.writes.items r old.saved.items kept new.content.items is.saved
+              ∙ ap (λ l. undone old.writes.items old.saved.items (laid_back r kept l)) content
+              ∙ ap (λ l. undone old.writes.items old.saved.items l) (back_held r bytes old.content.items refl refl)
+              ∙ is.back
+              ∙ sym base;
+          ends = subst (λ k. EndWithin (vec_capacity new.content) k) (sym writes)
+              (ends_wrote (vec_capacity new.content) old.writes.items r (ends_more (vec_capacity old.content) (vec_capacity new.content) old.writes.items grows is.ends) (omega (arith, fits, grows)) (omega arith));
         },
-        more,
+        ap (λ w. w ++ with_octets new.writes.items new.log.items) past ∙ ap (λ w. past_of old ++ w) tail ∙ sym (append_assoc (past_of old) (with_octets old.writes.items old.log.items) (u ∷ [])),
       )
 
-  -- the record after a sync
-  pub synced_now : new.content.items ≡ old.content.items → new.log.items ≡ old.log.items → new.calls.items ≡ old.calls.items ++ Sync ∷ [] → new.synced ≡ length new.calls.items
-      → IsHistory new × (used_of new ≡ used_of old ++ Synced ∷ [])
-  synced_now content log calls synced =
-      let more : used_of new ≡ used_of old ++ Synced ∷ [] =
-      ap (λ (l : List ℕ). with_octets new.calls.items l) log ∙ ap (λ (k : List UsedCall). with_octets k old.log.items) calls ∙ used_synced old.calls.items old.log.items in (
-        record {
-          log = ap length log ∙ is.log ∙ sym (octets_synced old.calls.items) ∙ ap octets_of (sym calls);
-          content =
-              content ∙ is.content ∙ sym (replayed_more old.first.items (used_of old) Synced)
-              ∙ ap (λ v. replayed v.items (used_of old ++ Synced ∷ [])) (sym first) ∙ ap (λ w. replayed new.first.items w) (sym more);
-          first = first_fits;
-          ends = subst (λ k. EndWithin (vec_capacity new.content) k) (sym calls)
-              (ends_synced (vec_capacity new.content) old.calls.items (ends_more (vec_capacity old.content) (vec_capacity new.content) old.calls.items grows is.ends));
-          synced = omega (arith, synced);
-          unsynced = none_behind new.synced (used_of new) (omega (arith, synced, used_long new.calls.items new.log.items));
-        },
-        more,
-      )
+-- the record after a sync
+pub synced_now : (old new : History) → IsHistory old → new.first ≡ old.first → new.content ≡ old.content → new.log.items ≡ [] → new.saved.items ≡ [] → new.writes.items ≡ [] → base_of new ≡ old.content.items
+    → past_of new ≡ used_of old ++ Synced ∷ [] → IsHistory new × (used_of new ≡ used_of old ++ Synced ∷ [])
+synced_now old new is first content log saved writes base past =
+    let tail : with_octets new.writes.items new.log.items ≡ [] = ap (λ (k : List Range). with_octets k new.log.items) writes in
+    let earlier : base_of new ≡ replayed new.first.items (past_of new) =
+    base ∙ is.content ∙ sym (replayed_more old.first.items (used_of old) Synced) ∙ ap (λ v. replayed v.items (used_of old ++ Synced ∷ [])) (sym first) ∙ ap (λ u. replayed new.first.items u) (sym past) in
+    let behind : new.content.items ≡ replayed (base_of new) (with_octets new.writes.items new.log.items) = ap (λ v. v.items) content ∙ sym base ∙ ap (λ u. replayed (base_of new) u) (sym tail) in (
+      record {
+        log = ap length log ∙ ap octets_of (sym writes);
+        saved = ap length saved ∙ ap octets_of (sym writes);
+        past = earlier;
+        content = whole new earlier behind;
+        behind = behind;
+        back = ap (λ (k : List Range). undone k new.saved.items new.content.items) writes ∙ ap (λ v. v.items) content ∙ sym base;
+        ends = subst (λ k. EndWithin (vec_capacity new.content) k) (sym writes) tt;
+      },
+      ap (λ u. u ++ with_octets new.writes.items new.log.items) past ∙ ap (λ u. (used_of old ++ Synced ∷ []) ++ u) tail ∙ nothing_more (used_of old ++ Synced ∷ []),
+    )
+  where
+    nothing_more : (used : List Used) → used ++ [] ≡ used
+    nothing_more [] = refl
+    nothing_more (u ∷ used) = ap (λ (l : List Used). u ∷ l) (nothing_more used)
 
--- the octets of a list of calls are those of the first call and those of the others
-pub octets_first : (u : UsedCall) (calls : List UsedCall) → octets_of (u ∷ calls) ≡ octets_in u + octets_of calls
-octets_first (Write r) calls = refl
-octets_first Sync calls = omega arith
+-- ---- marks
 
-pub used_first : (u : UsedCall) (calls : List UsedCall) (log : List ℕ) → with_octets (u ∷ calls) log ≡ used_in u log ∷ with_octets calls (drop (octets_in u) log)
-used_first (Write r) calls log = refl
-used_first Sync calls log = refl
-
-pub ends_first : (end : ℕ) (u : UsedCall) (calls : List UsedCall) → EndWithin end (u ∷ calls) → EndWithin end (u ∷ []) × EndWithin end calls
-ends_first end (Write r) calls e = ((e.0, e.1, tt), e.2)
-ends_first end Sync calls e = (tt, e)
-
--- a prefix of the calls has the same octets as it has in the whole list
-pub used_take : (n : ℕ) (calls : List UsedCall) (log : List ℕ) → with_octets (take n calls) log ≡ take n (with_octets calls log)
-used_take zero calls log = refl
-used_take (suc n) [] log = refl
-used_take (suc n) (Write w ∷ calls) log = ap (λ (l : List Used). Wrote w.at (take w.len log) w.inside w.state ∷ l) (used_take n calls (drop w.len log))
-used_take (suc n) (Sync ∷ calls) log = ap (λ (l : List Used). Synced ∷ l) (used_take n calls log)
-
-pub octets_take : (n : ℕ) (calls : List UsedCall) → octets_of (take n calls) ≤ octets_of calls
-octets_take zero calls = omega arith
-octets_take (suc n) [] = omega arith
-octets_take (suc n) (Write w ∷ calls) = omega (arith, octets_take n calls)
-octets_take (suc n) (Sync ∷ calls) = octets_take n calls
-
-pub ends_take : (end n : ℕ) (calls : List UsedCall) → EndWithin end calls → EndWithin end (take n calls)
-ends_take end zero calls e = tt
-ends_take end (suc n) [] e = tt
-ends_take end (suc n) (Write w ∷ calls) e = (e.0, e.1, ends_take end n calls e.2)
-ends_take end (suc n) (Sync ∷ calls) e = ends_take end n calls e
-
--- calls may be marked before or after they are given their octets
-used_marked : (mark : Image) (size : ℕ) (calls : List UsedCall) (log : List ℕ) → with_octets (map (marked_call mark size) calls) log ≡ map (marked mark size) (with_octets calls log)
+-- writes may be marked before or after they are given their octets
+used_marked : (mark : Image) (size : ℕ) (writes : List Range) (log : List ℕ) → with_octets (map (marked_write mark size) writes) log ≡ map (marked mark size) (with_octets writes log)
 used_marked mark size [] log = refl
-used_marked Lost size (Write w ∷ calls) log = ap (λ (l : List Used). marked Lost size (Wrote w.at (take w.len log) w.inside w.state) ∷ l) (used_marked Lost size calls (drop w.len log))
-used_marked Kept size (Write w ∷ calls) log = ap (λ (l : List Used). marked Kept size (Wrote w.at (take w.len log) w.inside w.state) ∷ l) (used_marked Kept size calls (drop w.len log))
-used_marked Filled size (Write w ∷ calls) log = ap (λ (l : List Used). marked Filled size (Wrote w.at (take w.len log) w.inside w.state) ∷ l) (used_marked Filled size calls (drop w.len log))
-used_marked Lost size (Sync ∷ calls) log = ap (λ (l : List Used). Synced ∷ l) (used_marked Lost size calls log)
-used_marked Kept size (Sync ∷ calls) log = ap (λ (l : List Used). Synced ∷ l) (used_marked Kept size calls log)
-used_marked Filled size (Sync ∷ calls) log = ap (λ (l : List Used). Synced ∷ l) (used_marked Filled size calls log)
+used_marked Lost size (w ∷ writes) log = ap (λ (l : List Used). marked Lost size (Wrote w.at (take w.len log) w.inside w.state) ∷ l) (used_marked Lost size writes (drop w.len log))
+used_marked Kept size (w ∷ writes) log = ap (λ (l : List Used). marked Kept size (Wrote w.at (take w.len log) w.inside w.state) ∷ l) (used_marked Kept size writes (drop w.len log))
+used_marked Filled size (w ∷ writes) log = ap (λ (l : List Used). marked Filled size (Wrote w.at (take w.len log) w.inside w.state) ∷ l) (used_marked Filled size writes (drop w.len log))
 
-abbrev pub after : Image → ℕ → ℕ → List UsedCall → List UsedCall
-after mark size n calls = take n calls ++ map (marked_call mark size) (drop n calls)
-
-used_behind : (mark : Image) (size n : ℕ) (calls : List UsedCall) (log : List ℕ) → with_octets (after mark size n calls) log ≡ revived mark size n (with_octets calls log)
-used_behind mark size zero calls log = used_marked mark size calls log
-used_behind mark size (suc n) [] log = refl
-used_behind mark size (suc n) (Write w ∷ calls) log = ap (λ (l : List Used). Wrote w.at (take w.len log) w.inside w.state ∷ l) (used_behind mark size n calls (drop w.len log))
-used_behind mark size (suc n) (Sync ∷ calls) log = ap (λ (l : List Used). Synced ∷ l) (used_behind mark size n calls log)
-
-octets_marked : (mark : Image) (size : ℕ) (calls : List UsedCall) → octets_of (map (marked_call mark size) calls) ≡ octets_of calls
+pub octets_marked : (mark : Image) (size : ℕ) (writes : List Range) → octets_of (map (marked_write mark size) writes) ≡ octets_of writes
 octets_marked mark size [] = refl
-octets_marked Lost size (Write w ∷ calls) = ap (λ k. w.len + k) (octets_marked Lost size calls)
-octets_marked Kept size (Write w ∷ calls) = ap (λ k. w.len + k) (octets_marked Kept size calls)
-octets_marked Filled size (Write w ∷ calls) = ap (λ k. w.len + k) (octets_marked Filled size calls)
-octets_marked Lost size (Sync ∷ calls) = octets_marked Lost size calls
-octets_marked Kept size (Sync ∷ calls) = octets_marked Kept size calls
-octets_marked Filled size (Sync ∷ calls) = octets_marked Filled size calls
+octets_marked Lost size (w ∷ writes) = ap (λ k. w.len + k) (octets_marked Lost size writes)
+octets_marked Kept size (w ∷ writes) = ap (λ k. w.len + k) (octets_marked Kept size writes)
+octets_marked Filled size (w ∷ writes) = ap (λ k. w.len + k) (octets_marked Filled size writes)
 
-pub octets_behind : (mark : Image) (size n : ℕ) (calls : List UsedCall) → octets_of (after mark size n calls) ≡ octets_of calls
-octets_behind mark size zero calls = octets_marked mark size calls
-octets_behind mark size (suc n) [] = refl
-octets_behind mark size (suc n) (Write w ∷ calls) = ap (λ k. w.len + k) (octets_behind mark size n calls)
-octets_behind mark size (suc n) (Sync ∷ calls) = octets_behind mark size n calls
-
-ends_marked : (end : ℕ) (mark : Image) (size : ℕ) (calls : List UsedCall) → EndWithin end calls → EndWithin end (map (marked_call mark size) calls)
+pub ends_marked : (end : ℕ) (mark : Image) (size : ℕ) (writes : List Range) → EndWithin end writes → EndWithin end (map (marked_write mark size) writes)
 ends_marked end mark size [] e = tt
-ends_marked end Lost size (Write w ∷ calls) e = (e.0, omega (arith, e.1), ends_marked end Lost size calls e.2)
-ends_marked end Kept size (Write w ∷ calls) e = (e.0, e.1, ends_marked end Kept size calls e.2)
-ends_marked end Filled size (Write w ∷ calls) e = (e.0, e.1, ends_marked end Filled size calls e.2)
-ends_marked end Lost size (Sync ∷ calls) e = ends_marked end Lost size calls e
-ends_marked end Kept size (Sync ∷ calls) e = ends_marked end Kept size calls e
-ends_marked end Filled size (Sync ∷ calls) e = ends_marked end Filled size calls e
+ends_marked end Lost size (w ∷ writes) e = (e.0, omega (arith, e.1), ends_marked end Lost size writes e.2)
+ends_marked end Kept size (w ∷ writes) e = (e.0, e.1, ends_marked end Kept size writes e.2)
+ends_marked end Filled size (w ∷ writes) e = (e.0, e.1, ends_marked end Filled size writes e.2)
 
-pub ends_behind : (end : ℕ) (mark : Image) (size n : ℕ) (calls : List UsedCall) → EndWithin end calls → EndWithin end (after mark size n calls)
-ends_behind end mark size zero calls e = ends_marked end mark size calls e
-ends_behind end mark size (suc n) [] e = tt
-ends_behind end mark size (suc n) (Write w ∷ calls) e = (e.0, e.1, ends_behind end mark size n calls e.2)
-ends_behind end mark size (suc n) (Sync ∷ calls) e = ends_behind end mark size n calls e
-
-unsynced_marked : (mark : Image) (size : ℕ) (used : List Used) → AreUnsynced used → AreUnsynced (map (marked mark size) used)
-unsynced_marked mark size [] none = tt
-unsynced_marked Lost size (Wrote a b s t ∷ used) none = unsynced_marked Lost size used none
-unsynced_marked Kept size (Wrote a b s t ∷ used) none = unsynced_marked Kept size used none
-unsynced_marked Filled size (Wrote a b s t ∷ used) none = unsynced_marked Filled size used none
-unsynced_marked mark size (Synced ∷ used) none = absurd none
-
-unsynced_revived : (mark : Image) (size n : ℕ) (used : List Used) → AreUnsynced (drop n used) → AreUnsynced (drop n (revived mark size n used))
-unsynced_revived mark size zero used none = unsynced_marked mark size used none
-unsynced_revived mark size (suc n) [] none = tt
-unsynced_revived mark size (suc n) (u ∷ used) none = unsynced_revived mark size n used none
+-- writes that are marked as lost leave the content unchanged, and there is nothing to take back
+lost_all : (content : List ℕ) (size : ℕ) (writes : List Range) (log : List ℕ) → replayed content (with_octets (map (marked_write Lost size) writes) log) ≡ content
+lost_all content size [] log = refl
+lost_all content size (w ∷ writes) log = lost_all content size writes (drop w.len log)
 
 -- calls that are marked as lost leave the content unchanged
-lost_all : (content : List ℕ) (size : ℕ) (used : List Used) → replayed content (map (marked Lost size) used) ≡ content
-lost_all content size [] = refl
-lost_all content size (Wrote a b s t ∷ used) = lost_all content size used
-lost_all content size (Synced ∷ used) = lost_all content size used
+lost_used : (content : List ℕ) (size : ℕ) (used : List Used) → replayed content (map (marked Lost size) used) ≡ content
+lost_used content size [] = refl
+lost_used content size (Wrote a b s t ∷ used) = lost_used content size used
+lost_used content size (Synced ∷ used) = lost_used content size used
 
 pub lost_behind : (content : List ℕ) (size n : ℕ) (used : List Used) → replayed content (take n used) ≡ replayed content (revived Lost size n used)
-lost_behind content size zero used = sym (lost_all content size used)
+lost_behind content size zero used = sym (lost_used content size used)
 lost_behind content size (suc n) [] = refl
 lost_behind content size (suc n) (u ∷ used) = lost_behind (held content u) size n used
+
+lost_back : (content : List ℕ) (size : ℕ) (writes : List Range) (saved : List ℕ) → undone (map (marked_write Lost size) writes) saved content ≡ content
+lost_back content size [] saved = refl
+lost_back content size (w ∷ writes) saved = lost_back content size writes (drop w.len saved)
 
 kept_all : (size : ℕ) (used : List Used) → map (marked Kept size) used ≡ used
 kept_all size [] = refl
@@ -259,62 +385,44 @@ torn_all one other (Synced ∷ used) = ap (λ (l : List Used). Synced ∷ l) (to
 pub torn_behind : (one other n : ℕ) (used : List Used) → revived Filled one n used ≡ revived Filled other n used
 torn_behind one other n used = ap (λ (l : List Used). take n used ++ l) (torn_all one other (drop n used))
 
-module _ (old new : History) (is : IsHistory old) (first : new.first ≡ old.first) (grows : vec_capacity old.content ≤ vec_capacity new.content) (mark : Image) (size : ℕ)
-    (log : new.log.items ≡ old.log.items) (calls : new.calls.items ≡ after mark size old.synced old.calls.items) (synced : new.synced ≡ old.synced) where
-  pub revived_used : used_of new ≡ revived mark size old.synced (used_of old)
-  revived_used =
-      ap (λ (l : List ℕ). with_octets new.calls.items l) log ∙ ap (λ (k : List UsedCall). with_octets k old.log.items) calls ∙ used_behind mark size old.synced old.calls.items old.log.items
+-- the record after a cut, whose writes are marked
+module _ (old new : History) (is : IsHistory old) (first : new.first ≡ old.first) (grows : vec_capacity old.content ≤ vec_capacity new.content)
+    (base : base_of new ≡ base_of old) (past : past_of new ≡ past_of old) (log : new.log.items ≡ old.log.items) (mark : Image) (size : ℕ) where
+  pub revived_used : with_octets new.writes.items old.log.items ≡ with_octets (map (marked_write mark size) old.writes.items) old.log.items → used_of new ≡ revived mark size (length (past_of old)) (used_of old)
+  revived_used marks =
+      let tail = with_octets old.writes.items old.log.items in
+      ap (λ u. u ++ with_octets new.writes.items new.log.items) past
+      ∙ ap (λ l. past_of old ++ with_octets new.writes.items l) log
+      ∙ ap (λ u. past_of old ++ u) (marks ∙ used_marked mark size old.writes.items old.log.items)
+      ∙ ap (λ u. u ++ map (marked mark size) tail) (sym (take_at (past_of old) tail (length (past_of old)) refl))
+      ∙ ap (λ u. take (length (past_of old)) (used_of old) ++ map (marked mark size) u) (sym (drop_at (past_of old) tail (length (past_of old)) refl))
 
-  pub revived_sound : new.content.items ≡ replayed old.first.items (revived mark size old.synced (used_of old)) → IsHistory new
-  revived_sound content = record {
-    log = ap length log ∙ is.log ∙ sym (octets_behind mark size old.synced old.calls.items) ∙ ap octets_of (sym calls);
-    content = content ∙ ap (λ v. replayed v.items (revived mark size old.synced (used_of old))) (sym first) ∙ ap (λ w. replayed new.first.items w) (sym revived_used);
-    first = first_fits old new is first grows;
-    ends = subst (λ k. EndWithin (vec_capacity new.content) k) (sym calls)
-        (ends_behind (vec_capacity new.content) mark size old.synced old.calls.items (ends_more (vec_capacity old.content) (vec_capacity new.content) old.calls.items grows is.ends));
-    synced = omega (arith, is.synced, synced, sym (used_long new.calls.items new.log.items), ap length revived_used, used_long old.calls.items old.log.items, revived_size);
-    unsynced = subst (λ w. AreUnsynced (drop new.synced w)) (sym revived_used)
-        (subst (λ k. AreUnsynced (drop k (revived mark size old.synced (used_of old)))) (sym synced) (unsynced_revived mark size old.synced (used_of old) is.unsynced));
-  }
-    where
-      revived_size : length (revived mark size old.synced (used_of old)) ≡ length (used_of old)
-      revived_size =
-          omega (
-            arith,
-            length-append (take old.synced (used_of old)) (map (marked mark size) (drop old.synced (used_of old))),
-            length-map (drop old.synced (used_of old)) (marked mark size),
-            length-append (take old.synced (used_of old)) (drop old.synced (used_of old)),
-            ap length (take-append-drop old.synced (used_of old)),
-          )
+  pub revived_sound : length new.saved.items ≡ octets_of new.writes.items → octets_of new.writes.items ≡ octets_of old.writes.items
+      → new.content.items ≡ replayed (base_of old) (with_octets new.writes.items old.log.items) → undone new.writes.items new.saved.items new.content.items ≡ base_of old
+      → EndWithin (vec_capacity new.content) new.writes.items → IsHistory new
+  revived_sound saved octets content back ends =
+      let behind : new.content.items ≡ replayed (base_of new) (with_octets new.writes.items new.log.items) =
+      content ∙ ap (λ l. replayed (base_of old) (with_octets new.writes.items l)) (sym log) ∙ ap (λ l. replayed l (with_octets new.writes.items new.log.items)) (sym base) in
+      record {
+        log = ap length log ∙ is.log ∙ sym octets;
+        saved = saved;
+        past = past_on old new is first grows base past;
+        content = whole new (past_on old new is first grows base past) behind;
+        behind = behind;
+        back = back ∙ sym base;
+        ends = ends;
+      }
 
--- one step of a loop over the calls
-pub mark_step : (f : UsedCall → UsedCall) (xs ys : List UsedCall) (i : ℕ) (d r : UsedCall) → i < length xs → length ys ≡ length xs → ys ≡ map f (take i xs) ++ drop i xs → r ≡ f (get_or ys i d) → set ys i r ≡ map f (take (i + 1) xs) ++ drop (i + 1) xs
+  pub lost_sound : new.saved.items ≡ old.saved.items → new.writes.items ≡ map (marked_write Lost size) old.writes.items → new.content.items ≡ base_of old → IsHistory new
+  lost_sound saved writes content =
+      let octets : octets_of new.writes.items ≡ octets_of old.writes.items = ap octets_of writes ∙ octets_marked Lost size old.writes.items in
+      revived_sound (ap length saved ∙ is.saved ∙ sym octets) octets
+      (content ∙ sym (lost_all (base_of old) size old.writes.items old.log.items) ∙ ap (λ k. replayed (base_of old) (with_octets k old.log.items)) (sym writes))
+      (ap (λ k. undone k new.saved.items new.content.items) writes ∙ lost_back new.content.items size old.writes.items new.saved.items ∙ content)
+      (subst (λ k. EndWithin (vec_capacity new.content) k) (sym writes)
+      (ends_marked (vec_capacity new.content) Lost size old.writes.items (ends_more (vec_capacity old.content) (vec_capacity new.content) old.writes.items grows is.ends)))
+
+-- one step of a loop over the writes
+pub mark_step : (f : Range → Range) (xs ys : List Range) (i : ℕ) (d r : Range) → i < length xs → length ys ≡ length xs → ys ≡ map f (take i xs) ++ drop i xs → r ≡ f (get_or ys i d) → set ys i r ≡ map f (take (i + 1) xs) ++ drop (i + 1) xs
 mark_step f xs ys i d r lt long is e =
-    ap (λ (u : UsedCall). set ys i u) e ∙ map_over_more f xs ys i (get_or ys i d) lt is (get_or_default ys i d (get_or ys i d) (omega (arith, lt, long)))
-
-module _ (calls : List UsedCall) (i : ℕ) (d : UsedCall) (lt : i < length calls) where
-  next : drop i calls ≡ get_or calls i d ∷ drop (i + 1) calls
-  next = drop_more calls i d lt
-
-  pub octets_step : octets_of (drop i calls) ≡ octets_in (get_or calls i d) + octets_of (drop (i + 1) calls)
-  octets_step = ap octets_of next ∙ octets_first (get_or calls i d) (drop (i + 1) calls)
-
-  pub ends_step : (end : ℕ) → EndWithin end (drop i calls) → EndWithin end (get_or calls i d ∷ []) × EndWithin end (drop (i + 1) calls)
-  ends_step end e = ends_first end (get_or calls i d) (drop (i + 1) calls) (subst (λ (k : List UsedCall). EndWithin end k) next e)
-
-  pub replay_step : (content later rest after : List ℕ) → later ≡ held content (used_in (get_or calls i d) rest) → after ≡ drop (octets_in (get_or calls i d)) rest
-      → replayed later (with_octets (drop (i + 1) calls) after) ≡ replayed content (with_octets (drop i calls) rest)
-  replay_step content later rest after is at =
-      ap (λ (c : List ℕ). replayed c (with_octets (drop (i + 1) calls) after)) is
-      ∙ ap (λ (l : List ℕ). replayed (held content (used_in (get_or calls i d) rest)) (with_octets (drop (i + 1) calls) l)) at
-      ∙ ap (λ (u : List Used). replayed content u) (sym (used_first (get_or calls i d) (drop (i + 1) calls) rest))
-      ∙ ap (λ (k : List UsedCall). replayed content (with_octets k rest)) (sym next)
-
-  pub log_step : (n : ℕ) → octets_of (drop i calls) ≤ n → octets_in (get_or calls i d) ≤ n
-  log_step n le = omega (arith, le, octets_step)
-
-  pub rest_step : (rest after : List ℕ) → after ≡ drop (octets_in (get_or calls i d)) rest → octets_of (drop i calls) ≤ length rest → octets_of (drop (i + 1) calls) ≤ length after
-  rest_step rest after is le = omega (arith, le, octets_step, ap length is, length-drop (octets_in (get_or calls i d)) rest)
-
-pub ends_behind_step : (calls : List UsedCall) (i : ℕ) → i < length calls → (end more : ℕ) → end ≤ more → EndWithin end (drop i calls) → EndWithin more (drop (i + 1) calls)
-ends_behind_step calls i lt end more le e = ends_more end more (drop (i + 1) calls) le (ends_step calls i Sync lt end e).1
+    ap (λ (u : Range). set ys i u) e ∙ map_over_more f xs ys i (get_or ys i d) lt is (get_or_default ys i d (get_or ys i d) (omega (arith, lt, long)))

@@ -83,6 +83,7 @@ pub record IsMemory (h : History) (a : Allowance) : Type 0 where
   pub history : IsHistory h
   pub reach : a.reach ≤ vec_capacity h.content
   pub log : vec_len h.log + a.left ≤ vec_capacity h.log
-  pub list : IsTrue a.granted → vec_len h.calls + (16 - a.used) ≤ vec_capacity h.calls
+  pub saved : vec_len h.saved + a.left ≤ vec_capacity h.saved
+  pub list : IsTrue a.granted → vec_len h.writes + (16 - a.used) ≤ vec_capacity h.writes
   pub unsynced : IsTrue a.unsynced → IsTrue a.granted
   pub clean : a.unsynced ≡ false → Only (replayed h.first.items (used_of h)) (image_of h.first.items (used_of h) (length (used_of h)))

@@ -3,7 +3,7 @@ ghost use Rattle.std.specs.Prelude.{◌≡◌, ◌+◌, ◌^◌, ◌<◌, ◌≤
 ghost use Rattle.qkd_base.specs.Faults.{HasCause};
 ghost use Rattle.disk_model.specs.Allowance.{no_room, after_room, after_write, after_sync};
 ghost use Rattle.disk_model.specs.Calls.{MayWrite};
-ghost use Rattle.disk_model.specs.History.{IsHistory, HasRoom, GrowsFrom, used_of};
+ghost use Rattle.disk_model.specs.History.{IsHistory, GrowsFrom, used_of, past_of};
 ghost use Rattle.disk_model.specs.Images.{Torn, Follows, Only, Passes, StandsStill, overlaid};
 ghost use Rattle.disk_model.specs.Plan.{fails_in, passage};
 ghost use Rattle.disk_model.specs.Record.{after_settle};
@@ -17,7 +17,7 @@ use std::alloc::Global;
 use std::marker::Model;
 
 /// What a disk in memory holds, and all that its calls do.
-#[derive(Debug, Drop)]
+#[derive(Drop)]
 pub(crate) struct HeldDisk {
     history: History,
     plan: FaultPlan,
@@ -26,12 +26,13 @@ pub(crate) struct HeldDisk {
 }
 
 impl Model for HeldDisk {
-    ghost use Rattle.disk_model.specs.History.{used_of};
+    ghost use Rattle.std.specs.Prelude.{length};
+    ghost use Rattle.disk_model.specs.History.{used_of, past_of};
     ghost use Rattle.disk_model.specs.MemForm.{MemForm, IsMemory};
 
     ghost Value = { MemForm };
 
-    ghost view = { λ d. record { first = d.history.first.items; used = used_of d.history; synced = d.history.synced; plan = d.plan; allowance = d.allowance; armings = d.armings } };
+    ghost view = { λ d. record { first = d.history.first.items; used = used_of d.history; synced = length (past_of d.history); plan = d.plan; allowance = d.allowance; armings = d.armings } };
 
     ghost invariant = { λ d. IsMemory d.history d.allowance };
 }
@@ -68,13 +69,12 @@ impl HeldDisk {
 fn settle(history: &mut History, allowance: &mut Allowance)
     requires sound { IsHistory history.old }
     requires used { allowance.old.used < 16 }
-    requires room { IsTrue allowance.old.unsynced → HasRoom history.old 0 0 1 }
     ensures sound { IsHistory history.new }
     ensures first { history.new.first ≡ history.old.first }
     ensures calls { used_of history.new ≡ after_settle allowance.old.unsynced (used_of history.old) }
-    ensures synced { history.new.synced ≡ (if allowance.old.unsynced then length (used_of history.old) + 1 else history.old.synced) }
+    ensures synced { length (past_of history.new) ≡ (if allowance.old.unsynced then length (used_of history.old) + 1 else length (past_of history.old)) }
     ensures allowance { allowance.new ≡ after_sync allowance.old }
-    ensures grows { GrowsFrom history.old history.new 0 (if allowance.old.unsynced then 1 else 0) }
+    ensures grows { GrowsFrom history.old history.new 0 0 }
 {
     if allowance.unsynced {
         history.sync();

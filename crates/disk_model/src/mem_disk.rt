@@ -14,9 +14,9 @@ use std::alloc::Global;
 use std::marker::Model;
 
 /// A disk in memory. Its calls of `len`, `read`, `write_at` and `sync` are numbered from 1, and those whose numbers are
-/// in the list `fails` fail. The disk keeps a record of its used calls, from which the images at each past moment
-/// follow.
-#[derive(Debug, Drop)]
+/// in the list `fails` fail. The images at each past moment follow from its used calls. Of those up to the last
+/// sync only proofs know: they take no memory.
+#[derive(Drop)]
 pub struct MemDisk {
     // Each event of a manager moves its disk several times, so what the disk holds stays in one place.
     held: Box<HeldDisk>,

@@ -1,4 +1,4 @@
-use Rattle.std.proofs.Common.{◌≡◌, ℕ, List}
+use Rattle.std.proofs.Common.{◌≡◌, ℕ, List, length, ap}
 use Rattle.disk_model.specs.Record.{Used}
 use Rattle.disk_model.specs.MemForm.{MemForm}
 use Rattle.disk_model.specs.Plan.{PlanForm}
@@ -14,4 +14,4 @@ same_forms f f' u u' s s' p p' a a' r r' ef eu es ep ea er = λ i. record { firs
 pub returns : goal.returns
 returns c =
     let e = c.in_ok-new.ensures in
-    same_forms _ _ _ _ _ _ _ _ _ _ _ _ e.first e.calls e.synced c.new-2.ensures c.new-3.ensures c.new-4.ensures
+    same_forms _ _ _ _ _ _ _ _ _ _ _ _ e.first e.calls (ap length e.past) c.new-2.ensures c.new-3.ensures c.new-4.ensures
