@@ -18,7 +18,7 @@ use Rattle.law_lives.proofs.Owners.{owned_at_rest, room_at_rest, length_at_rest}
 use Rattle.law_lives.proofs.Doubts.{AreSettled, all_settled}
 use Rattle.law_lives.proofs.Views.{rest_sees}
 
-journal_room : (j : Journal) → IsJournal j → HasRoomFor j no_doubt
+pub journal_room : (j : Journal) → IsJournal j → HasRoomFor j no_doubt
 journal_room j (inl none) open' = omega (arith, none)
 journal_room j (inr some) open' = let limit = some.1 in omega (arith, limit)
 

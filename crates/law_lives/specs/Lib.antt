@@ -5,3 +5,5 @@ pub mod Lasting
 pub mod Left
 pub mod NextNetwork
 pub mod Lives
+pub mod Belongs
+pub mod KeptWorld
