@@ -6,9 +6,8 @@ use Rattle.std.proofs.lemmas.List.{take_more, append-nil, take-append-drop}
 use Rattle.std.proofs.lemmas.List.Concat.{flat_map-append}
 use Rattle.std.specs.Io.KnownBytes.{Appends}
 use Rattle.edge_io.specs.Writes.{AppendsPrefix, Adds}
-use Rattle.run_model.specs.Headline.{Took, TookFirst}
-use Rattle.run_lines.proofs.Taking.{took_on, took_of, first_of, first_after}
-use Rattle.run_lines.proofs.Writing.{adds_more}
+use Rattle.run_model.specs.Headline.{Given, given_to}
+use Rattle.run_lines.proofs.Taking.{took_on, took_of, first_of, first_all, first_after}
 use Rattle.asked_lines.specs.Telling.{IsWanted, IsLeftOut, AreAsked, text_of, TookAsked, TookSome}
 
 asked_more : (nodes lines asked : List (List ℕ)) (line : List ℕ) → AreAsked nodes lines asked → IsWanted nodes line → AreAsked nodes (lines ++ line ∷ []) (asked ++ line ∷ [])
@@ -26,19 +25,21 @@ pub text_more : (lines : List (List ℕ)) (line : List ℕ) → text_of (lines +
 text_more lines line = flat_map-append (λ (l : List ℕ). l) lines (line ∷ []) ∙ ap (λ (bs : List ℕ). text_of lines ++ bs) (append-nil line)
 
 module _ {S : Type 0} (taken : S → Option (List ℕ)) (pieces : S → Option (List (List ℕ))) (nodes : List (List ℕ)) where
+  abbrev given : S → Given
+  given s = given_to taken pieces s
+
   -- a wanted line was written
   one_asked : (lines : List (List ℕ)) (line : List ℕ) (a b c : S) → TookAsked taken pieces nodes lines a b → IsWanted nodes line → Appends (taken b) (taken c) line → Adds (pieces b) (pieces c) (line ∷ []) →
       TookAsked taken pieces nodes (lines ++ line ∷ []) a c
   one_asked lines line a b c h w bytes piece = record {
     asked = h.asked ++ line ∷ [];
     are = asked_more nodes lines h.asked line h.are w;
-    took = subst (Took (taken a) (taken c)) (sym (text_more h.asked line)) (took_on (taken a) (taken b) (taken c) (text_of h.asked) line h.took (took_of (taken b) (taken c) line bytes));
-    pieces_are = adds_more (pieces a) (pieces b) (pieces c) h.asked (line ∷ []) h.pieces_are piece;
+    took = took_on (given a) (given b) (given c) h.asked (line ∷ []) h.took (took_of (given b) (given c) line bytes piece);
   }
 
   -- a line was left out
   one_left_out : (lines : List (List ℕ)) (line : List ℕ) (a b : S) → TookAsked taken pieces nodes lines a b → IsLeftOut nodes line → TookAsked taken pieces nodes (lines ++ line ∷ []) a b
-  one_left_out lines line a b h out = record { asked = h.asked; are = asked_same nodes lines h.asked line h.are out; took = h.took; pieces_are = h.pieces_are }
+  one_left_out lines line a b h out = record { asked = h.asked; are = asked_same nodes lines h.asked line h.are out; took = h.took }
 
   -- ---- at the line of a place
 
@@ -53,14 +54,14 @@ module _ {S : Type 0} (taken : S → Option (List ℕ)) (pieces : S → Option (
     left_out_at out = subst (λ (ls : List (List ℕ)). TookAsked taken pieces nodes ls a b) (sym front_is) (one_left_out (take i lines) line a b h out)
 
     -- the sink failed at this line
-    pub failed_at : (c : S) → IsWanted nodes line → AppendsPrefix (taken b) (taken c) line → TookSome taken pieces nodes lines a c
-    failed_at c w bytes = record {
+    pub failed_at : (c : S) → IsWanted nodes line → AppendsPrefix (taken b) (taken c) line → Adds (pieces b) (pieces c) [] → TookSome taken pieces nodes lines a c
+    failed_at c w bytes piece = record {
       front = take i lines ++ line ∷ [];
       rest = drop (i + 1) lines;
       lines_are = sym (take-append-drop (i + 1) lines) ∙ ap (λ (ls : List (List ℕ)). ls ++ drop (i + 1) lines) front_is;
       asked = h.asked ++ line ∷ [];
       are = asked_more nodes (take i lines) h.asked line h.are w;
-      took = subst (TookFirst (taken a) (taken c)) (sym (text_more h.asked line)) (first_after (taken a) (taken b) (taken c) (text_of h.asked) line h.took (first_of (taken b) (taken c) line bytes));
+      took = first_after (given a) (given b) (given c) h.asked (line ∷ []) h.took (first_of (given b) (given c) line bytes piece);
     }
 
   -- the call stopped at a place
@@ -71,12 +72,12 @@ module _ {S : Type 0} (taken : S → Option (List ℕ)) (pieces : S → Option (
     lines_are = sym (take-append-drop i lines);
     asked = h.asked;
     are = h.are;
-    took = (text_of h.asked, [], sym (append-nil (text_of h.asked)), h.took);
+    took = first_all (given a) (given b) h.asked h.took;
   }
 
   -- all lines were told
   pub all_asked : (lines : List (List ℕ)) (a b : S) → TookAsked taken pieces nodes lines a b → TookSome taken pieces nodes lines a b
-  all_asked lines a b h = record { front = lines; rest = []; lines_are = sym (append-nil lines); asked = h.asked; are = h.are; took = (text_of h.asked, [], sym (append-nil (text_of h.asked)), h.took) }
+  all_asked lines a b h = record { front = lines; rest = []; lines_are = sym (append-nil lines); asked = h.asked; are = h.are; took = first_all (given a) (given b) h.asked h.took }
 
 -- whether a line is wanted, by the answer
 

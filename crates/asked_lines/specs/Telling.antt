@@ -1,11 +1,10 @@
 -- The lines of a report that are written where only what a person asked for is wanted.
 use Rattle.std.specs.Prelude.{◌≡◌, ◌⊎◌, true, false, List, [], ◌∷◌, ◌++◌, ℕ, Option, Result, Ok, Err}
 use Rattle.std.specs.List.{flat_map}
-use Rattle.edge_io.specs.Writes.{Adds}
 use Rattle.run_types.specs.declared.item.NumberedItem.{NumberedItem}
 use Rattle.run_types.specs.Texts.{line_text}
 use Rattle.report_grammar.specs.Tellable.{CanTell}
-use Rattle.run_model.specs.Headline.{Took, TookFirst}
+use Rattle.run_model.specs.Headline.{given_to, Took, TookFirst}
 use Rattle.run_lines.specs.declared.stop.Stop.{Stop}
 use Rattle.run_lines.specs.declared.stop.Stop.TheVariants.{WriteFault, Memory, Forged}
 use Rattle.asked_lines.specs.Asked.{is_asked}
@@ -34,17 +33,16 @@ module _ {S : Type 0} (taken : S → Option (List ℕ)) (pieces : S → Option (
   pub record TookAsked : Type 0 where
     pub asked : List (List ℕ)
     pub are : AreAsked nodes lines asked
-    pub took : Took (taken old) (taken new) (text_of asked)
-    pub pieces_are : Adds (pieces old) (pieces new) asked
+    pub took : Took (given_to taken pieces old) (given_to taken pieces new) asked
 
-  -- the sink took a prefix of the text of the asked ones of the first of these lines
+  -- the sink took the first of the asked ones of the first of these lines, one write for each, and perhaps a part of one more
   pub record TookSome : Type 0 where
     pub front : List (List ℕ)
     pub rest : List (List ℕ)
     pub lines_are : lines ≡ front ++ rest
     pub asked : List (List ℕ)
     pub are : AreAsked nodes front asked
-    pub took : TookFirst (taken old) (taken new) (text_of asked)
+    pub took : TookFirst (given_to taken pieces old) (given_to taken pieces new) asked
 
   -- What the sink took, by how the run ended and how the call did. The call ends as the run did, unless the sink failed or
   -- memory ran out.

@@ -1,5 +1,5 @@
 -- The images that a run leaves are images of its last world.
-use Rattle.std.proofs.Common.{◌≡◌, ℕ, ◌<◌, Bool, true, false, List, [], ◌++◌, refl, sym, subst, Option, Some}
+use Rattle.std.proofs.Common.{◌≡◌, ℕ, ◌<◌, Bool, true, false, List, [], ◌++◌, refl, sym, subst, Some}
 use Rattle.net_model.specs.declared.record.Record.{Record}
 use Rattle.net_model.specs.Premises.{IsNetwork}
 use Rattle.net_model.specs.World.{Network, World, Journal}
@@ -14,7 +14,7 @@ use Rattle.run_model.specs.Turn.{HttpTexts}
 use Rattle.run_model.specs.Begin.{MayBegin}
 use Rattle.run_model.specs.Bench.{DiskBatches, Seen}
 use Rattle.run_model.specs.Course.{Words, Course, whole_run, last_world}
-use Rattle.run_model.specs.Headline.{Stop, Headline}
+use Rattle.run_model.specs.Headline.{Stop, Given, Headline}
 use Rattle.net_model.specs.Start.{may_resolve}
 use Rattle.law_recovery.specs.GivesBack.{GivesBack}
 use Rattle.law_recovery.specs.Saved.{DoubtsFit}
@@ -80,7 +80,7 @@ module _ (net : Network) (begin : World) (actions : List Action) (network : IsNe
     left_have_one_world journals sized =
         let h = run_held net network actions begin (record { conserved = begins.conserved; fits = fits }) r in images_have_one_world net last images journals h.conserved h.fits read sized
 
-module _ (words : Words) (stop : Stop) (http : HttpTexts) (reading : DiskBatches) (scenario : Scenario) (seen : Seen) (old new : Option (List ℕ)) (c : Course)
+module _ (words : Words) (stop : Stop) (http : HttpTexts) (reading : DiskBatches) (scenario : Scenario) (seen : Seen) (old new : Given) (c : Course)
     (h : Headline words stop http reading scenario seen old new c) (current : AreCurrent c.net c.begin) where
   record IsRead (v : ℕ) (batches : List (List Record)) : Type 0 where
     read : is_blank ((last_world c).journal v) ≡ false → reading (seen.disk v) ≡ Some batches

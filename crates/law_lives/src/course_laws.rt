@@ -1,5 +1,5 @@
 // The law of courses: what a call leaves on its disks has one world behind it.
-ghost use Rattle.std.specs.Prelude.{◌≡◌, ◌<◌, ℕ, Bool, true, List, Option};
+ghost use Rattle.std.specs.Prelude.{◌≡◌, ◌<◌, ℕ, Bool, true, List};
 ghost use Rattle.net_model.specs.declared.record.Record.{Record};
 ghost use Rattle.net_model.specs.Premises.{IsNetwork};
 ghost use Rattle.net_model.specs.World.{Network, World, Journal, first};
@@ -12,7 +12,7 @@ ghost use Rattle.run_model.specs.Begin.{MayBegin};
 ghost use Rattle.run_model.specs.Turn.{HttpTexts};
 ghost use Rattle.run_model.specs.Bench.{DiskBatches, Seen};
 ghost use Rattle.run_model.specs.Course.{Words, Course};
-ghost use Rattle.run_model.specs.Headline.{Stop, Headline};
+ghost use Rattle.run_model.specs.Headline.{Stop, Given, Headline};
 ghost use Rattle.law_lives.specs.Images.{IsImage};
 ghost use Rattle.law_lives.specs.Left.{AreLeft, AreCurrent, HasOneWorld};
 ghost use Rattle.law_lives.specs.OneWorld.{IsOneWorld};
@@ -33,6 +33,6 @@ pub fn law_run_leaves_one_world()
 /// Where the headline holds of what is seen of the bench, the disks that are seen have one world together, and the course
 /// is a life. It may begin before any start, or in a later world, if a node there whose journal is blank has seen nothing.
 pub fn law_headline_has_one_world()
-    ensures { (words : Words) (stop : Stop) (http : HttpTexts) (reading : DiskBatches) (scenario : Scenario) (seen : Seen) (old new : Option (List ℕ)) (c : Course) (journals : ℕ → Journal) →
+    ensures { (words : Words) (stop : Stop) (http : HttpTexts) (reading : DiskBatches) (scenario : Scenario) (seen : Seen) (old new : Given) (c : Course) (journals : ℕ → Journal) →
         Headline words stop http reading scenario seen old new c → AreCurrent c.net c.begin → ((v : ℕ) → IsJournal (journals v)) → HasOneWorld reading seen c journals }
 {}

@@ -12,7 +12,6 @@ use Rattle.net_model.specs.Step.{run, is_run, IsRun}
 use Rattle.route_table.specs.Table.{no_links}
 use Rattle.sae_entitlements.specs.Pair.{pair_cmp}
 use Rattle.declared_site.specs.SiteOf.{site_of, links_in}
-use Rattle.run_types.specs.Texts.{report_text}
 use Rattle.run_model.specs.Report.{report, actions_of}
 use Rattle.run_model.specs.Left.{wire_octets}
 use Rattle.run_model.specs.Turn.{HttpTexts}
@@ -20,9 +19,9 @@ use Rattle.run_model.specs.Begin.{MayBegin}
 use Rattle.run_model.specs.Bench.{DiskBatches}
 use Rattle.run_model.specs.Course.{Course, Run, whole_run, IsCourseOf}
 use Rattle.run_model.specs.Keys.{KeysAndBytes}
-use Rattle.run_model.specs.Headline.{Headline, Done}
+use Rattle.run_model.specs.Headline.{Headline, Done, report_pieces}
 use Rattle.law_base.proofs.Base.{not_both}
-use Rattle.law_run.specs.Nothing.{nothing_declared, nothing_asked, untouched}
+use Rattle.law_run.specs.Nothing.{nothing_declared, nothing_asked, untouched, given_nothing}
 
 none_linked : (l : ℕ) → l < links_in no_links → ⊥
 none_linked l h = let none : links_in no_links ≡ 0 = refl in omega (arith, h, none)
@@ -58,8 +57,8 @@ runs sealing = refl
 some_same : {A : Type 0} (x y : A) → Some x ≡ Some y → x ≡ y
 some_same x y h = cc
 
-nothing_more : (before : List ℕ) → Some [] ≡ Some before → Some [] ≡ Some (before ++ [])
-nothing_more before e = subst (λ (xs : List ℕ). Some [] ≡ Some (xs ++ [])) (some_same [] before e) refl
+nothing_more : {A : Type 0} (before : List A) → Some [] ≡ Some before → Some [] ≡ Some (before ++ [])
+nothing_more {A = A} before e = subst (λ (xs : List A). Some [] ≡ Some (xs ++ [])) (some_same [] before e) refl
 
 none_below : (v : ℕ) → v < 0 → ⊥
 none_below v h = omega (arith, h)
@@ -76,12 +75,12 @@ is_course sealing http f begins =
       steps = runs sealing;
     }
 
-pub headline : (sealing : Sealing) (http : HttpTexts) (reading : DiskBatches) → IsSealing sealing → MayBegin (course sealing).net first → KeysAndBytes (course sealing) → Headline (Run 1) Done http reading nothing_asked untouched (Some []) (Some []) (course sealing)
-unfolding report report_text actions_of run first wire_octets armings
+pub headline : (sealing : Sealing) (http : HttpTexts) (reading : DiskBatches) → IsSealing sealing → MayBegin (course sealing).net first → KeysAndBytes (course sealing) → Headline (Run 1) Done http reading nothing_asked untouched given_nothing given_nothing (course sealing)
+unfolding report report_pieces actions_of run first wire_octets armings
 headline sealing http reading f begins keys =
     record {
       run = is_course sealing http f begins;
-      reported = (refl, nothing_more);
+      reported = (refl, record { octets = nothing_more; pieces = nothing_more });
       wires = λ l frames e. sym (some_same [] frames e);
       disks = λ v h blank. absurd (none_below v h);
       other_disks = λ v h. refl;

@@ -49,7 +49,7 @@ module _ {A : Type 0} (p : A → Bool) where
   most greatest (x ∷ xs) before now h = went_most greatest (p x) (count_by p xs) (count_by p (x ∷ xs)) before h.0 now (count_more p x xs) h.1 (most greatest xs h.0 now h.2)
 
   pub totals : (greatest : ℕ) (xs : List A) (before now : ℕ) → now ≤ greatest → Rises greatest (map p xs) before now → (before + count_by p xs ≤ now) ⊎ (now ≡ greatest)
-  totals greatest xs before now within h = elim (most greatest xs before now h) [ | inl rose ↦ inl rose | inr full ↦ inr (omega (arith, within, full)) ]
+  totals greatest xs before now within h = elim (most greatest xs before now h) [ inl rose ↦ inl rose | inr full ↦ inr (omega (arith, within, full)) ]
 
   none_first : (fault : Bool) (n all : ℕ) → all ≡ one_if fault + n → all ≡ 0 → n ≡ 0
   none_first fault n all is none = omega (arith, is, none)

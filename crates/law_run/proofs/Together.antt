@@ -1,5 +1,5 @@
 -- The parts of the headline, put together.
-use Rattle.std.proofs.Common.{◌≡◌, ℕ, ◌<◌, false, List, Option, Some, sym, subst, append-nil}
+use Rattle.std.proofs.Common.{◌≡◌, ℕ, ◌<◌, false, List, Some, sym, subst, append-nil}
 use Rattle.net_model.specs.declared.record.Record.{Record}
 use Rattle.net_model.specs.Journal.{is_blank}
 use Rattle.net_model.specs.World.{Network, World}
@@ -11,14 +11,14 @@ use Rattle.run_model.specs.Turn.{HttpTexts}
 use Rattle.run_model.specs.Bench.{DiskBatches, Seen}
 use Rattle.run_model.specs.Course.{Words, Run, Course, tasks_of, whole_run, last_world, IsCourseOf}
 use Rattle.run_model.specs.Keys.{KeysAndBytes}
-use Rattle.run_model.specs.Headline.{Stop, Done, ForgedMatch, ListenFault, WriteFault, Memory, IsReported, Headline}
+use Rattle.run_model.specs.Headline.{Stop, Done, ForgedMatch, ListenFault, WriteFault, Memory, Given, IsReported, Headline}
 use Rattle.law_run.specs.Benched.{lines_alone}
 use Rattle.law_run.specs.Seen.{IsTold, IsKept, IsSeen}
 use Rattle.law_run.proofs.Telling.{no_more, still_first}
 use Rattle.law_run.proofs.Folds.{is_fold}
 use Rattle.law_run.proofs.Resting.{rest_fits, gives_back}
 
-pub is_reported : (http : HttpTexts) (scenario : Scenario) (workers : ℕ) (c : Course) (old new : Option (List ℕ)) (stop : Stop) →
+pub is_reported : (http : HttpTexts) (scenario : Scenario) (workers : ℕ) (c : Course) (old new : Given) (stop : Stop) →
     IsTold stop scenario.site.nodes (report http c.net c.begin (tasks_of scenario) c.done) old new → IsReported (Run workers) stop http scenario c old new
 is_reported http scenario workers c old new Done h = (h.0, no_more http scenario workers c old new h.1)
 is_reported http scenario workers c old new (ForgedMatch line) h = h
@@ -49,7 +49,7 @@ module _ (words : Words) (http : HttpTexts) (scenario : Scenario) (c : Course) (
         is_fold c.net c.begin (whole_run c) v earlier.0 run.network run.begins.conserved fits before run.steps kept.committed d.0 kept.may kept.given,
       )
 
-  pub headline : (stop : Stop) (old new : Option (List ℕ)) → IsReported words stop http scenario c old new → KeysAndBytes c →
+  pub headline : (stop : Stop) (old new : Given) → IsReported words stop http scenario c old new → KeysAndBytes c →
       Headline words stop http reading scenario seen old new c
   headline stop old new reported keys = record {
     run = run;

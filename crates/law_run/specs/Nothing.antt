@@ -8,7 +8,7 @@ use Rattle.net_model.specs.Sealing.{Sealing, IsSealing}
 use Rattle.run_model.specs.Turn.{HttpTexts}
 use Rattle.run_model.specs.Bench.{DiskBatches, Count, Seen}
 use Rattle.run_model.specs.Course.{Course, Run}
-use Rattle.run_model.specs.Headline.{Headline, Done}
+use Rattle.run_model.specs.Headline.{Given, Done, Headline}
 
 abbrev pub nothing_declared : Site
 nothing_declared = record { nodes = []; routes = no_links; entitlements = none }
@@ -32,6 +32,9 @@ untouched =
       entropy = λ v. None;
     }
 
+abbrev pub given_nothing : Given
+given_nothing = record { octets = Some []; pieces = Some [] }
+
 -- The headline of this scenario holds, with an empty report.
 abbrev pub NothingIsDone : Type 0
-NothingIsDone = (sealing : Sealing) (http : HttpTexts) (reading : DiskBatches) → IsSealing sealing → (c : Course) × Headline (Run 1) Done http reading nothing_asked untouched (Some []) (Some []) c
+NothingIsDone = (sealing : Sealing) (http : HttpTexts) (reading : DiskBatches) → IsSealing sealing → (c : Course) × Headline (Run 1) Done http reading nothing_asked untouched given_nothing given_nothing c

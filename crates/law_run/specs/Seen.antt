@@ -1,5 +1,5 @@
 -- What the sink and the bench's parts show after the lines of a scenario.
-use Rattle.std.specs.Prelude.{◌≡◌, ℕ, ◌<◌, ◌≤◌, Bool, true, false, List, [], map, drop, Option, Some}
+use Rattle.std.specs.Prelude.{◌≡◌, ℕ, ◌<◌, ◌≤◌, Bool, true, false, List, [], map, drop, Some}
 use Rattle.qkd_base.specs.declared.lane.Lane.{Lane}
 use Rattle.net_model.specs.declared.record.Record.{Record}
 use Rattle.net_model.specs.OctetSequence.{sequence_of}
@@ -8,22 +8,21 @@ use Rattle.net_model.specs.Journal.{is_blank}
 use Rattle.net_model.specs.Start.{may_resolve}
 use Rattle.net_model.specs.Action.{Action}
 use Rattle.net_model.specs.Faults.{is_disk_fault, is_random_fault, is_block_fault, is_wire_fault, armings}
-use Rattle.run_types.specs.Texts.{report_text}
 use Rattle.run_model.specs.Play.{Played, Whole, ForgedAt}
 use Rattle.run_model.specs.Left.{wire_octets}
 use Rattle.run_model.specs.Bench.{DiskBatches, Seen, RoseWith, IsArmedWith}
-use Rattle.run_model.specs.Headline.{Stop, Done, ForgedMatch, ListenFault, WriteFault, Memory, Took, TookFirst}
+use Rattle.run_model.specs.Headline.{Stop, Done, ForgedMatch, ListenFault, WriteFault, Memory, Took, TookFirst, Given, report_pieces}
 use Rattle.law_recovery.specs.GivesBack.{GivesBack}
 use Rattle.law_run.specs.Benched.{kept_view}
 
--- If the run came to its end or to a forged match, the sink took exactly the text of the report. If the sink failed
--- or memory ran out, it took a prefix of that text. No listener can fail, since lines open no port.
-abbrev pub IsTold : Stop → List (List ℕ) → Played → (old new : Option (List ℕ)) → Type 0
-IsTold Done nodes p old new = (p.ending ≡ Whole) × Took old new (report_text nodes p.items)
-IsTold (ForgedMatch line) nodes p old new = (p.ending ≡ ForgedAt line) × Took old new (report_text nodes p.items)
+-- If the run came to its end or to a forged match, the sink took exactly the pieces of the report. If the sink failed
+-- or memory ran out, it took the first of them. No listener can fail, since lines open no port.
+abbrev pub IsTold : Stop → List (List ℕ) → Played → (old new : Given) → Type 0
+IsTold Done nodes p old new = (p.ending ≡ Whole) × Took old new (report_pieces nodes p.items)
+IsTold (ForgedMatch line) nodes p old new = (p.ending ≡ ForgedAt line) × Took old new (report_pieces nodes p.items)
 IsTold ListenFault nodes p old new = ⊥
-IsTold WriteFault nodes p old new = TookFirst old new (report_text nodes p.items)
-IsTold Memory nodes p old new = TookFirst old new (report_text nodes p.items)
+IsTold WriteFault nodes p old new = TookFirst old new (report_pieces nodes p.items)
+IsTold Memory nodes p old new = TookFirst old new (report_pieces nodes p.items)
 
 -- The batches on a node's disk give back the node's view, with the batch in doubt or without it.
 pub record IsKept (net : Network) (w : World) (v : ℕ) (batches : List (List Record)) : Type 0 where

@@ -1,5 +1,5 @@
 // Laws of a scenario's course: what was done for its tasks has a headline, with its report, keys, disks and fault
-ghost use Rattle.std.specs.Prelude.{◌≡◌, ℕ, ◌+◌, ◌-◌, ◌^◌, ◌<◌, ◌≤◌, min, Bool, true, List, ◌∷◌, ◌++◌, map, count_by, drop, Option, option_map};
+ghost use Rattle.std.specs.Prelude.{◌≡◌, ℕ, ◌+◌, ◌-◌, ◌^◌, ◌<◌, ◌≤◌, min, Bool, true, List, ◌∷◌, ◌++◌, map, count_by, drop, option_map};
 ghost use Rattle.qkd_base.specs.declared.lane.Lane.{Lane};
 ghost use Rattle.net_model.specs.declared.record.Record.{Record};
 ghost use Rattle.net_model.specs.OctetSequence.{sequence_of};
@@ -13,6 +13,7 @@ ghost use Rattle.net_model.specs.Action.{Action};
 ghost use Rattle.net_model.specs.Step.{run, IsRun};
 ghost use Rattle.net_model.specs.Faults.{disk_faults, entropy_faults, device_faults, wire_faults, armings, is_disk_fault, is_random_fault, is_block_fault, is_wire_fault};
 ghost use Rattle.run_types.specs.declared.scenario.Scenario.{Scenario};
+ghost use Rattle.run_types.specs.declared.item.NumberedItem.{NumberedItem};
 ghost use Rattle.run_types.specs.Texts.{report_text};
 ghost use Rattle.run_model.specs.Play.{Whole, ForgedAt};
 ghost use Rattle.run_model.specs.Report.{Performed, report, actions_for, actions_of, IsRunOf};
@@ -23,7 +24,7 @@ ghost use Rattle.run_model.specs.Begin.{MayBegin};
 ghost use Rattle.run_model.specs.Bench.{DiskBatches, Seen, Count, Rises, RoseWith, RoseBy};
 ghost use Rattle.run_model.specs.Course.{Words, Run, Load, Course, tasks_of, whole_run, last_world, lines_played, IsCourseOf};
 ghost use Rattle.run_model.specs.Keys.{KeysAndBytes};
-ghost use Rattle.run_model.specs.Headline.{Stop, Took, TookFirst, Done, ForgedMatch, WriteFault, Memory, IsReported, Headline};
+ghost use Rattle.run_model.specs.Headline.{Stop, Given, joined, Took, TookFirst, Done, ForgedMatch, WriteFault, Memory, report_pieces, IsReported, Headline};
 ghost use Rattle.law_recovery.specs.GivesBack.{GivesBack};
 ghost use Rattle.law_recovery.specs.Saved.{DoubtsFit};
 ghost use Rattle.law_run.specs.Benched.{IsBenched, lines_alone, counter, kept_view};
@@ -52,18 +53,19 @@ pub fn law_lines_are_the_whole()
     law_tasks_are_run();
 }
 
-/// The sink took the items of the lines as the headline of a `run` says: all of them, or all up to a forged match, or
-/// a prefix.
+/// The sink took the items of the lines as the headline of a `run` says, one piece each: all of them, or all up to a
+/// forged match, or the first of them. The text of a report is its pieces, one after another.
 pub fn law_reported()
-    ensures done { (http : HttpTexts) (scenario : Scenario) (workers : ℕ) (c : Course) (old new : Option (List ℕ)) → (lines_played http scenario c).ending ≡ Whole →
-        Took old new (report_text scenario.site.nodes (lines_played http scenario c).items) → IsReported (Run workers) Done http scenario c old new }
-    ensures forged { (http : HttpTexts) (scenario : Scenario) (workers line : ℕ) (c : Course) (old new : Option (List ℕ)) →
+    ensures done { (http : HttpTexts) (scenario : Scenario) (workers : ℕ) (c : Course) (old new : Given) → (lines_played http scenario c).ending ≡ Whole →
+        Took old new (report_pieces scenario.site.nodes (lines_played http scenario c).items) → IsReported (Run workers) Done http scenario c old new }
+    ensures forged { (http : HttpTexts) (scenario : Scenario) (workers line : ℕ) (c : Course) (old new : Given) →
         (lines_played http scenario c).ending ≡ ForgedAt line →
-        Took old new (report_text scenario.site.nodes (lines_played http scenario c).items) → IsReported (Run workers) (ForgedMatch line) http scenario c old new }
-    ensures failed { (http : HttpTexts) (scenario : Scenario) (workers : ℕ) (c : Course) (old new : Option (List ℕ)) →
-        TookFirst old new (report_text scenario.site.nodes (lines_played http scenario c).items) → IsReported (Run workers) WriteFault http scenario c old new }
-    ensures memory { (http : HttpTexts) (scenario : Scenario) (workers : ℕ) (c : Course) (old new : Option (List ℕ)) →
-        TookFirst old new (report_text scenario.site.nodes (lines_played http scenario c).items) → IsReported (Run workers) Memory http scenario c old new }
+        Took old new (report_pieces scenario.site.nodes (lines_played http scenario c).items) → IsReported (Run workers) (ForgedMatch line) http scenario c old new }
+    ensures failed { (http : HttpTexts) (scenario : Scenario) (workers : ℕ) (c : Course) (old new : Given) →
+        TookFirst old new (report_pieces scenario.site.nodes (lines_played http scenario c).items) → IsReported (Run workers) WriteFault http scenario c old new }
+    ensures memory { (http : HttpTexts) (scenario : Scenario) (workers : ℕ) (c : Course) (old new : Given) →
+        TookFirst old new (report_pieces scenario.site.nodes (lines_played http scenario c).items) → IsReported (Run workers) Memory http scenario c old new }
+    ensures text { (nodes : List (List ℕ)) (items : List NumberedItem) → joined (report_pieces nodes items) ≡ report_text nodes items }
 {}
 
 /// In every course, all clauses of the headline on keys and lane bytes hold.
@@ -124,12 +126,12 @@ pub fn law_octets_left()
 /// The headline holds of what was done for the tasks of a scenario, if the sink and the bench's parts
 /// show what they should. For a generated load, what the sink took is a further premise.
 pub fn law_headline_of_tasks()
-    ensures run { (http : HttpTexts) (scenario : Scenario) (workers : ℕ) (stop : Stop) (reading : DiskBatches) (seen : Seen) (old new : Option (List ℕ)) (net : Network) (begin : World) (done : List Performed) →
+    ensures run { (http : HttpTexts) (scenario : Scenario) (workers : ℕ) (stop : Stop) (reading : DiskBatches) (seen : Seen) (old new : Given) (net : Network) (begin : World) (done : List Performed) →
         IsBenched scenario net → MayBegin net begin → IsRunOf http net workers begin (tasks_of scenario) done →
         IsTold stop scenario.site.nodes (report http net begin (tasks_of scenario) done) old new →
         IsSeen reading net (report http net begin (tasks_of scenario) done).world (actions_of net done) seen →
         Headline (Run workers) stop http reading scenario seen old new (lines_alone net begin done) }
-    ensures load { (http : HttpTexts) (scenario : Scenario) (rounds : ℕ) (stop : Stop) (reading : DiskBatches) (seen : Seen) (old new : Option (List ℕ)) (net : Network) (begin : World) (done : List Performed) →
+    ensures load { (http : HttpTexts) (scenario : Scenario) (rounds : ℕ) (stop : Stop) (reading : DiskBatches) (seen : Seen) (old new : Given) (net : Network) (begin : World) (done : List Performed) →
         scenario ≡ load_scenario rounds → IsBenched scenario net → MayBegin net begin → IsRunOf http net 1 begin (tasks_of scenario) done →
         IsReported (Load rounds) stop http scenario (lines_alone net begin done) old new →
         IsSeen reading net (report http net begin (tasks_of scenario) done).world (actions_of net done) seen →

@@ -7,8 +7,9 @@ mod headline_laws;
 mod load_laws;
 
 pub use course_laws::{
-    law_disks_of_a_course, law_fault_counts, law_faults_in_place, law_headline_of_tasks, law_keys_of_a_course,
-    law_lines_are_the_whole, law_octets_left, law_reported, law_tasks_make_a_course,
+    law_disks_of_a_course, law_fault_counts, law_faults_in_place, law_headline_of_tasks,
+    law_keys_of_a_course, law_lines_are_the_whole, law_octets_left, law_reported,
+    law_tasks_make_a_course,
 };
 pub use fit_laws::{law_load_commands_fit, law_read_commands_fit};
 pub use headline_laws::{

@@ -11,6 +11,7 @@ use Rattle.net_model.specs.Site.{Site}
 use Rattle.net_model.specs.Action.{Action}
 use Rattle.net_model.specs.Step.{run}
 use Rattle.run_model.specs.Headline as headline
+use Rattle.run_model.specs.Headline.{Given}
 use Rattle.run_lines.specs.declared.stop.Stop.{Stop}
 use Rattle.run_lines.specs.declared.stop.Stop.TheVariants as stops
 use Rattle.law_locality.proofs.Runs.{run_none}
@@ -46,7 +47,7 @@ module _ {K Q E X D : Type 0} (is_honest : K → Bool) (moment : K → ℕ) (ima
   Behind stop served = ServedBehind tell failed told_ports workers connections port old.site before after stop net w served
 
   -- if everything was served, or there was no node, the last line changes nothing about ports
-  last_ports : {U : Type 0} (result : Result U ServeStop) (served : List (List Action)) (a b : Option (List ℕ)) (text : List ℕ) → (result ≡ Err Listen → ⊥) → IsLineTold (ended result) a b text →
+  last_ports : {U : Type 0} (result : Result U ServeStop) (served : List (List Action)) (a b : Given) (text : List ℕ) → (result ≡ Err Listen → ⊥) → IsLineTold (ended result) a b text →
       Behind headline.Done served → Behind (ended result) served
   last_ports (Ok done) served a b text calm line ports = ports
   last_ports (Err Listen) served a b text calm line ports = absurd (calm refl)
@@ -61,7 +62,7 @@ module _ {K Q E X D : Type 0} (is_honest : K → Bool) (moment : K → ℕ) (ima
   ports_kept U stops.Memory same = inl (record { same = same; none = refl })
   ports_kept U (stops.Forged number) same = record { same = same; none = refl }
 
-  module _ (a b : Option (List ℕ)) (text : List ℕ) where
+  module _ (a b : Given) (text : List ℕ) where
     abbrev AllEnds : {T U : Type 0} → Result T Stop → Result U ServeStop → Type 0
     AllEnds {T} {U} lines result = Ends is_honest moment image left told frames counted disk_count armed entropy_count device_count wire_count tell failed told_ports workers connections port old new net w before after {T = T} {U = U} a b text lines result
 

@@ -1,5 +1,5 @@
 -- The lines of a scenario, and what was done after them, give the headline of the whole.
-use Rattle.std.proofs.Common.{◌≡◌, ◌∙◌, ◌⊎◌, inl, inr, ℕ, Bool, true, List, [], length, Option, Result, Ok, Err, sym, ap, subst}
+use Rattle.std.proofs.Common.{◌≡◌, ◌∙◌, ◌⊎◌, inl, inr, ℕ, Bool, true, List, [], ◌∷◌, length, Option, Result, Ok, Err, sym, ap, subst}
 use Rattle.std.specs.Prelude.{MatchResult, is_ok}
 use Rattle.std.specs.List.{flat_map}
 use Rattle.disk_model.specs.declared.arm.Armings.{Armings}
@@ -14,20 +14,20 @@ use Rattle.declared_site.specs.SiteOf.{IsDeclared}
 use Rattle.declared_site.specs.declared.site.Site.{Site as Declared}
 use Rattle.run_types.specs.declared.scenario.Scenario.{Scenario}
 use Rattle.run_types.specs.declared.item.NumberedItem.{NumberedItem}
-use Rattle.run_types.specs.Texts.{report_text, served_text}
+use Rattle.run_types.specs.Texts.{served_text}
 use Rattle.run_model.specs.Turn.{HttpTexts}
 use Rattle.run_model.specs.Play.{Whole}
 use Rattle.run_model.specs.Report.{Task, Performed, IsRunOf, report, actions_of}
 use Rattle.run_model.specs.Course.{Serve, Course, tasks_of, served_by, whole_run, last_world}
 use Rattle.run_model.specs.Headline as headline
-use Rattle.run_model.specs.Headline.{Took}
+use Rattle.run_model.specs.Headline.{Given, Took, report_pieces}
 use Rattle.run_ops.specs.Acting.{IsReady}
 use Rattle.run_lines.specs.Running.{StopsAs}
 use Rattle.run_lines.specs.declared.stop.Stop.{Stop}
 use Rattle.run_lines.specs.declared.stop.Stop.TheVariants as stops
 use Rattle.run_lines.proofs.Taking.{took_none}
 use Rattle.run_tasks.specs.Tasks.{IsCut}
-use Rattle.run_tasks.proofs.Cuts.{HasTaken, cut_more}
+use Rattle.run_tasks.proofs.Cuts.{HasTaken, taken_whole, taken_first, cut_behind}
 use Rattle.law_locality.proofs.Runs.{run-append}
 use Rattle.law_run.specs.Benched.{IsBenched}
 use Rattle.law_run.proofs.Resting.{first_begins}
@@ -51,9 +51,9 @@ use Rattle.net_serve.specs.declared.stop.ServeStop.TheVariants.{Listen, Stopped}
 use Rattle.net_serve.proofs.Told.{all_told}
 
 -- if the lines came to their end, requests may follow them
-follows : {T : Type 0} (lines : Result T Stop) (http : HttpTexts) (scenario : Scenario) (net : Network) (done : List Performed) (served : List (List Action)) (before after : Option (List ℕ)) →
+follows : {T : Type 0} (lines : Result T Stop) (http : HttpTexts) (scenario : Scenario) (net : Network) (done : List Performed) (served : List (List Action)) (before after : Given) →
     (report http net first (tasks_of scenario) done).world ≡ run net first (actions_of net done) →
-    MatchResult lines (λ answer. ((report http net first (tasks_of scenario) done).ending ≡ Whole) × Took before after (report_text scenario.site.nodes (report http net first (tasks_of scenario) done).items))
+    MatchResult lines (λ answer. ((report http net first (tasks_of scenario) done).ending ≡ Whole) × Took before after (report_pieces scenario.site.nodes (report http net first (tasks_of scenario) done).items))
     (λ stop. StopsAs stop scenario.site.nodes (report http net first (tasks_of scenario) done) before after) →
     (served ≡ []) ⊎ ((is_ok lines ≡ true) × AreRequests net (report http net first (tasks_of scenario) done).world served) → MayFollow http scenario net first done served
 follows lines http scenario net done served before after leads told (inl none) = inl none
@@ -65,15 +65,24 @@ follows (Ok answer) http scenario net done served before after leads told (inr a
 })
 follows (Err stop) http scenario net done served before after leads told (inr asked) = absurd (let wrong = asked.0 in cc)
 
--- what the sink took after the lines
-taken_behind : {T U : Type 0} (lines : Result T Stop) (result : Result U ServeStop) (between after : Option (List ℕ)) (text : List ℕ) →
-    MatchResult lines (λ done. IsLineTold (ended result) between after text) (λ stop. (result ≡ Err (Stopped stop)) × (after ≡ between)) → HasTaken between after
-taken_behind (Ok answer) (Ok done) between after text told = record { text = text; took = told }
-taken_behind (Ok answer) (Err Listen) between after text told = record { text = []; took = subst (λ (t : Option (List ℕ)). Took between t []) (sym told) (took_none between) }
-taken_behind (Ok answer) (Err (Stopped stops.WriteFault)) between after text told = record { text = told.0; took = told.3 }
-taken_behind (Ok answer) (Err (Stopped stops.Memory)) between after text told = record { text = told.0; took = told.3 }
-taken_behind (Ok answer) (Err (Stopped (stops.Forged line))) between after text told = absurd told
-taken_behind (Err stop) result between after text told = record { text = []; took = subst (λ (t : Option (List ℕ)). Took between t []) (sym told.1) (took_none between) }
+-- where the lines and what came behind them were cut
+
+taken_behind : {U : Type 0} (result : Result U ServeStop) (between after : Given) (text : List ℕ) → IsLineTold (ended result) between after text → HasTaken between after
+taken_behind (Ok done) between after text told = taken_whole between after (text ∷ []) told
+taken_behind (Err Listen) between after text told = subst (λ (t : Given). HasTaken between t) (sym told) (taken_whole between between [] (took_none between))
+taken_behind (Err (Stopped stops.WriteFault)) between after text told = taken_first between after (text ∷ []) told
+taken_behind (Err (Stopped stops.Memory)) between after text told = taken_first between after (text ∷ []) told
+taken_behind (Err (Stopped (stops.Forged line))) between after text told = absurd told
+
+cut_at : {T U : Type 0} (lines : Result T Stop) (result : Result U ServeStop) (nodes : List (List ℕ)) (http : HttpTexts) (net : Network) (tasks : List Task) (done : List Performed) (before between after : Given)
+    (text : List ℕ) → MatchResult lines (λ answer. ((report http net first tasks done).ending ≡ Whole) × Took before between (report_pieces nodes (report http net first tasks done).items))
+    (λ stop. StopsAs stop nodes (report http net first tasks done) before between) →
+    MatchResult lines (λ done. IsLineTold (ended result) between after text) (λ stop. (result ≡ Err (Stopped stop)) × (after ≡ between)) →
+    IsCut (λ (items : List NumberedItem). items) nodes http net first tasks done before between → IsCut (λ (items : List NumberedItem). items) nodes http net first tasks done before after
+cut_at (Ok answer) result nodes http net tasks done before between after text told line cut =
+    cut_behind (λ (items : List NumberedItem). items) nodes http net first tasks done before between after told.1 (taken_behind result between after text line)
+cut_at (Err stop) result nodes http net tasks done before between after text told line cut =
+    subst (λ (t : Given). IsCut (λ (items : List NumberedItem). items) nodes http net first tasks done before t) (sym line.1) cut
 
 module _ {K Q E X D : Type 0} (is_honest : K → Bool) (content : K → List ℕ) (moment : K → ℕ) (image : K → ℕ → List ℕ → Type 0) (left : E → Option OctetSequence)
     (told : Q → Option OctetSequence) (frames : X → Option (List (List ℕ))) (counted : X → ℕ)
@@ -84,12 +93,12 @@ module _ {K Q E X D : Type 0} (is_honest : K → Bool) (content : K → List ℕ
   left_of s net w (Ok done) h = h.stands
   left_of s net w (Err stop) h = h
 
-  module _ {T U : Type 0} (old stayed new : Bench K Q E X) (state final : State K Q E X) (scenario : Scenario) (workers connections port : ℕ) (before between after : Option (List ℕ))
+  module _ {T U : Type 0} (old stayed new : Bench K Q E X) (state final : State K Q E X) (scenario : Scenario) (workers connections port : ℕ) (before between after : Given)
       (ports_before ports_after : PortsTold D) (lines : Result T Stop) (result : Result U ServeStop)
       (tasks_lead : (http : HttpTexts) (net : Network) (workers : ℕ) (w : World) (tasks : List Task) (done : List Performed) → IsNetwork net → Conserved net w →
       IsRunOf http net workers w tasks done → (report http net w tasks done).world ≡ run net w (actions_of net done))
       (bench_begins : (b : Bench K Q E X) (scenario : Scenario) → IsNew is_honest moment image left told frames b → IsDeclared scenario.site → IsBenched scenario (network_on told left b scenario.site))
-      (bench_serves : (http : HttpTexts) (scenario : Scenario) (workers connections port : ℕ) (stop : headline.Stop) (old new : Bench K Q E X) (before after : Option (List ℕ))
+      (bench_serves : (http : HttpTexts) (scenario : Scenario) (workers connections port : ℕ) (stop : headline.Stop) (old new : Bench K Q E X) (before after : Given)
       (done : List Performed) (served : List (List Action)) →
       IsOver is_honest content moment image left told frames counted disk_count armed entropy_count device_count wire_count old new scenario.site
       (whole_run (course_on told left old scenario done served)) (last_world (course_on told left old scenario done served)) →
@@ -139,7 +148,7 @@ module _ {K Q E X D : Type 0} (is_honest : K → Bool) (content : K → List ℕ
           course,
           bench_serves http scenario workers connections port (ended result) old new before after r.done e.served over r.is
               (follows lines http scenario net r.done e.served before between leads r.told e.asked) says
-              (cut_more (λ (items : List NumberedItem). items) scenario.site.nodes http net first (tasks_of scenario) r.done before between after r.cut (taken_behind lines result between after _ line)),
+              (cut_at lines result scenario.site.nodes http net (tasks_of scenario) r.done before between after (served_text count) r.told line r.cut),
           subst (λ (w : World). ServedBehind tell failed told_ports workers connections port scenario.site ports_before ports_after (ended result) net w e.served) leads
               (subst (λ (s : Declared). ServedBehind tell failed told_ports workers connections port s ports_before ports_after (ended result) net p.world e.served) ran.sited e.ports),
         )

@@ -1,5 +1,5 @@
 -- The state, the ports and the sink after the lines of a scenario.
-use Rattle.std.specs.Prelude.{◌≡◌, ◌⊎◌, ℕ, Bool, true, List, [], length, Option, Result, Ok, Err, MatchResult, is_ok}
+use Rattle.std.specs.Prelude.{◌≡◌, ◌⊎◌, ℕ, Bool, true, List, [], ◌∷◌, length, Option, Result, Ok, Err, MatchResult, is_ok}
 use Rattle.std.specs.List.{flat_map, list_all}
 use Rattle.disk_model.specs.declared.arm.Armings.{Armings}
 use Rattle.net_model.specs.OctetSequence.{OctetSequence}
@@ -8,7 +8,7 @@ use Rattle.net_model.specs.Action.{Action}
 use Rattle.net_model.specs.Step.{run}
 use Rattle.net_model.specs.BlockOrder.{AreChains}
 use Rattle.run_model.specs.Course.{is_request_of}
-use Rattle.run_model.specs.Headline.{Stop, Done, ForgedMatch, ListenFault, WriteFault, Memory, Took, TookFirst}
+use Rattle.run_model.specs.Headline.{Stop, Done, ForgedMatch, ListenFault, WriteFault, Memory, Given, Took, TookFirst}
 use Rattle.run_lines.specs.declared.stop.Stop.{Stop as LinesStop}
 use Rattle.kme_serve.specs.Door.{Door}
 use Rattle.kme_serve.specs.Doors.{PortsTold}
@@ -34,12 +34,12 @@ pub record AreRequests (net : Network) (w : World) (served : List (List Action))
   pub chains : AreChains net w 0 served
   pub requests : list_all (list_all is_request_of) served ≡ true
 
--- What the sink took of the last line. If a port or listener failed it took nothing.
-abbrev pub IsLineTold : Stop → (old new : Option (List ℕ)) → (text : List ℕ) → Type 0
-IsLineTold Done old new text = Took old new text
+-- What the sink took of the last line, which is one piece. If a port or listener failed it took nothing.
+abbrev pub IsLineTold : Stop → (old new : Given) → (text : List ℕ) → Type 0
+IsLineTold Done old new text = Took old new (text ∷ [])
 IsLineTold ListenFault old new text = new ≡ old
-IsLineTold WriteFault old new text = TookFirst old new text
-IsLineTold Memory old new text = TookFirst old new text
+IsLineTold WriteFault old new text = TookFirst old new (text ∷ [])
+IsLineTold Memory old new text = TookFirst old new (text ∷ [])
 IsLineTold (ForgedMatch line) old new text = ⊥
 
 module _ {K Q E X D : Type 0} (is_honest : K → Bool) (moment : K → ℕ) (image : K → ℕ → List ℕ → Type 0) (left : E → Option OctetSequence)
@@ -55,7 +55,7 @@ module _ {K Q E X D : Type 0} (is_honest : K → Bool) (moment : K → ℕ) (ima
     pub ports : ServedBehind tell failed told_ports workers connections port old.site before after stop net w served
 
   -- If the lines came to their end, their managers are served, and the sink takes the last line. Otherwise nothing more is done.
-  pub record Ends {T U : Type 0} (sink_before sink_after : Option (List ℕ)) (text : List ℕ) (lines : Result T LinesStop) (result : Result U ServeStop) : Type 0 where
+  pub record Ends {T U : Type 0} (sink_before sink_after : Given) (text : List ℕ) (lines : Result T LinesStop) (result : Result U ServeStop) : Type 0 where
     pub served : List (List Action)
     pub asked : (served ≡ []) ⊎ ((is_ok lines ≡ true) × AreRequests net w served)
     pub rests : Rests is_honest moment image left told frames counted new net (run net w (flat_map (λ h. h) served))

@@ -14,6 +14,7 @@ use Rattle.run_lines.specs.declared.stop.Stop.TheVariants as stops
 use Rattle.run_model.specs.Turn.{HttpTexts}
 use Rattle.run_model.specs.Course.{Serve, Course, lines_run}
 use Rattle.run_model.specs.Headline as headline
+use Rattle.run_model.specs.Headline.{Given}
 use Rattle.kme_serve.specs.Door.{Door}
 use Rattle.kme_serve.specs.Doors.{PortsTold, ports_of, AreOpened, WereOpened}
 use Rattle.net_serve.specs.Served.{AreConnected}
@@ -83,7 +84,7 @@ module _ {D : Type 0} (tell : D → Door) (failed : D → ℕ) (told : Type 0) (
 -- of the same course.
 abbrev pub HasServedHeadlines : {K Q E X D : Type 0} → (K → ℕ) → (K → ℕ → List ℕ → Type 0) → (E → Option OctetSequence) → (Q → Option OctetSequence) → (X → Option (List (List ℕ))) →
     (K → ℕ) → (K → Armings) → (E → ℕ) → (Q → ℕ) → (X → ℕ) → (tell : D → Door) → (failed : D → ℕ) → (told_ports : Type 0) → (old new : Bench K Q E X) → (ports_before ports_after : PortsTold D) →
-    (workers connections port : ℕ) → Scenario → (before after : Option (List ℕ)) → headline.Stop → Type 0
+    (workers connections port : ℕ) → Scenario → (before after : Given) → headline.Stop → Type 0
 HasServedHeadlines moment image left told frames disk_count armed entropy_count device_count wire_count tell failed told_ports old new ports_before ports_after workers connections port scenario before after stop =
     (http : HttpTexts) → IsTextsOf scenario.site.nodes scenario.site.entitlements http →
     (c : Course) × HasHeadline moment image left told frames disk_count armed entropy_count device_count wire_count old new (Serve workers connections port) stop http scenario before after c ×

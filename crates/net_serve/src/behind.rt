@@ -6,6 +6,7 @@ ghost use Rattle.kme_serve.specs.Doors.{HasRoom, IsListenFault, ports_told};
 ghost use Rattle.kme_serve.specs.Endless.{endless};
 ghost use Rattle.run_types.specs.Texts.{served_text};
 ghost use Rattle.run_model.specs.Course.{Serve, served_by};
+ghost use Rattle.run_model.specs.Headline.{given_to};
 ghost use Rattle.world_state.specs.Sized.{IsSized};
 ghost use Rattle.world_state.specs.Rests.{Rests};
 ghost use Rattle.world_state.specs.Stands.{Stands};
@@ -67,7 +68,7 @@ where
         Ends K.is_honest K.moment K.image E.left Q.told X.frames X.counted K.faults K.armings E.faults Q.faults X.faults
         (λ d. record { port = P.Door.port d; accepted = P.Door.accepted d; finished = P.Door.finished d; waiting = P.Door.waiting d; done = P.Door.done d }) P.Door.faults (IsSome (P.asked ports.old))
         workers connections port state.old state.new net w (ports_told P.asked P.back P.queues ports.old) (ports_told P.asked P.back P.queues ports.new)
-        (W.taken sink.old) (W.taken sink.new) (served_text (served_by (Serve workers connections port) (length state.old.site.nodes))) lines result }
+        (given_to W.taken W.pieces sink.old) (given_to W.taken W.pieces sink.new) (served_text (served_by (Serve workers connections port) (length state.old.site.nodes))) lines result }
     ensures blame { MatchResult lines (λ done. IsBlamed (W.faults sink.old) (W.faults sink.new) result) (λ stop. (result ≡ Err (Stopped stop)) × (sink.new ≡ sink.old)) }
     ensures lined { MatchResult lines (λ done. InLines W.taken W.pieces IsServedLine sink.old sink.new result) (λ stop. (result ≡ Err (Stopped stop)) × (sink.new ≡ sink.old)) }
     ensures listen { result ≡ Err Listen → IsListenFault P.Door.faults (P.faults ports.old) (P.faults ports.new)

@@ -1,12 +1,12 @@
 // Laws of a scenario that is served, over a bench.
-ghost use Rattle.std.specs.Prelude.{◌≡◌, ℕ, List, Option, length};
+ghost use Rattle.std.specs.Prelude.{◌≡◌, ℕ, List, length};
 ghost use Rattle.net_model.specs.World.{first};
 ghost use Rattle.net_model.specs.Action.{Action};
 ghost use Rattle.run_types.specs.declared.scenario.Scenario.{Scenario};
 ghost use Rattle.run_model.specs.Report.{Performed, report, IsRunOf};
 ghost use Rattle.run_model.specs.Turn.{HttpTexts};
 ghost use Rattle.run_model.specs.Course.{Serve, tasks_of, served_by, whole_run, last_world};
-ghost use Rattle.run_model.specs.Headline.{Stop, written_of};
+ghost use Rattle.run_model.specs.Headline.{Stop, written_of, Given};
 ghost use Rattle.run_tasks.specs.Tasks.{IsCut};
 ghost use Rattle.net_world.specs.New.{network_on};
 ghost use Rattle.net_world.specs.Over.{IsOver, HasHeadline};
@@ -24,7 +24,7 @@ use source_devices::{Device, Entropy, Wire};
 /// The headline holds of what was done for a scenario's lines over a new bench, followed by what connections asked for, if the sink took
 /// what it should. The headline is about exactly this course, in a run over what the bench's parts told.
 pub fn law_bench_serves<K: Disk + Drop, Q: Device + Drop, E: Entropy + Drop, X: Wire + Drop>()
-    ensures { (http : HttpTexts) (scenario : Scenario) (workers connections port : ℕ) (stop : Stop) (old new : BenchValue K Q E X) (before after : Option (List ℕ))
+    ensures { (http : HttpTexts) (scenario : Scenario) (workers connections port : ℕ) (stop : Stop) (old new : BenchValue K Q E X) (before after : Given)
         (done : List Performed) (served : List (List Action)) →
         IsOver K.is_honest K.content K.moment K.image E.left Q.told X.frames X.counted K.faults K.armings E.faults Q.faults X.faults old new scenario.site
         (whole_run (course_on Q.told E.left old scenario done served)) (last_world (course_on Q.told E.left old scenario done served)) →

@@ -2,6 +2,7 @@
 ghost use Rattle.std.specs.Prelude.{◌≡◌, ◌≤◌, ℕ, Err, length};
 ghost use Rattle.run_types.specs.Texts.{served_text};
 ghost use Rattle.run_model.specs.Course.{Serve, served_by};
+ghost use Rattle.run_model.specs.Headline.{given_to};
 ghost use Rattle.run_lines.specs.Reporting.{InLines};
 ghost use Rattle.net_serve.specs.Behind.{IsLineTold};
 ghost use Rattle.net_serve.specs.Lines.{IsServedLine};
@@ -36,7 +37,7 @@ pub(crate) fn write_served<W: Sink>(
     count: u64,
     sink: &mut W,
 ) -> Result<(), ServeStop>
-    ensures line { IsLineTold (ended result) (W.taken sink.old) (W.taken sink.new) (served_text count) }
+    ensures line { IsLineTold (ended result) (given_to W.taken W.pieces sink.old) (given_to W.taken W.pieces sink.new) (served_text count) }
     ensures calm { result ≡ Err Listen → ⊥ }
     ensures blame { IsBlamed (W.faults sink.old) (W.faults sink.new) result }
     ensures lined { InLines W.taken W.pieces IsServedLine sink.old sink.new result }

@@ -1,6 +1,7 @@
 // A scenario over a bench, and its managers over ports.
 ghost use Rattle.std.specs.Prelude.{◌≡◌, ◌⊎◌, ◌≤◌, Err, IsSome};
 ghost use Rattle.std.specs.List.{All};
+ghost use Rattle.run_model.specs.Headline.{given_to};
 ghost use Rattle.kme_serve.specs.Doors.{HasRoom, IsListenFault, ports_told};
 ghost use Rattle.kme_serve.specs.Endless.{endless};
 ghost use Rattle.run_ops.specs.Runnable.{IsRunnable};
@@ -68,7 +69,7 @@ where
         ⊎ HasServedHeadlines K.moment K.image E.left Q.told X.frames K.faults K.armings E.faults Q.faults X.faults
         (λ d. record { port = P.Door.port d; accepted = P.Door.accepted d; finished = P.Door.finished d; waiting = P.Door.waiting d; done = P.Door.done d }) P.Door.faults (IsSome (P.asked ports.old))
         bench.old bench.new (ports_told P.asked P.back P.queues ports.old) (ports_told P.asked P.back P.queues ports.new)
-        workers connections port scenario (W.taken sink.old) (W.taken sink.new) (ended result) }
+        workers connections port scenario (given_to W.taken W.pieces sink.old) (given_to W.taken W.pieces sink.new) (ended result) }
     ensures whole { IsWhole bench.new }
     ensures blame { IsBlamed (W.faults sink.old) (W.faults sink.new) result }
     ensures lined { InLines W.taken W.pieces (IsServeLine scenario.site.nodes) sink.old sink.new result }

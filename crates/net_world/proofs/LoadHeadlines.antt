@@ -15,6 +15,7 @@ use Rattle.run_model.specs.Report.{Performed, IsRunOf, report, actions_of}
 use Rattle.run_model.specs.Load.{load_scenario}
 use Rattle.run_model.specs.Course.{Load, Course, tasks_of, lines_run, lines_played}
 use Rattle.run_model.specs.Headline as headline
+use Rattle.run_model.specs.Headline.{Given}
 use Rattle.run_ops.specs.Acting.{IsReady}
 use Rattle.run_lines.specs.declared.stop.Stop.{Stop}
 use Rattle.run_lines.specs.declared.stop.Stop.TheVariants as stops
@@ -58,8 +59,8 @@ module _ {K Q E X S : Type 0} (is_honest : K → Bool) (content : K → List ℕ
   rests_in s net w (Ok done) h = comes_to_rest is_honest moment image left told frames counted net w (part s) h.stands
   rests_in s net w (Err stop) h = h
 
-  pub headlines : {T : Type 0} (old stayed new : Bench K Q E X) (begin end : S) (scenario : Scenario) (rounds : ℕ) (before after : Option (List ℕ)) (result : Result T Stop) →
-      ((http : HttpTexts) (scenario : Scenario) (rounds : ℕ) (stop : headline.Stop) (old new : Bench K Q E X) (before after : Option (List ℕ)) (done : List Performed) →
+  pub headlines : {T : Type 0} (old stayed new : Bench K Q E X) (begin end : S) (scenario : Scenario) (rounds : ℕ) (before after : Given) (result : Result T Stop) →
+      ((http : HttpTexts) (scenario : Scenario) (rounds : ℕ) (stop : headline.Stop) (old new : Bench K Q E X) (before after : Given) (done : List Performed) →
       scenario ≡ load_scenario rounds →
       IsOver is_honest content moment image left told frames counted disk_count armed entropy_count device_count wire_count old new scenario.site
       (actions_of (network_on told left old scenario.site) done) (report http (network_on told left old scenario.site) first (tasks_of scenario) done).world →
@@ -68,7 +69,7 @@ module _ {K Q E X S : Type 0} (is_honest : K → Bool) (content : K → List ℕ
       IsCut (headline.written_of (Load rounds)) scenario.site.nodes http (network_on told left old scenario.site) first (tasks_of scenario) done before after →
       HasHeadline moment image left told frames disk_count armed entropy_count device_count wire_count old new (Load rounds) stop http scenario before after
       (lines_alone (network_on told left old scenario.site) first done)) →
-      ((http : HttpTexts) (scenario : Scenario) (rounds : ℕ) (c : Course) (stop : headline.Stop) (old new : Option (List ℕ)) → IsLoadOver http scenario rounds c →
+      ((http : HttpTexts) (scenario : Scenario) (rounds : ℕ) (c : Course) (stop : headline.Stop) (old new : Given) → IsLoadOver http scenario rounds c →
       IsLoadTold stop scenario.site.nodes (lines_played http scenario c) (enc_keys c.net c.begin (lines_run c)) (dec_keys c.net c.begin (lines_run c)) old new →
       headline.IsReported (Load rounds) stop http scenario c old new) →
       IsSealing hop_sealing → scenario ≡ load_scenario rounds →

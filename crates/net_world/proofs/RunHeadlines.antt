@@ -8,12 +8,12 @@ use Rattle.net_model.specs.Action.{Action}
 use Rattle.declared_site.specs.SiteOf.{IsDeclared}
 use Rattle.disk_model.specs.declared.arm.Armings.{Armings}
 use Rattle.run_types.specs.declared.scenario.Scenario.{Scenario}
-use Rattle.run_types.specs.Texts.{report_text}
 use Rattle.run_model.specs.Turn.{HttpTexts}
 use Rattle.run_model.specs.Play.{Played, Whole}
 use Rattle.run_model.specs.Report.{Task, Performed, IsRunOf, report, actions_of}
 use Rattle.run_model.specs.Course.{Run, tasks_of}
 use Rattle.run_model.specs.Headline as headline
+use Rattle.run_model.specs.Headline.{Given, report_pieces}
 use Rattle.run_ops.specs.Acting.{IsReady}
 use Rattle.run_lines.specs.Running.{StopsAs, IsReadySomewhere}
 use Rattle.run_tasks.specs.Tasks.{IsCut, RanTasks}
@@ -33,8 +33,8 @@ use Rattle.net_world.specs.Over.{IsOver, HasHeadline}
 use Rattle.net_world.specs.declared.bench.Bench.{Bench}
 use Rattle.net_world.specs.Running.{ended, HasHeadlines}
 
-told_of : {T : Type 0} (result : Result T Stop) (nodes : List (List ℕ)) (p : Played) (before after : Option (List ℕ)) →
-    MatchResult result (λ answer. (p.ending ≡ Whole) × headline.Took before after (report_text nodes p.items)) (λ stop. StopsAs stop nodes p before after) →
+told_of : {T : Type 0} (result : Result T Stop) (nodes : List (List ℕ)) (p : Played) (before after : Given) →
+    MatchResult result (λ answer. (p.ending ≡ Whole) × headline.Took before after (report_pieces nodes p.items)) (λ stop. StopsAs stop nodes p before after) →
     IsTold (ended result) nodes p before after
 told_of (Ok done) nodes p before after h = h
 told_of (Err stops.WriteFault) nodes p before after h = h
@@ -59,7 +59,7 @@ module _ {K Q E X S : Type 0} (is_honest : K → Bool) (content : K → List ℕ
   left_of s net w (Err stop) h = h
 
   -- a run over a whole, told of its state alone
-  pub of_states : {T : Type 0} (begin end : S) (b e : State K Q E X) → part begin ≡ b → part end ≡ e → (nodes : List (List ℕ)) (before after : Option (List ℕ)) (http : HttpTexts) (net : Network) (workers : ℕ) (w : World)
+  pub of_states : {T : Type 0} (begin end : S) (b e : State K Q E X) → part begin ≡ b → part end ≡ e → (nodes : List (List ℕ)) (before after : Given) (http : HttpTexts) (net : Network) (workers : ℕ) (w : World)
       (tasks : List Task) (result : Result T Stop) → RanTasks Standing Resting Told nodes begin end before after http net workers w tasks result →
       RanTasks (Stands is_honest moment image left told frames counted) (Rests is_honest moment image left told frames counted) (Tallied disk_count armed entropy_count device_count wire_count) nodes b e before after
       http net workers w tasks result
@@ -84,8 +84,8 @@ module _ {K Q E X S : Type 0} (is_honest : K → Bool) (content : K → List ℕ
   rests_in s net w (Ok done) h = comes_to_rest is_honest moment image left told frames counted net w (part s) h.stands
   rests_in s net w (Err stop) h = h
 
-  pub headlines : {T : Type 0} (old stayed new : Bench K Q E X) (begin end : S) (scenario : Scenario) (workers : ℕ) (before after : Option (List ℕ)) (result : Result T Stop) →
-      ((http : HttpTexts) (scenario : Scenario) (workers : ℕ) (stop : headline.Stop) (old new : Bench K Q E X) (before after : Option (List ℕ)) (done : List Performed) →
+  pub headlines : {T : Type 0} (old stayed new : Bench K Q E X) (begin end : S) (scenario : Scenario) (workers : ℕ) (before after : Given) (result : Result T Stop) →
+      ((http : HttpTexts) (scenario : Scenario) (workers : ℕ) (stop : headline.Stop) (old new : Bench K Q E X) (before after : Given) (done : List Performed) →
       IsOver is_honest content moment image left told frames counted disk_count armed entropy_count device_count wire_count old new scenario.site
       (actions_of (network_on told left old scenario.site) done) (report http (network_on told left old scenario.site) first (tasks_of scenario) done).world →
       IsRunOf http (network_on told left old scenario.site) workers first (tasks_of scenario) done →

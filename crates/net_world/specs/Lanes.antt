@@ -6,7 +6,7 @@ use Rattle.qkd_base.specs.declared.lane.Lane.{Lane}
 use Rattle.net_model.specs.World.{Network, World}
 use Rattle.net_model.specs.Events.{is_lane}
 use Rattle.lane_sender.specs.Lane.{LaneForm}
-use Rattle.run_model.specs.Headline.{Took, TookFirst}
+use Rattle.run_model.specs.Headline.{Given, Took, TookFirst}
 use Rattle.run_lines.specs.declared.stop.Stop.{Stop}
 use Rattle.run_lines.specs.declared.stop.Stop.TheVariants as stops
 use Rattle.net_world.specs.Veiled.{all_frames, all_changed}
@@ -26,9 +26,9 @@ veil_text frames bytes = codes "veil " ++ (decimal frames ++ (codes " " ++ (deci
 abbrev pub veil_line : Network → World → List ℕ
 veil_line net w = veil_text (all_frames net w) (all_changed net w)
 
--- The sink took exactly this text. On a write fault it took a prefix of the text; if memory ran out, it is as it was.
-abbrev pub Tells : {T W : Type 0} → (W → Option (List ℕ)) → Result T Stop → (before after : W) → List ℕ → Type 0
-Tells taken (Ok done) before after text = Took (taken before) (taken after) text
-Tells taken (Err stops.WriteFault) before after text = TookFirst (taken before) (taken after) text
-Tells taken (Err stops.Memory) before after text = after ≡ before
-Tells taken (Err (stops.Forged line)) before after text = ⊥
+-- The sink took exactly this text, as one piece. On a write fault it took a part of the text; if memory ran out, it is as it was.
+abbrev pub Tells : {T W : Type 0} → (W → Given) → Result T Stop → (before after : W) → List ℕ → Type 0
+Tells given (Ok done) before after text = Took (given before) (given after) (text ∷ [])
+Tells given (Err stops.WriteFault) before after text = TookFirst (given before) (given after) (text ∷ [])
+Tells given (Err stops.Memory) before after text = after ≡ before
+Tells given (Err (stops.Forged line)) before after text = ⊥

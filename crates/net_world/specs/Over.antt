@@ -10,7 +10,7 @@ use Rattle.run_types.specs.declared.scenario.Scenario.{Scenario}
 use Rattle.run_model.specs.Turn.{HttpTexts}
 use Rattle.run_model.specs.Bench.{DiskBatches, Seen}
 use Rattle.run_model.specs.Course.{Words, Course, tasks_of}
-use Rattle.run_model.specs.Headline.{Stop, written_of, Headline}
+use Rattle.run_model.specs.Headline.{Stop, written_of, Headline, Given}
 use Rattle.run_tasks.specs.Tasks.{IsCut}
 use Rattle.net_world.specs.New.{IsNew, network_on}
 use Rattle.net_world.specs.Reading.{ReadsDisks}
@@ -31,7 +31,7 @@ pub record IsOver {K Q E X : Type 0} (is_honest : K → Bool) (content : K → L
 -- it.
 pub record HasHeadline {K Q E X : Type 0} (moment : K → ℕ) (image : K → ℕ → List ℕ → Type 0) (left : E → Option OctetSequence) (told : Q → Option OctetSequence)
     (frames : X → Option (List (List ℕ))) (disk_count : K → ℕ) (armed : K → Armings) (entropy_count : E → ℕ) (device_count : Q → ℕ) (wire_count : X → ℕ)
-    (old new : Bench K Q E X) (words : Words) (stop : Stop) (http : HttpTexts) (scenario : Scenario) (before after : Option (List ℕ)) (c : Course) : Type 0 where
+    (old new : Bench K Q E X) (words : Words) (stop : Stop) (http : HttpTexts) (scenario : Scenario) (before after : Given) (c : Course) : Type 0 where
   pub net : c.net ≡ network_on told left old scenario.site
   -- nothing was there before
   pub begin : c.begin ≡ first

@@ -7,6 +7,7 @@ use Rattle.run_types.specs.declared.scenario.Scenario.{Scenario}
 use Rattle.run_model.specs.Turn.{HttpTexts}
 use Rattle.run_model.specs.Course.{Words, Course, tasks_of}
 use Rattle.run_model.specs.Headline as headline
+use Rattle.run_model.specs.Headline.{Given}
 use Rattle.run_lines.specs.declared.stop.Stop.{Stop}
 use Rattle.run_lines.specs.declared.stop.Stop.TheVariants as stops
 use Rattle.run_tasks.specs.Tasks.{RanTasks}
@@ -39,7 +40,7 @@ pub record WasLeft {K Q E X W T : Type 0} (old new : Bench K Q E X) (before afte
 pub record RanOut {K Q E X T : Type 0} (is_honest : K → Bool) (moment : K → ℕ) (image : K → ℕ → List ℕ → Type 0) (left : E → Option OctetSequence)
     (told : Q → Option OctetSequence) (frames : X → Option (List (List ℕ))) (counted : X → ℕ)
     (disk_count : K → ℕ) (armed : K → Armings) (entropy_count : E → ℕ) (device_count : Q → ℕ) (wire_count : X → ℕ)
-    (old stayed : Bench K Q E X) (workers : ℕ) (scenario : Scenario) (before after : Option (List ℕ)) (state : State K Q E X) (ended : Result T Stop) : Type 0 where
+    (old stayed : Bench K Q E X) (workers : ℕ) (scenario : Scenario) (before after : Given) (state : State K Q E X) (ended : Result T Stop) : Type 0 where
   pub begin : State K Q E X
   pub laid : IsLaidOut old stayed scenario.site begin
   pub ran : (http : HttpTexts) → IsTextsOf scenario.site.nodes scenario.site.entitlements http →
@@ -51,7 +52,7 @@ pub record RanOut {K Q E X T : Type 0} (is_honest : K → Bool) (moment : K → 
 
 -- For all texts of HTTP that are the site's there is one course whose headline holds.
 abbrev pub HasHeadlines : {K Q E X : Type 0} → (K → ℕ) → (K → ℕ → List ℕ → Type 0) → (E → Option OctetSequence) → (Q → Option OctetSequence) → (X → Option (List (List ℕ))) →
-    (K → ℕ) → (K → Armings) → (E → ℕ) → (Q → ℕ) → (X → ℕ) → (old new : Bench K Q E X) → Words → Scenario → (before after : Option (List ℕ)) → headline.Stop → Type 0
+    (K → ℕ) → (K → Armings) → (E → ℕ) → (Q → ℕ) → (X → ℕ) → (old new : Bench K Q E X) → Words → Scenario → (before after : Given) → headline.Stop → Type 0
 HasHeadlines moment image left told frames disk_count armed entropy_count device_count wire_count old new words scenario before after stop =
     (http : HttpTexts) → IsTextsOf scenario.site.nodes scenario.site.entitlements http →
     (c : Course) × HasHeadline moment image left told frames disk_count armed entropy_count device_count wire_count old new words stop http scenario before after c

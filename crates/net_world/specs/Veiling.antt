@@ -1,12 +1,12 @@
 -- The result of a scenario that is run over a bench, with the veil of its wires.
-use Rattle.std.specs.Prelude.{◌≡◌, ℕ, List, Option, None, Result, Ok, Err}
+use Rattle.std.specs.Prelude.{◌≡◌, ℕ, List, [], ◌∷◌, Option, Result, Ok, Err}
 use Rattle.net_model.specs.OctetSequence.{OctetSequence}
 use Rattle.disk_model.specs.declared.arm.Armings.{Armings}
 use Rattle.run_types.specs.declared.scenario.Scenario.{Scenario}
 use Rattle.run_model.specs.Play.{Ending, Whole}
 use Rattle.run_model.specs.Turn.{HttpTexts}
 use Rattle.run_model.specs.Course.{Run, Course, last_world, lines_played}
-use Rattle.run_model.specs.Headline.{Took, TookFirst}
+use Rattle.run_model.specs.Headline.{Given, unknown, Took, TookFirst}
 use Rattle.run_model.specs.Headline as headline
 use Rattle.run_http.specs.Speaking.{IsTextsOf}
 use Rattle.net_world.specs.Over.{HasHeadline}
@@ -17,30 +17,30 @@ use Rattle.net_world.specs.Running.{ended}
 use Rattle.net_world.specs.Lanes.{veil_line, Tells}
 
 -- If the run stopped early, the call ended the same way and the sink was not touched. If all lines were done, the line was written to the sink.
-abbrev pub Ends : {T U W : Type 0} → (W → Option (List ℕ)) → (ran : Result T Stop) → (line : List ℕ) → (before after : W) → (final : Result U Stop) → Type 0
-Ends taken (Ok done) line before after final = Tells taken final before after line
-Ends taken (Err stop) line before after final = (ended final ≡ ended {T = Unit {0}} (Err stop)) × (after ≡ before)
+abbrev pub Ends : {T U W : Type 0} → (W → Given) → (ran : Result T Stop) → (line : List ℕ) → (before after : W) → (final : Result U Stop) → Type 0
+Ends given (Ok done) line before after final = Tells given final before after line
+Ends given (Err stop) line before after final = (ended final ≡ ended {T = Unit {0}} (Err stop)) × (after ≡ before)
 
--- If all lines are done, the sink took exactly the line of the veil; on a write fault it took a prefix of it. At a forged match, or if memory ran out, it was
+-- If all lines are done, the sink took exactly the line of the veil, as one piece; on a write fault it took a part of it. At a forged match, or if memory ran out, it was
 -- not touched.
-abbrev pub IsVeilTold : {W : Type 0} → (W → Option (List ℕ)) → headline.Stop → Ending → Course → (before after : W) → Type 0
-IsVeilTold taken headline.Done ending c before after = Took (taken before) (taken after) (veil_line c.net (last_world c))
-IsVeilTold taken headline.WriteFault ending c before after = (ending ≡ Whole) × TookFirst (taken before) (taken after) (veil_line c.net (last_world c))
-IsVeilTold taken headline.Memory ending c before after = after ≡ before
-IsVeilTold taken (headline.ForgedMatch line) ending c before after = after ≡ before
-IsVeilTold taken headline.ListenFault ending c before after = ⊥
+abbrev pub IsVeilTold : {W : Type 0} → (W → Given) → headline.Stop → Ending → Course → (before after : W) → Type 0
+IsVeilTold given headline.Done ending c before after = Took (given before) (given after) (veil_line c.net (last_world c) ∷ [])
+IsVeilTold given headline.WriteFault ending c before after = (ending ≡ Whole) × TookFirst (given before) (given after) (veil_line c.net (last_world c) ∷ [])
+IsVeilTold given headline.Memory ending c before after = after ≡ before
+IsVeilTold given (headline.ForgedMatch line) ending c before after = after ≡ before
+IsVeilTold given headline.ListenFault ending c before after = ⊥
 
 -- The headline of the run with one worker holds of the course, except that no sink took its report. The wires fit every other key, and the sink took the line.
 pub record IsVeiled {K Q E X W : Type 0} (moment : K → ℕ) (image : K → ℕ → List ℕ → Type 0) (left : E → Option OctetSequence) (told : Q → Option OctetSequence)
     (frames : X → Option (List (List ℕ))) (disk_count : K → ℕ) (armed : K → Armings) (entropy_count : E → ℕ) (device_count : Q → ℕ) (wire_count : X → ℕ)
-    (taken : W → Option (List ℕ)) (old new : Bench K Q E X) (stop : headline.Stop) (http : HttpTexts) (scenario : Scenario) (before after : W) (c : Course) : Type 0 where
-  pub run : HasHeadline moment image left told frames disk_count armed entropy_count device_count wire_count old new (Run 1) stop http scenario None None c
+    (given : W → Given) (old new : Bench K Q E X) (stop : headline.Stop) (http : HttpTexts) (scenario : Scenario) (before after : W) (c : Course) : Type 0 where
+  pub run : HasHeadline moment image left told frames disk_count armed entropy_count device_count wire_count old new (Run 1) stop http scenario unknown unknown c
   pub fits : EveryKeyFits c.net (last_world c)
-  pub line : IsVeilTold taken stop (lines_played http scenario c).ending c before after
+  pub line : IsVeilTold given stop (lines_played http scenario c).ending c before after
 
 -- For all texts of HTTP that are the site's there is one course that is veiled.
 abbrev pub HasVeiled : {K Q E X W : Type 0} → (K → ℕ) → (K → ℕ → List ℕ → Type 0) → (E → Option OctetSequence) → (Q → Option OctetSequence) → (X → Option (List (List ℕ))) →
-    (K → ℕ) → (K → Armings) → (E → ℕ) → (Q → ℕ) → (X → ℕ) → (W → Option (List ℕ)) → (old new : Bench K Q E X) → Scenario → (before after : W) → headline.Stop → Type 0
-HasVeiled moment image left told frames disk_count armed entropy_count device_count wire_count taken old new scenario before after stop =
+    (K → ℕ) → (K → Armings) → (E → ℕ) → (Q → ℕ) → (X → ℕ) → (W → Given) → (old new : Bench K Q E X) → Scenario → (before after : W) → headline.Stop → Type 0
+HasVeiled moment image left told frames disk_count armed entropy_count device_count wire_count given old new scenario before after stop =
     (http : HttpTexts) → IsTextsOf scenario.site.nodes scenario.site.entitlements http →
-    (c : Course) × IsVeiled moment image left told frames disk_count armed entropy_count device_count wire_count taken old new stop http scenario before after c
+    (c : Course) × IsVeiled moment image left told frames disk_count armed entropy_count device_count wire_count given old new stop http scenario before after c

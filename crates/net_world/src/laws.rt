@@ -1,5 +1,5 @@
 // Laws of a bench: the state that is laid out of it, and what is seen of it after a run.
-ghost use Rattle.std.specs.Prelude.{◌≡◌, ℕ, List, Option, IsTrue, codes};
+ghost use Rattle.std.specs.Prelude.{◌≡◌, ℕ, List, IsTrue, codes};
 ghost use Rattle.std.specs.List.{All};
 ghost use Rattle.net_model.specs.Site.{Site as SiteValue};
 ghost use Rattle.net_model.specs.World.{World, first};
@@ -14,7 +14,7 @@ ghost use Rattle.run_model.specs.Report.{Performed, report, actions_of, IsRunOf}
 ghost use Rattle.run_model.specs.Load.{load_scenario};
 ghost use Rattle.run_model.specs.Bench.{DiskBatches, Seen};
 ghost use Rattle.run_model.specs.Course.{Words, Run, Load, Course, tasks_of};
-ghost use Rattle.run_model.specs.Headline.{Stop, Headline, IsReported, written_of};
+ghost use Rattle.run_model.specs.Headline.{Stop, Headline, IsReported, written_of, Given};
 ghost use Rattle.run_model.specs.Keys.{KeysAndBytes};
 ghost use Rattle.run_tasks.specs.Tasks.{IsCut};
 ghost use Rattle.run_http.specs.Speaking.{IsTextsOf, message};
@@ -72,7 +72,7 @@ pub fn law_bench_is_seen<K: Disk + Drop, Q: Device + Drop, E: Entropy + Drop, X:
 /// The headline holds of what was done for a scenario's tasks over a new bench, if the sink took what it should. For a generated load the
 /// premise itself says what the sink took.
 pub fn law_bench_headline<K: Disk + Drop, Q: Device + Drop, E: Entropy + Drop, X: Wire + Drop>()
-    ensures run { (http : HttpTexts) (scenario : Scenario) (workers : ℕ) (stop : Stop) (old new : BenchValue K Q E X) (before after : Option (List ℕ)) (done : List Performed) →
+    ensures run { (http : HttpTexts) (scenario : Scenario) (workers : ℕ) (stop : Stop) (old new : BenchValue K Q E X) (before after : Given) (done : List Performed) →
         IsOver K.is_honest K.content K.moment K.image E.left Q.told X.frames X.counted K.faults K.armings E.faults Q.faults X.faults old new scenario.site
         (actions_of (network_on Q.told E.left old scenario.site) done) (report http (network_on Q.told E.left old scenario.site) first (tasks_of scenario) done).world →
         IsRunOf http (network_on Q.told E.left old scenario.site) workers first (tasks_of scenario) done →
@@ -80,7 +80,7 @@ pub fn law_bench_headline<K: Disk + Drop, Q: Device + Drop, E: Entropy + Drop, X
         IsCut (written_of (Run workers)) scenario.site.nodes http (network_on Q.told E.left old scenario.site) first (tasks_of scenario) done before after →
         HasHeadline K.moment K.image E.left Q.told X.frames K.faults K.armings E.faults Q.faults X.faults old new (Run workers) stop http scenario before after
         (lines_alone (network_on Q.told E.left old scenario.site) first done) }
-    ensures load { (http : HttpTexts) (scenario : Scenario) (rounds : ℕ) (stop : Stop) (old new : BenchValue K Q E X) (before after : Option (List ℕ)) (done : List Performed) →
+    ensures load { (http : HttpTexts) (scenario : Scenario) (rounds : ℕ) (stop : Stop) (old new : BenchValue K Q E X) (before after : Given) (done : List Performed) →
         scenario ≡ load_scenario rounds →
         IsOver K.is_honest K.content K.moment K.image E.left Q.told X.frames X.counted K.faults K.armings E.faults Q.faults X.faults old new scenario.site
         (actions_of (network_on Q.told E.left old scenario.site) done) (report http (network_on Q.told E.left old scenario.site) first (tasks_of scenario) done).world →
@@ -109,11 +109,11 @@ pub fn law_bench_is_shown<K: Disk + Drop, Q: Device + Drop, E: Entropy + Drop, X
 /// A run that has headlines has one: there are texts of HTTP that are the site's, and the course's headline holds of whatever is seen of
 /// the bench. If the disks are honest, something is seen.
 pub fn law_headline_stands<K: Disk + Drop, Q: Device + Drop, E: Entropy + Drop, X: Wire + Drop>()
-    ensures whatever { (old new : BenchValue K Q E X) (words : Words) (scenario : Scenario) (before after : Option (List ℕ)) (stop : Stop) →
+    ensures whatever { (old new : BenchValue K Q E X) (words : Words) (scenario : Scenario) (before after : Given) (stop : Stop) →
         HasHeadlines K.moment K.image E.left Q.told X.frames K.faults K.armings E.faults Q.faults X.faults old new words scenario before after stop →
         (http : HttpTexts) × IsTextsOf scenario.site.nodes scenario.site.entitlements http × (c : Course) ×
         HasHeadline K.moment K.image E.left Q.told X.frames K.faults K.armings E.faults Q.faults X.faults old new words stop http scenario before after c }
-    ensures honest { (old new : BenchValue K Q E X) (words : Words) (scenario : Scenario) (before after : Option (List ℕ)) (stop : Stop) →
+    ensures honest { (old new : BenchValue K Q E X) (words : Words) (scenario : Scenario) (before after : Given) (stop : Stop) →
         HasHeadlines K.moment K.image E.left Q.told X.frames K.faults K.armings E.faults Q.faults X.faults old new words scenario before after stop →
         All (λ k. IsTrue (K.is_honest k)) new.disks.items →
         (http : HttpTexts) × IsTextsOf scenario.site.nodes scenario.site.entitlements http × (c : Course) × (c.begin ≡ first) ×
@@ -126,7 +126,7 @@ pub fn law_headline_stands<K: Disk + Drop, Q: Device + Drop, E: Entropy + Drop, 
 
 /// The headline of a scenario with two requests over HTTP: the first asks for a key, the second is refused, and keys are as promised.
 pub fn law_asking_is_promised<K: Disk + Drop, Q: Device + Drop, E: Entropy + Drop, X: Wire + Drop>()
-    ensures { (old new : BenchValue K Q E X) (before after : Option (List ℕ)) (stop : Stop) →
+    ensures { (old new : BenchValue K Q E X) (before after : Given) (stop : Stop) →
         HasHeadlines K.moment K.image E.left Q.told X.frames K.faults K.armings E.faults Q.faults X.faults old new (Run 1) asking before after stop →
         All (λ k. IsTrue (K.is_honest k)) new.disks.items →
         (http : HttpTexts) × (http.request 0 by_alice ≡ Calls (Enc 0 1 1 256)) × (http.request 0 by_carol ≡ message 401 (codes "not allowed")) × (c : Course) × (c.begin ≡ first) ×

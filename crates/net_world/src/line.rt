@@ -1,6 +1,7 @@
 // The line that tells of the veils.
 ghost use Rattle.std.specs.Prelude.{◌≡◌, IfOk};
 ghost use Rattle.net_model.specs.World.{Network, World};
+ghost use Rattle.run_model.specs.Headline.{given_to};
 ghost use Rattle.run_lines.specs.Reporting.{IsBlamed};
 ghost use Rattle.net_world.specs.Lanes.{AreLanes, veil_text, veil_line, Tells};
 
@@ -28,7 +29,7 @@ pub fn tell<X: Wire + Drop, W: Sink>(
     sink: &mut W,
 ) -> Result<(), Stop>
     requires ready { (net : Network) × (w : World) × AreLanes X.frames X.counted net w sides.now }
-    ensures told { (net : Network) (w : World) → AreLanes X.frames X.counted net w sides.now → Tells (λ k. W.taken k) result sink.old sink.new (veil_line net w) }
+    ensures told { (net : Network) (w : World) → AreLanes X.frames X.counted net w sides.now → Tells (λ k. given_to W.taken W.pieces k) result sink.old sink.new (veil_line net w) }
     ensures blame { IsBlamed (W.faults sink.old) (W.faults sink.new) result }
 {
     let Ok(veiled) = veil_lanes(alloc, sides) else {

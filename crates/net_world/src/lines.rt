@@ -6,6 +6,7 @@ ghost use Rattle.run_tasks.specs.Pieces.{IsLoadLine};
 ghost use Rattle.run_lines.specs.Reporting.{InLines, IsBlamed};
 ghost use Rattle.run_model.specs.Course.{Load};
 ghost use Rattle.run_model.specs.Load.{load_scenario};
+ghost use Rattle.run_model.specs.Headline.{given_to};
 ghost use Rattle.law_run.specs.Kinds.{is_load_entry};
 ghost use Rattle.net_world.specs.Laid.{IsWhole};
 ghost use Rattle.net_world.specs.New.{IsNew};
@@ -34,7 +35,7 @@ pub fn run_lines_of<K: Disk + Drop, Q: Device + Drop, E: Entropy + Drop, X: Wire
     requires load { list_all is_load_entry scenario.entries ≡ true }
     requires fresh { IsNew K.is_honest K.moment K.image E.left Q.told X.frames bench.old }
     ensures headline { (rounds : ℕ) → scenario ≡ load_scenario rounds → WasLeft bench.old bench.new sink.old sink.new result
-        ⊎ HasHeadlines K.moment K.image E.left Q.told X.frames K.faults K.armings E.faults Q.faults X.faults bench.old bench.new (Load rounds) scenario (W.taken sink.old) (W.taken sink.new) (ended result) }
+        ⊎ HasHeadlines K.moment K.image E.left Q.told X.frames K.faults K.armings E.faults Q.faults X.faults bench.old bench.new (Load rounds) scenario (given_to W.taken W.pieces sink.old) (given_to W.taken W.pieces sink.new) (ended result) }
     ensures whole { IsWhole bench.new }
     ensures blame { IsBlamed (W.faults sink.old) (W.faults sink.new) result }
     ensures lined { InLines W.taken W.pieces (IsLoadLine scenario.site.nodes) sink.old sink.new result }

@@ -4,6 +4,7 @@ ghost use Rattle.run_tasks.specs.Pieces.{IsLoadLine};
 ghost use Rattle.run_lines.specs.Reporting.{InLines, IsBlamed};
 ghost use Rattle.run_model.specs.Course.{Load};
 ghost use Rattle.run_model.specs.Load.{load_scenario};
+ghost use Rattle.run_model.specs.Headline.{given_to};
 ghost use Rattle.net_world.specs.Laid.{IsWhole};
 ghost use Rattle.net_world.specs.New.{IsNew};
 ghost use Rattle.net_world.specs.Running.{HasHeadlines, WasLeft, ended};
@@ -28,7 +29,7 @@ pub fn run_load<K: Disk + Drop, Q: Device + Drop, E: Entropy + Drop, X: Wire + D
     requires rounds { (1 ≤ rounds) × (rounds ≤ 500) }
     requires fresh { IsNew K.is_honest K.moment K.image E.left Q.told X.frames bench.old }
     ensures headline { WasLeft bench.old bench.new sink.old sink.new result
-        ⊎ HasHeadlines K.moment K.image E.left Q.told X.frames K.faults K.armings E.faults Q.faults X.faults bench.old bench.new (Load rounds) (load_scenario rounds) (W.taken sink.old) (W.taken sink.new) (ended result) }
+        ⊎ HasHeadlines K.moment K.image E.left Q.told X.frames K.faults K.armings E.faults Q.faults X.faults bench.old bench.new (Load rounds) (load_scenario rounds) (given_to W.taken W.pieces sink.old) (given_to W.taken W.pieces sink.new) (ended result) }
     ensures whole { IsWhole bench.new }
     ensures blame { IsBlamed (W.faults sink.old) (W.faults sink.new) result }
     ensures lined { InLines W.taken W.pieces (IsLoadLine (load_scenario rounds).site.nodes) sink.old sink.new result }

@@ -2,6 +2,7 @@
 ghost use Rattle.std.specs.Prelude.{◌≡◌, ◌≤◌, IfOk, OnOk, OnErr};
 ghost use Rattle.std.specs.List.{All};
 ghost use Rattle.net_model.specs.World.{Network, World};
+ghost use Rattle.run_model.specs.Headline.{given_to};
 ghost use Rattle.run_ops.specs.Runnable.{IsRunnable};
 ghost use Rattle.run_ops.specs.Doing.{MayTogether, DidTogether};
 ghost use Rattle.run_lines.specs.Reporting.{InLines, IsBlamed, IsItemLine};
@@ -51,7 +52,7 @@ pub fn run_out<
     requires fresh { IsNew K.is_honest K.moment K.image E.left Q.told X.frames bench.old }
     requires unarmed { All (λ k. (K.armings k).count ≡ 0) bench.old.disks.items }
     ensures ran { IfOk result (λ left. RanOut K.is_honest K.moment K.image E.left Q.told X.frames X.counted K.faults K.armings E.faults Q.faults X.faults
-        bench.old bench.new workers scenario (W.taken sink.old) (W.taken sink.new) left.state left.ended) }
+        bench.old bench.new workers scenario (given_to W.taken W.pieces sink.old) (given_to W.taken W.pieces sink.new) left.state left.ended) }
     ensures ready { IfOk result (λ left. OnOk left.ended ((net : Network) × (w : World) × Stands K.is_honest K.moment K.image E.left Q.told X.frames X.counted left.state net w)) }
     ensures blame { IfOk result (λ left. IsBlamed (W.faults sink.old) (W.faults sink.new) left.ended) }
     ensures lined { IfOk result (λ left. InLines W.taken W.pieces (IsItemLine scenario.site.nodes) sink.old sink.new left.ended) }

@@ -3,6 +3,7 @@ ghost use Rattle.std.specs.Prelude.{◌≡◌, ◌⊎◌, ◌≤◌};
 ghost use Rattle.std.specs.List.{All};
 ghost use Rattle.run_ops.specs.Runnable.{IsRunnable};
 ghost use Rattle.run_model.specs.Course.{Run};
+ghost use Rattle.run_model.specs.Headline.{given_to};
 ghost use Rattle.run_lines.specs.Reporting.{InLines, IsBlamed, IsItemLine};
 ghost use Rattle.net_world.specs.Laid.{IsWhole};
 ghost use Rattle.net_world.specs.New.{IsNew};
@@ -43,7 +44,7 @@ pub fn run_scenario<
     requires fresh { IsNew K.is_honest K.moment K.image E.left Q.told X.frames bench.old }
     requires unarmed { All (λ k. (K.armings k).count ≡ 0) bench.old.disks.items }
     ensures headline { WasLeft bench.old bench.new sink.old sink.new result
-        ⊎ HasHeadlines K.moment K.image E.left Q.told X.frames K.faults K.armings E.faults Q.faults X.faults bench.old bench.new (Run workers) scenario (W.taken sink.old) (W.taken sink.new) (ended result) }
+        ⊎ HasHeadlines K.moment K.image E.left Q.told X.frames K.faults K.armings E.faults Q.faults X.faults bench.old bench.new (Run workers) scenario (given_to W.taken W.pieces sink.old) (given_to W.taken W.pieces sink.new) (ended result) }
     ensures whole { IsWhole bench.new }
     ensures blame { IsBlamed (W.faults sink.old) (W.faults sink.new) result }
     ensures lined { InLines W.taken W.pieces (IsItemLine scenario.site.nodes) sink.old sink.new result }

@@ -2,6 +2,7 @@
 ghost use Rattle.std.specs.Prelude.{◌≡◌, ◌⊎◌, Err, OnOk};
 ghost use Rattle.std.specs.List.{All};
 ghost use Rattle.net_model.specs.World.{Network, World};
+ghost use Rattle.run_model.specs.Headline.{given_to};
 ghost use Rattle.run_ops.specs.Runnable.{IsRunnable};
 ghost use Rattle.run_lines.specs.Reporting.{IsBlamed};
 ghost use Rattle.run_lines.specs.declared.stop.Stop.TheVariants.{WriteFault};
@@ -34,7 +35,7 @@ fn tell_after<K: Disk + Drop, Q: Device + Drop, E: Entropy + Drop, X: Wire + Dro
     requires ready { OnOk left.now.ended ((net : Network) × (w : World) × Stands K.is_honest K.moment K.image E.left Q.told X.frames X.counted left.now.state net w) }
     requires calm { left.now.ended ≡ Err WriteFault → ⊥ }
     ensures ends { (net : Network) (w : World) → OnOk left.now.ended (Stands K.is_honest K.moment K.image E.left Q.told X.frames X.counted left.now.state net w) →
-        Ends (λ k. W.taken k) left.now.ended (veil_line net w) sink.old sink.new result }
+        Ends (λ k. given_to W.taken W.pieces k) left.now.ended (veil_line net w) sink.old sink.new result }
     ensures blame { IsBlamed (W.faults sink.old) (W.faults sink.new) result }
 {
     match left.ended {
@@ -67,7 +68,7 @@ pub fn run_veil<
     requires fresh { IsNew K.is_honest K.moment K.image E.left Q.told X.frames bench.old }
     requires unarmed { All (λ k. (K.armings k).count ≡ 0) bench.old.disks.items }
     ensures veiled { WasLeft bench.old bench.new sink.old sink.new result
-        ⊎ HasVeiled K.moment K.image E.left Q.told X.frames K.faults K.armings E.faults Q.faults X.faults (λ k. W.taken k) bench.old bench.new scenario sink.old sink.new (ended result) }
+        ⊎ HasVeiled K.moment K.image E.left Q.told X.frames K.faults K.armings E.faults Q.faults X.faults (λ k. given_to W.taken W.pieces k) bench.old bench.new scenario sink.old sink.new (ended result) }
     ensures whole { IsWhole bench.new }
     ensures blame { IsBlamed (W.faults sink.old) (W.faults sink.new) result }
 {

@@ -1,5 +1,5 @@
 // A run of whose report only the lines are written that a person asked for.
-ghost use Rattle.std.specs.Prelude.{◌≡◌, ◌⊎◌, ◌≤◌, [], Some};
+ghost use Rattle.std.specs.Prelude.{◌≡◌, ◌⊎◌, ◌≤◌, []};
 ghost use Rattle.std.specs.List.{All};
 ghost use Rattle.qkd_base.specs.Faults.{Rose};
 ghost use Rattle.run_ops.specs.Runnable.{IsRunnable};
@@ -8,7 +8,7 @@ ghost use Rattle.run_lines.specs.Reporting.{IsBlamed};
 ghost use Rattle.net_world.specs.Laid.{IsWhole};
 ghost use Rattle.net_world.specs.New.{IsNew};
 ghost use Rattle.net_world.specs.Running.{HasHeadlines, WasLeft, ended};
-ghost use Rattle.qkd_network.specs.Quiet.{IsQuiet};
+ghost use Rattle.qkd_network.specs.Quiet.{given_lines, IsQuiet};
 ghost use Rattle.qkd_network.specs.Outcome.{ScenarioOutcome};
 ghost use Rattle.qkd_network.specs.declared.status.Status.TheVariants.{ReadFault, WriteFault, ListenFault};
 
@@ -51,7 +51,7 @@ fn run_quietly<
     requires unarmed { All (λ k. (K.armings k).count ≡ 0) bench.old.disks.items }
     ensures quiet { WasLeft bench.old bench.new sink.old sink.new result
         ⊎ IsQuiet W.taken W.pieces (λ report stop. HasHeadlines K.moment K.image E.left Q.told X.frames K.faults K.armings E.faults Q.faults X.faults
-        bench.old bench.new (Run workers) scenario (Some []) report stop) scenario.site.nodes sink.old sink.new (ended result) }
+        bench.old bench.new (Run workers) scenario (given_lines []) report stop) scenario.site.nodes sink.old sink.new (ended result) }
     ensures whole { IsWhole bench.new }
     ensures blame { IsBlamed (W.faults sink.old) (W.faults sink.new) result }
 {
@@ -85,7 +85,7 @@ pub(crate) fn quiet<
     requires unarmed { All (λ k. (K.armings k).count ≡ 0) bench.old.disks.items }
     ensures outcome { ScenarioOutcome (λ s. S.left s) (λ scenario stop.
         IsQuiet W.taken W.pieces (λ report stop. HasHeadlines K.moment K.image E.left Q.told X.frames K.faults K.armings E.faults Q.faults X.faults
-        bench.old bench.new (Run workers) scenario (Some []) report stop) scenario.site.nodes sink.old sink.new stop)
+        bench.old bench.new (Run workers) scenario (given_lines []) report stop) scenario.site.nodes sink.old sink.new stop)
         result source.old source.new sink.old sink.new bench.old bench.new }
     ensures calm { result ≡ ListenFault → ⊥ }
     ensures whole { IsWhole bench.new }

@@ -8,6 +8,7 @@ ghost use Rattle.net_world.specs.Laid.{IsWhole};
 ghost use Rattle.net_world.specs.New.{IsNew};
 ghost use Rattle.net_serve.specs.BenchServing.{HasServedHeadlines};
 ghost use Rattle.run_model.specs.Course.{Serve};
+ghost use Rattle.run_model.specs.Headline.{given_to};
 ghost use Rattle.qkd_network.specs.Lines.{WroteLines};
 ghost use Rattle.qkd_network.specs.Outcome.{ScenarioOutcome, outside};
 ghost use Rattle.qkd_network.specs.declared.status.Status.TheVariants.{ReadFault, WriteFault, ListenFault};
@@ -61,7 +62,7 @@ where
         HasServedHeadlines K.moment K.image E.left Q.told X.frames K.faults K.armings E.faults Q.faults X.faults
         (telling P.Door.port P.Door.accepted P.Door.finished P.Door.waiting P.Door.done) P.Door.faults (IsSome (P.asked ports.old)) bench.old bench.new
         (ports_told P.asked P.back P.queues ports.old) (ports_told P.asked P.back P.queues ports.new)
-        workers connections port scenario (W.taken sink.old) (W.taken sink.new) stop
+        workers connections port scenario (given_to W.taken W.pieces sink.old) (given_to W.taken W.pieces sink.new) stop
         × WroteLines W.taken W.pieces (Serve workers connections port) scenario sink.old sink.new stop)
         result source.old source.new sink.old sink.new (outside bench.old ports.old) (outside bench.new ports.new) }
     ensures whole { IsWhole bench.new }

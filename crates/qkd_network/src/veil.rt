@@ -1,6 +1,7 @@
 // The veil of a scenario's wires.
 ghost use Rattle.std.specs.Prelude.{◌≡◌, ◌⊎◌};
 ghost use Rattle.std.specs.List.{All};
+ghost use Rattle.run_model.specs.Headline.{given_to};
 ghost use Rattle.qkd_base.specs.Faults.{Rose};
 ghost use Rattle.net_world.specs.Laid.{IsWhole};
 ghost use Rattle.net_world.specs.New.{IsNew};
@@ -39,7 +40,7 @@ pub(crate) fn veil<
     requires fresh { IsNew K.is_honest K.moment K.image E.left Q.told X.frames bench.old }
     requires unarmed { All (λ k. (K.armings k).count ≡ 0) bench.old.disks.items }
     ensures outcome { ScenarioOutcome (λ s. S.left s) (λ scenario stop.
-        HasVeiled K.moment K.image E.left Q.told X.frames K.faults K.armings E.faults Q.faults X.faults (λ k. W.taken k) bench.old bench.new scenario sink.old sink.new stop)
+        HasVeiled K.moment K.image E.left Q.told X.frames K.faults K.armings E.faults Q.faults X.faults (λ k. given_to W.taken W.pieces k) bench.old bench.new scenario sink.old sink.new stop)
         result source.old source.new sink.old sink.new bench.old bench.new }
     ensures calm { result ≡ ListenFault → ⊥ }
     ensures whole { IsWhole bench.new }

@@ -1,6 +1,6 @@
 -- How a run goes through a script, and where it stops.
 use Rattle.std.proofs.Common.{◌≡◌, ℕ, Bool, true, false, List, [], ◌∷◌, ◌++◌, refl, sym, ap, subst, ◌∙◌}
-use Rattle.std.specs.Prelude.{if◌then◌else◌, Option, Result, Ok, Err, MatchResult, OnOk}
+use Rattle.std.specs.Prelude.{if◌then◌else◌, Result, Ok, Err, MatchResult, OnOk}
 use Rattle.std.proofs.lemmas.List.{append-nil}
 use Rattle.net_model.specs.Site.{Site}
 use Rattle.net_model.specs.World.{Network, World}
@@ -8,18 +8,17 @@ use Rattle.net_model.specs.Action.{Action, Outcome, ForgedMatch}
 use Rattle.net_model.specs.Step.{step}
 use Rattle.run_types.specs.declared.item.Item.{Item}
 use Rattle.run_types.specs.declared.item.NumberedItem.{NumberedItem}
-use Rattle.run_types.specs.Texts.{report_text}
 use Rattle.run_model.specs.Script.{Script, Ends, Reports, Looks, Asks, asks, then_comes}
 use Rattle.run_model.specs.Play.{Whole, ForgedAt, Played, numbered, is_forged, reporting, stopped_at, play, OneOf, IsPlay}
 use Rattle.run_model.specs.Report.{is_whole}
-use Rattle.run_model.specs.Headline.{Took, TookFirst}
+use Rattle.run_model.specs.Headline.{Took, TookFirst, Given, report_pieces}
 use Rattle.run_ops.specs.Acting.{IsReady, Does, Begins, Plays}
 use Rattle.run_lines.specs.declared.stop.Stop.{Stop}
 use Rattle.run_lines.specs.declared.stop.Stop.TheVariants.{WriteFault, Memory, Forged}
 use Rattle.run_lines.specs.Reporting.{Wrote}
 use Rattle.run_lines.specs.Going.{Leads, Reached}
 use Rattle.run_lines.specs.Running.{StopsAs, Finishes, Stops, Ran, Runs, IsReadySomewhere}
-use Rattle.run_lines.proofs.Taking.{took_none, took_on, first_none, first_within, first_after, text_on, text_none, numbered_on}
+use Rattle.run_lines.proofs.Taking.{took_none, took_on, first_none, first_within, first_after, pieces_on, pieces_none, numbered_on}
 use Rattle.run_lines.proofs.Leading.{nothing, stays_put, same_world, leads_none, leads_told, leads_looks, leads_asked, leads_on, leads_after, goes_beyond}
 
 -- what a network guarantees of its worlds and of its tally of actions
@@ -30,7 +29,7 @@ pub record Ways {S : Type 0} (Stands Rests : S → Network → World → Type 0)
 
 -- a network is ready after a script was run to its end
 pub ready_after : {S T : Type 0} (Stands Rests : S → Network → World → Type 0) (Tallied : S → S → Site → List Action → Type 0) (nodes : List (List ℕ)) (old new : S)
-    (before taken : Option (List ℕ)) (number : ℕ) (script : Script) (result : Result T Stop) → Runs Stands Rests Tallied nodes old new before taken number script result →
+    (before taken : Given) (number : ℕ) (script : Script) (result : Result T Stop) → Runs Stands Rests Tallied nodes old new before taken number script result →
     IsReadySomewhere Stands old → OnOk result (IsReadySomewhere Stands new)
 ready_after Stands Rests Tallied nodes old new before taken number script (Ok answer) runs ready = let f = runs ready.0 ready.1 ready.2 in (ready.0, f.plays.after, f.plays.ready)
 ready_after Stands Rests Tallied nodes old new before taken number script (Err stop) runs ready = tt
@@ -54,22 +53,22 @@ either false A B a b = b
 
 -- ---- a report that stopped after earlier items
 
-pub stops_as : (nodes : List (List ℕ)) (p q : Played) (xs : List NumberedItem) (a b c : Option (List ℕ)) → (stop : Stop) → q ≡ reporting xs p → Took a b (report_text nodes xs) →
+pub stops_as : (nodes : List (List ℕ)) (p q : Played) (xs : List NumberedItem) (a b c : Given) → (stop : Stop) → q ≡ reporting xs p → Took a b (report_pieces nodes xs) →
     StopsAs stop nodes p b c → StopsAs stop nodes q a c
 stops_as nodes p q xs a b c WriteFault same before told =
-    subst (TookFirst a c) (sym (ap (λ (r : Played). report_text nodes r.items) same ∙ text_on nodes xs p.items)) (first_after a b c _ _ before told)
+    subst (TookFirst a c) (sym (ap (λ (r : Played). report_pieces nodes r.items) same ∙ pieces_on nodes xs p.items)) (first_after a b c _ _ before told)
 stops_as nodes p q xs a b c Memory same before told =
-    subst (TookFirst a c) (sym (ap (λ (r : Played). report_text nodes r.items) same ∙ text_on nodes xs p.items)) (first_after a b c _ _ before told)
+    subst (TookFirst a c) (sym (ap (λ (r : Played). report_pieces nodes r.items) same ∙ pieces_on nodes xs p.items)) (first_after a b c _ _ before told)
 stops_as nodes p q xs a b c (Forged line) same before told = (
   ap (λ (r : Played). r.ending) same ∙ told.0,
-  subst (Took a c) (sym (ap (λ (r : Played). report_text nodes r.items) same ∙ text_on nodes xs p.items)) (took_on a b c _ _ before told.1),
+  subst (Took a c) (sym (ap (λ (r : Played). report_pieces nodes r.items) same ∙ pieces_on nodes xs p.items)) (took_on a b c _ _ before told.1),
 )
 
 -- the same report, before another script
-stops_beyond : (nodes : List (List ℕ)) (p q : Played) (more : List NumberedItem) (a b : Option (List ℕ)) (stop : Stop) → q.items ≡ p.items ++ more → (is_whole p.ending ≡ false → q ≡ p) →
+stops_beyond : (nodes : List (List ℕ)) (p q : Played) (more : List NumberedItem) (a b : Given) (stop : Stop) → q.items ≡ p.items ++ more → (is_whole p.ending ≡ false → q ≡ p) →
     StopsAs stop nodes p a b → StopsAs stop nodes q a b
-stops_beyond nodes p q more a b WriteFault items cut told = subst (TookFirst a b) (sym (ap (report_text nodes) items ∙ text_on nodes p.items more)) (first_within a b _ _ told)
-stops_beyond nodes p q more a b Memory items cut told = subst (TookFirst a b) (sym (ap (report_text nodes) items ∙ text_on nodes p.items more)) (first_within a b _ _ told)
+stops_beyond nodes p q more a b WriteFault items cut told = subst (TookFirst a b) (sym (ap (report_pieces nodes) items ∙ pieces_on nodes p.items more)) (first_within a b _ _ told)
+stops_beyond nodes p q more a b Memory items cut told = subst (TookFirst a b) (sym (ap (report_pieces nodes) items ∙ pieces_on nodes p.items more)) (first_within a b _ _ told)
 stops_beyond nodes p q more a b (Forged line) items cut told =
     let same = cut (ap is_whole told.0) in subst (λ (r : Played). StopsAs (Forged line) nodes r a b) (sym same) told
 
@@ -77,17 +76,17 @@ module _ {S : Type 0} (Stands Rests : S → Network → World → Type 0) (Talli
     (net : Network) where
   -- ---- a run on its way
 
-  pub reached_none : (s : S) (t : Option (List ℕ)) (w : World) (script : Script) → IsReady Stands s net w → Reached Stands Tallied nodes s s t t number net w script w script
+  pub reached_none : (s : S) (t : Given) (w : World) (script : Script) → IsReady Stands s net w → Reached Stands Tallied nodes s s t t number net w script w script
   reached_none s t w script ready = record {
     actions = [];
     items = [];
     leads = leads_none net w script;
     ready = ready;
     tallied = ways.none s net w ready.stands;
-    took = subst (Took t t) (sym (text_none nodes)) (took_none t);
+    took = subst (Took t t) (sym (pieces_none nodes)) (took_none t);
   }
 
-  pub reached_on : (a b c : S) (r t u : Option (List ℕ)) (w m after : World) (script mid rest : Script) → Reached Stands Tallied nodes a b r t number net w script m mid →
+  pub reached_on : (a b c : S) (r t u : Given) (w m after : World) (script mid rest : Script) → Reached Stands Tallied nodes a b r t number net w script m mid →
       Reached Stands Tallied nodes b c t u number net m mid after rest → Reached Stands Tallied nodes a c r u number net w script after rest
   reached_on a b c r t u w m after script mid rest p q = record {
     actions = p.actions ++ q.actions;
@@ -96,11 +95,11 @@ module _ {S : Type 0} (Stands Rests : S → Network → World → Type 0) (Talli
     ready = q.ready;
     tallied = ways.more a b c net.site p.actions q.actions p.tallied q.tallied;
     took =
-        subst (Took r u) (sym (ap (report_text nodes) (numbered_on number p.items q.items) ∙ text_on nodes (numbered number p.items) (numbered number q.items)))
+        subst (Took r u) (sym (ap (report_pieces nodes) (numbered_on number p.items q.items) ∙ pieces_on nodes (numbered number p.items) (numbered number q.items)))
         (took_on r t u _ _ p.took q.took);
   }
 
-  pub reached_stop : (a b c : S) (r t u : Option (List ℕ)) (w m : World) (script mid : Script) (stop : Stop) → Reached Stands Tallied nodes a b r t number net w script m mid →
+  pub reached_stop : (a b c : S) (r t u : Given) (w m : World) (script mid : Script) (stop : Stop) → Reached Stands Tallied nodes a b r t number net w script m mid →
       Stops Rests Tallied nodes b c t u number net m mid stop → Stops Rests Tallied nodes a c r u number net w script stop
   reached_stop a b c r t u w m script mid stop p q =
       let said = p.leads.said number q.actions q.is in
@@ -113,7 +112,7 @@ module _ {S : Type 0} (Stands Rests : S → Network → World → Type 0) (Talli
       }
 
   -- out of memory before anything more is done
-  pub stops_here : (s : S) (t : Option (List ℕ)) (w : World) (script : Script) → IsReady Stands s net w → Stops Rests Tallied nodes s s t t number net w script Memory
+  pub stops_here : (s : S) (t : Given) (w : World) (script : Script) → IsReady Stands s net w → Stops Rests Tallied nodes s s t t number net w script Memory
   stops_here s t w script ready = record {
     actions = [];
     is = nothing net w script;
@@ -123,7 +122,7 @@ module _ {S : Type 0} (Stands Rests : S → Network → World → Type 0) (Talli
   }
 
   -- a run whose rest has no action is finished
-  pub finishes : (a b : S) (r t : Option (List ℕ)) (w after : World) (script : Script) → Reached Stands Tallied nodes a b r t number net w script after Ends →
+  pub finishes : (a b : S) (r t : Given) (w after : World) (script : Script) → Reached Stands Tallied nodes a b r t number net w script after Ends →
       Finishes Stands Tallied nodes a b r t number net w script
   unfolding play
   finishes a b r t w after script p = record {
@@ -143,7 +142,7 @@ module _ {S : Type 0} (Stands Rests : S → Network → World → Type 0) (Talli
 
   -- ---- a script followed by another one
 
-  pub reached_after : (a b : S) (r t : Option (List ℕ)) (w : World) (script last : Script) → (f : Finishes Stands Tallied nodes a b r t number net w script) →
+  pub reached_after : (a b : S) (r t : Given) (w : World) (script last : Script) → (f : Finishes Stands Tallied nodes a b r t number net w script) →
       Reached Stands Tallied nodes a b r t number net w (then_comes script last) f.plays.after last
   reached_after a b r t w script last f = record {
     actions = f.plays.actions;
@@ -154,7 +153,7 @@ module _ {S : Type 0} (Stands Rests : S → Network → World → Type 0) (Talli
     took = f.took;
   }
 
-  pub stops_after : (a b : S) (r t : Option (List ℕ)) (w : World) (script last : Script) (stop : Stop) → Stops Rests Tallied nodes a b r t number net w script stop →
+  pub stops_after : (a b : S) (r t : Given) (w : World) (script last : Script) (stop : Stop) → Stops Rests Tallied nodes a b r t number net w script stop →
       Stops Rests Tallied nodes a b r t number net w (then_comes script last) stop
   stops_after a b r t w script last stop p =
       let more = goes_beyond net number w script last p.actions p.is in
@@ -167,7 +166,7 @@ module _ {S : Type 0} (Stands Rests : S → Network → World → Type 0) (Talli
       }
 
   -- a run that goes on to the end or to a stop
-  pub ran_on : {T : Type 0} (a b c : S) (r t u : Option (List ℕ)) (w m after : World) (script mid : Script) (result : Result T Stop) → Reached Stands Tallied nodes a b r t number net w script m mid →
+  pub ran_on : {T : Type 0} (a b c : S) (r t u : Given) (w m after : World) (script mid : Script) (result : Result T Stop) → Reached Stands Tallied nodes a b r t number net w script m mid →
       MatchResult result (λ done. Reached Stands Tallied nodes b c t u number net m mid after Ends) (λ stop. Stops Rests Tallied nodes b c t u number net m mid stop) →
       Ran Stands Rests Tallied nodes a c r u number net w script result
   ran_on a b c r t u w m after script mid (Ok done) p q = finishes a c r u w after script (reached_on a b c r t u w m after script mid Ends p q)
@@ -175,7 +174,7 @@ module _ {S : Type 0} (Stands Rests : S → Network → World → Type 0) (Talli
 
   -- ---- items that are reported
 
-  pub reached_told : (s : S) (r t : Option (List ℕ)) (w : World) (items : List Item) (next : Script) → IsReady Stands s net w → Took r t (report_text nodes (numbered number items)) →
+  pub reached_told : (s : S) (r t : Given) (w : World) (items : List Item) (next : Script) → IsReady Stands s net w → Took r t (report_pieces nodes (numbered number items)) →
       Reached Stands Tallied nodes s s r t number net w (Reports items next) w next
   reached_told s r t w items next ready took = record {
     actions = [];
@@ -186,24 +185,24 @@ module _ {S : Type 0} (Stands Rests : S → Network → World → Type 0) (Talli
     took = took;
   }
 
-  pub reached_looks : (s : S) (t : Option (List ℕ)) (w : World) (next : World → Script) → IsReady Stands s net w → Reached Stands Tallied nodes s s t t number net w (Looks next) w (next w)
+  pub reached_looks : (s : S) (t : Given) (w : World) (next : World → Script) → IsReady Stands s net w → Reached Stands Tallied nodes s s t t number net w (Looks next) w (next w)
   reached_looks s t w next ready = record {
     actions = [];
     items = [];
     leads = leads_looks net w next;
     ready = ready;
     tallied = ways.none s net w ready.stands;
-    took = subst (Took t t) (sym (text_none nodes)) (took_none t);
+    took = subst (Took t t) (sym (pieces_none nodes)) (took_none t);
   }
 
-  first_told : (r t : Option (List ℕ)) (w : World) (items : List Item) (next : Script) → TookFirst r t (report_text nodes (numbered number items)) →
-      TookFirst r t (report_text nodes (play net number w (Reports items next) []).items)
+  first_told : (r t : Given) (w : World) (items : List Item) (next : Script) → TookFirst r t (report_pieces nodes (numbered number items)) →
+      TookFirst r t (report_pieces nodes (play net number w (Reports items next) []).items)
   unfolding play
-  first_told r t w items next told = subst (TookFirst r t) (sym (text_on nodes (numbered number items) (play net number w next []).items)) (first_within r t _ _ told)
+  first_told r t w items next told = subst (TookFirst r t) (sym (pieces_on nodes (numbered number items) (play net number w next []).items)) (first_within r t _ _ told)
 
   -- the items are reported, or a prefix of their text is
-  pub told : {T : Type 0} (s : S) (r t : Option (List ℕ)) (w : World) (items : List Item) (next : Script) (result : Result T Stop) → IsReady Stands s net w →
-      Wrote result r t (report_text nodes (numbered number items)) →
+  pub told : {T : Type 0} (s : S) (r t : Given) (w : World) (items : List Item) (next : Script) (result : Result T Stop) → IsReady Stands s net w →
+      Wrote result r t (report_pieces nodes (numbered number items)) →
       MatchResult result (λ done. Reached Stands Tallied nodes s s r t number net w (Reports items next) w next) (λ stop. Stops Rests Tallied nodes s s r t number net w (Reports items next) stop)
   told s r t w items next (Ok done) ready wrote = reached_told s r t w items next ready wrote
   told s r t w items next (Err WriteFault) ready wrote = record {
@@ -224,7 +223,7 @@ module _ {S : Type 0} (Stands Rests : S → Network → World → Type 0) (Talli
 
   -- ---- an action
 
-  pub asked : (a b : S) (t : Option (List ℕ)) (w : World) (action : Action) (outcome : Outcome) (next : Outcome → Script) → (d : Does Stands Tallied a b net w action outcome) →
+  pub asked : (a b : S) (t : Given) (w : World) (action : Action) (outcome : Outcome) (next : Outcome → Script) → (d : Does Stands Tallied a b net w action outcome) →
       is_forged outcome ≡ false → Reached Stands Tallied nodes a b t t number net w (Asks action next) (step net w d.action).0 (next outcome)
   asked a b t w action outcome next d calm = record {
     actions = d.action ∷ [];
@@ -234,10 +233,10 @@ module _ {S : Type 0} (Stands Rests : S → Network → World → Type 0) (Talli
         (leads_asked net w d.action action next d.is d.may (ap is_forged d.said ∙ calm));
     ready = d.ready;
     tallied = d.tallied;
-    took = subst (Took t t) (sym (text_none nodes)) (took_none t);
+    took = subst (Took t t) (sym (pieces_none nodes)) (took_none t);
   }
 
-  pub forged : (a b : S) (t : Option (List ℕ)) (w : World) (action : Action) (next : Outcome → Script) → Does Stands Tallied a b net w action ForgedMatch →
+  pub forged : (a b : S) (t : Given) (w : World) (action : Action) (next : Outcome → Script) → Does Stands Tallied a b net w action ForgedMatch →
       Stops Rests Tallied nodes a b t t number net w (Asks action next) (Forged number)
   unfolding play
   forged a b t w action next d =
@@ -249,12 +248,12 @@ module _ {S : Type 0} (Stands Rests : S → Network → World → Type 0) (Talli
         is = (d.is, d.may, subst (λ (b : Bool). OneOf b (none_left [] ≡ []) (IsPlay net out.0 (next out.1) [])) (sym (ap is_forged d.said)) refl);
         rests = subst (λ (r : Played). Rests b net r.world) (sym said) (ways.rest b net out.0 d.ready.stands);
         tallied = d.tallied;
-        told = (ap (λ (r : Played). r.ending) said, subst (λ (r : Played). Took t t (report_text nodes r.items)) (sym said) (subst (Took t t) (sym (text_none nodes)) (took_none t)));
+        told = (ap (λ (r : Played). r.ending) said, subst (λ (r : Played). Took t t (report_pieces nodes r.items)) (sym said) (subst (Took t t) (sym (pieces_none nodes)) (took_none t)));
       }
 
   -- ---- out of memory during an action
 
-  pub begins_stop : (a b : S) (t : Option (List ℕ)) (w : World) (script : Script) → Begins Rests Tallied a b net w script → Stops Rests Tallied nodes a b t t number net w script Memory
+  pub begins_stop : (a b : S) (t : Given) (w : World) (script : Script) → Begins Rests Tallied a b net w script → Stops Rests Tallied nodes a b t t number net w script Memory
   begins_stop a b t w script p = record {
     actions = p.actions;
     is = p.is;
@@ -279,7 +278,7 @@ module _ {S : Type 0} (Stands Rests : S → Network → World → Type 0) (Talli
       ap (λ (xs : List Action). (play net number out.0 (next out.1) xs).world) e ∙ stays_put net number out.0 (next out.1) in
       ((is.0, is.1, last rest none), subst (Rests b net) (sym (ends_there out.0 number (play net number out.0 (next out.1) rest) (is_forged out.1) (there rest none))) here)
 
-  pub begun : (a b : S) (t : Option (List ℕ)) (w : World) (action : Action) (next : Outcome → Script) → Begins Rests Tallied a b net w (asks action (λ outcome. [])) →
+  pub begun : (a b : S) (t : Given) (w : World) (action : Action) (next : Outcome → Script) → Begins Rests Tallied a b net w (asks action (λ outcome. [])) →
       Stops Rests Tallied nodes a b t t number net w (Asks action next) Memory
   begun a b t w action next p =
       let all = begun_by b w action next p.actions p.is p.rests in
@@ -287,56 +286,56 @@ module _ {S : Type 0} (Stands Rests : S → Network → World → Type 0) (Talli
 
   -- ---- a line that asks for one action
 
-  pub one_asked : {T : Type 0} (a b : S) (r t : Option (List ℕ)) (w : World) (action : Action) (outcome : Outcome) (items : Outcome → List Item) (tell : List Item) (names : List (List ℕ))
+  pub one_asked : {T : Type 0} (a b : S) (r t : Given) (w : World) (action : Action) (outcome : Outcome) (items : Outcome → List Item) (tell : List Item) (names : List (List ℕ))
       (result : Result T Stop) → Does Stands Tallied a b net w action outcome → is_forged outcome ≡ false → tell ≡ items outcome → names ≡ nodes →
-      Wrote result r t (report_text names (numbered number tell)) → Ran Stands Rests Tallied nodes a b r t number net w (asks action items) result
+      Wrote result r t (report_pieces names (numbered number tell)) → Ran Stands Rests Tallied nodes a b r t number net w (asks action items) result
   one_asked a b r t w action outcome items tell names result d calm same named wrote =
       let here = asked a b r w action outcome (λ o. Reports (items o) Ends) d calm in
       let m = (step net w d.action).0 in
-      let there = told b r t m (items outcome) Ends result d.ready (subst (λ (xs : List Item). Wrote result r t (report_text nodes (numbered number xs))) same (subst (λ (ns : List (List ℕ)). Wrote result r t (report_text ns (numbered number tell))) named wrote)) in
+      let there = told b r t m (items outcome) Ends result d.ready (subst (λ (xs : List Item). Wrote result r t (report_pieces nodes (numbered number xs))) same (subst (λ (ns : List (List ℕ)). Wrote result r t (report_pieces ns (numbered number tell))) named wrote)) in
       ran_on a b b r r t w m m (asks action items) (Reports (items outcome) Ends) result here there
 
   -- out of memory after the action
-  pub asked_stops : (a b : S) (t : Option (List ℕ)) (w : World) (action : Action) (outcome : Outcome) (next : Outcome → Script) → Does Stands Tallied a b net w action outcome →
+  pub asked_stops : (a b : S) (t : Given) (w : World) (action : Action) (outcome : Outcome) (next : Outcome → Script) → Does Stands Tallied a b net w action outcome →
       is_forged outcome ≡ false → Stops Rests Tallied nodes a b t t number net w (Asks action next) Memory
   asked_stops a b t w action outcome next d calm =
       let m = (step net w d.action).0 in
       reached_stop a b b t t t w m (Asks action next) (next outcome) Memory (asked a b t w action outcome next d calm) (stops_here b t m (next outcome) d.ready)
 
   -- nothing is left to do after the action
-  pub asked_ends : (a b : S) (t : Option (List ℕ)) (w : World) (action : Action) (outcome : Outcome) (next : Outcome → Script) → Does Stands Tallied a b net w action outcome →
+  pub asked_ends : (a b : S) (t : Given) (w : World) (action : Action) (outcome : Outcome) (next : Outcome → Script) → Does Stands Tallied a b net w action outcome →
       is_forged outcome ≡ false → next outcome ≡ Ends → Finishes Stands Tallied nodes a b t t number net w (Asks action next)
   asked_ends a b t w action outcome next d calm ends =
       let m = (step net w d.action).0 in
       finishes a b t t w m (Asks action next) (subst (λ (s : Script). Reached Stands Tallied nodes a b t t number net w (Asks action next) m s) ends (asked a b t w action outcome next d calm))
 
   -- the outcome of the action is reported, whatever other outcomes would lead to
-  pub asked_told : {T : Type 0} (a b : S) (r t : Option (List ℕ)) (w : World) (action : Action) (outcome : Outcome) (next : Outcome → Script) (tell : List Item) (names : List (List ℕ))
+  pub asked_told : {T : Type 0} (a b : S) (r t : Given) (w : World) (action : Action) (outcome : Outcome) (next : Outcome → Script) (tell : List Item) (names : List (List ℕ))
       (result : Result T Stop) → Does Stands Tallied a b net w action outcome → is_forged outcome ≡ false → next outcome ≡ Reports tell Ends → names ≡ nodes →
-      Wrote result r t (report_text names (numbered number tell)) → Ran Stands Rests Tallied nodes a b r t number net w (Asks action next) result
+      Wrote result r t (report_pieces names (numbered number tell)) → Ran Stands Rests Tallied nodes a b r t number net w (Asks action next) result
   asked_told a b r t w action outcome next tell names result d calm same named wrote =
       let m = (step net w d.action).0 in
       let here = subst (λ (s : Script). Reached Stands Tallied nodes a b r r number net w (Asks action next) m s) same (asked a b r w action outcome next d calm) in
-      let there = told b r t m tell Ends result d.ready (subst (λ (ns : List (List ℕ)). Wrote result r t (report_text ns (numbered number tell))) named wrote) in
+      let there = told b r t m tell Ends result d.ready (subst (λ (ns : List (List ℕ)). Wrote result r t (report_pieces ns (numbered number tell))) named wrote) in
       ran_on a b b r r t w m m (Asks action next) (Reports tell Ends) result here there
 
   -- the outcome of the action is reported after a look at the world
-  pub asked_looked : {T : Type 0} (a b : S) (r t : Option (List ℕ)) (w : World) (action : Action) (outcome : Outcome) (items : World → Outcome → List Item) (tell : List Item) (names : List (List ℕ))
+  pub asked_looked : {T : Type 0} (a b : S) (r t : Given) (w : World) (action : Action) (outcome : Outcome) (items : World → Outcome → List Item) (tell : List Item) (names : List (List ℕ))
       (result : Result T Stop) → Does Stands Tallied a b net w action outcome → is_forged outcome ≡ false → ((after : World) → Stands b net after → tell ≡ items after outcome) → names ≡ nodes →
-      Wrote result r t (report_text names (numbered number tell)) → Ran Stands Rests Tallied nodes a b r t number net w (Asks action (λ out. Looks (λ at. Reports (items at out) Ends))) result
+      Wrote result r t (report_pieces names (numbered number tell)) → Ran Stands Rests Tallied nodes a b r t number net w (Asks action (λ out. Looks (λ at. Reports (items at out) Ends))) result
   asked_looked a b r t w action outcome items tell names result d calm same named wrote =
       let m = (step net w d.action).0 in
       let next : Outcome → Script = λ out. Looks (λ at. Reports (items at out) Ends) in
       let here = reached_on a b b r r r w m m (Asks action next) (next outcome) (Reports (items m outcome) Ends) (asked a b r w action outcome next d calm)
       (reached_looks b r m (λ at. Reports (items at outcome) Ends) d.ready) in
       let there = told b r t m (items m outcome) Ends result d.ready
-      (subst (λ (xs : List Item). Wrote result r t (report_text nodes (numbered number xs))) (same m d.ready.stands)
-      (subst (λ (ns : List (List ℕ)). Wrote result r t (report_text ns (numbered number tell))) named wrote)) in
+      (subst (λ (xs : List Item). Wrote result r t (report_pieces nodes (numbered number xs))) (same m d.ready.stands)
+      (subst (λ (ns : List (List ℕ)). Wrote result r t (report_pieces ns (numbered number tell))) named wrote)) in
       ran_on a b b r r t w m m (Asks action next) (Reports (items m outcome) Ends) result here there
 
   -- ---- a script that was run to its end, followed by its report
 
-  plays_first : (a b : S) (r t : Option (List ℕ)) (w : World) (script : Script) (items : List Item) (stop : Stop) → (p : Plays Stands Tallied a b net w script items) →
+  plays_first : (a b : S) (r t : Given) (w : World) (script : Script) (items : List Item) (stop : Stop) → (p : Plays Stands Tallied a b net w script items) →
       StopsAs stop nodes (record { items = numbered number items; world = p.after; ending = Whole }) r t → Stops Rests Tallied nodes a b r t number net w script stop
   plays_first a b r t w script items stop p told = record {
     actions = p.actions;
@@ -346,24 +345,24 @@ module _ {S : Type 0} (Stands Rests : S → Network → World → Type 0) (Talli
     told = subst (λ (q : Played). StopsAs stop nodes q r t) (sym (p.said number)) told;
   }
 
-  plays_wrote : {T : Type 0} (a b : S) (r t : Option (List ℕ)) (w : World) (script : Script) (items : List Item) (result : Result T Stop) → Plays Stands Tallied a b net w script items →
-      Wrote result r t (report_text nodes (numbered number items)) → Ran Stands Rests Tallied nodes a b r t number net w script result
+  plays_wrote : {T : Type 0} (a b : S) (r t : Given) (w : World) (script : Script) (items : List Item) (result : Result T Stop) → Plays Stands Tallied a b net w script items →
+      Wrote result r t (report_pieces nodes (numbered number items)) → Ran Stands Rests Tallied nodes a b r t number net w script result
   plays_wrote a b r t w script items (Ok done) p wrote = record { items = items; plays = p; took = wrote }
   plays_wrote a b r t w script items (Err WriteFault) p wrote = plays_first a b r t w script items WriteFault p wrote
   plays_wrote a b r t w script items (Err Memory) p wrote = plays_first a b r t w script items Memory p wrote
   plays_wrote a b r t w script items (Err (Forged line)) p wrote = absurd wrote
 
-  pub plays_told : {T : Type 0} (a b : S) (r t : Option (List ℕ)) (w : World) (script : Script) (items tell : List Item) (names : List (List ℕ)) (result : Result T Stop) →
-      Plays Stands Tallied a b net w script items → tell ≡ items → names ≡ nodes → Wrote result r t (report_text names (numbered number tell)) →
+  pub plays_told : {T : Type 0} (a b : S) (r t : Given) (w : World) (script : Script) (items tell : List Item) (names : List (List ℕ)) (result : Result T Stop) →
+      Plays Stands Tallied a b net w script items → tell ≡ items → names ≡ nodes → Wrote result r t (report_pieces names (numbered number tell)) →
       Ran Stands Rests Tallied nodes a b r t number net w script result
   plays_told a b r t w script items tell names result p same named wrote =
       plays_wrote a b r t w script items result p
-      (subst (λ (xs : List Item). Wrote result r t (report_text nodes (numbered number xs))) same
-      (subst (λ (ns : List (List ℕ)). Wrote result r t (report_text ns (numbered number tell))) named wrote))
+      (subst (λ (xs : List Item). Wrote result r t (report_pieces nodes (numbered number xs))) same
+      (subst (λ (ns : List (List ℕ)). Wrote result r t (report_pieces ns (numbered number tell))) named wrote))
 
   -- items that are reported without an action
-  pub unasked_told : {T : Type 0} (a : S) (r t : Option (List ℕ)) (w : World) (tell : List Item) (names : List (List ℕ)) (result : Result T Stop) → IsReady Stands a net w → names ≡ nodes →
-      Wrote result r t (report_text names (numbered number tell)) → Ran Stands Rests Tallied nodes a a r t number net w (Reports tell Ends) result
+  pub unasked_told : {T : Type 0} (a : S) (r t : Given) (w : World) (tell : List Item) (names : List (List ℕ)) (result : Result T Stop) → IsReady Stands a net w → names ≡ nodes →
+      Wrote result r t (report_pieces names (numbered number tell)) → Ran Stands Rests Tallied nodes a a r t number net w (Reports tell Ends) result
   unasked_told a r t w tell names result ready named wrote =
       ran_on a a a r r t w w w (Reports tell Ends) (Reports tell Ends) result (reached_none a r w (Reports tell Ends) ready)
-      (told a r t w tell Ends result ready (subst (λ (ns : List (List ℕ)). Wrote result r t (report_text ns (numbered number tell))) named wrote))
+      (told a r t w tell Ends result ready (subst (λ (ns : List (List ℕ)). Wrote result r t (report_pieces ns (numbered number tell))) named wrote))

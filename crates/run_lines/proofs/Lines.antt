@@ -1,26 +1,21 @@
 -- Lines that are written one by one.
 use Rattle.std.proofs.Common.{◌≡◌, ℕ, List, [], ◌∷◌, ◌++◌, take, drop, refl, sym, ap, subst, ◌∙◌}
 use Rattle.std.specs.Prelude.{Option, Result, Ok, Err}
-use Rattle.std.specs.List.{flat_map}
 use Rattle.std.proofs.lemmas.List.{append_assoc, append-nil, take-append-drop}
-use Rattle.std.proofs.lemmas.List.Concat.{flat_map-append}
 use Rattle.std.proofs.lemmas.List.Elements.{All-nil, All-push, All-append}
 use Rattle.std.specs.Io.KnownBytes.{Appends}
 use Rattle.edge_io.specs.Writes.{AppendsPrefix, Adds}
 use Rattle.run_types.specs.declared.item.Item.TheVariants as items
 use Rattle.run_types.specs.Texts.{line_text}
-use Rattle.run_model.specs.Headline.{Took}
+use Rattle.run_model.specs.Headline.{joined, Gained}
 use Rattle.run_lines.specs.Reporting.{IsItemLine, IsPart, TookLines, InLines}
-use Rattle.run_lines.proofs.Taking.{took_none, took_on, took_of}
+use Rattle.run_lines.proofs.Taking.{gained_none, gained_on, gained_bytes, joined_on}
 use Rattle.run_lines.proofs.Writing.{adds_none, adds_more}
-
-abbrev joined : List (List ℕ) → List ℕ
-joined lines = flat_map (λ (line : List ℕ). line) lines
 
 module _ {S : Type 0} (taken : S → Option (List ℕ)) (pieces : S → Option (List (List ℕ))) (IsLine : List ℕ → Type 0) where
   -- no line was written
   pub none_lined : (s : S) → TookLines taken pieces IsLine s s []
-  none_lined s = record { lines = []; each = All-nil IsLine; pieces_are = adds_none (pieces s); text = took_none (taken s) }
+  none_lined s = record { lines = []; each = All-nil IsLine; pieces_are = adds_none (pieces s); text = gained_none (taken s) }
 
   -- lines written after other lines
   pub lined_on : (a b c : S) (part : List ℕ) → TookLines taken pieces IsLine a b [] → TookLines taken pieces IsLine b c part → TookLines taken pieces IsLine a c part
@@ -28,11 +23,11 @@ module _ {S : Type 0} (taken : S → Option (List ℕ)) (pieces : S → Option (
     lines = p.lines ++ q.lines;
     each = All-append IsLine p.lines q.lines p.each q.each;
     pieces_are = adds_more (pieces a) (pieces b) (pieces c) p.lines q.lines p.pieces_are q.pieces_are;
-    text = subst (Took (taken a) (taken c))
+    text = subst (Gained (taken a) (taken c))
         (ap (λ (bs : List ℕ). bs ++ (joined q.lines ++ part)) (append-nil (joined p.lines))
         ∙ sym (append_assoc (joined p.lines) (joined q.lines) part)
-        ∙ ap (λ (bs : List ℕ). bs ++ part) (sym (flat_map-append (λ (line : List ℕ). line) p.lines q.lines)))
-        (took_on (taken a) (taken b) (taken c) (joined p.lines ++ []) (joined q.lines ++ part) p.text q.text);
+        ∙ ap (λ (bs : List ℕ). bs ++ part) (sym (joined_on p.lines q.lines)))
+        (gained_on (taken a) (taken b) (taken c) (joined p.lines ++ []) (joined q.lines ++ part) p.text q.text);
   }
 
   -- a run that may stop after some lines
@@ -46,7 +41,7 @@ module _ {S : Type 0} (taken : S → Option (List ℕ)) (pieces : S → Option (
     lines = told ∷ [];
     each = All-push IsLine [] told (All-nil IsLine) (subst IsLine (sym same) is);
     pieces_are = piece;
-    text = subst (Took (taken a) (taken b)) (sym (append-nil told) ∙ sym (append-nil (told ++ []))) (took_of (taken a) (taken b) told bytes);
+    text = subst (Gained (taken a) (taken b)) (sym (append-nil told) ∙ sym (append-nil (told ++ []))) (gained_bytes (taken a) (taken b) told bytes);
   }
 
   pub one_stopped : (a b : S) (told line : List ℕ) → told ≡ line → IsLine line → AppendsPrefix (taken a) (taken b) told → Adds (pieces a) (pieces b) [] →
@@ -54,7 +49,7 @@ module _ {S : Type 0} (taken : S → Option (List ℕ)) (pieces : S → Option (
   one_stopped a b told line same is bytes piece = (
     take bytes.0 told,
     (told, subst IsLine (sym same) is, (drop bytes.0 told, sym (take-append-drop bytes.0 told))),
-    record { lines = []; each = All-nil IsLine; pieces_are = piece; text = took_of (taken a) (taken b) (take bytes.0 told) bytes.1 },
+    record { lines = []; each = All-nil IsLine; pieces_are = piece; text = gained_bytes (taken a) (taken b) (take bytes.0 told) bytes.1 },
   )
 
   -- a run that stops before any line is written

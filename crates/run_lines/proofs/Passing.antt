@@ -1,6 +1,6 @@
 -- The new frames of each wire are passed, lane by lane.
 use Rattle.std.proofs.Common.{◌≡◌, ℕ, suc, ◌+◌, ◌-◌, ◌<◌, ◌≤◌, List, [], ◌∷◌, ◌++◌, length, get_or, take, drop, map, refl, sym, ap, subst, ◌∙◌, add-one, Vec, Global}
-use Rattle.std.specs.Prelude.{Option, sum_by}
+use Rattle.std.specs.Prelude.{sum_by}
 use Rattle.std.proofs.Math.Seq.{drop-cons}
 use Rattle.std.proofs.lemmas.List.{map_more, drop_all, take_all, get_or-map}
 use Rattle.std.proofs.lemmas.List.Sums.{sum_by_more}
@@ -11,6 +11,7 @@ use Rattle.net_model.specs.Action.{Action}
 use Rattle.run_model.specs.Script.{then_comes}
 use Rattle.run_model.specs.Play.{Played}
 use Rattle.run_model.specs.Lines.{passes, all_passes}
+use Rattle.run_model.specs.Headline.{Given}
 use Rattle.run_ops.specs.Acting.{IsReady}
 use Rattle.run_lines.specs.declared.stop.Stop.{Stop}
 use Rattle.run_lines.specs.declared.stop.Stop.TheVariants.{Memory}
@@ -46,7 +47,7 @@ all_counted lanes w i frames past so_far = subst (λ (ls : List Lane). AreOn ls 
 
 -- The new frames of the first lanes were passed. The wires are unchanged, and their frames are counted.
 pub record Passed {S : Type 0} (Stands : S → Network → World → Type 0) (Tallied : S → S → Site → List Action → Type 0) (nodes : List (List ℕ)) (number : ℕ) (lanes : List Lane) (a b : S)
-    (r t : Option (List ℕ)) (net : Network) (earlier w : World) (place : ℕ) (frames : Frames) : Type 0 where
+    (r t : Given) (net : Network) (earlier w : World) (place : ℕ) (frames : Frames) : Type 0 where
   pub after : World
   pub reached : Reached Stands Tallied nodes a b r t number net w (all_passes earlier w lanes) after (all_passes earlier w (drop place lanes))
   pub wire : after.wire ≡ w.wire
@@ -59,7 +60,7 @@ one_lane earlier w lanes i lane d below is =
 
 module _ {S : Type 0} (Stands Rests : S → Network → World → Type 0) (Tallied : S → S → Site → List Action → Type 0) (ways : Ways Stands Rests Tallied) (nodes : List (List ℕ)) (number : ℕ)
     (lanes : List Lane) (net : Network) (earlier w : World) where
-  pub passed_none : (a : S) (r : Option (List ℕ)) (each : Vec ℕ Global) → each.items ≡ [] → IsReady Stands a net w →
+  pub passed_none : (a : S) (r : Given) (each : Vec ℕ Global) → each.items ≡ [] → IsReady Stands a net w →
       Passed Stands Tallied nodes number lanes a a r r net earlier w 0 (record { each = each; all = 0 })
   passed_none a r each is ready = record {
     after = w;
@@ -68,7 +69,7 @@ module _ {S : Type 0} (Stands Rests : S → Network → World → Type 0) (Talli
     counted = counts_none w each is;
   }
 
-  module _ (a b : S) (r t : Option (List ℕ)) (i : ℕ) (frames : Frames) (lane d : Lane) (from count : ℕ) (below : i < length lanes) (is : lane ≡ get_or lanes i d)
+  module _ (a b : S) (r t : Given) (i : ℕ) (frames : Frames) (lane d : Lane) (from count : ℕ) (below : i < length lanes) (is : lane ≡ get_or lanes i d)
       (p : Passed Stands Tallied nodes number lanes a b r t net earlier w i frames) (was : from ≡ on_wire earlier lane) (found : count ≡ length (p.after.wire lane)) where
     pub count_is : count ≡ on_wire w lane
     count_is = found ∙ ap (λ (f : Lane → List ℕ). length (f lane)) p.wire
@@ -82,14 +83,14 @@ module _ {S : Type 0} (Stands Rests : S → Network → World → Type 0) (Talli
     reached_here : Reached Stands Tallied nodes a b r t number net w (all_passes earlier w lanes) p.after (then_comes (passes lane from (count - from)) (all_passes earlier w (drop (i + 1) lanes)))
     reached_here = subst (Reached Stands Tallied nodes a b r t number net w (all_passes earlier w lanes) p.after) script_is p.reached
 
-    pub lane_short : (c : S) (u : Option (List ℕ)) (stop : Stop) → Stops Rests Tallied nodes b c t u number net p.after (passes lane from (count - from)) stop →
+    pub lane_short : (c : S) (u : Given) (stop : Stop) → Stops Rests Tallied nodes b c t u number net p.after (passes lane from (count - from)) stop →
         Stops Rests Tallied nodes a c r u number net w (all_passes earlier w lanes) stop
     lane_short c u stop s =
         let last = all_passes earlier w (drop (i + 1) lanes) in
         reached_stop Stands Rests Tallied ways nodes number net a b c r t u w p.after (all_passes earlier w lanes) (then_comes (passes lane from (count - from)) last) stop reached_here
         (stops_after Stands Rests Tallied ways nodes number net b c t u p.after (passes lane from (count - from)) last stop s)
 
-    module _ (c : S) (u : Option (List ℕ)) (f : Finishes Stands Tallied nodes b c t u number net p.after (passes lane from (count - from))) where
+    module _ (c : S) (u : Given) (f : Finishes Stands Tallied nodes b c t u number net p.after (passes lane from (count - from))) where
       reached_there : Reached Stands Tallied nodes a c r u number net w (all_passes earlier w lanes) f.plays.after (all_passes earlier w (drop (i + 1) lanes))
       reached_there =
           let last = all_passes earlier w (drop (i + 1) lanes) in
@@ -113,7 +114,7 @@ module _ {S : Type 0} (Stands Rests : S → Network → World → Type 0) (Talli
         counted = counted;
       }
 
-  pub passed_all : (a b : S) (r t : Option (List ℕ)) (i : ℕ) (frames : Frames) → length lanes ≤ i → Passed Stands Tallied nodes number lanes a b r t net earlier w i frames →
+  pub passed_all : (a b : S) (r t : Given) (i : ℕ) (frames : Frames) → length lanes ≤ i → Passed Stands Tallied nodes number lanes a b r t net earlier w i frames →
       Finishes Stands Tallied nodes a b r t number net w (all_passes earlier w lanes)
   passed_all a b r t i frames past p =
       finishes Stands Rests Tallied ways nodes number net a b r t w p.after (all_passes earlier w lanes)

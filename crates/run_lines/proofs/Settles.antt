@@ -1,6 +1,6 @@
 -- A whole round, and rounds in order.
 use Rattle.std.proofs.Common.{◌≡◌, ℕ, suc, ◌+◌, ◌-◌, ◌<◌, ◌≤◌, Bool, false, List, length, map, nat_lt, sym, ap, subst, ◌∙◌, arith}
-use Rattle.std.specs.Prelude.{Option, Result, Ok, Err, MatchResult, if◌then◌else◌, sum_by}
+use Rattle.std.specs.Prelude.{Result, Ok, Err, MatchResult, if◌then◌else◌, sum_by}
 use Rattle.std.proofs.lemmas.Bool.{lt-ltb}
 use Rattle.std.proofs.lemmas.Bool.Decides.{nat_tests}
 use Rattle.qkd_base.specs.declared.lane.Lane.{Lane}
@@ -10,6 +10,7 @@ use Rattle.net_model.specs.Action.{Action}
 use Rattle.run_model.specs.Script.{Script, Looks, Ends, then_comes}
 use Rattle.run_model.specs.Play.{Played}
 use Rattle.run_model.specs.Lines.{ticks, all_passes, all_lanes, on_wires, settle}
+use Rattle.run_model.specs.Headline.{Given}
 use Rattle.run_ops.specs.Acting.{IsReady}
 use Rattle.run_lines.specs.declared.stop.Stop.{Stop}
 use Rattle.run_lines.specs.Going.{Reached}
@@ -40,7 +41,7 @@ pub some_put : (next : Script) (before now : ℕ) → before < now → (if nat_l
 some_put next before now more = ap (λ (b : Bool). if b then next else Ends) (lt-ltb before now more)
 
 module _ {S : Type 0} (Stands Rests : S → Network → World → Type 0) (Tallied : S → S → Site → List Action → Type 0) (ways : Ways Stands Rests Tallied) (nodes : List (List ℕ)) (number : ℕ)
-    (site : Site) (next : Script) (net : Network) (w : World) (a b : S) (r t : Option (List ℕ)) where
+    (site : Site) (next : Script) (net : Network) (w : World) (a b : S) (r t : Given) where
   abbrev rest : World → Script
   rest before = Looks (λ now. then_comes (all_passes before now (all_lanes site)) (if nat_lt (on_wires site before) (on_wires site now) then next else Ends))
 
@@ -56,7 +57,7 @@ module _ {S : Type 0} (Stands Rests : S → Network → World → Type 0) (Talli
       reached_stop Stands Rests Tallied ways nodes number net a a b r r t w w (round site next) (body w) stop (reached_looks Stands Rests Tallied ways nodes number net a r w body ready)
       (stops_after Stands Rests Tallied ways nodes number net a b r t w (ticks site (count_up site.nodes)) (rest w) stop s)
 
-  module _ (ready : IsReady Stands a net w) (f : Ticked) (lanes : List Lane) (all : lanes ≡ all_lanes site) (before : Frames) (on : AreOn lanes w before) (c : S) (u : Option (List ℕ)) where
+  module _ (ready : IsReady Stands a net w) (f : Ticked) (lanes : List Lane) (all : lanes ≡ all_lanes site) (before : Frames) (on : AreOn lanes w before) (c : S) (u : Given) where
     abbrev last : World → Script
     last now = if nat_lt (on_wires site w) (on_wires site now) then next else Ends
 

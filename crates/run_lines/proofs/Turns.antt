@@ -1,6 +1,6 @@
 -- The rounds of a settle line, node by node and frame by frame.
 use Rattle.std.proofs.Common.{◌≡◌, ℕ, zero, suc, ◌+◌, ◌-◌, ◌<◌, ◌≤◌, Bool, true, false, List, [], ◌∷◌, ◌++◌, length, drop, refl, sym, ap, subst, ◌∙◌, inl, inr, arith, length-append}
-use Rattle.std.specs.Prelude.{if◌then◌else◌, Option, Result, Ok, Err}
+use Rattle.std.specs.Prelude.{if◌then◌else◌, Result, Ok, Err}
 use Rattle.std.proofs.lemmas.Bool.{cases_lt}
 use Rattle.std.proofs.lemmas.List.{drop-append-le, drop_all}
 use Rattle.qkd_base.specs.declared.lane.Lane.{Lane}
@@ -12,6 +12,7 @@ use Rattle.run_model.specs.Script.{Script, Ends, Looks, asks, then_comes}
 use Rattle.run_model.specs.Play.{play}
 use Rattle.run_model.specs.Outcomes.{frame_items}
 use Rattle.run_model.specs.Lines.{ticked, ticks, passes}
+use Rattle.run_model.specs.Headline.{Given}
 use Rattle.run_ops.specs.Acting.{IsReady}
 use Rattle.run_lines.specs.declared.stop.Stop.{Stop}
 use Rattle.run_lines.specs.Running.{Finishes, Ran}
@@ -63,7 +64,7 @@ no_pass l i to past = let none : to - i ≡ 0 = omega arith in ap (passes l i) n
 -- ---- a look at the world
 
 module _ {S : Type 0} (Stands Rests : S → Network → World → Type 0) (Tallied : S → S → Site → List Action → Type 0) (ways : Ways Stands Rests Tallied) (nodes : List (List ℕ)) (number : ℕ) where
-  looked_whole : (net : Network) (w : World) (a b : S) (r t : Option (List ℕ)) (next : World → Script) →
+  looked_whole : (net : Network) (w : World) (a b : S) (r t : Given) (next : World → Script) →
       Finishes Stands Tallied nodes a b r t number net w (next w) → Finishes Stands Tallied nodes a b r t number net w (Looks next)
   unfolding play
   looked_whole net w a b r t next f = record {
@@ -72,19 +73,19 @@ module _ {S : Type 0} (Stands Rests : S → Network → World → Type 0) (Talli
     took = f.took;
   }
 
-  looked : {T : Type 0} (net : Network) (w : World) (a b : S) (r t : Option (List ℕ)) (next : World → Script) (result : Result T Stop) →
+  looked : {T : Type 0} (net : Network) (w : World) (a b : S) (r t : Given) (next : World → Script) (result : Result T Stop) →
       Ran Stands Rests Tallied nodes a b r t number net w (next w) result → Ran Stands Rests Tallied nodes a b r t number net w (Looks next) result
   unfolding play
   looked net w a b r t next (Ok done) f = looked_whole net w a b r t next f
   looked net w a b r t next (Err stop) s = record { actions = s.actions; is = s.is; rests = s.rests; tallied = s.tallied; told = s.told }
 
-  pub up_ticked : {T : Type 0} (net : Network) (w : World) (a b : S) (r t : Option (List ℕ)) (site : Site) (v : ℕ) (result : Result T Stop) → w.up v ≡ true →
+  pub up_ticked : {T : Type 0} (net : Network) (w : World) (a b : S) (r t : Given) (site : Site) (v : ℕ) (result : Result T Stop) → w.up v ≡ true →
       Ran Stands Rests Tallied nodes a b r t number net w (ticked site true v) result → Ran Stands Rests Tallied nodes a b r t number net w (tick_up site v) result
   up_ticked net w a b r t site v result up ran =
       looked net w a b r t (λ at. if at.up v then ticked site true v else Ends) result
       (subst (λ (u : Bool). Ran Stands Rests Tallied nodes a b r t number net w (if u then ticked site true v else Ends) result) (sym up) ran)
 
-  pub down_unticked : (net : Network) (w : World) (a : S) (r : Option (List ℕ)) (site : Site) (v : ℕ) → w.up v ≡ false → IsReady Stands a net w →
+  pub down_unticked : (net : Network) (w : World) (a : S) (r : Given) (site : Site) (v : ℕ) → w.up v ≡ false → IsReady Stands a net w →
       Finishes Stands Tallied nodes a a r r number net w (tick_up site v)
   down_unticked net w a r site v down ready =
       looked_whole net w a a r r (λ at. if at.up v then ticked site true v else Ends)

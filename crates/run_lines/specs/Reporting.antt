@@ -1,20 +1,20 @@
--- How much of a text a sink has, and why a run stopped.
+-- How much of a report a sink has, and why a run stopped.
 use Rattle.std.specs.Prelude.{◌≡◌, ℕ, ◌≤◌, List, [], ◌++◌, Option, Result, Ok, Err, IsErrOf, MatchResult}
-use Rattle.std.specs.List.{All, flat_map}
+use Rattle.std.specs.List.{All}
 use Rattle.qkd_base.specs.Faults.{Rose}
 use Rattle.edge_io.specs.Writes.{Adds}
 use Rattle.run_types.specs.declared.item.NumberedItem.{NumberedItem}
 use Rattle.run_types.specs.Texts.{line_text}
-use Rattle.run_model.specs.Headline.{Took, TookFirst}
+use Rattle.run_model.specs.Headline.{Given, joined, Gained, Took, TookFirst}
 use Rattle.run_lines.specs.declared.stop.Stop.{Stop}
 use Rattle.run_lines.specs.declared.stop.Stop.TheVariants.{WriteFault, Memory, Forged}
 
--- The sink has the whole text; or, if it failed or memory ran out, a prefix of it. Nothing else stops a report.
-abbrev pub Wrote : {T : Type 0} → Result T Stop → (old new : Option (List ℕ)) → List ℕ → Type 0
-Wrote (Ok done) old new text = Took old new text
-Wrote (Err WriteFault) old new text = TookFirst old new text
-Wrote (Err Memory) old new text = TookFirst old new text
-Wrote (Err (Forged line)) old new text = ⊥
+-- The sink has all these texts, one piece each; or, if it failed or memory ran out, the first of them. Nothing else stops a report.
+abbrev pub Wrote : {T : Type 0} → Result T Stop → (old new : Given) → List (List ℕ) → Type 0
+Wrote (Ok done) old new texts = Took old new texts
+Wrote (Err WriteFault) old new texts = TookFirst old new texts
+Wrote (Err Memory) old new texts = TookFirst old new texts
+Wrote (Err (Forged line)) old new texts = ⊥
 
 -- A sink's count of faults never falls, and it rose if the run stopped because of the sink.
 pub record IsBlamed {T : Type 0} (before now : ℕ) (result : Result T Stop) : Type 0 where
@@ -37,7 +37,7 @@ pub record TookLines {S : Type 0} (taken : S → Option (List ℕ)) (pieces : S 
   pub lines : List (List ℕ)
   pub each : All IsLine lines
   pub pieces_are : Adds (pieces old) (pieces new) lines
-  pub text : Took (taken old) (taken new) (flat_map (λ line. line) lines ++ part)
+  pub text : Gained (taken old) (taken new) (joined lines ++ part)
 
 -- The writes that the sink took are exactly the lines of its text, in order. If the report stopped, a prefix of one more line may follow.
 abbrev pub InLines : {S T E : Type 0} → (S → Option (List ℕ)) → (S → Option (List (List ℕ))) → (List ℕ → Type 0) → (old new : S) → Result T E → Type 0

@@ -5,6 +5,7 @@ ghost use Rattle.net_model.specs.Action.{Ok as Fine, TakeBlock};
 ghost use Rattle.run_types.specs.declared.end.End.TheVariants as places;
 ghost use Rattle.run_model.specs.Script.{Script};
 ghost use Rattle.run_model.specs.Lines.{node_at, is_taken, block_at_end, blocks, has_low, has_high};
+ghost use Rattle.run_model.specs.Headline.{given_to};
 ghost use Rattle.run_ops.specs.Reported.{taken};
 ghost use Rattle.run_ops.specs.Fitting.{is_fit};
 ghost use Rattle.run_lines.specs.Reporting.{InLines, IsBlamed, IsItemLine};
@@ -75,7 +76,7 @@ fn take_at<S: Acts, W: Sink>(
     requires ready { IsReadySomewhere S.stands net.old }
     ensures site { S.site net.new ≡ S.site net.old }
     ensures armed { S.armed net.new ≡ S.armed net.old }
-    ensures goes { (next : Bool → Script) → Goes S.stands S.rests S.tallied (S.site net.old).nodes net.old net.new (W.taken sink.old) (W.taken sink.new) number (block_at_end (site_of (S.site net.old)) link end goes_on next) result next }
+    ensures goes { (next : Bool → Script) → Goes S.stands S.rests S.tallied (S.site net.old).nodes net.old net.new (given_to W.taken W.pieces sink.old) (given_to W.taken W.pieces sink.new) number (block_at_end (site_of (S.site net.old)) link end goes_on next) result next }
     ensures blame { IsBlamed (W.faults sink.old) (W.faults sink.new) result }
     ensures lined { InLines W.taken W.pieces (IsItemLine (S.site net.old).nodes) sink.old sink.new result }
 {
@@ -110,7 +111,7 @@ pub fn bits<S: Acts, W: Sink>(
     requires ready { IsReadySomewhere S.stands net.old }
     ensures site { S.site net.new ≡ S.site net.old }
     ensures armed { S.armed net.new ≡ S.armed net.old }
-    ensures runs { Runs S.stands S.rests S.tallied (S.site net.old).nodes net.old net.new (W.taken sink.old) (W.taken sink.new) number (blocks (site_of (S.site net.old)) link (has_low ends) (has_high ends) count) result }
+    ensures runs { Runs S.stands S.rests S.tallied (S.site net.old).nodes net.old net.new (given_to W.taken W.pieces sink.old) (given_to W.taken W.pieces sink.new) number (blocks (site_of (S.site net.old)) link (has_low ends) (has_high ends) count) result }
     ensures blame { IsBlamed (W.faults sink.old) (W.faults sink.new) result }
     ensures lined { InLines W.taken W.pieces (IsItemLine (S.site net.old).nodes) sink.old sink.new result }
 {

@@ -7,6 +7,7 @@ ghost use Rattle.disk_model.specs.declared.arm.Arm.TheVariants as arms;
 ghost use Rattle.run_model.specs.Turn.{HttpTexts, turn_of, image_of};
 ghost use Rattle.run_model.specs.Lines.{script_of};
 ghost use Rattle.net_model.specs.Action as actions;
+ghost use Rattle.run_model.specs.Headline.{given_to};
 ghost use Rattle.run_ops.specs.Acting.{fault_of};
 ghost use Rattle.run_ops.specs.Runnable.{IsTurnFor, IsCommandFor};
 ghost use Rattle.run_lines.specs.Reporting.{InLines, IsBlamed, IsItemLine};
@@ -54,7 +55,7 @@ fn act_once<S: Acts, W: Sink>(
     requires few { S.armed net.old + armings_of command ≤ 2 ^ 32 }
     ensures site { S.site net.new ≡ S.site net.old }
     ensures armed { S.armed net.new ≤ S.armed net.old + armings_of command }
-    ensures runs { (http : HttpTexts) → Runs S.stands S.rests S.tallied (S.site net.old).nodes net.old net.new (W.taken sink.old) (W.taken sink.new) number (script_of http (site_of (S.site net.old)) command) result }
+    ensures runs { (http : HttpTexts) → Runs S.stands S.rests S.tallied (S.site net.old).nodes net.old net.new (given_to W.taken W.pieces sink.old) (given_to W.taken W.pieces sink.new) number (script_of http (site_of (S.site net.old)) command) result }
     ensures blame { IsBlamed (W.faults sink.old) (W.faults sink.new) result }
     ensures lined { InLines W.taken W.pieces (IsItemLine (S.site net.old).nodes) sink.old sink.new result }
 {
@@ -89,7 +90,7 @@ fn plain_command<S: Acts, W: Sink>(
     requires few { S.armed net.old + armings_of command ≤ 2 ^ 32 }
     ensures site { S.site net.new ≡ S.site net.old }
     ensures armed { S.armed net.new ≤ S.armed net.old + armings_of command }
-    ensures runs { (http : HttpTexts) → Runs S.stands S.rests S.tallied (S.site net.old).nodes net.old net.new (W.taken sink.old) (W.taken sink.new) number (script_of http (site_of (S.site net.old)) command) result }
+    ensures runs { (http : HttpTexts) → Runs S.stands S.rests S.tallied (S.site net.old).nodes net.old net.new (given_to W.taken W.pieces sink.old) (given_to W.taken W.pieces sink.new) number (script_of http (site_of (S.site net.old)) command) result }
     ensures blame { IsBlamed (W.faults sink.old) (W.faults sink.new) result }
     ensures lined { InLines W.taken W.pieces (IsItemLine (S.site net.old).nodes) sink.old sink.new result }
 {
@@ -132,7 +133,7 @@ pub fn command<S: Acts, H: Requests, W: Sink>(
     ensures site { S.site net.new ≡ S.site net.old }
     ensures armed { S.armed net.new ≤ S.armed net.old + armings_of command }
     ensures ready { OnOk result (IsReadySomewhere S.stands net.new) }
-    ensures runs { (http : HttpTexts) → H.speaks requests.now http → Runs S.stands S.rests S.tallied (S.site net.old).nodes net.old net.new (W.taken sink.old) (W.taken sink.new) number (script_of http (site_of (S.site net.old)) command) result }
+    ensures runs { (http : HttpTexts) → H.speaks requests.now http → Runs S.stands S.rests S.tallied (S.site net.old).nodes net.old net.new (given_to W.taken W.pieces sink.old) (given_to W.taken W.pieces sink.new) number (script_of http (site_of (S.site net.old)) command) result }
     ensures blame { IsBlamed (W.faults sink.old) (W.faults sink.new) result }
     ensures lined { InLines W.taken W.pieces (IsItemLine (S.site net.old).nodes) sink.old sink.new result }
 {

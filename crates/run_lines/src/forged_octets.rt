@@ -5,6 +5,7 @@ ghost use Rattle.net_model.specs.Action.{Ok as Fine, Forge};
 ghost use Rattle.run_types.specs.declared.item.Item.TheVariants as items;
 ghost use Rattle.run_model.specs.Script.{asks};
 ghost use Rattle.run_model.specs.Outcomes.{frame_items};
+ghost use Rattle.run_model.specs.Headline.{given_to};
 ghost use Rattle.run_ops.specs.Fitting.{is_fit};
 ghost use Rattle.run_lines.specs.Reporting.{InLines, IsBlamed, IsItemLine};
 ghost use Rattle.run_lines.specs.Running.{Runs, IsReadySomewhere};
@@ -30,7 +31,7 @@ pub fn forge<S: Acts, W: Sink>(
     requires ready { IsReadySomewhere S.stands net.old }
     ensures site { S.site net.new ≡ S.site net.old }
     ensures armed { S.armed net.new ≡ S.armed net.old }
-    ensures runs { Runs S.stands S.rests S.tallied (S.site net.old).nodes net.old net.new (W.taken sink.old) (W.taken sink.new) number (asks (Forge lane.now octets.now Fine) (frame_items (items.Forged lane.now))) result }
+    ensures runs { Runs S.stands S.rests S.tallied (S.site net.old).nodes net.old net.new (given_to W.taken W.pieces sink.old) (given_to W.taken W.pieces sink.new) number (asks (Forge lane.now octets.now Fine) (frame_items (items.Forged lane.now))) result }
     ensures blame { IsBlamed (W.faults sink.old) (W.faults sink.new) result }
     ensures lined { InLines W.taken W.pieces (IsItemLine (S.site net.old).nodes) sink.old sink.new result }
 {

@@ -2,6 +2,7 @@
 ghost use Rattle.std.specs.Prelude.{◌≡◌, ◌<◌, length, OnOk};
 ghost use Rattle.run_model.specs.Turn.{HttpTexts, http_turn};
 ghost use Rattle.run_model.specs.Lines.{script_of_turn};
+ghost use Rattle.run_model.specs.Headline.{given_to};
 ghost use Rattle.run_lines.specs.Reporting.{InLines, IsBlamed, IsItemLine};
 ghost use Rattle.run_lines.specs.Running.{Runs, IsReadySomewhere};
 
@@ -30,7 +31,7 @@ pub fn http<S: Acts, H: Requests, W: Sink>(
     ensures site { S.site net.new ≡ S.site net.old }
     ensures armed { S.armed net.new ≡ S.armed net.old }
     ensures ready { OnOk result (IsReadySomewhere S.stands net.new) }
-    ensures runs { (http : HttpTexts) → H.speaks requests.now http → Runs S.stands S.rests S.tallied (S.site net.old).nodes net.old net.new (W.taken sink.old) (W.taken sink.new) number (script_of_turn (http_turn node http.response (http.request node octets))) result }
+    ensures runs { (http : HttpTexts) → H.speaks requests.now http → Runs S.stands S.rests S.tallied (S.site net.old).nodes net.old net.new (given_to W.taken W.pieces sink.old) (given_to W.taken W.pieces sink.new) number (script_of_turn (http_turn node http.response (http.request node octets))) result }
     ensures blame { IsBlamed (W.faults sink.old) (W.faults sink.new) result }
     ensures lined { InLines W.taken W.pieces (IsItemLine (S.site net.old).nodes) sink.old sink.new result }
 {

@@ -5,6 +5,7 @@ ghost use Rattle.net_model.specs.Action.{Start as Starts, Crash as Crashes, Arm 
 ghost use Rattle.run_model.specs.Script.{asks};
 ghost use Rattle.run_model.specs.Outcomes.{crash_items, start_items, arm_items, link_items};
 ghost use Rattle.run_model.specs.Lines.{begins};
+ghost use Rattle.run_model.specs.Headline.{given_to};
 ghost use Rattle.run_ops.specs.Fitting.{is_fit};
 ghost use Rattle.run_ops.specs.Acting.{fault_of};
 ghost use Rattle.run_lines.specs.Reporting.{InLines, IsBlamed, IsItemLine};
@@ -31,7 +32,7 @@ pub fn crash<S: Acts, W: Sink>(
     requires ready { IsReadySomewhere S.stands net.old }
     ensures site { S.site net.new ≡ S.site net.old }
     ensures armed { S.armed net.new ≡ S.armed net.old }
-    ensures runs { Runs S.stands S.rests S.tallied (S.site net.old).nodes net.old net.new (W.taken sink.old) (W.taken sink.new) number (asks (Crashes node) crash_items) result }
+    ensures runs { Runs S.stands S.rests S.tallied (S.site net.old).nodes net.old net.new (given_to W.taken W.pieces sink.old) (given_to W.taken W.pieces sink.new) number (asks (Crashes node) crash_items) result }
     ensures blame { IsBlamed (W.faults sink.old) (W.faults sink.new) result }
     ensures lined { InLines W.taken W.pieces (IsItemLine (S.site net.old).nodes) sink.old sink.new result }
 {
@@ -52,7 +53,7 @@ pub fn start<S: Acts, W: Sink>(
     requires ready { IsReadySomewhere S.stands net.old }
     ensures site { S.site net.new ≡ S.site net.old }
     ensures armed { S.armed net.new ≡ S.armed net.old }
-    ensures runs { Runs S.stands S.rests S.tallied (S.site net.old).nodes net.old net.new (W.taken sink.old) (W.taken sink.new) number (asks (Starts node (Recovers Bool.false)) start_items) result }
+    ensures runs { Runs S.stands S.rests S.tallied (S.site net.old).nodes net.old net.new (given_to W.taken W.pieces sink.old) (given_to W.taken W.pieces sink.new) number (asks (Starts node (Recovers Bool.false)) start_items) result }
     ensures blame { IsBlamed (W.faults sink.old) (W.faults sink.new) result }
     ensures lined { InLines W.taken W.pieces (IsItemLine (S.site net.old).nodes) sink.old sink.new result }
 {
@@ -76,7 +77,7 @@ pub fn begin<S: Acts, W: Sink>(
     requires ready { IsReadySomewhere S.stands net.old }
     ensures site { S.site net.new ≡ S.site net.old }
     ensures armed { S.armed net.new ≡ S.armed net.old }
-    ensures runs { Runs S.stands S.rests S.tallied (S.site net.old).nodes net.old net.new (W.taken sink.old) (W.taken sink.new) number (begins node) result }
+    ensures runs { Runs S.stands S.rests S.tallied (S.site net.old).nodes net.old net.new (given_to W.taken W.pieces sink.old) (given_to W.taken W.pieces sink.new) number (begins node) result }
     ensures blame { IsBlamed (W.faults sink.old) (W.faults sink.new) result }
     ensures lined { InLines W.taken W.pieces (IsItemLine (S.site net.old).nodes) sink.old sink.new result }
 {
@@ -110,7 +111,7 @@ pub fn arm<S: Acts, W: Sink>(
     requires few { S.armed net.old < 2 ^ 32 }
     ensures site { S.site net.new ≡ S.site net.old }
     ensures armed { S.armed net.new ≤ S.armed net.old + 1 }
-    ensures runs { Runs S.stands S.rests S.tallied (S.site net.old).nodes net.old net.new (W.taken sink.old) (W.taken sink.new) number (asks (Arms node (fault_of arm)) arm_items) result }
+    ensures runs { Runs S.stands S.rests S.tallied (S.site net.old).nodes net.old net.new (given_to W.taken W.pieces sink.old) (given_to W.taken W.pieces sink.new) number (asks (Arms node (fault_of arm)) arm_items) result }
     ensures blame { IsBlamed (W.faults sink.old) (W.faults sink.new) result }
     ensures lined { InLines W.taken W.pieces (IsItemLine (S.site net.old).nodes) sink.old sink.new result }
 {
@@ -131,7 +132,7 @@ pub fn set_link<S: Acts, W: Sink>(
     requires ready { IsReadySomewhere S.stands net.old }
     ensures site { S.site net.new ≡ S.site net.old }
     ensures armed { S.armed net.new ≡ S.armed net.old }
-    ensures runs { Runs S.stands S.rests S.tallied (S.site net.old).nodes net.old net.new (W.taken sink.old) (W.taken sink.new) number (asks (SetLink link up) (link_items link up)) result }
+    ensures runs { Runs S.stands S.rests S.tallied (S.site net.old).nodes net.old net.new (given_to W.taken W.pieces sink.old) (given_to W.taken W.pieces sink.new) number (asks (SetLink link up) (link_items link up)) result }
     ensures blame { IsBlamed (W.faults sink.old) (W.faults sink.new) result }
     ensures lined { InLines W.taken W.pieces (IsItemLine (S.site net.old).nodes) sink.old sink.new result }
 {

@@ -8,6 +8,7 @@ ghost use Rattle.net_model.specs.Action.{Ok as Fine, Ask};
 ghost use Rattle.run_model.specs.Script.{Asks, Looks, asks, reports};
 ghost use Rattle.run_model.specs.Outcomes.{ledger_items};
 ghost use Rattle.run_model.specs.Lines.{ticked};
+ghost use Rattle.run_model.specs.Headline.{given_to};
 ghost use Rattle.run_ops.specs.Reported.{reported};
 ghost use Rattle.run_ops.specs.Fitting.{is_fit};
 ghost use Rattle.run_lines.specs.Reporting.{InLines, IsBlamed, IsItemLine};
@@ -35,7 +36,7 @@ pub fn ask<S: Acts, W: Sink>(
     requires ready { IsReadySomewhere S.stands net.old }
     ensures site { S.site net.new ≡ S.site net.old }
     ensures armed { S.armed net.new ≡ S.armed net.old }
-    ensures runs { Runs S.stands S.rests S.tallied (S.site net.old).nodes net.old net.new (W.taken sink.old) (W.taken sink.new) number (asks (Ask asked.node asked.event Fine) (reported asked.reporting)) result }
+    ensures runs { Runs S.stands S.rests S.tallied (S.site net.old).nodes net.old net.new (given_to W.taken W.pieces sink.old) (given_to W.taken W.pieces sink.new) number (asks (Ask asked.node asked.event Fine) (reported asked.reporting)) result }
     ensures blame { IsBlamed (W.faults sink.old) (W.faults sink.new) result }
     ensures lined { InLines W.taken W.pieces (IsItemLine (S.site net.old).nodes) sink.old sink.new result }
 {
@@ -64,7 +65,7 @@ pub fn ledger<S: Acts, W: Sink>(
     requires ready { IsReadySomewhere S.stands net.old }
     ensures site { S.site net.new ≡ S.site net.old }
     ensures armed { S.armed net.new ≡ S.armed net.old }
-    ensures runs { Runs S.stands S.rests S.tallied (S.site net.old).nodes net.old net.new (W.taken sink.old) (W.taken sink.new) number (Asks (Ask (sender (site_of (S.site net.old)) lane.now) (events.Ledger lane.now) Fine) (λ out. Looks (λ w. reports (ledger_items lane.now w out)))) result }
+    ensures runs { Runs S.stands S.rests S.tallied (S.site net.old).nodes net.old net.new (given_to W.taken W.pieces sink.old) (given_to W.taken W.pieces sink.new) number (Asks (Ask (sender (site_of (S.site net.old)) lane.now) (events.Ledger lane.now) Fine) (λ out. Looks (λ w. reports (ledger_items lane.now w out)))) result }
     ensures blame { IsBlamed (W.faults sink.old) (W.faults sink.new) result }
     ensures lined { InLines W.taken W.pieces (IsItemLine (S.site net.old).nodes) sink.old sink.new result }
 {
@@ -90,7 +91,7 @@ pub fn tick<S: Acts, W: Sink>(
     requires ready { IsReadySomewhere S.stands net.old }
     ensures site { S.site net.new ≡ S.site net.old }
     ensures armed { S.armed net.new ≡ S.armed net.old }
-    ensures runs { Runs S.stands S.rests S.tallied (S.site net.old).nodes net.old net.new (W.taken sink.old) (W.taken sink.new) number (ticked (site_of (S.site net.old)) quiet node) result }
+    ensures runs { Runs S.stands S.rests S.tallied (S.site net.old).nodes net.old net.new (given_to W.taken W.pieces sink.old) (given_to W.taken W.pieces sink.new) number (ticked (site_of (S.site net.old)) quiet node) result }
     ensures blame { IsBlamed (W.faults sink.old) (W.faults sink.new) result }
     ensures lined { InLines W.taken W.pieces (IsItemLine (S.site net.old).nodes) sink.old sink.new result }
 {

@@ -1,9 +1,8 @@
 // Report items written to a sink.
-ghost use Rattle.std.specs.Prelude.{◌≡◌, ◌∷◌, [], OnOk, map};
+ghost use Rattle.std.specs.Prelude.{◌∷◌, []};
 ghost use Rattle.std.specs.Option.{option_to_list};
-ghost use Rattle.edge_io.specs.Writes.{Adds};
-ghost use Rattle.run_types.specs.Texts.{line_text, report_text};
 ghost use Rattle.run_model.specs.Play.{numbered};
+ghost use Rattle.run_model.specs.Headline.{given_to, report_pieces};
 ghost use Rattle.run_lines.specs.Reporting.{InLines, IsBlamed, IsItemLine, Wrote};
 
 use crate::Stop;
@@ -22,8 +21,7 @@ pub fn write_item<W: Sink>(
     item: &Item,
     sink: &mut W,
 ) -> Result<(), Stop>
-    ensures wrote { Wrote result (W.taken sink.old) (W.taken sink.new) (report_text site.now.nodes (numbered number (item.now ∷ []))) }
-    ensures piece { OnOk result (Adds (W.pieces sink.old) (W.pieces sink.new) (line_text site.now.nodes (record { number = number; item = item.now }) ∷ [])) }
+    ensures wrote { Wrote result (given_to W.taken W.pieces sink.old) (given_to W.taken W.pieces sink.new) (report_pieces site.now.nodes (numbered number (item.now ∷ []))) }
     ensures blame { IsBlamed (W.faults sink.old) (W.faults sink.new) result }
     ensures lined { InLines W.taken W.pieces (IsItemLine site.now.nodes) sink.old sink.new result }
 {
@@ -48,7 +46,7 @@ pub fn write_some<W: Sink>(
     item: Option<Item>,
     sink: &mut W,
 ) -> Result<(), Stop>
-    ensures wrote { Wrote result (W.taken sink.old) (W.taken sink.new) (report_text site.now.nodes (numbered number (option_to_list item))) }
+    ensures wrote { Wrote result (given_to W.taken W.pieces sink.old) (given_to W.taken W.pieces sink.new) (report_pieces site.now.nodes (numbered number (option_to_list item))) }
     ensures blame { IsBlamed (W.faults sink.old) (W.faults sink.new) result }
     ensures lined { InLines W.taken W.pieces (IsItemLine site.now.nodes) sink.old sink.new result }
 {
@@ -58,7 +56,8 @@ pub fn write_some<W: Sink>(
     }
 }
 
-/// Writes the texts of items, one write for each. After an `Err`, the sink has only a prefix of the text.
+/// Writes the texts of items, one write for each. After an `Err`, the sink has only the first of them, and perhaps a part
+/// of one more.
 pub fn write_items<W: Sink>(
     alloc: Global,
     site: &Site,
@@ -66,8 +65,7 @@ pub fn write_items<W: Sink>(
     items: &[Item],
     sink: &mut W,
 ) -> Result<(), Stop>
-    ensures wrote { Wrote result (W.taken sink.old) (W.taken sink.new) (report_text site.now.nodes (numbered number items.now)) }
-    ensures pieces { OnOk result (Adds (W.pieces sink.old) (W.pieces sink.new) (map (line_text site.now.nodes) (numbered number items.now))) }
+    ensures wrote { Wrote result (given_to W.taken W.pieces sink.old) (given_to W.taken W.pieces sink.new) (report_pieces site.now.nodes (numbered number items.now)) }
     ensures blame { IsBlamed (W.faults sink.old) (W.faults sink.new) result }
     ensures lined { InLines W.taken W.pieces (IsItemLine site.now.nodes) sink.old sink.new result }
 {

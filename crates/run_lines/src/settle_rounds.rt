@@ -4,6 +4,7 @@ ghost use Rattle.declared_site.specs.SiteOf.{IsDeclared, site_of};
 ghost use Rattle.net_model.specs.World.{Network, World};
 ghost use Rattle.run_model.specs.Script.{Script, Ends};
 ghost use Rattle.run_model.specs.Lines.{all_lanes, all_passes, settle};
+ghost use Rattle.run_model.specs.Headline.{given_to};
 ghost use Rattle.run_ops.specs.Acting.{IsReady};
 ghost use Rattle.run_lines.specs.Reporting.{InLines, IsBlamed, IsItemLine};
 ghost use Rattle.run_lines.specs.Going.{Reached};
@@ -67,8 +68,8 @@ fn pass_new<S: Acts, W: Sink>(
     ensures armed { S.armed net.new ≡ S.armed net.old }
     ensures runs { (n : Network) (earlier w : World) → IsReady S.stands net.old n w → before.now ≡ map (on_wire earlier) lanes.now →
         MatchResult result
-        (λ frames. Finishes S.stands S.tallied (S.site net.old).nodes net.old net.new (W.taken sink.old) (W.taken sink.new) number n w (all_passes earlier w lanes.now) × AreOn lanes.now w frames)
-        (λ stop. Stops S.rests S.tallied (S.site net.old).nodes net.old net.new (W.taken sink.old) (W.taken sink.new) number n w (all_passes earlier w lanes.now) stop) }
+        (λ frames. Finishes S.stands S.tallied (S.site net.old).nodes net.old net.new (given_to W.taken W.pieces sink.old) (given_to W.taken W.pieces sink.new) number n w (all_passes earlier w lanes.now) × AreOn lanes.now w frames)
+        (λ stop. Stops S.rests S.tallied (S.site net.old).nodes net.old net.new (given_to W.taken W.pieces sink.old) (given_to W.taken W.pieces sink.new) number n w (all_passes earlier w lanes.now) stop) }
     ensures blame { IsBlamed (W.faults sink.old) (W.faults sink.new) result }
     ensures lined { InLines W.taken W.pieces (IsItemLine (S.site net.old).nodes) sink.old sink.new result }
 {
@@ -106,8 +107,8 @@ fn round<S: Acts, W: Sink>(
     ensures armed { S.armed net.new ≡ S.armed net.old }
     ensures runs { (next : Script) (n : Network) (w : World) → IsReady S.stands net.old n w → AreOn lanes.now w before.now →
         MatchResult result
-        (λ now. (after : World) × Reached S.stands S.tallied (S.site net.old).nodes net.old net.new (W.taken sink.old) (W.taken sink.new) number n w (round (site_of (S.site net.old)) next) after (if nat_lt before.now.all now.all then next else Ends) × AreOn lanes.now after now)
-        (λ stop. Stops S.rests S.tallied (S.site net.old).nodes net.old net.new (W.taken sink.old) (W.taken sink.new) number n w (round (site_of (S.site net.old)) next) stop) }
+        (λ now. (after : World) × Reached S.stands S.tallied (S.site net.old).nodes net.old net.new (given_to W.taken W.pieces sink.old) (given_to W.taken W.pieces sink.new) number n w (round (site_of (S.site net.old)) next) after (if nat_lt before.now.all now.all then next else Ends) × AreOn lanes.now after now)
+        (λ stop. Stops S.rests S.tallied (S.site net.old).nodes net.old net.new (given_to W.taken W.pieces sink.old) (given_to W.taken W.pieces sink.new) number n w (round (site_of (S.site net.old)) next) stop) }
     ensures blame { IsBlamed (W.faults sink.old) (W.faults sink.new) result }
     ensures lined { InLines W.taken W.pieces (IsItemLine (S.site net.old).nodes) sink.old sink.new result }
 {
@@ -129,7 +130,7 @@ pub fn settle<S: Acts, W: Sink>(
     requires ready { IsReadySomewhere S.stands net.old }
     ensures site { S.site net.new ≡ S.site net.old }
     ensures armed { S.armed net.new ≡ S.armed net.old }
-    ensures runs { Runs S.stands S.rests S.tallied (S.site net.old).nodes net.old net.new (W.taken sink.old) (W.taken sink.new) number (settle (site_of (S.site net.old)) rounds) result }
+    ensures runs { Runs S.stands S.rests S.tallied (S.site net.old).nodes net.old net.new (given_to W.taken W.pieces sink.old) (given_to W.taken W.pieces sink.new) number (settle (site_of (S.site net.old)) rounds) result }
     ensures blame { IsBlamed (W.faults sink.old) (W.faults sink.new) result }
     ensures lined { InLines W.taken W.pieces (IsItemLine (S.site net.old).nodes) sink.old sink.new result }
 {

@@ -1,6 +1,6 @@
 -- The lines of a load, and which of their reports its sink takes.
 use Rattle.std.proofs.Common.{◌≡◌, ◌∙◌, ℕ, Bool, true, false, List, [], ◌∷◌, refl, sym, ap, subst}
-use Rattle.std.specs.Prelude.{if◌then◌else◌, Option, Result, Ok, Err, OnOk}
+use Rattle.std.specs.Prelude.{if◌then◌else◌, Result, Ok, Err, OnOk}
 use Rattle.std.specs.List.{list_all}
 use Rattle.std.proofs.lemmas.List.{append-nil}
 use Rattle.qkd_base.specs.declared.lane.Lane.{Lane}
@@ -13,15 +13,14 @@ use Rattle.run_types.specs.declared.command.Command.{Command}
 use Rattle.run_types.specs.declared.command.Command.TheVariants as commands
 use Rattle.run_types.specs.declared.item.Item.{Item}
 use Rattle.run_types.specs.declared.item.NumberedItem.{NumberedItem}
-use Rattle.run_types.specs.Texts.{report_text}
 use Rattle.run_model.specs.Turn.{HttpTexts}
 use Rattle.run_model.specs.Script.{Script, Reports, Ends, asks}
 use Rattle.run_model.specs.Lines.{script_of, begins}
 use Rattle.run_model.specs.Play.{Whole, ForgedAt, Played, numbered, stopped_at, is_forged, play, IsPlay, OneOf}
-use Rattle.run_model.specs.Headline.{Took}
+use Rattle.run_model.specs.Headline.{Took, Given, report_pieces}
 use Rattle.run_ops.specs.Acting.{Does, Plays}
 use Rattle.run_lines.specs.declared.stop.Stop.{Stop}
-use Rattle.run_lines.specs.Running.{StopsAs, IsReadySomewhere}
+use Rattle.run_lines.specs.Running.{IsReadySomewhere}
 use Rattle.run_lines.specs.Running as reports
 use Rattle.law_run.specs.Handed.{asks_no_key, enc_in, dec_in}
 use Rattle.law_run.specs.Ledgers.{ledgers_of}
@@ -63,7 +62,7 @@ module _ {S : Type 0} (Stands Rests : S → Network → World → Type 0) (Talli
 
   -- ---- a silent script: the sink takes nothing
 
-  pub silent_finishes : (r x y : Option (List ℕ)) (script : Script) → IsSilent net w script → reports.Finishes Stands Tallied nodes a b x y number net w script →
+  pub silent_finishes : (r x y : Given) (script : Script) → IsSilent net w script → reports.Finishes Stands Tallied nodes a b x y number net w script →
       Finishes Stands Tallied nodes a b r r number net w script no_keys
   silent_finishes r x y script silent f = record {
     items = f.items;
@@ -72,7 +71,7 @@ module _ {S : Type 0} (Stands Rests : S → Network → World → Type 0) (Talli
     keys = none_handed net w f.plays.actions (silent.keys f.plays.actions f.plays.is);
   }
 
-  pub silent_stops : (r x y : Option (List ℕ)) (script : Script) (stop : Stop) → IsSilent net w script → reports.Stops Rests Tallied nodes a b x y number net w script stop →
+  pub silent_stops : (r x y : Given) (script : Script) (stop : Stop) → IsSilent net w script → reports.Stops Rests Tallied nodes a b x y number net w script stop →
       Stops Rests Tallied nodes a b r r number net w script stop
   silent_stops r x y script stop silent s = record {
     actions = s.actions;
@@ -84,7 +83,7 @@ module _ {S : Type 0} (Stands Rests : S → Network → World → Type 0) (Talli
 
   -- ---- a ledger: the sink takes it
 
-  pub ledger_finishes : (r t : Option (List ℕ)) (http : HttpTexts) (site : Site) (lane : Lane) → reports.Finishes Stands Tallied nodes a b r t number net w (script_of http site (commands.Ledger lane)) →
+  pub ledger_finishes : (r t : Given) (http : HttpTexts) (site : Site) (lane : Lane) → reports.Finishes Stands Tallied nodes a b r t number net w (script_of http site (commands.Ledger lane)) →
       Finishes Stands Tallied nodes a b r t number net w (script_of http site (commands.Ledger lane)) no_keys
   ledger_finishes r t http site lane f =
       let same = items_are (script_of http site (commands.Ledger lane)) f.items f.plays in
@@ -92,11 +91,11 @@ module _ {S : Type 0} (Stands Rests : S → Network → World → Type 0) (Talli
       record {
         items = f.items;
         plays = f.plays;
-        took = subst (λ (xs : List NumberedItem). Took r t (report_text nodes xs)) (sym all) f.took;
+        took = subst (λ (xs : List NumberedItem). Took r t (report_pieces nodes xs)) (sym all) f.took;
         keys = none_handed net w f.plays.actions (line_unasking http net w site (commands.Ledger lane) f.plays.actions refl f.plays.is);
       }
 
-  pub ledger_stops : (r t : Option (List ℕ)) (http : HttpTexts) (site : Site) (lane : Lane) (stop : Stop) →
+  pub ledger_stops : (r t : Given) (http : HttpTexts) (site : Site) (lane : Lane) (stop : Stop) →
       reports.Stops Rests Tallied nodes a b r t number net w (script_of http site (commands.Ledger lane)) stop →
       Stops Rests Tallied nodes a b r t number net w (script_of http site (commands.Ledger lane)) stop
   ledger_stops r t http site lane stop s = record {
@@ -129,7 +128,7 @@ module _ {S : Type 0} (Stands Rests : S → Network → World → Type 0) (Talli
         refl,
       )
 
-  pub asked_finishes : (r : Option (List ℕ)) (http : HttpTexts) (site : Site) (command : Command) (action : Action) (reply : Reply) (items : Outcome → List Item) (handed : Handed) →
+  pub asked_finishes : (r : Given) (http : HttpTexts) (site : Site) (command : Command) (action : Action) (reply : Reply) (items : Outcome → List Item) (handed : Handed) →
       is_ledger_line command ≡ false → script_of http site command ≡ asks action items → Does Stands Tallied a b net w action (Replies reply) →
       handed.masters ≡ enc_in action (Replies reply) → handed.slaves ≡ dec_in action (Replies reply) →
       Finishes Stands Tallied nodes a b r r number net w (script_of http site command) handed
@@ -151,7 +150,7 @@ module _ {S : Type 0} (Stands Rests : S → Network → World → Type 0) (Talli
 
 -- A script that was done whole leaves the network ready.
 pub ready_after : {S : Type 0} (Stands Rests : S → Network → World → Type 0) (Tallied : S → S → Site → List Action → Type 0) (nodes : List (List ℕ)) (old new : S)
-    (before taken : Option (List ℕ)) (number : ℕ) (script : Script) (result : Result Handed Stop) → Runs Stands Rests Tallied nodes old new before taken number script result →
+    (before taken : Given) (number : ℕ) (script : Script) (result : Result Handed Stop) → Runs Stands Rests Tallied nodes old new before taken number script result →
     IsReadySomewhere Stands old → OnOk result (IsReadySomewhere Stands new)
 ready_after Stands Rests Tallied nodes old new before taken number script (Ok handed) runs ready = let f = runs ready.0 ready.1 ready.2 in (ready.0, f.plays.after, f.plays.ready)
 ready_after Stands Rests Tallied nodes old new before taken number script (Err stop) runs ready = tt

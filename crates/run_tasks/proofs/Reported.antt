@@ -1,5 +1,5 @@
 -- The headline of a load and what its sink took.
-use Rattle.std.proofs.Common.{◌≡◌, ◌∙◌, ℕ, List, ◌++◌, Option, sym, ap, subst, append-nil}
+use Rattle.std.proofs.Common.{◌≡◌, ◌∙◌, ℕ, List, [], ◌∷◌, ◌++◌, sym, ap, subst, append-nil}
 use Rattle.std.specs.List.{flat_map}
 use Rattle.net_model.specs.Action.{Action}
 use Rattle.net_model.specs.Step.{run}
@@ -10,10 +10,10 @@ use Rattle.run_model.specs.Play.{Ending, Whole}
 use Rattle.run_model.specs.Turn.{HttpTexts}
 use Rattle.run_model.specs.Left.{to_masters, to_slaves}
 use Rattle.run_model.specs.Course.{Load, Course, lines_run, whole_run, last_world, handed_out, lines_played}
-use Rattle.run_model.specs.Headline.{Done, ForgedMatch, ListenFault, WriteFault, Memory, TookFirst, Took, after_all, last_text, text_so_far, IsReported}
+use Rattle.run_model.specs.Headline.{Given, Done, ForgedMatch, ListenFault, WriteFault, Memory, Took, TookFirst, last_pieces, after_all, pieces_so_far, IsReported}
 use Rattle.run_model.specs.Headline as headline
 use Rattle.law_run.specs.Handed.{enc_keys, dec_keys}
-use Rattle.run_tasks.specs.Told.{ledger_text, load_text, IsLoadTold, IsLoadOver}
+use Rattle.run_tasks.specs.Told.{ledger_pieces, load_pieces, IsLoadTold, IsLoadOver}
 
 module _ (http : HttpTexts) (scenario : Scenario) (rounds : ℕ) (c : Course) (over : IsLoadOver http scenario rounds c)
     (masters : to_masters (run c.net c.begin (lines_run c)) (deliveries c.net c.begin (lines_run c)) ≡ enc_keys c.net c.begin (lines_run c))
@@ -24,8 +24,8 @@ module _ (http : HttpTexts) (scenario : Scenario) (rounds : ℕ) (c : Course) (o
   abbrev decs : ℕ
   decs = dec_keys c.net c.begin (lines_run c)
 
-  abbrev ledgers : List ℕ
-  ledgers = ledger_text scenario.site.nodes (lines_played http scenario c)
+  abbrev ledgers : List (List ℕ)
+  ledgers = ledger_pieces scenario.site.nodes (lines_played http scenario c)
 
   -- The whole run is the run of the lines.
   whole_is : whole_run c ≡ lines_run c
@@ -37,19 +37,19 @@ module _ (http : HttpTexts) (scenario : Scenario) (rounds : ℕ) (c : Course) (o
   to_slaves_are : to_slaves (last_world c) (handed_out c) ≡ decs
   to_slaves_are = ap (λ (xs : List Action). to_slaves (run c.net c.begin xs) (deliveries c.net c.begin xs)) whole_is ∙ slaves
 
-  last_is : last_text (Load rounds) scenario c ≡ handed_text encs decs
-  last_is = ap (λ (n : ℕ). handed_text n (to_slaves (last_world c) (handed_out c))) to_masters_are ∙ ap (handed_text encs) to_slaves_are
+  last_is : last_pieces (Load rounds) scenario c ≡ handed_text encs decs ∷ []
+  last_is = ap (λ (n : ℕ). handed_text n (to_slaves (last_world c) (handed_out c)) ∷ []) to_masters_are ∙ ap (λ (n : ℕ). handed_text encs n ∷ []) to_slaves_are
 
-  text_is : text_so_far (Load rounds) http scenario c ≡ load_text scenario.site.nodes (lines_played http scenario c) encs decs
-  text_is = ap (λ (text : List ℕ). ledgers ++ after_all (lines_played http scenario c).ending text) last_is
+  pieces_are : pieces_so_far (Load rounds) http scenario c ≡ load_pieces scenario.site.nodes (lines_played http scenario c) encs decs
+  pieces_are = ap (λ (texts : List (List ℕ)). ledgers ++ after_all (lines_played http scenario c).ending texts) last_is
 
-  whole_text : (lines_played http scenario c).ending ≡ Whole → ledgers ++ handed_text encs decs ≡ text_so_far (Load rounds) http scenario c
-  whole_text whole = ap (λ (e : Ending). ledgers ++ after_all e (handed_text encs decs)) (sym whole) ∙ sym text_is
+  whole_pieces : (lines_played http scenario c).ending ≡ Whole → ledgers ++ handed_text encs decs ∷ [] ≡ pieces_so_far (Load rounds) http scenario c
+  whole_pieces whole = ap (λ (e : Ending). ledgers ++ after_all e (handed_text encs decs ∷ [])) (sym whole) ∙ sym pieces_are
 
-  pub is_reported : (stop : headline.Stop) (old new : Option (List ℕ)) → IsLoadTold stop scenario.site.nodes (lines_played http scenario c) encs decs old new →
+  pub is_reported : (stop : headline.Stop) (old new : Given) → IsLoadTold stop scenario.site.nodes (lines_played http scenario c) encs decs old new →
       IsReported (Load rounds) stop http scenario c old new
-  is_reported Done old new told = (told.0, subst (Took old new) (whole_text told.0) told.1)
+  is_reported Done old new told = (told.0, subst (Took old new) (whole_pieces told.0) told.1)
   is_reported (ForgedMatch line) old new told = told
   is_reported ListenFault old new told = absurd told
-  is_reported WriteFault old new told = subst (TookFirst old new) (sym text_is) told
-  is_reported Memory old new told = subst (TookFirst old new) (sym text_is) told
+  is_reported WriteFault old new told = subst (TookFirst old new) (sym pieces_are) told
+  is_reported Memory old new told = subst (TookFirst old new) (sym pieces_are) told

@@ -1,6 +1,6 @@
 -- Tasks that are done in order.
 use Rattle.std.proofs.Common.{◌≡◌, ℕ, ◌+◌, ◌<◌, ◌≤◌, Bool, true, false, List, [], ◌∷◌, ◌++◌, length, get_or, drop, refl, sym, ap, subst, ◌∙◌, add-one, arith}
-use Rattle.std.specs.Prelude.{if◌then◌else◌, count_by, Option, Result, Ok, Err}
+use Rattle.std.specs.Prelude.{if◌then◌else◌, count_by, Result, Ok, Err}
 use Rattle.std.proofs.Math.Seq.{drop-cons}
 use Rattle.std.proofs.lemmas.List.{append_assoc, append-nil, drop_all}
 use Rattle.std.proofs.lemmas.List.Concat.{flat_map-append}
@@ -9,7 +9,6 @@ use Rattle.net_model.specs.Site.{Site}
 use Rattle.net_model.specs.World.{Network, World}
 use Rattle.net_model.specs.Action.{Action}
 use Rattle.run_types.specs.declared.item.NumberedItem.{NumberedItem}
-use Rattle.run_types.specs.Texts.{report_text}
 use Rattle.run_types.specs.declared.line.Line.{Line}
 use Rattle.run_types.specs.declared.entry.Entry.{Entry}
 use Rattle.run_types.specs.declared.entry.Entry.TheVariants as entries
@@ -18,7 +17,7 @@ use Rattle.run_model.specs.Turn.{HttpTexts}
 use Rattle.run_model.specs.Lines.{script_of, begins}
 use Rattle.run_model.specs.Play.{Ending, Whole, CutShort, ForgedAt, NoMemory, Played, numbered, reporting, stopped_at, play, OneOf, IsPlay}
 use Rattle.run_model.specs.Report.{Task, Begins, Does, Performed, Acts, starts_from, perform, IsPerformed, is_whole, with_rest, report, IsRunOf, actions_for, actions_of}
-use Rattle.run_model.specs.Headline.{Took, TookFirst}
+use Rattle.run_model.specs.Headline.{Took, TookFirst, Given, report_pieces}
 use Rattle.run_ops.proofs.Plays.{reported}
 use Rattle.run_ops.specs.Acting.{IsReady}
 use Rattle.run_ops.specs.Runnable.{arms_a_disk}
@@ -26,7 +25,7 @@ use Rattle.run_lines.specs.declared.stop.Stop.{Stop}
 use Rattle.run_lines.specs.declared.stop.Stop.TheVariants.{WriteFault, Memory, Forged}
 use Rattle.run_lines.specs.Running.{StopsAs, Finishes, Stops, Ran}
 use Rattle.run_tasks.specs.Tasks.{RanTasks}
-use Rattle.run_lines.proofs.Taking.{took_none, took_on, text_on, text_none}
+use Rattle.run_lines.proofs.Taking.{took_none, took_on, pieces_on, pieces_none}
 use Rattle.run_tasks.proofs.Cuts.{taken_of, cut_first, cut_none, cut_on, cut_as, front_runs}
 use Rattle.run_lines.proofs.Going.{Ways, stops_as}
 
@@ -35,14 +34,14 @@ pub record LeadsOn (http : HttpTexts) (net : Network) (workers : ℕ) (w : World
   pub is : (more : List Performed) → IsRunOf http net workers after rest more → IsRunOf http net workers w tasks (done ++ more)
   pub said : (more : List Performed) → report http net w tasks (done ++ more) ≡ reporting items (report http net after rest more)
 
-pub record DidSo {S : Type 0} (Stands : S → Network → World → Type 0) (Tallied : S → S → Site → List Action → Type 0) (nodes : List (List ℕ)) (old now : S) (before taken : Option (List ℕ))
+pub record DidSo {S : Type 0} (Stands : S → Network → World → Type 0) (Tallied : S → S → Site → List Action → Type 0) (nodes : List (List ℕ)) (old now : S) (before taken : Given)
     (http : HttpTexts) (net : Network) (workers : ℕ) (w : World) (tasks : List Task) (after : World) (rest : List Task) : Type 0 where
   pub done : List Performed
   pub items : List NumberedItem
   pub leads : LeadsOn http net workers w tasks done items after rest
   pub ready : IsReady Stands now net after
   pub tallied : Tallied old now net.site (actions_of net done)
-  pub took : Took before taken (report_text nodes items)
+  pub took : Took before taken (report_pieces nodes items)
 
 -- The task plays this script, and reports under this number.
 pub record IsTask (http : HttpTexts) (net : Network) (workers : ℕ) (w : World) (task : Task) (number : ℕ) (script : Script) : Type 0 where
@@ -205,9 +204,9 @@ cut_items CutShort p q none = refl
 cut_items (ForgedAt number) p q none = refl
 cut_items NoMemory p q none = refl
 
-cut_told : (nodes : List (List ℕ)) (e : Ending) (p q : Played) (stop : Stop) (a b : Option (List ℕ)) → p.ending ≡ e → q.items ≡ [] → StopsAs stop nodes p a b → StopsAs stop nodes (with_rest e p q) a b
-cut_told nodes e p q WriteFault a b is none told = subst (λ (xs : List NumberedItem). TookFirst a b (report_text nodes xs)) (sym (cut_items e p q none)) told
-cut_told nodes e p q Memory a b is none told = subst (λ (xs : List NumberedItem). TookFirst a b (report_text nodes xs)) (sym (cut_items e p q none)) told
+cut_told : (nodes : List (List ℕ)) (e : Ending) (p q : Played) (stop : Stop) (a b : Given) → p.ending ≡ e → q.items ≡ [] → StopsAs stop nodes p a b → StopsAs stop nodes (with_rest e p q) a b
+cut_told nodes e p q WriteFault a b is none told = subst (λ (xs : List NumberedItem). TookFirst a b (report_pieces nodes xs)) (sym (cut_items e p q none)) told
+cut_told nodes e p q Memory a b is none told = subst (λ (xs : List NumberedItem). TookFirst a b (report_pieces nodes xs)) (sym (cut_items e p q none)) told
 cut_told nodes Whole p q (Forged line) a b is none told = absurd (let wrong : Whole ≡ ForgedAt line = sym is ∙ told.0 in cc)
 cut_told nodes CutShort p q (Forged line) a b is none told = told
 cut_told nodes (ForgedAt number) p q (Forged line) a b is none told = told
@@ -222,17 +221,17 @@ either false A B a c = c
 
 module _ {S : Type 0} (Stands Rests : S → Network → World → Type 0) (Tallied : S → S → Site → List Action → Type 0) (ways : Ways Stands Rests Tallied) (nodes : List (List ℕ)) (http : HttpTexts)
     (net : Network) (workers : ℕ) where
-  pub did_none : (a : S) (r : Option (List ℕ)) (w : World) (tasks : List Task) → IsReady Stands a net w → DidSo Stands Tallied nodes a a r r http net workers w tasks w tasks
+  pub did_none : (a : S) (r : Given) (w : World) (tasks : List Task) → IsReady Stands a net w → DidSo Stands Tallied nodes a a r r http net workers w tasks w tasks
   did_none a r w tasks ready = record {
     done = [];
     items = [];
     leads = leads_none http net workers w tasks;
     ready = ready;
     tallied = subst (Tallied a a net.site) (sym (acts_none net)) (ways.none a net w ready.stands);
-    took = subst (Took r r) (sym (text_none nodes)) (took_none r);
+    took = subst (Took r r) (sym (pieces_none nodes)) (took_none r);
   }
 
-  pub did_on : (a b c : S) (r t u : Option (List ℕ)) (w m after : World) (tasks mid rest : List Task) → DidSo Stands Tallied nodes a b r t http net workers w tasks m mid →
+  pub did_on : (a b c : S) (r t u : Given) (w m after : World) (tasks mid rest : List Task) → DidSo Stands Tallied nodes a b r t http net workers w tasks m mid →
       DidSo Stands Tallied nodes b c t u http net workers m mid after rest → DidSo Stands Tallied nodes a c r u http net workers w tasks after rest
   did_on a b c r t u w m after tasks mid rest p q = record {
     done = p.done ++ q.done;
@@ -240,10 +239,10 @@ module _ {S : Type 0} (Stands Rests : S → Network → World → Type 0) (Talli
     leads = leads_on http net workers w m after tasks mid rest p.done q.done p.items q.items p.leads q.leads;
     ready = q.ready;
     tallied = subst (Tallied a c net.site) (sym (acts_on net p.done q.done)) (ways.more a b c net.site (actions_of net p.done) (actions_of net q.done) p.tallied q.tallied);
-    took = subst (Took r u) (sym (text_on nodes p.items q.items)) (took_on r t u _ _ p.took q.took);
+    took = subst (Took r u) (sym (pieces_on nodes p.items q.items)) (took_on r t u _ _ p.took q.took);
   }
 
-  pub did_one : (a b : S) (r t : Option (List ℕ)) (w : World) (task : Task) (tasks : List Task) (number : ℕ) (script : Script) → IsTask http net workers w task number script →
+  pub did_one : (a b : S) (r t : Given) (w : World) (task : Task) (tasks : List Task) (number : ℕ) (script : Script) → IsTask http net workers w task number script →
       (f : Finishes Stands Tallied nodes a b r t number net w script) → DidSo Stands Tallied nodes a b r t http net workers w (task ∷ tasks) f.plays.after tasks
   did_one a b r t w task tasks number script is f = record {
     done = Acts f.plays.actions ∷ [];
@@ -254,13 +253,13 @@ module _ {S : Type 0} (Stands Rests : S → Network → World → Type 0) (Talli
     took = f.took;
   }
 
-  pub all_ran : (T : Type 0) (answer : T) (a b : S) (r t : Option (List ℕ)) (w after : World) (tasks : List Task) → DidSo Stands Tallied nodes a b r t http net workers w tasks after [] →
+  pub all_ran : (T : Type 0) (answer : T) (a b : S) (r t : Given) (w after : World) (tasks : List Task) → DidSo Stands Tallied nodes a b r t http net workers w tasks after [] →
       RanTasks {T = T} Stands Rests Tallied nodes a b r t http net workers w tasks (Ok answer)
   all_ran T answer a b r t w after tasks p =
       let said : report http net w tasks p.done ≡ reporting p.items (stopped_at after Whole) =
       ap (report http net w tasks) (sym (append-nil p.done)) ∙ p.leads.said [] ∙ ap (reporting p.items) (all_done http net after) in
-      let took : Took r t (report_text nodes (report http net w tasks p.done).items) =
-      subst (λ (q : Played). Took r t (report_text nodes q.items)) (sym said) (subst (λ (xs : List NumberedItem). Took r t (report_text nodes xs)) (sym (append-nil p.items)) p.took) in
+      let took : Took r t (report_pieces nodes (report http net w tasks p.done).items) =
+      subst (λ (q : Played). Took r t (report_pieces nodes q.items)) (sym said) (subst (λ (xs : List NumberedItem). Took r t (report_pieces nodes xs)) (sym (append-nil p.items)) p.took) in
       record {
         done = p.done;
         is = subst (IsRunOf http net workers w tasks) (append-nil p.done) (p.leads.is [] tt);
@@ -270,7 +269,7 @@ module _ {S : Type 0} (Stands Rests : S → Network → World → Type 0) (Talli
         cut = cut_none (λ items. items) nodes http net w tasks p.done r t took;
       }
 
-  pub one_stopped : (T : Type 0) (a b : S) (r t : Option (List ℕ)) (w : World) (task : Task) (tasks : List Task) (number : ℕ) (script : Script) (stop : Stop) → IsTask http net workers w task number script →
+  pub one_stopped : (T : Type 0) (a b : S) (r t : Given) (w : World) (task : Task) (tasks : List Task) (number : ℕ) (script : Script) (stop : Stop) → IsTask http net workers w task number script →
       Stops Rests Tallied nodes a b r t number net w script stop → RanTasks {T = T} Stands Rests Tallied nodes a b r t http net workers w (task ∷ tasks) (Err stop)
   one_stopped T a b r t w task tasks number script stop is s =
       let d = Acts s.actions in
@@ -288,7 +287,7 @@ module _ {S : Type 0} (Stands Rests : S → Network → World → Type 0) (Talli
         cut = cut_first (λ items. items) nodes http net w (task ∷ tasks) (d ∷ []) r t refl (omega arith) (taken_of stop nodes _ r t s.told);
       }
 
-  pub did_stop : (T : Type 0) (a b c : S) (r t u : Option (List ℕ)) (w m : World) (tasks mid : List Task) (stop : Stop) → DidSo Stands Tallied nodes a b r t http net workers w tasks m mid →
+  pub did_stop : (T : Type 0) (a b c : S) (r t u : Given) (w m : World) (tasks mid : List Task) (stop : Stop) → DidSo Stands Tallied nodes a b r t http net workers w tasks m mid →
       RanTasks {T = T} Stands Rests Tallied nodes b c t u http net workers m mid (Err stop) → RanTasks {T = T} Stands Rests Tallied nodes a c r u http net workers w tasks (Err stop)
   did_stop T a b c r t u w m tasks mid stop p q =
       let said = p.leads.said q.done in
@@ -303,7 +302,7 @@ module _ {S : Type 0} (Stands Rests : S → Network → World → Type 0) (Talli
 
   -- ---- tasks that follow others
 
-  pub did_all : {T : Type 0} (answer : T) (a b : S) (r t : Option (List ℕ)) (w : World) (tasks last : List Task) → (p : RanTasks {T = T} Stands Rests Tallied nodes a b r t http net workers w tasks (Ok answer)) →
+  pub did_all : {T : Type 0} (answer : T) (a b : S) (r t : Given) (w : World) (tasks last : List Task) → (p : RanTasks {T = T} Stands Rests Tallied nodes a b r t http net workers w tasks (Ok answer)) →
       DidSo Stands Tallied nodes a b r t http net workers w (tasks ++ last) (report http net w tasks p.done).world last
   did_all answer a b r t w tasks last p = record {
     done = p.done;
@@ -314,7 +313,7 @@ module _ {S : Type 0} (Stands Rests : S → Network → World → Type 0) (Talli
     took = p.told.1;
   }
 
-  pub ran_after : {T U : Type 0} (answer : T) (a b c : S) (r t u : Option (List ℕ)) (w : World) (tasks last : List Task) (result : Result U Stop) →
+  pub ran_after : {T U : Type 0} (answer : T) (a b c : S) (r t u : Given) (w : World) (tasks last : List Task) (result : Result U Stop) →
       (p : RanTasks {T = T} Stands Rests Tallied nodes a b r t http net workers w tasks (Ok answer)) → RanTasks Stands Rests Tallied nodes b c t u http net workers (report http net w tasks p.done).world last result →
       RanTasks Stands Rests Tallied nodes a c r u http net workers w (tasks ++ last) result
   ran_after {U = U} answer a b c r t u w tasks last (Ok done) p q =
@@ -327,13 +326,13 @@ module _ {S : Type 0} (Stands Rests : S → Network → World → Type 0) (Talli
   ran_after {U = U} answer a b c r t u w tasks last (Err stop) p q =
       did_stop U a b c r t u w (report http net w tasks p.done).world (tasks ++ last) last stop (did_all answer a b r t w tasks last p) q
 
-  told_before : (w : World) (tasks last : List Task) (done : List Performed) (stop : Stop) (r t : Option (List ℕ)) → SameBefore http net workers w tasks last done →
+  told_before : (w : World) (tasks last : List Task) (done : List Performed) (stop : Stop) (r t : Given) → SameBefore http net workers w tasks last done →
       StopsAs stop nodes (report http net w tasks done) r t → StopsAs stop nodes (report http net w (tasks ++ last) done) r t
-  told_before w tasks last done WriteFault r t same told = subst (λ (xs : List NumberedItem). TookFirst r t (report_text nodes xs)) (sym same.items) told
-  told_before w tasks last done Memory r t same told = subst (λ (xs : List NumberedItem). TookFirst r t (report_text nodes xs)) (sym same.items) told
+  told_before w tasks last done WriteFault r t same told = subst (λ (xs : List NumberedItem). TookFirst r t (report_pieces nodes xs)) (sym same.items) told
+  told_before w tasks last done Memory r t same told = subst (λ (xs : List NumberedItem). TookFirst r t (report_pieces nodes xs)) (sym same.items) told
   told_before w tasks last done (Forged line) r t same told = subst (λ (p : Played). StopsAs (Forged line) nodes p r t) (sym (same.forged line told.0)) told
 
-  pub ran_short : (U : Type 0) (a b : S) (r t : Option (List ℕ)) (w : World) (tasks last : List Task) (stop : Stop) →
+  pub ran_short : (U : Type 0) (a b : S) (r t : Given) (w : World) (tasks last : List Task) (stop : Stop) →
       RanTasks {T = U} Stands Rests Tallied nodes a b r t http net workers w tasks (Err stop) → RanTasks {T = U} Stands Rests Tallied nodes a b r t http net workers w (tasks ++ last) (Err stop)
   ran_short U a b r t w tasks last stop p =
       let same = same_before http net workers last tasks p.done w p.is in
@@ -349,7 +348,7 @@ module _ {S : Type 0} (Stands Rests : S → Network → World → Type 0) (Talli
 
   -- ---- a single task that is a line
 
-  pub ran_line : {T : Type 0} (a b : S) (r t : Option (List ℕ)) (w : World) (task : Task) (number : ℕ) (script : Script) (result : Result T Stop) → IsTask http net workers w task number script →
+  pub ran_line : {T : Type 0} (a b : S) (r t : Given) (w : World) (task : Task) (number : ℕ) (script : Script) (result : Result T Stop) → IsTask http net workers w task number script →
       Ran Stands Rests Tallied nodes a b r t number net w script result → RanTasks Stands Rests Tallied nodes a b r t http net workers w (task ∷ []) result
   ran_line {T = T} a b r t w task number script (Ok done) is f =
       all_ran T done a b r t w f.plays.after (task ∷ []) (did_one a b r t w task [] number script is f)

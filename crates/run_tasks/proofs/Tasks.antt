@@ -1,6 +1,6 @@
 -- The tasks of a load, in order.
 use Rattle.std.proofs.Common.{◌≡◌, ◌∙◌, ℕ, ◌+◌, Bool, true, false, List, [], ◌∷◌, ◌++◌, refl, sym, ap, subst, arith}
-use Rattle.std.specs.Prelude.{Option, Result, Ok, Err, MatchResult}
+use Rattle.std.specs.Prelude.{Result, Ok, Err, MatchResult}
 use Rattle.std.proofs.lemmas.List.{append_assoc, append-nil}
 use Rattle.std.proofs.lemmas.List.Concat.{flat_map-append}
 use Rattle.net_model.specs.Site.{Site}
@@ -8,12 +8,12 @@ use Rattle.net_model.specs.World.{Network, World}
 use Rattle.net_model.specs.Action.{Action}
 use Rattle.net_model.specs.Step.{run}
 use Rattle.run_types.specs.declared.item.NumberedItem.{NumberedItem}
-use Rattle.run_types.specs.Texts.{report_text, handed_text}
+use Rattle.run_types.specs.Texts.{handed_text}
 use Rattle.run_model.specs.Turn.{HttpTexts}
 use Rattle.run_model.specs.Script.{Script}
 use Rattle.run_model.specs.Play.{Ending, Whole, CutShort, ForgedAt, NoMemory, Played, numbered, reporting, stopped_at, OneOf}
 use Rattle.run_model.specs.Report.{Task, Performed, Acts, perform, IsPerformed, is_whole, with_rest, report, IsRunOf, actions_for, actions_of}
-use Rattle.run_model.specs.Headline.{Took, TookFirst, after_all}
+use Rattle.run_model.specs.Headline.{Took, TookFirst, after_all, Given, report_pieces}
 use Rattle.run_ops.proofs.Plays.{reported}
 use Rattle.run_ops.specs.Acting.{IsReady}
 use Rattle.run_lines.specs.declared.stop.Stop.{Stop}
@@ -22,20 +22,20 @@ use Rattle.run_lines.specs.Reporting.{Wrote}
 use Rattle.run_lines.specs.Running.{StopsAs}
 use Rattle.run_lines.proofs.Taking.{took_none, took_on, first_none, first_within, first_after}
 use Rattle.run_lines.proofs.Going.{Ways, stops_as}
-use Rattle.run_tasks.proofs.Cuts.{HasTaken, taken_of, cut_first, cut_none, cut_more, cut_on}
+use Rattle.run_tasks.proofs.Cuts.{HasTaken, taken_whole, taken_first, taken_of, cut_first, cut_behind, cut_on}
 use Rattle.run_tasks.proofs.Tasking.{IsTask}
 use Rattle.law_locality.proofs.Runs.{run_none, run-append}
 use Rattle.law_run.proofs.Plays.{play_is_run}
 use Rattle.law_run.specs.Ledgers.{ledgers_of}
 use Rattle.law_run.specs.Handed.{enc_keys, dec_keys}
 use Rattle.run_tasks.specs.declared.handed.Handed.{Handed}
-use Rattle.run_tasks.specs.Told.{ledgers_alone, ledger_text, ended, IsLoadTold}
+use Rattle.run_tasks.specs.Told.{ledgers_alone, ledger_pieces, ended, IsLoadTold}
 use Rattle.run_tasks.specs.Counting.{AreHanded, no_keys}
 use Rattle.run_tasks.specs.Leading.{Leads, Went}
 use Rattle.run_tasks.specs.Lines.{Finishes, Stops}
 use Rattle.run_tasks.specs.Loaded.{Stopped, RanLoad}
 use Rattle.run_tasks.proofs.Keys.{nothing_handed, both_handed}
-use Rattle.run_tasks.proofs.Telling.{ledgers_on, text_both, none_took}
+use Rattle.run_tasks.proofs.Telling.{ledgers_on, pieces_both, none_took}
 
 -- ---- actions
 
@@ -111,10 +111,10 @@ cut_items CutShort p q none = refl
 cut_items (ForgedAt number) p q none = refl
 cut_items NoMemory p q none = refl
 
-cut_told : (nodes : List (List ℕ)) (e : Ending) (p q : Played) (stop : Stop) (a b : Option (List ℕ)) → p.ending ≡ e → q.items ≡ [] → StopsAs stop nodes (ledgers_alone p) a b →
+cut_told : (nodes : List (List ℕ)) (e : Ending) (p q : Played) (stop : Stop) (a b : Given) → p.ending ≡ e → q.items ≡ [] → StopsAs stop nodes (ledgers_alone p) a b →
     StopsAs stop nodes (ledgers_alone (with_rest e p q)) a b
-cut_told nodes e p q WriteFault a b is none told = subst (λ (xs : List NumberedItem). TookFirst a b (report_text nodes (ledgers_of xs))) (sym (cut_items e p q none)) told
-cut_told nodes e p q Memory a b is none told = subst (λ (xs : List NumberedItem). TookFirst a b (report_text nodes (ledgers_of xs))) (sym (cut_items e p q none)) told
+cut_told nodes e p q WriteFault a b is none told = subst (λ (xs : List NumberedItem). TookFirst a b (report_pieces nodes (ledgers_of xs))) (sym (cut_items e p q none)) told
+cut_told nodes e p q Memory a b is none told = subst (λ (xs : List NumberedItem). TookFirst a b (report_pieces nodes (ledgers_of xs))) (sym (cut_items e p q none)) told
 cut_told nodes Whole p q (Forged line) a b is none told = absurd (let wrong : Whole ≡ ForgedAt line = sym is ∙ told.0 in cc)
 cut_told nodes CutShort p q (Forged line) a b is none told = told
 cut_told nodes (ForgedAt number) p q (Forged line) a b is none told = told
@@ -133,7 +133,7 @@ alone_on p q xs same = ap ledgers_alone same ∙ ap (λ (is : List NumberedItem)
 
 module _ {S : Type 0} (Stands Rests : S → Network → World → Type 0) (Tallied : S → S → Site → List Action → Type 0) (ways : Ways Stands Rests Tallied) (nodes : List (List ℕ)) (http : HttpTexts)
     (net : Network) where
-  pub went_none : (a : S) (r : Option (List ℕ)) (w : World) (tasks : List Task) → IsReady Stands a net w → Went Stands Tallied nodes a a r r http net w tasks w tasks no_keys
+  pub went_none : (a : S) (r : Given) (w : World) (tasks : List Task) → IsReady Stands a net w → Went Stands Tallied nodes a a r r http net w tasks w tasks no_keys
   went_none a r w tasks ready = record {
     done = [];
     items = [];
@@ -144,7 +144,7 @@ module _ {S : Type 0} (Stands Rests : S → Network → World → Type 0) (Talli
     keys = subst (λ (xs : List Action). AreHanded net w xs no_keys) (sym (acts_none net)) (nothing_handed net w);
   }
 
-  pub went_on : (a b c : S) (r t u : Option (List ℕ)) (w m after : World) (tasks mid rest : List Task) (x y z : Handed) → z.masters ≡ x.masters + y.masters → z.slaves ≡ x.slaves + y.slaves →
+  pub went_on : (a b c : S) (r t u : Given) (w m after : World) (tasks mid rest : List Task) (x y z : Handed) → z.masters ≡ x.masters + y.masters → z.slaves ≡ x.slaves + y.slaves →
       Went Stands Tallied nodes a b r t http net w tasks m mid x → Went Stands Tallied nodes b c t u http net m mid after rest y → Went Stands Tallied nodes a c r u http net w tasks after rest z
   went_on a b c r t u w m after tasks mid rest x y z masters slaves p q =
       let xs = actions_of net p.done in
@@ -156,11 +156,11 @@ module _ {S : Type 0} (Stands Rests : S → Network → World → Type 0) (Talli
         leads = leads_on http net w m after tasks mid rest p.done q.done p.items q.items p.leads q.leads;
         ready = q.ready;
         tallied = subst (Tallied a c net.site) (sym (acts_on net p.done q.done)) (ways.more a b c net.site xs ys p.tallied q.tallied);
-        took = subst (Took r u) (sym (text_both nodes p.items q.items)) (took_on r t u _ _ p.took q.took);
+        took = subst (Took r u) (sym (pieces_both nodes p.items q.items)) (took_on r t u _ _ p.took q.took);
         keys = subst (λ (zs : List Action). AreHanded net w zs z) (sym (acts_on net p.done q.done)) (both_handed net w xs ys x y z p.keys later masters slaves);
       }
 
-  pub went_one : (a b : S) (r t : Option (List ℕ)) (w : World) (task : Task) (tasks : List Task) (number : ℕ) (script : Script) (handed : Handed) → IsTask http net 1 w task number script →
+  pub went_one : (a b : S) (r t : Given) (w : World) (task : Task) (tasks : List Task) (number : ℕ) (script : Script) (handed : Handed) → IsTask http net 1 w task number script →
       (f : Finishes Stands Tallied nodes a b r t number net w script handed) → Went Stands Tallied nodes a b r t http net w (task ∷ tasks) f.plays.after tasks handed
   went_one a b r t w task tasks number script handed is f =
       let actions = f.plays.actions in
@@ -176,13 +176,13 @@ module _ {S : Type 0} (Stands Rests : S → Network → World → Type 0) (Talli
       }
 
   -- The same progress, with an equal list of tasks left.
-  pub went_as : (a b : S) (r t : Option (List ℕ)) (w after : World) (tasks rest others : List Task) (handed : Handed) → rest ≡ others → Went Stands Tallied nodes a b r t http net w tasks after rest handed →
+  pub went_as : (a b : S) (r t : Given) (w after : World) (tasks rest others : List Task) (handed : Handed) → rest ≡ others → Went Stands Tallied nodes a b r t http net w tasks after rest handed →
       Went Stands Tallied nodes a b r t http net w tasks after others handed
   went_as a b r t w after tasks rest others handed same p = subst (λ (ts : List Task). Went Stands Tallied nodes a b r t http net w tasks after ts handed) same p
 
   -- ---- where a run stops
 
-  pub one_stopped : (a b : S) (r t : Option (List ℕ)) (w : World) (task : Task) (tasks : List Task) (number : ℕ) (script : Script) (stop : Stop) → IsTask http net 1 w task number script →
+  pub one_stopped : (a b : S) (r t : Given) (w : World) (task : Task) (tasks : List Task) (number : ℕ) (script : Script) (stop : Stop) → IsTask http net 1 w task number script →
       Stops Rests Tallied nodes a b r t number net w script stop → Stopped Rests Tallied nodes a b r t http net w (task ∷ tasks) stop
   one_stopped a b r t w task tasks number script stop is s =
       let d = Acts s.actions in
@@ -200,7 +200,7 @@ module _ {S : Type 0} (Stands Rests : S → Network → World → Type 0) (Talli
         cut = cut_first ledgers_of nodes http net w (task ∷ tasks) (d ∷ []) r t refl (omega arith) (taken_of stop nodes _ r t s.told);
       }
 
-  pub went_stop : (a b c : S) (r t u : Option (List ℕ)) (w m : World) (tasks mid : List Task) (stop : Stop) (handed : Handed) → Went Stands Tallied nodes a b r t http net w tasks m mid handed →
+  pub went_stop : (a b c : S) (r t u : Given) (w m : World) (tasks mid : List Task) (stop : Stop) (handed : Handed) → Went Stands Tallied nodes a b r t http net w tasks m mid handed →
       Stopped Rests Tallied nodes b c t u http net m mid stop → Stopped Rests Tallied nodes a c r u http net w tasks stop
   went_stop a b c r t u w m tasks mid stop handed p q =
       let said = p.leads.said q.done in
@@ -215,28 +215,28 @@ module _ {S : Type 0} (Stands Rests : S → Network → World → Type 0) (Talli
       }
 
   -- Memory runs out before anything more is done.
-  stops_there : (a : S) (r : Option (List ℕ)) (w : World) (tasks : List Task) → IsReady Stands a net w → Stopped Rests Tallied nodes a a r r http net w tasks Memory
+  stops_there : (a : S) (r : Given) (w : World) (tasks : List Task) → IsReady Stands a net w → Stopped Rests Tallied nodes a a r r http net w tasks Memory
   stops_there a r w tasks ready = record {
     done = [];
     is = tt;
     rests = subst (Rests a net) (sym (nothing_more http net w tasks)) (ways.rest a net w ready.stands);
     tallied = subst (Tallied a a net.site) (sym (acts_none net)) (ways.none a net w ready.stands);
-    told = first_none r (report_text nodes (ledgers_of (report http net w tasks []).items));
-    cut = cut_first ledgers_of nodes http net w tasks [] r r refl (omega arith) (record { text = []; took = took_none r });
+    told = first_none r (report_pieces nodes (ledgers_of (report http net w tasks []).items));
+    cut = cut_first ledgers_of nodes http net w tasks [] r r refl (omega arith) (taken_whole r r [] (took_none r));
   }
 
-  pub went_short : (a b : S) (r t : Option (List ℕ)) (w m : World) (tasks mid : List Task) (handed : Handed) → Went Stands Tallied nodes a b r t http net w tasks m mid handed →
+  pub went_short : (a b : S) (r t : Given) (w m : World) (tasks mid : List Task) (handed : Handed) → Went Stands Tallied nodes a b r t http net w tasks m mid handed →
       Stopped Rests Tallied nodes a b r t http net w tasks Memory
   went_short a b r t w m tasks mid handed p = went_stop a b b r t t w m tasks mid Memory handed p (stops_there b t m mid p.ready)
 
   -- ---- the whole load
 
-  stopped_as : (p : Played) (masters slaves : ℕ) (r t : Option (List ℕ)) (stop : Stop) → StopsAs stop nodes (ledgers_alone p) r t → IsLoadTold (ended {T = Unit {0}} (Err stop)) nodes p masters slaves r t
-  stopped_as p masters slaves r t WriteFault told = first_within r t (ledger_text nodes p) (after_all p.ending (handed_text masters slaves)) told
-  stopped_as p masters slaves r t Memory told = first_within r t (ledger_text nodes p) (after_all p.ending (handed_text masters slaves)) told
+  stopped_as : (p : Played) (masters slaves : ℕ) (r t : Given) (stop : Stop) → StopsAs stop nodes (ledgers_alone p) r t → IsLoadTold (ended {T = Unit {0}} (Err stop)) nodes p masters slaves r t
+  stopped_as p masters slaves r t WriteFault told = first_within r t (ledger_pieces nodes p) (after_all p.ending (handed_text masters slaves ∷ [])) told
+  stopped_as p masters slaves r t Memory told = first_within r t (ledger_pieces nodes p) (after_all p.ending (handed_text masters slaves ∷ [])) told
   stopped_as p masters slaves r t (Forged line) told = told
 
-  pub load_stopped : (a b : S) (r t : Option (List ℕ)) (w : World) (tasks : List Task) (stop : Stop) → Stopped Rests Tallied nodes a b r t http net w tasks stop →
+  pub load_stopped : (a b : S) (r t : Given) (w : World) (tasks : List Task) (stop : Stop) → Stopped Rests Tallied nodes a b r t http net w tasks stop →
       RanLoad {T = Unit {0}} Stands Rests Tallied nodes a b r t http net w tasks (Err stop)
   load_stopped a b r t w tasks stop p = record {
     done = p.done;
@@ -247,30 +247,30 @@ module _ {S : Type 0} (Stands Rests : S → Network → World → Type 0) (Talli
     cut = p.cut;
   }
 
-  -- All tasks were done, and the last line was written, or a prefix of it.
-  last_told : (p : Played) (masters slaves : ℕ) (r t u : Option (List ℕ)) (result : Result (Unit {0}) Stop) → p.ending ≡ Whole → Took r t (ledger_text nodes p) →
-      Wrote result t u (handed_text masters slaves) → IsLoadTold (ended result) nodes p masters slaves r u
-  last_told p masters slaves r t u (Ok done) whole took wrote = (whole, took_on r t u (ledger_text nodes p) (handed_text masters slaves) took wrote)
+  -- All tasks were done, and the last line was written, or a part of it.
+  last_told : (p : Played) (masters slaves : ℕ) (r t u : Given) (result : Result (Unit {0}) Stop) → p.ending ≡ Whole → Took r t (ledger_pieces nodes p) →
+      Wrote result t u (handed_text masters slaves ∷ []) → IsLoadTold (ended result) nodes p masters slaves r u
+  last_told p masters slaves r t u (Ok done) whole took wrote = (whole, took_on r t u (ledger_pieces nodes p) (handed_text masters slaves ∷ []) took wrote)
   last_told p masters slaves r t u (Err WriteFault) whole took wrote =
-      subst (λ (e : Ending). TookFirst r u (ledger_text nodes p ++ after_all e (handed_text masters slaves))) (sym whole)
-      (first_after r t u (ledger_text nodes p) (handed_text masters slaves) took wrote)
+      subst (λ (e : Ending). TookFirst r u (ledger_pieces nodes p ++ after_all e (handed_text masters slaves ∷ []))) (sym whole)
+      (first_after r t u (ledger_pieces nodes p) (handed_text masters slaves ∷ []) took wrote)
   last_told p masters slaves r t u (Err Memory) whole took wrote =
-      subst (λ (e : Ending). TookFirst r u (ledger_text nodes p ++ after_all e (handed_text masters slaves))) (sym whole)
-      (first_after r t u (ledger_text nodes p) (handed_text masters slaves) took wrote)
+      subst (λ (e : Ending). TookFirst r u (ledger_pieces nodes p ++ after_all e (handed_text masters slaves ∷ []))) (sym whole)
+      (first_after r t u (ledger_pieces nodes p) (handed_text masters slaves ∷ []) took wrote)
   last_told p masters slaves r t u (Err (Forged line)) whole took wrote = absurd wrote
 
-  wrote_so : (result : Result (Unit {0}) Stop) (t u : Option (List ℕ)) (text : List ℕ) → Wrote result t u text → HasTaken t u
-  wrote_so (Ok done) t u text wrote = record { text = text; took = wrote }
-  wrote_so (Err WriteFault) t u text wrote = record { text = wrote.0; took = wrote.3 }
-  wrote_so (Err Memory) t u text wrote = record { text = wrote.0; took = wrote.3 }
-  wrote_so (Err (Forged line)) t u text wrote = absurd wrote
+  wrote_so : (result : Result (Unit {0}) Stop) (t u : Given) (texts : List (List ℕ)) → Wrote result t u texts → HasTaken t u
+  wrote_so (Ok done) t u texts wrote = taken_whole t u texts wrote
+  wrote_so (Err WriteFault) t u texts wrote = taken_first t u texts wrote
+  wrote_so (Err Memory) t u texts wrote = taken_first t u texts wrote
+  wrote_so (Err (Forged line)) t u texts wrote = absurd wrote
 
   left_then : (b : S) (w : World) (result : Result (Unit {0}) Stop) → IsReady Stands b net w → MatchResult result (λ answer. IsReady Stands b net w) (λ stop. Rests b net w)
   left_then b w (Ok done) ready = ready
   left_then b w (Err stop) ready = ways.rest b net w ready.stands
 
-  pub load_done : (a b : S) (r t u : Option (List ℕ)) (w after : World) (tasks : List Task) (handed : Handed) (result : Result (Unit {0}) Stop) →
-      Went Stands Tallied nodes a b r t http net w tasks after [] handed → Wrote result t u (handed_text handed.masters handed.slaves) →
+  pub load_done : (a b : S) (r t u : Given) (w after : World) (tasks : List Task) (handed : Handed) (result : Result (Unit {0}) Stop) →
+      Went Stands Tallied nodes a b r t http net w tasks after [] handed → Wrote result t u (handed_text handed.masters handed.slaves ∷ []) →
       RanLoad Stands Rests Tallied nodes a b r u http net w tasks result
   load_done a b r t u w after tasks handed result p wrote =
       let said : report http net w tasks p.done ≡ record { items = p.items; world = after; ending = Whole } =
@@ -284,8 +284,8 @@ module _ {S : Type 0} (Stands Rests : S → Network → World → Type 0) (Talli
         left = subst (λ (q : Played). MatchResult result (λ answer. IsReady Stands b net q.world) (λ stop. Rests b net q.world)) (sym said) (left_then b after result p.ready);
         tallied = p.tallied;
         told = last_told (report http net w tasks p.done) masters slaves r t u result (ap (λ (q : Played). q.ending) said)
-            (subst (λ (q : Played). Took r t (ledger_text nodes q)) (sym said) p.took)
-            (subst (λ (n : ℕ). Wrote result t u (handed_text masters n)) p.keys.slaves (subst (λ (n : ℕ). Wrote result t u (handed_text n handed.slaves)) p.keys.masters wrote));
-        cut = cut_more ledgers_of nodes http net w tasks p.done r t u (cut_none ledgers_of nodes http net w tasks p.done r t (subst (λ (q : Played). Took r t (ledger_text nodes q)) (sym said) p.took))
-            (wrote_so result t u (handed_text handed.masters handed.slaves) wrote);
+            (subst (λ (q : Played). Took r t (ledger_pieces nodes q)) (sym said) p.took)
+            (subst (λ (n : ℕ). Wrote result t u (handed_text masters n ∷ [])) p.keys.slaves (subst (λ (n : ℕ). Wrote result t u (handed_text n handed.slaves ∷ [])) p.keys.masters wrote));
+        cut = cut_behind ledgers_of nodes http net w tasks p.done r t u (subst (λ (q : Played). Took r t (ledger_pieces nodes q)) (sym said) p.took)
+            (wrote_so result t u (handed_text handed.masters handed.slaves ∷ []) wrote);
       }

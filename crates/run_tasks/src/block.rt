@@ -5,6 +5,7 @@ ghost use Rattle.net_model.specs.World.{Network, World};
 ghost use Rattle.run_types.specs.declared.entry.Entry.TheVariants as entries;
 ghost use Rattle.run_model.specs.Turn.{HttpTexts};
 ghost use Rattle.run_model.specs.Report.{Does};
+ghost use Rattle.run_model.specs.Headline.{given_to};
 ghost use Rattle.run_ops.specs.Acting.{IsReady};
 ghost use Rattle.run_ops.specs.Runnable.{IsBlockLineFor};
 ghost use Rattle.run_ops.specs.Doing.{MayTogether, DidTogether};
@@ -48,7 +49,7 @@ pub fn do_block<
     ensures site { S.site net.new ≡ S.site net.old }
     ensures armed { S.armed net.new ≡ S.armed net.old }
     ensures ready { OnOk result (IsReadySomewhere S.stands net.new) }
-    ensures ran { (http : HttpTexts) (n : Network) (w : World) → H.speaks requests.now http → IsReady S.stands net.old n w → RanTasks S.stands S.rests S.tallied (S.site net.old).nodes net.old net.new (W.taken sink.old) (W.taken sink.new) http n workers w (Does (entries.Block lines) ∷ []) result }
+    ensures ran { (http : HttpTexts) (n : Network) (w : World) → H.speaks requests.now http → IsReady S.stands net.old n w → RanTasks S.stands S.rests S.tallied (S.site net.old).nodes net.old net.new (given_to W.taken W.pieces sink.old) (given_to W.taken W.pieces sink.new) http n workers w (Does (entries.Block lines) ∷ []) result }
     ensures blame { IsBlamed (W.faults sink.old) (W.faults sink.new) result }
     ensures lined { InLines W.taken W.pieces (IsItemLine (S.site net.old).nodes) sink.old sink.new result }
 {

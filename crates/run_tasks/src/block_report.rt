@@ -1,8 +1,8 @@
 // The report of a block.
 ghost use Rattle.std.specs.Prelude.{◌≡◌, ◌++◌, IfOk, map};
 ghost use Rattle.std.specs.Option.{option_to_list};
-ghost use Rattle.run_types.specs.Texts.{report_text};
 ghost use Rattle.run_model.specs.Turn.{HttpTexts};
+ghost use Rattle.run_model.specs.Headline.{given_to, report_pieces};
 ghost use Rattle.run_lines.specs.Reporting.{InLines, IsBlamed, IsItemLine, Wrote};
 ghost use Rattle.run_tasks.specs.declared.prepared.Telling.TheVariants as tellings;
 ghost use Rattle.run_tasks.specs.Prepared.{tells, told_item};
@@ -76,7 +76,7 @@ fn told_of<H: Requests>(
 
 // Writes what is reported of lines that ask nobody.
 fn write_told<W: Sink>(alloc: Global, site: &Site, told: &[Told], sink: &mut W) -> Result<(), Stop>
-    ensures wrote { Wrote result (W.taken sink.old) (W.taken sink.new) (report_text site.now.nodes (map told_item told.now)) }
+    ensures wrote { Wrote result (given_to W.taken W.pieces sink.old) (given_to W.taken W.pieces sink.new) (report_pieces site.now.nodes (map told_item told.now)) }
     ensures blame { IsBlamed (W.faults sink.old) (W.faults sink.new) result }
     ensures lined { InLines W.taken W.pieces (IsItemLine site.now.nodes) sink.old sink.new result }
 {
@@ -87,7 +87,7 @@ fn write_told<W: Sink>(alloc: Global, site: &Site, told: &[Told], sink: &mut W) 
 }
 
 // Writes what is reported of one reply.
-#[tactic(auto, using(run_lines::proofs::Lines::stopped_unwritten, run_lines::proofs::Lines::none_lined))]
+#[tactic(auto, using(run_lines::proofs::Lines::stopped_unwritten, run_lines::proofs::Lines::none_lined, run_lines::proofs::Taking::first_none))]
 fn write_turn<H: Requests, W: Sink>(
     alloc: Global,
     site: &Site,
@@ -97,7 +97,7 @@ fn write_turn<H: Requests, W: Sink>(
     turned: Turned,
     sink: &mut W,
 ) -> Result<(), Stop>
-    ensures wrote { (http : HttpTexts) → H.speaks requests.now http → Wrote result (W.taken sink.old) (W.taken sink.new) (report_text site.now.nodes (turn_told http jobs.now places.now turned)) }
+    ensures wrote { (http : HttpTexts) → H.speaks requests.now http → Wrote result (given_to W.taken W.pieces sink.old) (given_to W.taken W.pieces sink.new) (report_pieces site.now.nodes (turn_told http jobs.now places.now turned)) }
     ensures blame { IsBlamed (W.faults sink.old) (W.faults sink.new) result }
     ensures lined { InLines W.taken W.pieces (IsItemLine site.now.nodes) sink.old sink.new result }
 {
@@ -124,7 +124,7 @@ fn write_turns<H: Requests, W: Sink>(
     turns: Vec<Turned>,
     sink: &mut W,
 ) -> Result<(), Stop>
-    ensures wrote { (http : HttpTexts) → H.speaks requests.now http → Wrote result (W.taken sink.old) (W.taken sink.new) (report_text site.now.nodes (turns_told http jobs.now places.now turns.items)) }
+    ensures wrote { (http : HttpTexts) → H.speaks requests.now http → Wrote result (given_to W.taken W.pieces sink.old) (given_to W.taken W.pieces sink.new) (report_pieces site.now.nodes (turns_told http jobs.now places.now turns.items)) }
     ensures blame { IsBlamed (W.faults sink.old) (W.faults sink.new) result }
     ensures lined { InLines W.taken W.pieces (IsItemLine site.now.nodes) sink.old sink.new result }
 {
@@ -152,7 +152,7 @@ fn write_frames<W: Sink>(
     frames: &[PutFrame],
     sink: &mut W,
 ) -> Result<(), Stop>
-    ensures wrote { Wrote result (W.taken sink.old) (W.taken sink.new) (report_text site.now.nodes (frames_told places.now frames.now)) }
+    ensures wrote { Wrote result (given_to W.taken W.pieces sink.old) (given_to W.taken W.pieces sink.new) (report_pieces site.now.nodes (frames_told places.now frames.now)) }
     ensures blame { IsBlamed (W.faults sink.old) (W.faults sink.new) result }
     ensures lined { InLines W.taken W.pieces (IsItemLine site.now.nodes) sink.old sink.new result }
 {
@@ -174,7 +174,7 @@ pub fn report<H: Requests, W: Sink>(
     done: DoneBlock,
     sink: &mut W,
 ) -> Result<(), Stop>
-    ensures wrote { (http : HttpTexts) → H.speaks requests.now http → Wrote result (W.taken sink.old) (W.taken sink.new) (report_text site.now.nodes (map told_item told.now ++ turns_told http jobs.now places.now done.turns.items ++ frames_told places.now done.frames.items)) }
+    ensures wrote { (http : HttpTexts) → H.speaks requests.now http → Wrote result (given_to W.taken W.pieces sink.old) (given_to W.taken W.pieces sink.new) (report_pieces site.now.nodes (map told_item told.now ++ turns_told http jobs.now places.now done.turns.items ++ frames_told places.now done.frames.items)) }
     ensures blame { IsBlamed (W.faults sink.old) (W.faults sink.new) result }
     ensures lined { InLines W.taken W.pieces (IsItemLine site.now.nodes) sink.old sink.new result }
 {

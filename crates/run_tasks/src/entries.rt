@@ -5,6 +5,7 @@ ghost use Rattle.declared_site.specs.SiteOf.{IsDeclared};
 ghost use Rattle.net_model.specs.World.{Network, World};
 ghost use Rattle.run_model.specs.Turn.{HttpTexts};
 ghost use Rattle.run_model.specs.Report.{starts_from, tasks, Does};
+ghost use Rattle.run_model.specs.Headline.{given_to};
 ghost use Rattle.run_ops.specs.Acting.{IsReady};
 ghost use Rattle.run_ops.specs.Runnable.{IsEntryFor, arms_a_disk};
 ghost use Rattle.run_ops.specs.Doing.{MayTogether, DidTogether};
@@ -32,7 +33,7 @@ fn begin_all<S: Acts, W: Sink>(
     requires ready { IsReadySomewhere S.stands net.old }
     ensures site { S.site net.new ≡ S.site net.old }
     ensures armed { S.armed net.new ≡ S.armed net.old }
-    ensures ran { (http : HttpTexts) (n : Network) (workers : ℕ) (w : World) → IsReady S.stands net.old n w → RanTasks S.stands S.rests S.tallied (S.site net.old).nodes net.old net.new (W.taken sink.old) (W.taken sink.new) http n workers w (starts_from 0 node_lines.now) result }
+    ensures ran { (http : HttpTexts) (n : Network) (workers : ℕ) (w : World) → IsReady S.stands net.old n w → RanTasks S.stands S.rests S.tallied (S.site net.old).nodes net.old net.new (given_to W.taken W.pieces sink.old) (given_to W.taken W.pieces sink.new) http n workers w (starts_from 0 node_lines.now) result }
     ensures blame { IsBlamed (W.faults sink.old) (W.faults sink.new) result }
     ensures lined { InLines W.taken W.pieces (IsItemLine (S.site net.old).nodes) sink.old sink.new result }
 {
@@ -65,7 +66,7 @@ fn do_entry<S: Acts, T: Fn(&mut S, u32, &[Job]) -> Result<DoneBlock, Memory>, H:
     ensures site { S.site net.new ≡ S.site net.old }
     ensures armed { S.armed net.new ≤ S.armed net.old + (if arms_a_disk entry then 1 else 0) }
     ensures ready { OnOk result (IsReadySomewhere S.stands net.new) }
-    ensures ran { (http : HttpTexts) (n : Network) (w : World) → H.speaks requests.now http → IsReady S.stands net.old n w → RanTasks S.stands S.rests S.tallied (S.site net.old).nodes net.old net.new (W.taken sink.old) (W.taken sink.new) http n workers w (Does entry ∷ []) result }
+    ensures ran { (http : HttpTexts) (n : Network) (w : World) → H.speaks requests.now http → IsReady S.stands net.old n w → RanTasks S.stands S.rests S.tallied (S.site net.old).nodes net.old net.new (given_to W.taken W.pieces sink.old) (given_to W.taken W.pieces sink.new) http n workers w (Does entry ∷ []) result }
     ensures blame { IsBlamed (W.faults sink.old) (W.faults sink.new) result }
     ensures lined { InLines W.taken W.pieces (IsItemLine (S.site net.old).nodes) sink.old sink.new result }
 {
@@ -102,7 +103,7 @@ fn do_all<S: Acts, T: Fn(&mut S, u32, &[Job]) -> Result<DoneBlock, Memory>, H: R
     requires few { S.armed net.old + count_by arms_a_disk list ≤ 2 ^ 32 }
     ensures site { S.site net.new ≡ S.site net.old }
     ensures ready { OnOk result (IsReadySomewhere S.stands net.new) }
-    ensures ran { (http : HttpTexts) (n : Network) (w : World) → H.speaks requests.now http → IsReady S.stands net.old n w → RanTasks S.stands S.rests S.tallied (S.site net.old).nodes net.old net.new (W.taken sink.old) (W.taken sink.new) http n workers w (map Does list) result }
+    ensures ran { (http : HttpTexts) (n : Network) (w : World) → H.speaks requests.now http → IsReady S.stands net.old n w → RanTasks S.stands S.rests S.tallied (S.site net.old).nodes net.old net.new (given_to W.taken W.pieces sink.old) (given_to W.taken W.pieces sink.new) http n workers w (map Does list) result }
     ensures blame { IsBlamed (W.faults sink.old) (W.faults sink.new) result }
     ensures lined { InLines W.taken W.pieces (IsItemLine (S.site net.old).nodes) sink.old sink.new result }
 {
@@ -142,7 +143,7 @@ pub fn run_entries<
     requires few { S.armed net.old + count_by arms_a_disk list ≤ 2 ^ 32 }
     ensures site { S.site net.new ≡ S.site net.old }
     ensures ready { OnOk result (IsReadySomewhere S.stands net.new) }
-    ensures ran { (http : HttpTexts) (n : Network) (w : World) → H.speaks requests.now http → IsReady S.stands net.old n w → RanTasks S.stands S.rests S.tallied (S.site net.old).nodes net.old net.new (W.taken sink.old) (W.taken sink.new) http n workers w (tasks node_lines.now list) result }
+    ensures ran { (http : HttpTexts) (n : Network) (w : World) → H.speaks requests.now http → IsReady S.stands net.old n w → RanTasks S.stands S.rests S.tallied (S.site net.old).nodes net.old net.new (given_to W.taken W.pieces sink.old) (given_to W.taken W.pieces sink.new) http n workers w (tasks node_lines.now list) result }
     ensures blame { IsBlamed (W.faults sink.old) (W.faults sink.new) result }
     ensures lined { InLines W.taken W.pieces (IsItemLine (S.site net.old).nodes) sink.old sink.new result }
 {

@@ -1,7 +1,7 @@
 // Doing a line of a load.
 #![tactic(auto, unfolding(run_model::specs::Turn::turn_of))]
 
-ghost use Rattle.std.specs.Prelude.{◌≡◌, ℕ, true, List, Option, None, OnOk};
+ghost use Rattle.std.specs.Prelude.{◌≡◌, ℕ, true, OnOk};
 ghost use Rattle.declared_site.specs.SiteOf.{IsDeclared, site_of};
 ghost use Rattle.net_model.specs.declared.reply.Reply.{Reply as ReplyValue};
 ghost use Rattle.net_model.specs.World.{Network, World};
@@ -9,6 +9,7 @@ ghost use Rattle.net_model.specs.Action.{Ok as Fine, Ask, Replies};
 ghost use Rattle.run_types.specs.declared.command.Command.TheVariants as commands;
 ghost use Rattle.run_model.specs.Turn.{HttpTexts, turn_of};
 ghost use Rattle.run_model.specs.Lines.{script_of};
+ghost use Rattle.run_model.specs.Headline.{Given, given_to, unknown};
 ghost use Rattle.run_ops.specs.Fitting.{is_fit};
 ghost use Rattle.run_ops.specs.Acting.{IsReady, Does};
 ghost use Rattle.run_ops.specs.Runnable.{IsCommandFor};
@@ -54,7 +55,7 @@ fn unheard_line<S: Acts>(
     requires ready { IsReadySomewhere S.stands net.old }
     ensures site { S.site net.new ≡ S.site net.old }
     ensures armed { S.armed net.new ≡ S.armed net.old }
-    ensures runs { (http : HttpTexts) → Reports S.stands S.rests S.tallied (S.site net.old).nodes net.old net.new None None number (script_of http (site_of (S.site net.old)) command) result }
+    ensures runs { (http : HttpTexts) → Reports S.stands S.rests S.tallied (S.site net.old).nodes net.old net.new unknown unknown number (script_of http (site_of (S.site net.old)) command) result }
     ensures blame { IsBlamed 0 0 result }
 {
     match command {
@@ -85,7 +86,7 @@ fn silent_line<S: Acts>(
     requires ready { IsReadySomewhere S.stands net.old }
     ensures site { S.site net.new ≡ S.site net.old }
     ensures armed { S.armed net.new ≡ S.armed net.old }
-    ensures runs { (http : HttpTexts) (taken : Option (List ℕ)) → Runs S.stands S.rests S.tallied (S.site net.old).nodes net.old net.new taken taken number (script_of http (site_of (S.site net.old)) command) result }
+    ensures runs { (http : HttpTexts) (taken : Given) → Runs S.stands S.rests S.tallied (S.site net.old).nodes net.old net.new taken taken number (script_of http (site_of (S.site net.old)) command) result }
     ensures blame { (faults : ℕ) → IsBlamed faults faults result }
 {
     match unheard_line(alloc, net, number, command) {
@@ -106,7 +107,7 @@ fn ledger_line<S: Acts, W: Sink>(
     requires ready { IsReadySomewhere S.stands net.old }
     ensures site { S.site net.new ≡ S.site net.old }
     ensures armed { S.armed net.new ≡ S.armed net.old }
-    ensures runs { (http : HttpTexts) → Runs S.stands S.rests S.tallied (S.site net.old).nodes net.old net.new (W.taken sink.old) (W.taken sink.new) number (script_of http (site_of (S.site net.old)) (commands.Ledger lane.now)) result }
+    ensures runs { (http : HttpTexts) → Runs S.stands S.rests S.tallied (S.site net.old).nodes net.old net.new (given_to W.taken W.pieces sink.old) (given_to W.taken W.pieces sink.new) number (script_of http (site_of (S.site net.old)) (commands.Ledger lane.now)) result }
     ensures blame { IsBlamed (W.faults sink.old) (W.faults sink.new) result }
     ensures lined { InLines W.taken W.pieces (IsItemLine (S.site net.old).nodes) sink.old sink.new result }
 {
@@ -132,7 +133,7 @@ pub fn load_line<S: Acts, W: Sink>(
     ensures site { S.site net.new ≡ S.site net.old }
     ensures armed { S.armed net.new ≡ S.armed net.old }
     ensures ready { OnOk result (IsReadySomewhere S.stands net.new) }
-    ensures runs { (http : HttpTexts) → Runs S.stands S.rests S.tallied (S.site net.old).nodes net.old net.new (W.taken sink.old) (W.taken sink.new) number (script_of http (site_of (S.site net.old)) command) result }
+    ensures runs { (http : HttpTexts) → Runs S.stands S.rests S.tallied (S.site net.old).nodes net.old net.new (given_to W.taken W.pieces sink.old) (given_to W.taken W.pieces sink.new) number (script_of http (site_of (S.site net.old)) command) result }
     ensures blame { IsBlamed (W.faults sink.old) (W.faults sink.new) result }
     ensures lined { InLines W.taken W.pieces (IsItemLine (S.site net.old).nodes) sink.old sink.new result }
 {

@@ -1,5 +1,5 @@
 // Running the tasks of a load.
-ghost use Rattle.std.specs.Prelude.{◌≡◌, ◌≤◌, ◌++◌, [], true, List, ℕ, Option, map, length, OnOk, MatchResult};
+ghost use Rattle.std.specs.Prelude.{◌≡◌, ◌≤◌, ◌++◌, ◌∷◌, [], true, List, map, length, OnOk, MatchResult};
 ghost use Rattle.std.specs.List.{All, AllByRecursion, list_all};
 ghost use Rattle.declared_site.specs.SiteOf.{IsDeclared, site_of};
 ghost use Rattle.net_model.specs.World.{Network, World};
@@ -9,6 +9,7 @@ ghost use Rattle.run_types.specs.Texts.{handed_text};
 ghost use Rattle.run_model.specs.Turn.{HttpTexts};
 ghost use Rattle.run_model.specs.Lines.{script_of};
 ghost use Rattle.run_model.specs.Report.{Task, starts_from, tasks, Does};
+ghost use Rattle.run_model.specs.Headline.{Given, given_to};
 ghost use Rattle.run_ops.specs.Acting.{IsReady};
 ghost use Rattle.run_ops.specs.Runnable.{IsEntryFor};
 ghost use Rattle.run_lines.specs.Reporting.{InLines, IsBlamed, IsItemLine, Wrote};
@@ -39,7 +40,7 @@ fn begin_all<S: Acts>(alloc: Global, net: &mut S, node_lines: &[u32]) -> Result<
     requires ready { IsReadySomewhere S.stands net.old }
     ensures site { S.site net.new ≡ S.site net.old }
     ensures armed { S.armed net.new ≡ S.armed net.old }
-    ensures ran { (http : HttpTexts) (n : Network) (w : World) (last : List Task) (taken : Option (List ℕ)) → IsReady S.stands net.old n w →
+    ensures ran { (http : HttpTexts) (n : Network) (w : World) (last : List Task) (taken : Given) → IsReady S.stands net.old n w →
         MatchResult result
         (λ done. (after : World) × Went S.stands S.tallied (S.site net.old).nodes net.old net.new taken taken http n w (starts_from 0 node_lines.now ++ last) after last no_keys)
         (λ stop. Stopped S.rests S.tallied (S.site net.old).nodes net.old net.new taken taken http n w (starts_from 0 node_lines.now ++ last) stop) }
@@ -67,7 +68,7 @@ fn do_entry<S: Acts, W: Sink>(
     ensures site { S.site net.new ≡ S.site net.old }
     ensures armed { S.armed net.new ≡ S.armed net.old }
     ensures ready { OnOk result (IsReadySomewhere S.stands net.new) }
-    ensures runs { (http : HttpTexts) (line : LineValue) → entry ≡ entries.Line line → Runs S.stands S.rests S.tallied (S.site net.old).nodes net.old net.new (W.taken sink.old) (W.taken sink.new) line.number (script_of http (site_of (S.site net.old)) line.command) result }
+    ensures runs { (http : HttpTexts) (line : LineValue) → entry ≡ entries.Line line → Runs S.stands S.rests S.tallied (S.site net.old).nodes net.old net.new (given_to W.taken W.pieces sink.old) (given_to W.taken W.pieces sink.new) line.number (script_of http (site_of (S.site net.old)) line.command) result }
     ensures blame { IsBlamed (W.faults sink.old) (W.faults sink.new) result }
     ensures lined { InLines W.taken W.pieces (IsItemLine (S.site net.old).nodes) sink.old sink.new result }
 {
@@ -93,7 +94,7 @@ fn do_all<S: Acts, W: Sink>(
     requires ready { IsReadySomewhere S.stands net.old }
     ensures site { S.site net.new ≡ S.site net.old }
     ensures armed { S.armed net.new ≡ S.armed net.old }
-    ensures ran { (http : HttpTexts) (n : Network) (w : World) → IsReady S.stands net.old n w → Goes S.stands S.rests S.tallied (S.site net.old).nodes net.old net.new (W.taken sink.old) (W.taken sink.new) http n w (map Does list) [] result }
+    ensures ran { (http : HttpTexts) (n : Network) (w : World) → IsReady S.stands net.old n w → Goes S.stands S.rests S.tallied (S.site net.old).nodes net.old net.new (given_to W.taken W.pieces sink.old) (given_to W.taken W.pieces sink.new) http n w (map Does list) [] result }
     ensures blame { IsBlamed (W.faults sink.old) (W.faults sink.new) result }
     ensures lined { InLines W.taken W.pieces (IsItemLine (S.site net.old).nodes) sink.old sink.new result }
 {
@@ -111,7 +112,7 @@ fn do_all<S: Acts, W: Sink>(
 // Writes the last line of the report.
 #[tactic(auto, using(crate::proofs::Pieces::unhanded))]
 fn write_handed<W: Sink>(alloc: Global, handed: Handed, sink: &mut W) -> Result<(), Stop>
-    ensures wrote { Wrote result (W.taken sink.old) (W.taken sink.new) (handed_text handed.masters handed.slaves) }
+    ensures wrote { Wrote result (given_to W.taken W.pieces sink.old) (given_to W.taken W.pieces sink.new) (handed_text handed.masters handed.slaves ∷ []) }
     ensures blame { IsBlamed (W.faults sink.old) (W.faults sink.new) result }
     ensures lined { InLines W.taken W.pieces IsHandedLine sink.old sink.new result }
 {
@@ -142,7 +143,7 @@ pub fn run_load<S: Acts, W: Sink>(
     requires ready { IsReadySomewhere S.stands net.old }
     ensures site { S.site net.new ≡ S.site net.old }
     ensures armed { S.armed net.new ≡ S.armed net.old }
-    ensures ran { (http : HttpTexts) (n : Network) (w : World) → IsReady S.stands net.old n w → RanLoad S.stands S.rests S.tallied (S.site net.old).nodes net.old net.new (W.taken sink.old) (W.taken sink.new) http n w (tasks node_lines.now list) result }
+    ensures ran { (http : HttpTexts) (n : Network) (w : World) → IsReady S.stands net.old n w → RanLoad S.stands S.rests S.tallied (S.site net.old).nodes net.old net.new (given_to W.taken W.pieces sink.old) (given_to W.taken W.pieces sink.new) http n w (tasks node_lines.now list) result }
     ensures blame { IsBlamed (W.faults sink.old) (W.faults sink.new) result }
     ensures lined { InLines W.taken W.pieces (IsLoadLine (S.site net.old).nodes) sink.old sink.new result }
 {

@@ -14,6 +14,7 @@ returns-in-Err-clause-told g c =
     let line = c.line-item.result in
     failed_at g.W.Sink.taken g.W.Sink.pieces nodes c.loop-line.line-index c.args.lines.now line _ c.loop-line-test.true c.line-item.is c.args.sink.now c.loop-line.sink c.loop-line.invariant.told
     c.write_all.new.self (wanted_of c.in-Ok.wanted (IsWanted nodes line) (IsLeftOut nodes line) c.if-wanted.true (rw c.as_slice.ensures at c.in-Ok.ensures)) (rw c.as_slice-then-wanted.ensures at c.in-Err.ensures.bytes)
+    c.in-Err.ensures.piece
 
 pub loop-line-preserved : goal.loop-line-preserved
 loop-line-preserved g c = elim c.if-wanted.branch [

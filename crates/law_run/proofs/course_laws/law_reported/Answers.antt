@@ -1,4 +1,4 @@
-use Rattle.law_run.proofs.Telling.{no_more, still_first}
+use Rattle.law_run.proofs.Telling.{no_more, still_first, pieces_joined}
 use Rattle.law_run.proofs.course_laws.law_reported.Goals as goal
 
 pub returns-clause-done : goal.returns-clause-done
@@ -12,3 +12,6 @@ returns-clause-failed c = λ http scenario workers course old new took. still_fi
 
 pub returns-clause-memory : goal.returns-clause-memory
 returns-clause-memory c = λ http scenario workers course old new took. still_first http scenario workers course old new took
+
+pub returns-clause-text : goal.returns-clause-text
+returns-clause-text c = λ nodes items. pieces_joined nodes items

@@ -1,7 +1,8 @@
-use Rattle.std.proofs.Common.{◌≡◌, ℕ, length, Err, Ok, refl, sym, ap, subst}
+use Rattle.std.proofs.Common.{◌≡◌, ℕ, [], ◌∷◌, length, Err, Ok, refl, sym, ap, subst}
 use Rattle.std.specs.Prelude.{IsSome, Result}
 use Rattle.run_model.specs.Course.{Serve, served_by}
 use Rattle.run_types.specs.Texts.{served_text}
+use Rattle.run_model.specs.Headline.{given_to}
 use Rattle.run_lines.specs.declared.stop.Stop.TheVariants as stops
 use Rattle.run_lines.proofs.Taking.{first_none}
 use Rattle.kme_serve.specs.Door.{Door}
@@ -25,7 +26,7 @@ returns-in-Err-clause-ends g c net w left =
     let before : PortsTold g.row.P-Door.Denot = ports_told g.P.Ports.asked g.P.Ports.back g.P.Ports.queues c.args.ports.now in
     let text = served_text (served_by (Serve c.args.workers c.args.connections c.args.port) (length c.args.state.now.site.nodes)) in
     ends_with_lines g.K.Disk.is_honest g.K.Disk.moment g.K.Disk.image g.E.Entropy.left g.Q.Device.told g.X.Wire.frames g.X.Wire.counted g.K.Disk.faults g.K.Disk.armings g.E.Entropy.faults g.Q.Device.faults g.X.Wire.faults tell failed tells c.args.workers c.args.connections c.args.port
-    c.args.state.now c.args.state.now net w before before (g.W.Sink.taken c.args.sink.now) (g.W.Sink.taken c.args.sink.now) text
+    c.args.state.now c.args.state.now net w before before (given_to g.W.Sink.taken g.W.Sink.pieces c.args.sink.now) (given_to g.W.Sink.taken g.W.Sink.pieces c.args.sink.now) text
     c.args.lines c.in-Err.stop c.in-Err.is _ refl refl refl refl (of_some _ _ c.args.lines c.in-Err.stop c.in-Err.is left)
 
 pub returns-in-Err-Listen-clause-ends : goal.returns-in-Err-Listen-clause-ends
@@ -41,7 +42,7 @@ returns-in-Err-Listen-clause-ends g c net w left =
     let is : c.serve_nodes.result ≡ Err refusals.Listen = let e = c.in-Err-Listen.is in let f = c.in-Err-Listen.field-0-is in cc in
     let served = c.serve_nodes.ensures.served net w (of_all _ _ c.args.lines c.in_default.field-0 c.in_default.is left) in
     ends_there g.K.Disk.is_honest g.K.Disk.moment g.K.Disk.image g.E.Entropy.left g.Q.Device.told g.X.Wire.frames g.X.Wire.counted g.K.Disk.faults g.K.Disk.armings g.E.Entropy.faults g.Q.Device.faults g.X.Wire.faults tell failed tells c.args.workers c.args.connections c.args.port
-    c.args.state.now c.serve_nodes.new.state net w before after (g.W.Sink.taken c.args.sink.now) (g.W.Sink.taken c.args.sink.now) text
+    c.args.state.now c.serve_nodes.new.state net w before after (given_to g.W.Sink.taken g.W.Sink.pieces c.args.sink.now) (given_to g.W.Sink.taken g.W.Sink.pieces c.args.sink.now) text
     c.args.lines c.in_default.field-0 c.in_default.is (served_as c.serve_nodes.result) result (sym (ap (λ (r : Result (Unit {0}) ServeRefusal). served_as r) is)) served
     refl
 
@@ -61,9 +62,9 @@ returns-in-Err-Memory-clause-ends g c net w left =
     let is : c.serve_nodes.result ≡ Err refusals.Memory = let e = c.in-Err-Memory.is in let f = c.in-Err-Memory.field-0-is in cc in
     let served = c.serve_nodes.ensures.served net w (of_all _ _ c.args.lines c.in_default.field-0 c.in_default.is left) in
     ends_there g.K.Disk.is_honest g.K.Disk.moment g.K.Disk.image g.E.Entropy.left g.Q.Device.told g.X.Wire.frames g.X.Wire.counted g.K.Disk.faults g.K.Disk.armings g.E.Entropy.faults g.Q.Device.faults g.X.Wire.faults tell failed tells c.args.workers c.args.connections c.args.port
-    c.args.state.now c.serve_nodes.new.state net w before after (g.W.Sink.taken c.args.sink.now) (g.W.Sink.taken c.args.sink.now) text
+    c.args.state.now c.serve_nodes.new.state net w before after (given_to g.W.Sink.taken g.W.Sink.pieces c.args.sink.now) (given_to g.W.Sink.taken g.W.Sink.pieces c.args.sink.now) text
     c.args.lines c.in_default.field-0 c.in_default.is (served_as c.serve_nodes.result) result (sym (ap (λ (r : Result (Unit {0}) ServeRefusal). served_as r) is)) served
-    (first_none (g.W.Sink.taken c.args.sink.now) text)
+    (first_none (given_to g.W.Sink.taken g.W.Sink.pieces c.args.sink.now) (text ∷ []))
 
 pub returns-clause-ends : goal.returns-clause-ends
 returns-clause-ends g c net w left =
@@ -78,10 +79,10 @@ returns-clause-ends g c net w left =
     let served = c.serve_nodes.ensures.served net w (of_all _ _ c.args.lines c.in_default.field-0 c.in_default.is left) in
     let all = subst (λ (r : Result (Unit {0}) ServeRefusal). IsServed g.K.Disk.is_honest g.K.Disk.moment g.K.Disk.image g.E.Entropy.left g.Q.Device.told g.X.Wire.frames g.X.Wire.counted g.K.Disk.faults g.K.Disk.armings g.E.Entropy.faults g.Q.Device.faults g.X.Wire.faults tell failed tells c.args.workers c.args.connections c.args.port
     c.args.state.now c.serve_nodes.new.state net w before after (served_as r)) is served in
-    let line = subst (λ (n : ℕ). IsLineTold (ended c.write_served.result) (g.W.Sink.taken c.args.sink.now) (g.W.Sink.taken c.write_served.new.sink) (served_text n)) (c.connections_in_all-all.ensures c.args.port)
+    let line = subst (λ (n : ℕ). IsLineTold (ended c.write_served.result) (given_to g.W.Sink.taken g.W.Sink.pieces c.args.sink.now) (given_to g.W.Sink.taken g.W.Sink.pieces c.write_served.new.sink) (served_text n)) (c.connections_in_all-all.ensures c.args.port)
     c.write_served.ensures.line in
     ends_at_last g.K.Disk.is_honest g.K.Disk.moment g.K.Disk.image g.E.Entropy.left g.Q.Device.told g.X.Wire.frames g.X.Wire.counted g.K.Disk.faults g.K.Disk.armings g.E.Entropy.faults g.Q.Device.faults g.X.Wire.faults tell failed tells c.args.workers c.args.connections c.args.port
-    c.args.state.now c.serve_nodes.new.state net w before after (g.W.Sink.taken c.args.sink.now) (g.W.Sink.taken c.write_served.new.sink) text
+    c.args.state.now c.serve_nodes.new.state net w before after (given_to g.W.Sink.taken g.W.Sink.pieces c.args.sink.now) (given_to g.W.Sink.taken g.W.Sink.pieces c.write_served.new.sink) text
     c.args.lines c.in_default.field-0 c.in_default.is c.write_served.result all c.write_served.ensures.calm line
 
 pub returns-in-Err-Listen-clause-lined : goal.returns-in-Err-Listen-clause-lined

@@ -1,6 +1,7 @@
 -- The clauses of a served scenario over a bench.
 use Rattle.std.proofs.Common.{◌≡◌, ◌∙◌, inr, ap}
 use Rattle.std.specs.Prelude.{IsSome}
+use Rattle.run_model.specs.Headline.{given_to}
 use Rattle.kme_serve.specs.Door.{Door}
 use Rattle.kme_serve.specs.Doors.{PortsTold, ports_told}
 use Rattle.net_world.proofs.Rooms.{whole_again}
@@ -20,7 +21,7 @@ returns-in-Ok-clause-headline g c =
     let r = c.in-Ok.ensures.ran in
     inr (headlines g.K.Disk.is_honest g.K.Disk.content g.K.Disk.moment g.K.Disk.image g.E.Entropy.left g.Q.Device.told g.X.Wire.frames g.X.Wire.counted g.K.Disk.faults g.K.Disk.armings g.E.Entropy.faults g.Q.Device.faults g.X.Wire.faults tell failed tells
     c.args.bench.now c.run_out.new.bench c.put_back.new.bench c.in-Ok.left.state c.serve_behind-result.new.state c.args.scenario c.args.workers c.args.connections c.args.port
-    (g.W.Sink.taken c.args.sink.now) (g.W.Sink.taken c.run_out.new.sink) (g.W.Sink.taken c.serve_behind-result.new.sink) before after c.in-Ok.left.ended c.serve_behind-result.result
+    (given_to g.W.Sink.taken g.W.Sink.pieces c.args.sink.now) (given_to g.W.Sink.taken g.W.Sink.pieces c.run_out.new.sink) (given_to g.W.Sink.taken g.W.Sink.pieces c.serve_behind-result.new.sink) before after c.in-Ok.left.ended c.serve_behind-result.result
     c.law_tasks_are_run.ensures.world c.law_bench_begins.ensures.benched c.law_bench_serves.ensures c.requires.fresh c.requires.runnable.site r c.serve_behind-result.ensures.ends c.put_back.ensures)
 
 pub returns-in-Ok-clause-whole : goal.returns-in-Ok-clause-whole

@@ -8,6 +8,7 @@ use Rattle.run_ops.specs.Acting.{IsReady}
 use Rattle.run_ops.specs.Runnable.{IsEntryFor}
 use Rattle.run_tasks.specs.Loaded.{RanLoad}
 use Rattle.run_model.specs.Report.{tasks}
+use Rattle.run_model.specs.Headline.{given_to}
 use Rattle.run_lines.specs.Reporting.{InLines}
 use Rattle.run_tasks.specs.Pieces.{IsLoadLine}
 use Rattle.world_state.specs.Rests.{Rests}
@@ -72,7 +73,7 @@ returns-clause-headline g c rounds is =
     g.K.Disk.faults g.K.Disk.armings g.E.Entropy.faults g.Q.Device.faults g.X.Wire.faults
     (λ (r : Running-here). r.state)
     c.args.bench.now c.lay_out.new.bench c.put_back.new.bench c.new-running.result c.run_load-result.new.net c.args.scenario rounds
-    (g.W.Sink.taken c.args.sink.now) (g.W.Sink.taken c.run_load-result.new.sink) c.run_load-result.result c.law_bench_headline.ensures.load
+    (given_to g.W.Sink.taken g.W.Sink.pieces c.args.sink.now) (given_to g.W.Sink.taken g.W.Sink.pieces c.run_load-result.new.sink) c.run_load-result.result c.law_bench_headline.ensures.load
     c.law_load_is_reported.ensures c.frames_of_a_network.ensures is
     c.requires.fresh c.requires.runnable.site
     (subst (λ (x : State-here). IsLaidOut c.args.bench.now c.lay_out.new.bench c.args.scenario.site x) (sym c.new-running.ensures) laid)
@@ -80,13 +81,13 @@ returns-clause-headline g c rounds is =
     subst (λ (numbers : List ℕ). RanLoad (λ (r : Running-here). Stands g.K.Disk.is_honest g.K.Disk.moment g.K.Disk.image g.E.Entropy.left g.Q.Device.told g.X.Wire.frames g.X.Wire.counted r.state)
     (λ (r : Running-here). Rests g.K.Disk.is_honest g.K.Disk.moment g.K.Disk.image g.E.Entropy.left g.Q.Device.told g.X.Wire.frames g.X.Wire.counted r.state)
     (λ (a b : Running-here). Tallied g.K.Disk.faults g.K.Disk.armings g.E.Entropy.faults g.Q.Device.faults g.X.Wire.faults a.state b.state)
-    c.args.scenario.site.nodes c.new-running.result c.run_load-result.new.net (g.W.Sink.taken c.args.sink.now) (g.W.Sink.taken c.run_load-result.new.sink)
+    c.args.scenario.site.nodes c.new-running.result c.run_load-result.new.net (given_to g.W.Sink.taken g.W.Sink.pieces c.args.sink.now) (given_to g.W.Sink.taken g.W.Sink.pieces c.run_load-result.new.sink)
     http net first (tasks numbers c.args.scenario.entries) c.run_load-result.result)
     c.as_slice.ensures
     (subst (λ (d : Site). RanLoad (λ (r : Running-here). Stands g.K.Disk.is_honest g.K.Disk.moment g.K.Disk.image g.E.Entropy.left g.Q.Device.told g.X.Wire.frames g.X.Wire.counted r.state)
     (λ (r : Running-here). Rests g.K.Disk.is_honest g.K.Disk.moment g.K.Disk.image g.E.Entropy.left g.Q.Device.told g.X.Wire.frames g.X.Wire.counted r.state)
     (λ (a b : Running-here). Tallied g.K.Disk.faults g.K.Disk.armings g.E.Entropy.faults g.Q.Device.faults g.X.Wire.faults a.state b.state)
-    d.nodes c.new-running.result c.run_load-result.new.net (g.W.Sink.taken c.args.sink.now) (g.W.Sink.taken c.run_load-result.new.sink)
+    d.nodes c.new-running.result c.run_load-result.new.net (given_to g.W.Sink.taken g.W.Sink.pieces c.args.sink.now) (given_to g.W.Sink.taken g.W.Sink.pieces c.run_load-result.new.sink)
     http net first (tasks c.as_slice.result.now c.args.scenario.entries) c.run_load-result.result)
     sited
     (c.run_load-result.ensures.ran http net first ready)))

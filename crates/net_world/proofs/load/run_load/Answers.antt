@@ -4,6 +4,7 @@ use Rattle.run_types.specs.declared.scenario.Scenario.{Scenario}
 use Rattle.run_model.specs.Course.{Load}
 use Rattle.net_world.specs.Running.{HasHeadlines, WasLeft, ended}
 use Rattle.run_model.specs.Load.{load_scenario}
+use Rattle.run_model.specs.Headline.{given_to}
 use Rattle.run_lines.specs.Reporting.{InLines}
 use Rattle.run_tasks.specs.Pieces.{IsLoadLine}
 use Rattle.net_world.proofs.Lined.{none_written}
@@ -14,7 +15,7 @@ returns-clause-headline g c =
     subst (λ (s : Scenario). WasLeft c.args.bench.now c.run_lines_of.new.bench c.args.sink.now c.run_lines_of.new.sink c.run_lines_of.result
     ⊎ HasHeadlines g.K.Disk.moment g.K.Disk.image g.E.Entropy.left g.Q.Device.told g.X.Wire.frames
     g.K.Disk.faults g.K.Disk.armings g.E.Entropy.faults g.Q.Device.faults g.X.Wire.faults c.args.bench.now c.run_lines_of.new.bench (Load c.args.rounds) s
-    (g.W.Sink.taken c.args.sink.now) (g.W.Sink.taken c.run_lines_of.new.sink) (ended c.run_lines_of.result))
+    (given_to g.W.Sink.taken g.W.Sink.pieces c.args.sink.now) (given_to g.W.Sink.taken g.W.Sink.pieces c.run_lines_of.new.sink) (ended c.run_lines_of.result))
     c.in-Ok.ensures.is (c.run_lines_of.ensures.headline c.args.rounds c.in-Ok.ensures.is)
 
 pub returns-clause-lined : goal.returns-clause-lined

@@ -10,6 +10,7 @@ use Rattle.run_lines.specs.Reporting.{InLines, IsItemLine}
 use Rattle.run_tasks.specs.Tasks.{RanTasks}
 use Rattle.run_model.specs.Report.{tasks}
 use Rattle.run_model.specs.Course.{tasks_of}
+use Rattle.run_model.specs.Headline.{given_to}
 use Rattle.run_http.specs.Speaking.{IsTextsOf}
 use Rattle.net_world.specs.New.{network_on}
 use Rattle.world_state.specs.Armed.{most_armed}
@@ -87,17 +88,17 @@ returns-clause-ran g c =
           of_states g.K.Disk.is_honest g.K.Disk.content g.K.Disk.moment g.K.Disk.image g.E.Entropy.left g.Q.Device.told g.X.Wire.frames g.X.Wire.counted
           g.K.Disk.faults g.K.Disk.armings g.E.Entropy.faults g.Q.Device.faults g.X.Wire.faults (λ (r : Running-here). r.state)
           c.new-running.result c.run_entries-ended.new.net c.in-Ok-lay_out.state c.into_state.result c.new-running.ensures (sym c.into_state.ensures.state)
-          c.args.scenario.site.nodes (g.W.Sink.taken c.args.sink.now) (g.W.Sink.taken c.run_entries-ended.new.sink) http net c.args.workers first (tasks_of c.args.scenario) c.run_entries-ended.result
+          c.args.scenario.site.nodes (given_to g.W.Sink.taken g.W.Sink.pieces c.args.sink.now) (given_to g.W.Sink.taken g.W.Sink.pieces c.run_entries-ended.new.sink) http net c.args.workers first (tasks_of c.args.scenario) c.run_entries-ended.result
           (subst (λ (numbers : List ℕ). RanTasks (λ (r : Running-here). Stands g.K.Disk.is_honest g.K.Disk.moment g.K.Disk.image g.E.Entropy.left g.Q.Device.told g.X.Wire.frames g.X.Wire.counted r.state)
           (λ (r : Running-here). Rests g.K.Disk.is_honest g.K.Disk.moment g.K.Disk.image g.E.Entropy.left g.Q.Device.told g.X.Wire.frames g.X.Wire.counted r.state)
           (λ (a b : Running-here). Tallied g.K.Disk.faults g.K.Disk.armings g.E.Entropy.faults g.Q.Device.faults g.X.Wire.faults a.state b.state)
-          c.args.scenario.site.nodes c.new-running.result c.run_entries-ended.new.net (g.W.Sink.taken c.args.sink.now) (g.W.Sink.taken c.run_entries-ended.new.sink)
+          c.args.scenario.site.nodes c.new-running.result c.run_entries-ended.new.net (given_to g.W.Sink.taken g.W.Sink.pieces c.args.sink.now) (given_to g.W.Sink.taken g.W.Sink.pieces c.run_entries-ended.new.sink)
           http net c.args.workers first (tasks numbers c.args.scenario.entries) c.run_entries-ended.result)
           c.as_slice.ensures
           (subst (λ (d : Site). RanTasks (λ (r : Running-here). Stands g.K.Disk.is_honest g.K.Disk.moment g.K.Disk.image g.E.Entropy.left g.Q.Device.told g.X.Wire.frames g.X.Wire.counted r.state)
           (λ (r : Running-here). Rests g.K.Disk.is_honest g.K.Disk.moment g.K.Disk.image g.E.Entropy.left g.Q.Device.told g.X.Wire.frames g.X.Wire.counted r.state)
           (λ (a b : Running-here). Tallied g.K.Disk.faults g.K.Disk.armings g.E.Entropy.faults g.Q.Device.faults g.X.Wire.faults a.state b.state)
-          d.nodes c.new-running.result c.run_entries-ended.new.net (g.W.Sink.taken c.args.sink.now) (g.W.Sink.taken c.run_entries-ended.new.sink)
+          d.nodes c.new-running.result c.run_entries-ended.new.net (given_to g.W.Sink.taken g.W.Sink.pieces c.args.sink.now) (given_to g.W.Sink.taken g.W.Sink.pieces c.run_entries-ended.new.sink)
           http net c.args.workers first (tasks c.as_slice.result.now c.args.scenario.entries) c.run_entries-ended.result)
           sited
           (c.run_entries-ended.ensures.ran http net first

@@ -1,5 +1,6 @@
 -- The clauses of a run over a bench.
 use Rattle.std.proofs.Common.{inr}
+use Rattle.run_model.specs.Headline.{given_to}
 use Rattle.run_lines.proofs.Lines.{stopped_unwritten}
 use Rattle.world_state.specs.declared.state.State.{State}
 use Rattle.net_world.proofs.RunHeadlines.{headlines}
@@ -14,7 +15,7 @@ returns-in-Ok-clause-headline g c =
     g.K.Disk.faults g.K.Disk.armings g.E.Entropy.faults g.Q.Device.faults g.X.Wire.faults
     (λ (s : State-here). s)
     c.args.bench.now c.run_out.new.bench c.put_back.new.bench r.begin c.in-Ok.left.state c.args.scenario c.args.workers
-    (g.W.Sink.taken c.args.sink.now) (g.W.Sink.taken c.run_out.new.sink) c.in-Ok.left.ended c.law_bench_headline.ensures.run
+    (given_to g.W.Sink.taken g.W.Sink.pieces c.args.sink.now) (given_to g.W.Sink.taken g.W.Sink.pieces c.run_out.new.sink) c.in-Ok.left.ended c.law_bench_headline.ensures.run
     c.requires.fresh c.requires.runnable.site r.laid r.ran c.put_back.ensures)
 
 pub returns-in-Ok-clause-whole : goal.returns-in-Ok-clause-whole

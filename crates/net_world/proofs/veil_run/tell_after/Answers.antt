@@ -1,4 +1,5 @@
 use Rattle.std.proofs.Common.{List, sym, subst}
+use Rattle.run_model.specs.Headline.{given_to}
 use Rattle.lane_sender.specs.Lane.{LaneForm}
 use Rattle.net_world.specs.Lanes.{AreLanes, veil_line}
 use Rattle.net_world.proofs.VeilHeadlines.{are_lanes, at_ok, ends_told}
@@ -20,7 +21,7 @@ tell-requires g c =
 pub returns-in-Ok-clause-ends : goal.returns-in-Ok-clause-ends
 returns-in-Ok-clause-ends g c net w h =
     let stands = at_ok _ c.args.left.now.ended c.in-Ok.field-0 c.in-Ok.is h in
-    ends_told g.W.Sink.taken c.args.left.now.ended c.in-Ok.field-0 (veil_line net w) c.args.sink.now c.tell.new.sink c.tell.result c.in-Ok.is
+    ends_told (given_to g.W.Sink.taken g.W.Sink.pieces) c.args.left.now.ended c.in-Ok.field-0 (veil_line net w) c.args.sink.now c.tell.new.sink c.tell.result c.in-Ok.is
     (c.tell.ensures.told net w
     (subst (λ (sides : List (LaneForm g.row.X.Denot)). AreLanes g.X.Wire.frames g.X.Wire.counted net w sides) (sym c.deref.ensures.value)
     (are_lanes g.K.Disk.is_honest g.K.Disk.content g.K.Disk.moment g.K.Disk.image g.E.Entropy.left g.Q.Device.told g.X.Wire.frames g.X.Wire.counted

@@ -1,17 +1,18 @@
-use Rattle.std.proofs.Common.{◌≡◌, ℕ, List, [], Some, Ok, Err, sym, ap, subst, ◌∙◌, inl, inr}
-use Rattle.std.specs.Prelude.{◌⊎◌, Option}
+use Rattle.std.proofs.Common.{◌≡◌, ℕ, [], Ok, Err, sym, ap, subst, ◌∙◌, inl, inr}
+use Rattle.std.specs.Prelude.{◌⊎◌}
 use Rattle.run_types.specs.declared.scenario.Scenario.{Scenario}
 use Rattle.run_lines.specs.declared.stop.Stop.TheVariants as stops
 use Rattle.run_model.specs.Course.{Words, Run, Load}
 use Rattle.run_model.specs.Load.{load_scenario}
 use Rattle.run_model.specs.Headline as headline
+use Rattle.run_model.specs.Headline.{Given, given_to}
 use Rattle.net_world.specs.Running.{HasHeadlines, ended}
 use Rattle.net_world.specs.Veiling.{HasVeiled}
 use Rattle.qkd_network.specs.Forms.{wanted_of}
 use Rattle.qkd_network.specs.declared.form.Form.{Form}
 use Rattle.run_tasks.specs.Pieces.{IsLoadLine}
 use Rattle.qkd_network.specs.Lines.{IsLineOf, WroteLines}
-use Rattle.qkd_network.specs.Quiet.{IsQuiet}
+use Rattle.qkd_network.specs.Quiet.{given_lines, IsQuiet}
 use Rattle.qkd_network.specs.Outcome.{RunOutcome, outside}
 use Rattle.qkd_network.specs.declared.status.Status.{Status}
 use Rattle.qkd_network.proofs.Outcomes.{unread, ran, loaded, left_beside, beside_ports, answered_calm}
@@ -22,7 +23,7 @@ pub returns-in-Err-scenario_in-clause-outcome : goal.returns-in-Err-scenario_in-
 returns-in-Err-scenario_in-clause-outcome g c =
     inl (unread g.S.Source.left
     (λ (asked : Words) (scenario : Scenario) (stop : headline.Stop). HasHeadlines g.K.Disk.moment g.K.Disk.image g.E.Entropy.left g.Q.Device.told g.X.Wire.frames
-    g.K.Disk.faults g.K.Disk.armings g.E.Entropy.faults g.Q.Device.faults g.X.Wire.faults c.args.bench.now c.args.bench.now asked scenario (g.W.Sink.taken c.args.sink.now) (g.W.Sink.taken c.args.sink.now) stop
+    g.K.Disk.faults g.K.Disk.armings g.E.Entropy.faults g.Q.Device.faults g.X.Wire.faults c.args.bench.now c.args.bench.now asked scenario (given_to g.W.Sink.taken g.W.Sink.pieces c.args.sink.now) (given_to g.W.Sink.taken g.W.Sink.pieces c.args.sink.now) stop
     × WroteLines g.W.Sink.taken g.W.Sink.pieces asked scenario c.args.sink.now c.args.sink.now stop)
     c.args.words.now c.in-Ok-Run.workers (c.in-Ok-Run.ensures.form ∙ ap (λ (f : Form). Ok (wanted_of f)) c.in-Ok-Run.field-0-is) c.args.source.now c.scenario_in.new.source
     c.in-Err-scenario_in.status c.args.sink.now (outside c.args.bench.now c.args.ports.now) c.in-Err-scenario_in.ensures.read)
@@ -34,7 +35,7 @@ returns-in-Ok-Veil-clause-outcome g c =
       calm = c.veil.ensures.calm;
       outcome = beside_ports g.S.Source.left
           (λ (scenario : Scenario) (stop : headline.Stop). HasVeiled g.K.Disk.moment g.K.Disk.image g.E.Entropy.left g.Q.Device.told g.X.Wire.frames
-          g.K.Disk.faults g.K.Disk.armings g.E.Entropy.faults g.Q.Device.faults g.X.Wire.faults g.W.Sink.taken c.args.bench.now c.veil.new.bench scenario c.args.sink.now c.veil.new.sink stop)
+          g.K.Disk.faults g.K.Disk.armings g.E.Entropy.faults g.Q.Device.faults g.X.Wire.faults (given_to g.W.Sink.taken g.W.Sink.pieces) c.args.bench.now c.veil.new.bench scenario c.args.sink.now c.veil.new.sink stop)
           c.args.source.now c.veil.new.source c.veil.result c.args.sink.now c.veil.new.sink c.args.bench.now c.veil.new.bench c.args.ports.now c.veil.ensures.outcome;
     })))
 
@@ -56,8 +57,8 @@ returns-in-Ok-Quiet-clause-outcome g c =
       calm = c.quiet.ensures.calm;
       outcome = beside_ports g.S.Source.left
           (λ (scenario : Scenario) (stop : headline.Stop). IsQuiet g.W.Sink.taken g.W.Sink.pieces
-          (λ (report : Option (List ℕ)) (end : headline.Stop). HasHeadlines g.K.Disk.moment g.K.Disk.image g.E.Entropy.left g.Q.Device.told g.X.Wire.frames
-          g.K.Disk.faults g.K.Disk.armings g.E.Entropy.faults g.Q.Device.faults g.X.Wire.faults c.args.bench.now c.quiet.new.bench (Run c.in-Ok-Quiet.workers) scenario (Some []) report end)
+          (λ (report : Given) (end : headline.Stop). HasHeadlines g.K.Disk.moment g.K.Disk.image g.E.Entropy.left g.Q.Device.told g.X.Wire.frames
+          g.K.Disk.faults g.K.Disk.armings g.E.Entropy.faults g.Q.Device.faults g.X.Wire.faults c.args.bench.now c.quiet.new.bench (Run c.in-Ok-Quiet.workers) scenario (given_lines []) report end)
           scenario.site.nodes c.args.sink.now c.quiet.new.sink stop)
           c.args.source.now c.quiet.new.source c.quiet.result c.args.sink.now c.quiet.new.sink c.args.bench.now c.quiet.new.bench c.args.ports.now c.quiet.ensures.outcome;
     }))))
@@ -70,13 +71,13 @@ pub returns-in-Ok-clause-outcome : goal.returns-in-Ok-clause-outcome
 returns-in-Ok-clause-outcome g c =
     inl (subst (λ (s : Status). RunOutcome g.S.Source.left
     (λ (asked : Words) (scenario : Scenario) (stop : headline.Stop). HasHeadlines g.K.Disk.moment g.K.Disk.image g.E.Entropy.left g.Q.Device.told g.X.Wire.frames
-    g.K.Disk.faults g.K.Disk.armings g.E.Entropy.faults g.Q.Device.faults g.X.Wire.faults c.args.bench.now c.run_scenario.new.bench asked scenario (g.W.Sink.taken c.args.sink.now) (g.W.Sink.taken c.run_scenario.new.sink) stop
+    g.K.Disk.faults g.K.Disk.armings g.E.Entropy.faults g.Q.Device.faults g.X.Wire.faults c.args.bench.now c.run_scenario.new.bench asked scenario (given_to g.W.Sink.taken g.W.Sink.pieces c.args.sink.now) (given_to g.W.Sink.taken g.W.Sink.pieces c.run_scenario.new.sink) stop
     × WroteLines g.W.Sink.taken g.W.Sink.pieces asked scenario c.args.sink.now c.run_scenario.new.sink stop)
     s c.args.words.now c.args.source.now c.scenario_in.new.source c.args.sink.now c.run_scenario.new.sink (outside c.args.bench.now c.args.ports.now) (outside c.run_scenario.new.bench c.args.ports.now))
     (sym c.of_run-in-Ok.ensures)
     (ran g.S.Source.left
     (λ (asked : Words) (scenario : Scenario) (stop : headline.Stop). HasHeadlines g.K.Disk.moment g.K.Disk.image g.E.Entropy.left g.Q.Device.told g.X.Wire.frames
-    g.K.Disk.faults g.K.Disk.armings g.E.Entropy.faults g.Q.Device.faults g.X.Wire.faults c.args.bench.now c.run_scenario.new.bench asked scenario (g.W.Sink.taken c.args.sink.now) (g.W.Sink.taken c.run_scenario.new.sink) stop
+    g.K.Disk.faults g.K.Disk.armings g.E.Entropy.faults g.Q.Device.faults g.X.Wire.faults c.args.bench.now c.run_scenario.new.bench asked scenario (given_to g.W.Sink.taken g.W.Sink.pieces c.args.sink.now) (given_to g.W.Sink.taken g.W.Sink.pieces c.run_scenario.new.sink) stop
     × WroteLines g.W.Sink.taken g.W.Sink.pieces asked scenario c.args.sink.now c.run_scenario.new.sink stop)
     c.args.words.now c.in-Ok-Run.workers (c.in-Ok-Run.ensures.form ∙ ap (λ (f : Form). Ok (wanted_of f)) c.in-Ok-Run.field-0-is) c.args.source.now c.scenario_in.new.source
     c.in-Ok.scenario c.in-Ok.ensures.read
@@ -88,19 +89,19 @@ pub returns-in-Ok-Load-clause-outcome : goal.returns-in-Ok-Load-clause-outcome
 returns-in-Ok-Load-clause-outcome g c =
     inl (subst (λ (s : Status). RunOutcome g.S.Source.left
     (λ (asked : Words) (scenario : Scenario) (stop : headline.Stop). HasHeadlines g.K.Disk.moment g.K.Disk.image g.E.Entropy.left g.Q.Device.told g.X.Wire.frames
-    g.K.Disk.faults g.K.Disk.armings g.E.Entropy.faults g.Q.Device.faults g.X.Wire.faults c.args.bench.now c.run_load.new.bench asked scenario (g.W.Sink.taken c.args.sink.now) (g.W.Sink.taken c.run_load.new.sink) stop
+    g.K.Disk.faults g.K.Disk.armings g.E.Entropy.faults g.Q.Device.faults g.X.Wire.faults c.args.bench.now c.run_load.new.bench asked scenario (given_to g.W.Sink.taken g.W.Sink.pieces c.args.sink.now) (given_to g.W.Sink.taken g.W.Sink.pieces c.run_load.new.sink) stop
     × WroteLines g.W.Sink.taken g.W.Sink.pieces asked scenario c.args.sink.now c.run_load.new.sink stop)
     s c.args.words.now c.args.source.now c.args.source.now c.args.sink.now c.run_load.new.sink (outside c.args.bench.now c.args.ports.now) (outside c.run_load.new.bench c.args.ports.now))
     (sym c.of_run.ensures)
     (loaded g.S.Source.left
     (λ (asked : Words) (scenario : Scenario) (stop : headline.Stop). HasHeadlines g.K.Disk.moment g.K.Disk.image g.E.Entropy.left g.Q.Device.told g.X.Wire.frames
-    g.K.Disk.faults g.K.Disk.armings g.E.Entropy.faults g.Q.Device.faults g.X.Wire.faults c.args.bench.now c.run_load.new.bench asked scenario (g.W.Sink.taken c.args.sink.now) (g.W.Sink.taken c.run_load.new.sink) stop
+    g.K.Disk.faults g.K.Disk.armings g.E.Entropy.faults g.Q.Device.faults g.X.Wire.faults c.args.bench.now c.run_load.new.bench asked scenario (given_to g.W.Sink.taken g.W.Sink.pieces c.args.sink.now) (given_to g.W.Sink.taken g.W.Sink.pieces c.run_load.new.sink) stop
     × WroteLines g.W.Sink.taken g.W.Sink.pieces asked scenario c.args.sink.now c.run_load.new.sink stop)
     c.args.words.now c.in-Ok-Load.rounds (c.in-Ok-Load.ensures.form ∙ ap (λ (f : Form). Ok (wanted_of f)) c.in-Ok-Load.field-0-is) c.args.source.now
     c.args.sink.now c.run_load.new.sink (outside c.args.bench.now c.args.ports.now) (outside c.run_load.new.bench c.args.ports.now) c.run_load.result
     (subst (λ (r : ℕ). ((c.run_load.result ≡ Err stops.Memory) × (c.run_load.new.sink ≡ c.args.sink.now) × ((outside c.run_load.new.bench c.args.ports.now) ≡ (outside c.args.bench.now c.args.ports.now))) ⊎
     (HasHeadlines g.K.Disk.moment g.K.Disk.image g.E.Entropy.left g.Q.Device.told g.X.Wire.frames
-    g.K.Disk.faults g.K.Disk.armings g.E.Entropy.faults g.Q.Device.faults g.X.Wire.faults c.args.bench.now c.run_load.new.bench (Load r) (load_scenario r) (g.W.Sink.taken c.args.sink.now) (g.W.Sink.taken c.run_load.new.sink) (ended c.run_load.result)
+    g.K.Disk.faults g.K.Disk.armings g.E.Entropy.faults g.Q.Device.faults g.X.Wire.faults c.args.bench.now c.run_load.new.bench (Load r) (load_scenario r) (given_to g.W.Sink.taken g.W.Sink.pieces c.args.sink.now) (given_to g.W.Sink.taken g.W.Sink.pieces c.run_load.new.sink) (ended c.run_load.result)
     × WroteLines g.W.Sink.taken g.W.Sink.pieces (Load r) (load_scenario r) c.args.sink.now c.run_load.new.sink (ended c.run_load.result)))
     c.in-Ok-Load.rounds-is
     (with_lines _ _ _ (left_beside c.args.bench.now c.run_load.new.bench c.args.ports.now c.args.sink.now c.run_load.new.sink c.run_load.result _ c.run_load.ensures.headline)

@@ -3,6 +3,7 @@ use Rattle.std.specs.Prelude.{IsSome}
 use Rattle.run_types.specs.declared.scenario.Scenario.{Scenario}
 use Rattle.run_model.specs.Course.{Serve}
 use Rattle.run_model.specs.Headline as headline
+use Rattle.run_model.specs.Headline.{given_to}
 use Rattle.kme_serve.specs.Doors.{ports_told, telling}
 use Rattle.kme_serve.proofs.Rooms.{room_of_new}
 use Rattle.net_serve.specs.BenchServing.{HasServedHeadlines}
@@ -28,7 +29,7 @@ returns-in-Err-clause-outcome g c =
     (telling g.P.Door.Listener.port g.P.Door.Listener.accepted g.P.Door.Listener.finished g.P.Door.Listener.waiting g.P.Door.Listener.done) g.P.Door.Listener.faults
     (IsSome (g.P.Ports.asked c.args.ports.now)) c.args.bench.now c.args.bench.now
     (ports_told g.P.Ports.asked g.P.Ports.back g.P.Ports.queues c.args.ports.now) (ports_told g.P.Ports.asked g.P.Ports.back g.P.Ports.queues c.args.ports.now)
-    c.args.workers c.args.connections c.args.port scenario (g.W.Sink.taken c.args.sink.now) (g.W.Sink.taken c.args.sink.now) stop
+    c.args.workers c.args.connections c.args.port scenario (given_to g.W.Sink.taken g.W.Sink.pieces c.args.sink.now) (given_to g.W.Sink.taken g.W.Sink.pieces c.args.sink.now) stop
     × WroteLines g.W.Sink.taken g.W.Sink.pieces (Serve c.args.workers c.args.connections c.args.port) scenario c.args.sink.now c.args.sink.now stop)
     c.args.source.now c.scenario_in.new.source c.in-Err.status c.args.sink.now (outside c.args.bench.now c.args.ports.now) c.in-Err.ensures.read
 
@@ -40,7 +41,7 @@ returns-in-Ok-clause-outcome g c =
     (telling g.P.Door.Listener.port g.P.Door.Listener.accepted g.P.Door.Listener.finished g.P.Door.Listener.waiting g.P.Door.Listener.done) g.P.Door.Listener.faults
     (IsSome (g.P.Ports.asked c.args.ports.now)) c.args.bench.now c.run_serve.new.bench
     (ports_told g.P.Ports.asked g.P.Ports.back g.P.Ports.queues c.args.ports.now) (ports_told g.P.Ports.asked g.P.Ports.back g.P.Ports.queues c.run_serve.new.ports)
-    c.args.workers c.args.connections c.args.port scenario (g.W.Sink.taken c.args.sink.now) (g.W.Sink.taken c.run_serve.new.sink) stop
+    c.args.workers c.args.connections c.args.port scenario (given_to g.W.Sink.taken g.W.Sink.pieces c.args.sink.now) (given_to g.W.Sink.taken g.W.Sink.pieces c.run_serve.new.sink) stop
     × WroteLines g.W.Sink.taken g.W.Sink.pieces (Serve c.args.workers c.args.connections c.args.port) scenario c.args.sink.now c.run_serve.new.sink stop)
     s c.args.source.now c.scenario_in.new.source c.args.sink.now c.run_serve.new.sink (outside c.args.bench.now c.args.ports.now) (outside c.run_serve.new.bench c.run_serve.new.ports))
     (sym c.of_serve.ensures)
@@ -50,7 +51,7 @@ returns-in-Ok-clause-outcome g c =
     (telling g.P.Door.Listener.port g.P.Door.Listener.accepted g.P.Door.Listener.finished g.P.Door.Listener.waiting g.P.Door.Listener.done) g.P.Door.Listener.faults
     (IsSome (g.P.Ports.asked c.args.ports.now)) c.args.bench.now c.run_serve.new.bench
     (ports_told g.P.Ports.asked g.P.Ports.back g.P.Ports.queues c.args.ports.now) (ports_told g.P.Ports.asked g.P.Ports.back g.P.Ports.queues c.run_serve.new.ports)
-    c.args.workers c.args.connections c.args.port scenario (g.W.Sink.taken c.args.sink.now) (g.W.Sink.taken c.run_serve.new.sink) stop
+    c.args.workers c.args.connections c.args.port scenario (given_to g.W.Sink.taken g.W.Sink.pieces c.args.sink.now) (given_to g.W.Sink.taken g.W.Sink.pieces c.run_serve.new.sink) stop
     × WroteLines g.W.Sink.taken g.W.Sink.pieces (Serve c.args.workers c.args.connections c.args.port) scenario c.args.sink.now c.run_serve.new.sink stop)
     c.args.source.now c.scenario_in.new.source c.in-Ok.scenario c.in-Ok.ensures.read c.args.sink.now c.run_serve.new.sink
     (outside c.args.bench.now c.args.ports.now) (outside c.run_serve.new.bench c.run_serve.new.ports) c.run_serve.result

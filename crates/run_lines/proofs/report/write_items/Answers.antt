@@ -1,14 +1,14 @@
 use Rattle.std.proofs.Common.{[], arith, Err}
 use Rattle.std.proofs.lemmas.Result.{err_from_is_err_and}
-use Rattle.run_lines.proofs.Writing.{none_took, none_pieces, more_took, more_pieces, stopped_at}
+use Rattle.run_model.specs.Headline.{given_to}
+use Rattle.run_lines.proofs.Writing.{none_took, more_took, stopped_at}
 use Rattle.run_lines.specs.Reporting.{IsItemLine}
 use Rattle.run_lines.proofs.Lines.{none_lined, lined_on, in_lines_on}
 use Rattle.run_lines.proofs.report.write_items.Goals as goal
 
 pub loop-item-init : goal.loop-item-init
 loop-item-init g c = record {
-  took = none_took c.args.site.now.nodes c.args.number (g.W.Sink.taken c.args.sink.now);
-  pieces = none_pieces c.args.site.now.nodes c.args.number (g.W.Sink.pieces c.args.sink.now);
+  took = none_took c.args.site.now.nodes c.args.number (given_to g.W.Sink.taken g.W.Sink.pieces c.args.sink.now);
   lined = none_lined g.W.Sink.taken g.W.Sink.pieces (IsItemLine c.args.site.now.nodes) c.args.sink.now;
   later = omega arith;
 }
@@ -33,7 +33,6 @@ loop-item-preserved g c =
     let items = c.args.items.now in
     record {
       took = more_took nodes c.args.number i items c.item-item.result _ _ _ _ c.loop-item-test.true c.item-item.is c.loop-item.invariant.took c.in_ok-write_item.ensures.wrote;
-      pieces = more_pieces nodes c.args.number i items c.item-item.result _ _ _ _ c.loop-item-test.true c.item-item.is c.loop-item.invariant.pieces c.in_ok-write_item.ensures.piece;
       lined = lined_on g.W.Sink.taken g.W.Sink.pieces (IsItemLine nodes) _ _ _ [] c.loop-item.invariant.lined c.in_ok-write_item.ensures.lined;
       later = omega (arith, c.loop-item.invariant.later, c.in_ok-write_item.ensures.blame.later);
     }

@@ -1,5 +1,6 @@
 use Rattle.std.proofs.Common.{◌≡◌, ◌≤◌, ◌-◌, []}
 use Rattle.run_model.specs.Lines.{passes}
+use Rattle.run_model.specs.Headline.{given_to}
 use Rattle.run_lines.proofs.Looping.{Went}
 use Rattle.run_lines.specs.Reporting.{IsItemLine, TookLines}
 use Rattle.run_lines.proofs.rounds.pass_from.Given as goal
@@ -12,6 +13,6 @@ invariant-loop-place g l =
       armed : g.S.Acts.armed l.net ≡ g.S.Acts.armed l.fn.net;
       lined : TookLines g.W.Sink.taken g.W.Sink.pieces (IsItemLine sited.nodes) l.fn.sink l.sink [];
       later : g.W.Sink.faults l.fn.sink ≤ g.W.Sink.faults l.sink;
-      went : Went g.S.Acts.stands g.S.Acts.tallied sited.nodes l.fn.net l.net (g.W.Sink.taken l.fn.sink) (g.W.Sink.taken l.sink) l.number
+      went : Went g.S.Acts.stands g.S.Acts.tallied sited.nodes l.fn.net l.net (given_to g.W.Sink.taken g.W.Sink.pieces l.fn.sink) (given_to g.W.Sink.taken g.W.Sink.pieces l.sink) l.number
           (passes l.lane l.from (l.to - l.from)) (passes l.lane l.place (l.to - l.place));
     }

@@ -1,5 +1,6 @@
 use Rattle.std.proofs.Common.{◌≡◌, ◌≤◌, map, []}
 use Rattle.net_model.specs.World.{Network, World}
+use Rattle.run_model.specs.Headline.{given_to}
 use Rattle.run_ops.specs.Acting.{IsReady}
 use Rattle.run_lines.specs.Counting.{on_wire}
 use Rattle.run_lines.proofs.Passing.{Passed}
@@ -15,6 +16,6 @@ invariant-loop-place g l =
       lined : TookLines g.W.Sink.taken g.W.Sink.pieces (IsItemLine sited.nodes) l.fn.sink l.sink [];
       later : g.W.Sink.faults l.fn.sink ≤ g.W.Sink.faults l.sink;
       passed : (n : Network) (earlier w : World) → IsReady g.S.Acts.stands l.fn.net n w → l.before ≡ map (on_wire earlier) l.lanes →
-          Passed g.S.Acts.stands g.S.Acts.tallied sited.nodes l.number l.lanes l.fn.net l.net (g.W.Sink.taken l.fn.sink) (g.W.Sink.taken l.sink) n earlier w l.place
+          Passed g.S.Acts.stands g.S.Acts.tallied sited.nodes l.number l.lanes l.fn.net l.net (given_to g.W.Sink.taken g.W.Sink.pieces l.fn.sink) (given_to g.W.Sink.taken g.W.Sink.pieces l.sink) n earlier w l.place
           (record { each = l.each; all = l.all });
     }

@@ -2,6 +2,7 @@ use Rattle.std.proofs.Common.{List, [], ◌∷◌, drop, arith, ◌+◌, Err}
 use Rattle.std.proofs.lemmas.Result.{err_from_is_err_and}
 use Rattle.run_types.specs.declared.item.NumberedItem.{NumberedItem}
 use Rattle.run_model.specs.Play.{numbered}
+use Rattle.run_model.specs.Headline.{given_to}
 use Rattle.run_ops.specs.declared.done_block.PutFrame.{PutFrame}
 use Rattle.run_tasks.specs.declared.prepared.Place.{Place}
 use Rattle.run_tasks.specs.Reported.{number_in, frames_told}
@@ -15,7 +16,7 @@ said places f = numbered (number_in places f.place) (f.item ∷ [])
 
 pub loop-frame-init : goal.loop-frame-init
 loop-frame-init g c = record {
-  told = told_none c.args.site.now.nodes (g.W.Sink.taken c.args.sink.now) (frames_told c.args.places.now c.args.frames.now);
+  told = told_none c.args.site.now.nodes (given_to g.W.Sink.taken g.W.Sink.pieces c.args.sink.now) (frames_told c.args.places.now c.args.frames.now);
   lined = none_lined g.W.Sink.taken g.W.Sink.pieces (IsItemLine c.args.site.now.nodes) c.args.sink.now;
   later = omega arith;
 }

@@ -1,5 +1,6 @@
 use Rattle.std.proofs.Common.{drop, map, arith, ◌+◌, [], Err}
 use Rattle.std.proofs.lemmas.Result.{err_from_is_err_and}
+use Rattle.run_model.specs.Headline.{given_to}
 use Rattle.run_tasks.specs.Prepared.{told_item}
 use Rattle.run_tasks.proofs.Writes.{told_none, told_on, told_all, told_stop, one_mapped, none_mapped}
 use Rattle.run_lines.specs.Reporting.{IsItemLine}
@@ -8,7 +9,7 @@ use Rattle.run_tasks.proofs.block_report.write_told.Goals as goal
 
 pub loop-each-init : goal.loop-each-init
 loop-each-init g c = record {
-  told = told_none c.args.site.now.nodes (g.W.Sink.taken c.args.sink.now) (map told_item c.args.told.now);
+  told = told_none c.args.site.now.nodes (given_to g.W.Sink.taken g.W.Sink.pieces c.args.sink.now) (map told_item c.args.told.now);
   lined = none_lined g.W.Sink.taken g.W.Sink.pieces (IsItemLine c.args.site.now.nodes) c.args.sink.now;
   later = omega arith;
 }

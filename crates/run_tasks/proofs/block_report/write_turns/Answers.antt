@@ -1,6 +1,7 @@
 use Rattle.std.proofs.Common.{◌∙◌, List, length, sym, ap, arith, rules, [], Err}
 use Rattle.std.specs.Vec.Iter.{into_iter_items}
 use Rattle.std.proofs.lemmas.Result.{err_from_is_err_and}
+use Rattle.run_model.specs.Headline.{given_to}
 use Rattle.run_ops.specs.declared.done_block.Turned.{Turned}
 use Rattle.run_tasks.specs.Reported.{turn_told, turns_told}
 use Rattle.run_tasks.proofs.Tasking.{is_none}
@@ -12,7 +13,7 @@ use Rattle.run_tasks.proofs.block_report.write_turns.Goals as goal
 pub loop-turned-init : goal.loop-turned-init
 loop-turned-init g c = record {
   long = search rules;
-  told = λ http speaks. told_none c.args.site.now.nodes (g.W.Sink.taken c.args.sink.now) (turns_told http c.args.jobs.now c.args.places.now (into_iter_items c.into_iter-turned-iterator.result));
+  told = λ http speaks. told_none c.args.site.now.nodes (given_to g.W.Sink.taken g.W.Sink.pieces c.args.sink.now) (turns_told http c.args.jobs.now c.args.places.now (into_iter_items c.into_iter-turned-iterator.result));
   lined = none_lined g.W.Sink.taken g.W.Sink.pieces (IsItemLine c.args.site.now.nodes) c.args.sink.now;
   later = omega arith;
 }

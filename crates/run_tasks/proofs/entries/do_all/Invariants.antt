@@ -7,6 +7,7 @@ use Rattle.run_tasks.proofs.Tasking.{DidSo}
 use Rattle.std.specs.List.{All}
 use Rattle.std.specs.Vec.Iter.{into_iter_items, into_iter_len}
 use Rattle.run_model.specs.Turn.{HttpTexts}
+use Rattle.run_model.specs.Headline.{given_to}
 use Rattle.run_ops.specs.Runnable.{IsEntryFor, arms_a_disk}
 use Rattle.run_lines.specs.Running.{IsReadySomewhere}
 use Rattle.run_lines.specs.Reporting.{IsItemLine, TookLines}
@@ -25,6 +26,6 @@ invariant-loop-entry g l =
       lined : TookLines g.W.Sink.taken g.W.Sink.pieces (IsItemLine sited.nodes) l.fn.sink l.sink [];
       later : g.W.Sink.faults l.fn.sink ≤ g.W.Sink.faults l.sink;
       did : (http : HttpTexts) (n : Network) (w : World) → g.H.Requests.speaks l.requests http → IsReady g.S.Acts.stands l.fn.net n w → (after : World)
-          × DidSo g.S.Acts.stands g.S.Acts.tallied sited.nodes l.fn.net l.net (g.W.Sink.taken l.fn.sink) (g.W.Sink.taken l.sink) http n l.workers w
+          × DidSo g.S.Acts.stands g.S.Acts.tallied sited.nodes l.fn.net l.net (given_to g.W.Sink.taken g.W.Sink.pieces l.fn.sink) (given_to g.W.Sink.taken g.W.Sink.pieces l.sink) http n l.workers w
           (map Does (into_iter_items l.initial.entry-iterator)) after (map Does left);
     }

@@ -5,6 +5,7 @@ use Rattle.run_types.specs.declared.command.Command.TheVariants as commands
 use Rattle.declared_site.specs.SiteOf.{site_of}
 use Rattle.run_model.specs.Turn.{turn_of}
 use Rattle.run_model.specs.Outcomes.{handed_items}
+use Rattle.run_model.specs.Headline.{given_to}
 use Rattle.run_lines.specs.Commands.{any_texts}
 use Rattle.run_tasks.proofs.Hearing.{asked_finishes, ready_after}
 use Rattle.run_tasks.proofs.lines.load_line.Goals as goal
@@ -45,4 +46,4 @@ pub returns-in_default-clause-runs : goal.returns-in_default-clause-runs
 returns-in_default-clause-runs g c = λ http. c.silent_line.ensures.runs http _
 
 pub returns-in_default-clause-ready : goal.returns-in_default-clause-ready
-returns-in_default-clause-ready g c = ready_after _ _ _ _ _ _ _ (g.W.Sink.taken c.args.sink.now) _ _ c.silent_line.result (c.silent_line.ensures.runs any_texts (g.W.Sink.taken c.args.sink.now)) c.requires.ready
+returns-in_default-clause-ready g c = ready_after _ _ _ _ _ _ _ (given_to g.W.Sink.taken g.W.Sink.pieces c.args.sink.now) _ _ c.silent_line.result (c.silent_line.ensures.runs any_texts (given_to g.W.Sink.taken g.W.Sink.pieces c.args.sink.now)) c.requires.ready

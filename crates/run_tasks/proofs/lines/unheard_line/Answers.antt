@@ -1,8 +1,9 @@
 use Rattle.std.proofs.Common.{◌≡◌, true, refl, rules, arith}
-use Rattle.std.specs.Prelude.{Ok, None}
+use Rattle.std.specs.Prelude.{Ok}
 use Rattle.std.proofs.lemmas.Grind.{common_steps}
 use Rattle.declared_site.specs.SiteOf.{site_of}
 use Rattle.net_model.specs.Action.{Replies}
+use Rattle.run_model.specs.Headline.{unknown}
 use Rattle.run_ops.specs.Reported.{reported}
 use Rattle.run_lines.specs.Commands.{acts_once}
 use Rattle.run_lines.proofs.Going.{Ways, one_asked}
@@ -26,4 +27,4 @@ returns-in-Ok-clause-runs g c = λ http net w ready.
     let items = reported c.in-Ok.asked.reporting in
     let done = c.ask_for_keys.ensures.done net w ready in
     rw (asked_script http (site_of (g.S.Acts.site c.args.net.now)) c.args.command c.in-Ok.asked.node c.in-Ok.asked.event items once turn_here)
-    (one_asked _ _ _ ways _ c.args.number net _ _ None None w _ (Replies done.0) items (items (Replies done.0)) _ (Ok (tt {0})) done.2 refl refl refl (unheard_took _))
+    (one_asked _ _ _ ways _ c.args.number net _ _ unknown unknown w _ (Replies done.0) items (items (Replies done.0)) _ (Ok (tt {0})) done.2 refl refl refl (unheard_took _))

@@ -1,7 +1,8 @@
-use Rattle.std.proofs.Common.{◌≡◌, ◌∙◌, List, [], ◌++◌, None, refl, ap, arith}
+use Rattle.std.proofs.Common.{◌≡◌, ◌∙◌, List, [], ◌++◌, refl, ap, arith}
 use Rattle.std.proofs.lemmas.Grind.{common_steps}
 use Rattle.std.proofs.lemmas.Result.{err_from_is_err_and}
 use Rattle.run_model.specs.Report.{Task}
+use Rattle.run_model.specs.Headline.{unknown}
 use Rattle.run_lines.specs.Commands.{any_texts}
 use Rattle.run_lines.proofs.Going.{Ways}
 use Rattle.run_tasks.proofs.Tasking.{begins_is, one_begins, none_begins}
@@ -22,7 +23,7 @@ loop-place-init g c =
 pub begin-requires-clause-ready : goal.begin-requires-clause-ready
 begin-requires-clause-ready g c =
     let q = c.requires.ready in
-    let at = c.loop-place.invariant.went any_texts q.0 q.1 [] None q.2 in
+    let at = c.loop-place.invariant.went any_texts q.0 q.1 [] unknown q.2 in
     (q.0, at.0, at.1.ready)
 
 pub returns-in_err-begin-clause-ran : goal.returns-in_err-begin-clause-ran
@@ -37,7 +38,7 @@ returns-in_err-begin-clause-ran g c = λ http n w last taken ready.
     rw (err.1, err.2)
     (went_stop _ _ _ ways _ http n _ _ _ taken taken taken w at.0 _ _ _ no_keys here
     (one_stopped _ _ _ ways _ http n _ _ taken taken at.0 _ _ _ _ _ (begins_is http n 1 at.0 _ c.loop-place.place)
-    (silent_stops g.S.Acts.stands g.S.Acts.rests g.S.Acts.tallied _ _ _ _ n at.0 taken None None _ _ (begins_silent n at.0 c.loop-place.place) (runs_here n at.0 at.1.ready))))
+    (silent_stops g.S.Acts.stands g.S.Acts.rests g.S.Acts.tallied _ _ _ _ n at.0 taken unknown unknown _ _ (begins_silent n at.0 c.loop-place.place) (runs_here n at.0 at.1.ready))))
 
 pub loop-place-preserved : goal.loop-place-preserved
 loop-place-preserved g c =
@@ -52,7 +53,7 @@ loop-place-preserved g c =
           let runs = c.in_ok-begin.ensures.runs in
           let runs_here = rw (c.loop-place.invariant.site, node) at runs in
           let f = runs_here n at.0 at.1.ready in
-          let silent = silent_finishes g.S.Acts.stands g.S.Acts.rests g.S.Acts.tallied _ _ _ _ n at.0 taken None None _ (begins_silent n at.0 c.loop-place.place) f in (
+          let silent = silent_finishes g.S.Acts.stands g.S.Acts.rests g.S.Acts.tallied _ _ _ _ n at.0 taken unknown unknown _ (begins_silent n at.0 c.loop-place.place) f in (
             silent.plays.after,
             went_on _ _ _ ways _ http n _ _ _ taken taken taken w at.0 silent.plays.after _ _ _ no_keys no_keys no_keys refl refl here
                 (went_one _ _ _ ways _ http n _ _ taken taken at.0 _ _ _ _ no_keys (begins_is http n 1 at.0 _ c.loop-place.place) silent),

@@ -4,6 +4,7 @@ use Rattle.std.specs.Vec.Iter.{into_iter_items, into_iter_len}
 use Rattle.net_model.specs.World.{Network, World}
 use Rattle.run_model.specs.Turn.{HttpTexts}
 use Rattle.run_model.specs.Report.{Does}
+use Rattle.run_model.specs.Headline.{given_to}
 use Rattle.run_ops.specs.Acting.{IsReady}
 use Rattle.run_lines.specs.Running.{IsReadySomewhere}
 use Rattle.law_run.specs.Kinds.{is_load_entry}
@@ -26,6 +27,6 @@ invariant-loop-entry g l =
       lined : TookLines g.W.Sink.taken g.W.Sink.pieces (IsItemLine sited.nodes) l.fn.sink l.sink [];
       later : g.W.Sink.faults l.fn.sink ≤ g.W.Sink.faults l.sink;
       went : (http : HttpTexts) (n : Network) (w : World) → IsReady g.S.Acts.stands l.fn.net n w → (after : World)
-          × Went g.S.Acts.stands g.S.Acts.tallied sited.nodes l.fn.net l.net (g.W.Sink.taken l.fn.sink) (g.W.Sink.taken l.sink) http n w
+          × Went g.S.Acts.stands g.S.Acts.tallied sited.nodes l.fn.net l.net (given_to g.W.Sink.taken g.W.Sink.pieces l.fn.sink) (given_to g.W.Sink.taken g.W.Sink.pieces l.sink) http n w
           (map Does (into_iter_items l.initial.entry-iterator)) after (map Does left) l.handed;
     }

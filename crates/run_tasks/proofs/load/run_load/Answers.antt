@@ -1,7 +1,7 @@
 use Rattle.std.proofs.Common.{[], map, Err}
-use Rattle.std.specs.Prelude.{None}
 use Rattle.std.proofs.lemmas.Result.{err_from_is_err_and}
 use Rattle.run_model.specs.Report.{Does}
+use Rattle.run_model.specs.Headline.{given_to, unknown}
 use Rattle.run_lines.specs.Commands.{any_texts}
 use Rattle.run_lines.proofs.Going.{Ways}
 use Rattle.run_tasks.specs.Counting.{no_keys}
@@ -20,7 +20,7 @@ do_all-requires-clause-fit g c = rw c.in_ok-begin_all.ensures.site (all_lines (g
 pub do_all-requires-clause-ready : goal.do_all-requires-clause-ready
 do_all-requires-clause-ready g c =
     let q = c.requires.ready in
-    let p = c.in_ok-begin_all.ensures.ran any_texts q.0 q.1 [] None q.2 in
+    let p = c.in_ok-begin_all.ensures.ran any_texts q.0 q.1 [] unknown q.2 in
     (q.0, p.0, p.1.ready)
 
 pub returns-in_err-begin_all-clause-ran : goal.returns-in_err-begin_all-clause-ran
@@ -28,12 +28,12 @@ returns-in_err-begin_all-clause-ran g c = λ http n w ready.
     let ways : Ways g.S.Acts.stands g.S.Acts.rests g.S.Acts.tallied = record { rest = g.met.S.Acts.comes_to_rest; none = g.met.S.Acts.none_tallied; more = g.met.S.Acts.more_tallied } in
     let err = err_from_is_err_and c.from_residual.result c.from_residual.ensures.1 in
     rw (err.1, err.2)
-    (load_stopped _ _ _ ways _ http n _ _ _ _ w _ _ (c.in_err-begin_all.ensures.ran http n w (map Does c.args.list) (g.W.Sink.taken c.args.sink.now) ready))
+    (load_stopped _ _ _ ways _ http n _ _ _ _ w _ _ (c.in_err-begin_all.ensures.ran http n w (map Does c.args.list) (given_to g.W.Sink.taken g.W.Sink.pieces c.args.sink.now) ready))
 
 pub returns-in-Ok-clause-ran : goal.returns-in-Ok-clause-ran
 returns-in-Ok-clause-ran g c = λ http n w ready.
     let ways : Ways g.S.Acts.stands g.S.Acts.rests g.S.Acts.tallied = record { rest = g.met.S.Acts.comes_to_rest; none = g.met.S.Acts.none_tallied; more = g.met.S.Acts.more_tallied } in
-    let p = c.in_ok-begin_all.ensures.ran http n w (map Does c.args.list) (g.W.Sink.taken c.args.sink.now) ready in
+    let p = c.in_ok-begin_all.ensures.ran http n w (map Does c.args.list) (given_to g.W.Sink.taken g.W.Sink.pieces c.args.sink.now) ready in
     let ran = c.in-Ok.ensures.ran in
     let ran_here = rw c.in_ok-begin_all.ensures.site at ran in
     let q = ran_here http n p.0 p.1.ready in
@@ -43,7 +43,7 @@ returns-in-Ok-clause-ran g c = λ http n w ready.
 pub returns-in-Err-clause-ran : goal.returns-in-Err-clause-ran
 returns-in-Err-clause-ran g c = λ http n w ready.
     let ways : Ways g.S.Acts.stands g.S.Acts.rests g.S.Acts.tallied = record { rest = g.met.S.Acts.comes_to_rest; none = g.met.S.Acts.none_tallied; more = g.met.S.Acts.more_tallied } in
-    let p = c.in_ok-begin_all.ensures.ran http n w (map Does c.args.list) (g.W.Sink.taken c.args.sink.now) ready in
+    let p = c.in_ok-begin_all.ensures.ran http n w (map Does c.args.list) (given_to g.W.Sink.taken g.W.Sink.pieces c.args.sink.now) ready in
     let ran = c.in-Err.ensures.ran in
     let ran_here = rw c.in_ok-begin_all.ensures.site at ran in
     load_stopped _ _ _ ways _ http n _ _ _ _ w _ _
