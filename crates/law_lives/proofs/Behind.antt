@@ -14,7 +14,7 @@ use Rattle.net_model.specs.View.{View}
 use Rattle.net_model.specs.Needed.{masked_fact, view_of}
 use Rattle.net_model.specs.Events.{is_lane}
 use Rattle.net_model.specs.Invariant.{Conserved}
-use Rattle.net_model.specs.Action.{Action, Start, Crash, Arm, SetLink, TakeBlock, Ask, Allocate, Transmit, Complete, Deliver, Flip, Forge, WantMemory, is_shown, environment_of}
+use Rattle.net_model.specs.Action.{Action, Start, Crash, Arm, SetLink, TakeBlock, Ask, Allocate, Transmit, Complete, Deliver, Flip, Forge, is_shown, environment_of}
 use Rattle.net_model.specs.Step.{step, is_enabled, is_step, is_node, is_link, IsStep, run, is_run, IsRun}
 use Rattle.law_base.proofs.Base.{and_left, and_right, name_eq_same, or_left}
 use Rattle.law_base.proofs.Seen.{seen_there, bare_view, view_sees, view_me}
@@ -80,7 +80,6 @@ module _ (net : Network) (network : IsNetwork net) (u : ℕ) (past : net.site.no
   untouched_behind w (Deliver l number environment) h = (ends_are l h).1
   untouched_behind w (Flip l number bit environment) h = (ends_are l h).1
   untouched_behind w (Forge l octets environment) h = (ends_are l (and_left (is_lane net.site l) _ (and_left (is_lane net.site l && _) _ (and_left (is_lane net.site l && _ && _) _ h)))).1
-  untouched_behind w WantMemory h = refl
 
 module _ (net : Network) (network : IsNetwork net) where
   step_behind : (w : World) (a : Action) → Conserved net w → IsStep net w a → NothingBehind net w → NothingBehind net (step net w a).0

@@ -1,5 +1,5 @@
 -- The views of what a run leaves belong to one network.
-use Rattle.std.proofs.Common.{◌≡◌, ℕ, ◌<◌, Bool, true, false, List, [], length, refl, sym, ◌∙◌, ap, subst, arith, Option, Some, inl}
+use Rattle.std.proofs.Common.{◌≡◌, ℕ, ◌<◌, Bool, true, false, List, [], length, refl, sym, ◌∙◌, ap, subst, arith, Some, inl}
 use Rattle.std.specs.Prelude.{slice_get}
 use Rattle.std.proofs.lemmas.Option.{slice_get_past}
 use Rattle.net_model.specs.declared.record.Record.{Record}
@@ -21,7 +21,7 @@ use Rattle.run_model.specs.Left.{IsFoldOf}
 use Rattle.run_model.specs.Turn.{HttpTexts}
 use Rattle.run_model.specs.Bench.{DiskBatches, Seen}
 use Rattle.run_model.specs.Course.{Words, Course, last_world, whole_run}
-use Rattle.run_model.specs.Headline.{Stop, Headline}
+use Rattle.run_model.specs.Headline.{Stop, Given, Headline}
 use Rattle.law_recovery.proofs.Runs.{run_held}
 use Rattle.law_run.proofs.Resting.{rest_fits}
 use Rattle.law_lives.specs.AtRest.{at_rest}
@@ -50,7 +50,7 @@ left_belong net begin actions images views network begins current behind r left 
     let last = rest_behind net (run net begin actions) held.conserved held.fits made journals (run_behind net network actions begin begins.conserved r behind) in
     views_belong net (at_rest net.site made journals (run net begin actions)) images views one.conserved last read one.given
 
-pub seen_belong : (words : Words) (stop : Stop) (http : HttpTexts) (reading : DiskBatches) (scenario : Scenario) (seen : Seen) (old new : Option (List ℕ)) (c : Course)
+pub seen_belong : (words : Words) (stop : Stop) (http : HttpTexts) (reading : DiskBatches) (scenario : Scenario) (seen : Seen) (old new : Given) (c : Course)
     (images : ℕ → List (List Record)) (views : List View) → Headline words stop http reading scenario seen old new c → AreCurrent c.net c.begin → NothingBehind c.net c.begin →
     ((v : ℕ) → v < c.net.site.nodes → is_blank ((last_world c).journal v) ≡ false → reading (seen.disk v) ≡ Some (images v)) →
     ((v : ℕ) → v < c.net.site.nodes → is_blank ((last_world c).journal v) ≡ true → images v ≡ []) → AreRead c.net.site images views → Belongs c.net.site c.net.device views

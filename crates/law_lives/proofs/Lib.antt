@@ -27,3 +27,9 @@ pub mod WorldViews
 pub mod Behind
 pub mod LeftViews
 pub mod KeptPlaces
+pub mod Seeing
+pub mod SameViews
+pub mod FolderLives
+pub mod Handed
+pub mod Permitted
+pub mod Groups

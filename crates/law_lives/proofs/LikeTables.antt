@@ -25,7 +25,7 @@ pub record IsThere (T : List Fact) (n : Name) (f : Fact) : Type 0 where
 abbrev pub HasAll : List Fact → List Fact → Type 0
 HasAll T U = (n : Name) (f : Fact) → fact_at T n ≡ Some f → IsThere U n f
 
-single_blind : IsBlind is_single
+pub single_blind : IsBlind is_single
 single_blind (Key name master slave route bytes) = refl
 single_blind (Chunk name stream index route bytes) = refl
 single_blind (Stored note about route) = refl
@@ -87,7 +87,7 @@ module _ (T U : List Fact) (all : HasAll T U) where
   sae_with at_first (Joined note about route) more sae h = cc
   sae_with at_first (Part name key master slave route bytes) more sae h = h
 
-  sae_moves : (at_first : Bool) (f g : Fact) (sae : ℕ) → AreAlike f g → sae_at T at_first g ≡ Some sae → sae_at U at_first f ≡ Some sae
+  pub sae_moves : (at_first : Bool) (f g : Fact) (sae : ℕ) → AreAlike f g → sae_at T at_first g ≡ Some sae → sae_at U at_first f ≡ Some sae
   sae_moves at_first f g sae h e = ap (sae_at U at_first) (sym (alike_is f g h)) ∙ sae_with at_first g (bytes_of f) sae e
 
   stored_moves : (ns ms : List Name) → ((n : Name) → has ns n ≡ true → has ms n ≡ true) → (n : Name) → KnowsStored T ns n → KnowsStored U ms n
@@ -112,7 +112,7 @@ module _ (T U : List Fact) (all : HasAll T U) where
           knows = knows k n h.knows;
         }
 
-    one_moves : (s : Site) (n : Name) (sae : ℕ) → MayHaveOne s T known n sae → MayHaveOne s U more n sae
+    pub one_moves : (s : Site) (n : Name) (sae : ℕ) → MayHaveOne s T known n sae → MayHaveOne s U more n sae
     one_moves s n sae h =
         let t = all n h.fact h.there in
         record {

@@ -41,33 +41,33 @@ still_ready a b h s n sae k = record {
 }
 
 -- The life begins in a world at rest.
-record Begins (l : Life) : Type 0 where
-  rest : IsAtRest l.begin
-  conserved : Conserved l.net l.begin
+pub record Begins (l : Life) : Type 0 where
+  pub rest : IsAtRest l.begin
+  pub conserved : Conserved l.net l.begin
 
 -- What an earlier life had is in this world, and its frames' bytes are below those that are free.
-record IsBefore (a : Life) (w : World) : Type 0 where
-  lasts : Lasts (end_of a).durable w.durable
-  below : (k : Lane) (j x : ℕ) → covers (end_of a).durable.facts (slice_get ((end_of a).frames k) j) x ≡ true → x < length (w.durable.own k)
+pub record IsBefore (a : Life) (w : World) : Type 0 where
+  pub lasts : Lasts (end_of a).durable w.durable
+  pub below : (k : Lane) (j x : ℕ) → covers (end_of a).durable.facts (slice_get ((end_of a).frames k) j) x ≡ true → x < length (w.durable.own k)
 
 module _ (l : Life) (b : Begins l) (h : IsLife l) where
-  kept : IsHeld l.net (end_of l)
+  pub kept : IsHeld l.net (end_of l)
   kept = run_held l.net h.network l.actions l.begin (record { conserved = b.conserved; fits = rest_fits l.net l.begin b.rest }) h.steps
 
-  grown : Lasts l.begin.durable (end_of l).durable
+  pub grown : Lasts l.begin.durable (end_of l).durable
   grown = run_lasts l.net l.actions l.begin
 
-  owns : OwnsOn l.begin.durable (end_of l).durable
+  pub owns : OwnsOn l.begin.durable (end_of l).durable
   owns = run_owns l.net h.network l.actions l.begin b.conserved h.steps
 
-  handed_new : (k : ℕ) (d : Delivery) → slice_get (handed_in l) k ≡ Some d → IsNewHanding l.begin (end_of l) d
+  pub handed_new : (k : ℕ) (d : Delivery) → slice_get (handed_in l) k ≡ Some d → IsNewHanding l.begin (end_of l) d
   handed_new k d at = run_new l.net h.network l.actions l.begin b.conserved kept.conserved h.steps k d at
 
-  rests : IsAtRest (rest_of l) × Conserved l.net (rest_of l)
+  pub rests : IsAtRest (rest_of l) × Conserved l.net (rest_of l)
   rests = let one = one_world l.net (end_of l) kept.conserved kept.fits l.made l.journals l.images h.sized h.read in (one.rest, one.conserved)
 
   -- The life's end itself is before what it left.
-  rest_after : IsBefore l (rest_of l)
+  pub rest_after : IsBefore l (rest_of l)
   rest_after = record {
     lasts = rest_lasts l.net (end_of l) l.made l.journals;
     below = λ k j x covered.

@@ -9,20 +9,19 @@ use Rattle.net_model.specs.Facts.{IsWellFormedFact}
 use Rattle.net_model.specs.Ranges.{IsRangedFact}
 use Rattle.net_model.specs.Table.{PartOf, part_of, is_named, is_part_of, name_of, route_of, origin, is_secret, bytes_of, without_bytes, fact_at, has_fact, is_stored_about, was_handed}
 use Rattle.net_model.specs.OctetSequence.{first_blocks}
-use Rattle.net_model.specs.Site.{Site, outgoing_lanes}
+use Rattle.net_model.specs.Site.{outgoing_lanes}
 use Rattle.net_model.specs.World.{Network, World}
 use Rattle.net_model.specs.Streams.{is_chunk_of, is_chunk_at}
-use Rattle.net_model.specs.View.{View, Port, handed_at}
-use Rattle.net_model.specs.Needed.{is_needed, masked, masked_fact, view_of, port_at}
+use Rattle.net_model.specs.View.{View, Port}
+use Rattle.net_model.specs.Needed.{is_needed, masked_fact, view_of, port_at}
 use Rattle.net_model.specs.Knowledge.{chunks_known, IsOn, PredecessorKnows, IsAdjacent}
 use Rattle.net_model.specs.Handings.{MayHave}
 use Rattle.net_model.specs.Invariant.{Conserved}
-use Rattle.law_base.proofs.Base.{eq_from, eq_same, and_both, and_left, and_right, or_cases, or_right, or_left, name_eq_same, name_eq_from, not_both, not_false, split}
-use Rattle.law_base.proofs.Blind.{shape_blind, needed_blind, needed_alike, masked_alike}
+use Rattle.law_base.proofs.Base.{eq_from, eq_same, and_both, and_left, and_right, name_eq_same, name_eq_from, not_both, not_false, split}
 use Rattle.law_base.proofs.LaneBlocks.{count_blocks}
 use Rattle.law_base.proofs.Lists.{mapped_at}
-use Rattle.law_base.proofs.Masked.{masked_same, route_blind, stored_blind, place_blind}
-use Rattle.law_base.proofs.Seen.{seen_at, seen_there, bare_view, view_sees, view_me, some_found, found_passes}
+use Rattle.law_base.proofs.Masked.{route_blind, stored_blind, place_blind}
+use Rattle.law_base.proofs.Seen.{bare_view, some_found, found_passes}
 use Rattle.law_base.proofs.Tables.{found_name, is_some_of_some}
 use Rattle.law_base.proofs.Views.{chunks_counted}
 use Rattle.law_lives.specs.Belongs.{view_or, view_in, known_in, table_in, is_needed_as, or_later, needed_in, IsLike, HasBytesOf, IsNamed, is_for, is_part_for, AreAkin, IsAkin, IsPartIn, IsChunkIn, IsNoteIn, NothingBehind, Belongs}
@@ -31,22 +30,9 @@ use Rattle.law_lives.proofs.KeptTables.{table_known, has_found, known_fact, tabl
 use Rattle.law_lives.proofs.LikeFacts.{AreAlike, alike_same, length_blind, formed_like, ranged_zeros, part_bytes, part_like, origin_alike}
 use Rattle.law_lives.proofs.LikeTables.{IsThere, HasAll, entitled_moves, target_moves, adjacent_moves, part_moves, have_moves, same_secret}
 use Rattle.law_invariant.specs.HandedName.{handed_name}
+use Rattle.law_lives.proofs.Seeing.{handed_home, IsSeenAs, seen_as, shown_as, needed_as, view_acked, view_handed, view_ports}
 
--- What a filter keeps of handings passes its test.
-handed_home : (s : Site) (v : ℕ) (hs : List (Name × ℕ)) (n : Name) (sae : ℕ) → was_handed (handed_at s v hs) n sae ≡ true → (s.home sae ≡ v) × (was_handed hs n sae ≡ true)
-handed_home s v [] n sae h = cc
-handed_home s v (x ∷ hs) n sae h =
-    elim (s.home x.1 == v) as (λ t. (s.home x.1 == v) ≡ t → was_handed (if t then x ∷ handed_at s v hs else handed_at s v hs) n sae ≡ true → (s.home sae ≡ v) × (was_handed (x ∷ hs) n sae ≡ true)) [
-      | false ↦ λ e k. let r = handed_home s v hs n sae k in (r.0, or_right (name_eq x.0 n && (x.1 == sae)) (was_handed hs n sae) r.1)
-      | true ↦ λ e k. elim (or_cases (name_eq x.0 n && (x.1 == sae)) (was_handed (handed_at s v hs) n sae) k) [
-        | inl first ↦
-            let is : x.1 ≡ sae = eq_from x.1 sae (and_right (name_eq x.0 n) (x.1 == sae) first) in
-            (ap s.home (sym is) ∙ eq_from (s.home x.1) v e, or_left (name_eq x.0 n && (x.1 == sae)) (was_handed hs n sae) first)
-        | inr later ↦ let r = handed_home s v hs n sae later in (r.0, or_right (name_eq x.0 n && (x.1 == sae)) (was_handed hs n sae) r.1)
-      ]
-    ] refl h
-
-within_or_behind : (v n : ℕ) → (v < n) ⊎ (n ≤ v)
+pub within_or_behind : (v n : ℕ) → (v < n) ⊎ (n ≤ v)
 within_or_behind v n = elim (split v n) [ inl less ↦ inl less | inr (k, e) ↦ inr (omega (arith, e)) ]
 
 -- Of a part's test, the part is another one's of that key and slave.
@@ -57,7 +43,7 @@ part_for key slave f h = from (part_of f) refl h
     from None e k = cc
     from (Some p) e k = (p, e, name_eq_from p.key key (and_left (name_eq p.key key) (p.slave == slave) k), eq_from p.slave slave (and_right (name_eq p.key key) (p.slave == slave) k))
 
-part_named : (key : Name) (f : Fact) → is_part_of key f ≡ true → (p : PartOf) × (part_of f ≡ Some p) × (p.key ≡ key)
+pub part_named : (key : Name) (f : Fact) → is_part_of key f ≡ true → (p : PartOf) × (part_of f ≡ Some p) × (p.key ≡ key)
 part_named key f h = from (part_of f) refl h
   where
     from : (o : Option PartOf) → part_of f ≡ o → is_named o key ≡ true → (p : PartOf) × (part_of f ≡ Some p) × (p.key ≡ key)
@@ -99,25 +85,11 @@ module _ (net : Network) (w : World) (c : Conserved net w) (behind : NothingBehi
   -- A node's fact is the world's, but for bytes.
   record IsHere (v : ℕ) (n : Name) (f : Fact) : Type 0 where
     less : v < net.site.nodes
-    fact : Fact
-    there : fact_at T n ≡ Some fact
-    knows : has (known v) n ≡ true
-    alike : AreAlike f fact
-    is : f ≡ masked_fact (bare_view net w v) fact
+    seen : IsSeenAs net w v n f
 
   here : (v : ℕ) (n : Name) (f : Fact) → fact_at (view_in views v).facts n ≡ Some f → IsHere v n f
   here v n f h = elim (within_or_behind v net.site.nodes) [
-    | inl less ↦
-        let r = seen_at net.site w.durable (view_of net w v) (bare_view net w v) (view_sees net w v) n f (ap (λ (x : View). fact_at x.facts n) (sym (same v less)) ∙ h) in
-        let x = r.1 in
-        record {
-          less = less;
-          fact = x.fact;
-          there = ap (fact_at T) (sym r.0) ∙ x.there;
-          knows = ap (λ (u : ℕ). has (known u) n) (sym (view_me net w v)) ∙ ap (has (known (view_of net w v).me)) (sym r.0) ∙ x.knows;
-          alike = ap without_bytes x.is ∙ masked_same without_bytes shape_blind (bare_view net w v) x.fact;
-          is = x.is;
-        }
+    | inl less ↦ record { less = less; seen = seen_as net w v n f (ap (λ (x : View). fact_at x.facts n) (sym (same v less)) ∙ h) }
     | inr past ↦ let none : fact_at (view_in views v).facts n ≡ None = ap (λ (x : View). fact_at x.facts n) (nothing_here v past) in cc
   ]
 
@@ -128,9 +100,7 @@ module _ (net : Network) (w : World) (c : Conserved net w) (behind : NothingBehi
   ]
 
   there_at : (v : ℕ) (n : Name) (g : Fact) → fact_at T n ≡ Some g → has (known v) n ≡ true → fact_at (view_in views v).facts n ≡ Some (masked_fact (bare_view net w v) g)
-  there_at v n g e h =
-      ap (λ (x : View). fact_at x.facts n) (same v (knows_within v n h)) ∙
-      seen_there net.site w.durable (view_of net w v) (bare_view net w v) (view_sees net w v) n g e (ap (λ (u : ℕ). has (known u) n) (view_me net w v) ∙ h)
+  there_at v n g e h = ap (λ (x : View). fact_at x.facts n) (same v (knows_within v n h)) ∙ shown_as net w v n g e h
 
   knows_there : (v : ℕ) (n : Name) → has (known v) n ≡ true → has (known_in views v) n ≡ true
   knows_there v n h =
@@ -138,12 +108,12 @@ module _ (net : Network) (w : World) (c : Conserved net w) (behind : NothingBehi
       has_found (view_in views v).facts n ∙ is_some_of_some (fact_at (view_in views v).facts n) (masked_fact (bare_view net w v) k.fact) (there_at v n k.fact k.there h)
 
   knows_here : (v : ℕ) (n : Name) → has (known_in views v) n ≡ true → has (known v) n ≡ true
-  knows_here v n h = let k = known_fact views v n h in (here v n k.0 k.1).knows
+  knows_here v n h = let k = known_fact views v n h in (here v n k.0 k.1).seen.knows
 
   -- The merged table and the world's have like facts.
 
   from_table : HasAll table T
-  from_table n f h = let k = table_known views n f h in let x = here k.node n f k.there in record { fact = x.fact; there = x.there; alike = sym x.alike }
+  from_table n f h = let k = table_known views n f h in let x = here k.node n f k.there in record { fact = x.seen.fact; there = x.seen.there; alike = sym x.seen.alike }
 
   to_table : HasAll T table
   to_table n g h =
@@ -164,15 +134,11 @@ module _ (net : Network) (w : World) (c : Conserved net w) (behind : NothingBehi
 
   -- ---- the conditions
 
-  view_ports : (v : ℕ) → (view_of net w v).ports ≡ map (port_at net w) (outgoing_lanes net.site v)
-  unfolding view_of masked
-  view_ports v = refl
-
   blocks_front : (v k : ℕ) (p : Port) → slice_get (view_in views v).ports k ≡ Some p → p.blocks ≡ first_blocks (net.device p.lane.link) (length p.blocks)
   blocks_front v k p h = elim (within_or_behind v net.site.nodes) [
     | inl less ↦
         let at : slice_get (map (port_at net w) (outgoing_lanes net.site v)) k ≡ Some p =
-        ap (λ (ps : List Port). slice_get ps k) (sym (view_ports v)) ∙ ap (λ (x : View). slice_get x.ports k) (sym (same v less)) ∙ h in
+        ap (λ (ps : List Port). slice_get ps k) (sym (view_ports net w v)) ∙ ap (λ (x : View). slice_get x.ports k) (sym (same v less)) ∙ h in
         let r = mapped_at (port_at net w) (outgoing_lanes net.site v) p k at in
         let l : Lane = r.0 in
         subst (λ (q : Port). q.blocks ≡ first_blocks (net.device q.lane.link) (length q.blocks)) r.2
@@ -186,27 +152,17 @@ module _ (net : Network) (w : World) (c : Conserved net w) (behind : NothingBehi
   all_formed : (v : ℕ) (n : Name) (f : Fact) → fact_at (view_in views v).facts n ≡ Some f → IsWellFormedFact f × IsRangedFact f
   all_formed v n f h =
       let x = here v n f h in
-      let k = c.now.table n x.fact x.there in
-      (formed_like f x.fact x.alike k.formed, subst IsRangedFact (sym x.is) (masked_ranged (bare_view net w v) x.fact k.ranged))
+      let k = c.now.table n x.seen.fact x.seen.there in
+      (formed_like f x.seen.fact x.seen.alike k.formed, subst IsRangedFact (sym x.seen.is) (masked_ranged (bare_view net w v) x.seen.fact k.ranged))
 
   all_agree : (v : ℕ) (n : Name) (f : Fact) → fact_at (view_in views v).facts n ≡ Some f → IsLike f (fact_at table n)
   all_agree v n f h =
       let x = here v n f h in
-      let t = to_table n x.fact x.there in
-      subst (IsLike f) (sym t.there) (x.alike ∙ sym t.alike)
+      let t = to_table n x.seen.fact x.seen.there in
+      subst (IsLike f) (sym t.there) (x.seen.alike ∙ sym t.alike)
 
-  -- Where a node needs the bytes of its fact, that is the world's.
-  view_masked : (v : ℕ) → view_of net w v ≡ masked (bare_view net w v)
-  unfolding view_of
-  view_masked v = refl
-
-  needed_is : (v : ℕ) (n : Name) (f : Fact) (x : IsHere v n f) → is_needed (view_in views v) f ≡ true → f ≡ x.fact
-  needed_is v n f x h =
-      let bare : View = bare_view net w v in
-      let need : is_needed bare x.fact ≡ true =
-      sym (alike_same (is_needed bare) (needed_blind bare) f x.fact x.alike) ∙ sym (needed_alike (masked bare) bare f (masked_alike bare)) ∙
-      ap (λ (y : View). is_needed y f) (sym (same v x.less ∙ view_masked v)) ∙ h in
-      x.is ∙ ap (λ (t : Bool). if t then x.fact else without_bytes x.fact) need
+  needed_is : (v : ℕ) (n : Name) (f : Fact) (x : IsHere v n f) → is_needed (view_in views v) f ≡ true → f ≡ x.seen.fact
+  needed_is v n f x h = needed_as net w v n f x.seen (ap (λ (y : View). is_needed y f) (sym (same v x.less)) ∙ h)
 
   found_needed : (v : ℕ) (n : Name) (f : Fact) → fact_at (view_in views v).facts n ≡ Some f → is_needed (view_in views v) f ≡ true → (g : Fact) → IsNeededBy views (handed_name f) g → bytes_of f ≡ bytes_of g
   found_needed v n f h need g k =
@@ -214,8 +170,8 @@ module _ (net : Network) (w : World) (c : Conserved net w) (behind : NothingBehi
       let y = here k.node (name_of g) g k.there in
       let is = needed_is v n f x need in
       let is2 = needed_is k.node (name_of g) g y k.need in
-      let secret : handed_name x.fact ≡ handed_name y.fact = sym (ap handed_name is) ∙ sym k.named ∙ ap handed_name is2 in
-      ap bytes_of is ∙ same_secret T c.now.groups n (name_of g) x.fact y.fact x.there y.there secret ∙ sym (ap bytes_of is2)
+      let secret : handed_name x.seen.fact ≡ handed_name y.seen.fact = sym (ap handed_name is) ∙ sym k.named ∙ ap handed_name is2 in
+      ap bytes_of is ∙ same_secret T c.now.groups n (name_of g) x.seen.fact y.seen.fact x.seen.there y.seen.there secret ∙ sym (ap bytes_of is2)
 
   all_needed : (v : ℕ) (n : Name) (f : Fact) → fact_at (view_in views v).facts n ≡ Some f → is_secret f ≡ true → is_needed (view_in views v) f ≡ true →
       HasBytesOf f (needed_in views (handed_name f))
@@ -296,20 +252,16 @@ module _ (net : Network) (w : World) (c : Conserved net w) (behind : NothingBehi
   all_spread : (v : ℕ) (n : Name) (f : Fact) → fact_at (view_in views v).facts n ≡ Some f → IsOn (route_of f) v × PredecessorKnows (known_in views) v n (route_of f)
   all_spread v n f h =
       let x = here v n f h in
-      let k = c.now.knowledge.each v n x.knows in
-      let both : Some k.fact ≡ Some x.fact = sym k.there ∙ x.there in
-      let is : k.fact ≡ x.fact = cc in
-      let route : route_of k.fact ≡ route_of f = ap route_of is ∙ sym (alike_same route_of route_blind f x.fact x.alike) in
+      let k = c.now.knowledge.each v n x.seen.knows in
+      let both : Some k.fact ≡ Some x.seen.fact = sym k.there ∙ x.seen.there in
+      let is : k.fact ≡ x.seen.fact = cc in
+      let route : route_of k.fact ≡ route_of f = ap route_of is ∙ sym (alike_same route_of route_blind f x.seen.fact x.seen.alike) in
       (subst (λ (r : List ℕ). IsOn r v) route k.on, source_there v n (route_of f) (subst (PredecessorKnows known v n) route k.source))
-
-  view_acked : (v : ℕ) → (view_of net w v).acked ≡ w.durable.acked v
-  unfolding view_of masked
-  view_acked v = refl
 
   all_acked : (v : ℕ) (n : Name) → has (view_in views v).acked n ≡ true → (u : ℕ) × IsAdjacent table (known_in views) u v u n
   all_acked v n h = elim (within_or_behind v net.site.nodes) [
     | inl less ↦
-        let r = c.now.marked v n (ap (λ (ns : List Name). has ns n) (sym (ap (λ (x : View). x.acked) (same v less) ∙ view_acked v)) ∙ h) in
+        let r = c.now.marked v n (ap (λ (ns : List Name). has ns n) (sym (ap (λ (x : View). x.acked) (same v less) ∙ view_acked net w v)) ∙ h) in
         (r.0, adjacent_moves T table to_table known (known_in views) knows_there r.0 v r.0 n r.1)
     | inr past ↦ let none : has (view_in views v).acked n ≡ false = ap (λ (x : View). has x.acked n) (nothing_here v past) in absurd (not_both (has (view_in views v).acked n) h none)
   ]
@@ -328,14 +280,10 @@ module _ (net : Network) (w : World) (c : Conserved net w) (behind : NothingBehi
         alone = subst (IsNamed m) (sym found.1) (c.now.stored.once (name_of found.0) m n y.fact x.fact y.there x.there note2 note);
       }
 
-  view_handed : (v : ℕ) → (view_of net w v).handed ≡ handed_at net.site v w.durable.handed
-  unfolding view_of masked
-  view_handed v = refl
-
   all_handings : (v : ℕ) (n : Name) (sae : ℕ) → was_handed (view_in views v).handed n sae ≡ true → (net.site.home sae ≡ v) × MayHave net.site table (known_in views) n sae
   all_handings v n sae h = elim (within_or_behind v net.site.nodes) [
     | inl less ↦
-        let r = handed_home net.site v w.durable.handed n sae (ap (λ (hs : List (Name × ℕ)). was_handed hs n sae) (sym (ap (λ (x : View). x.handed) (same v less) ∙ view_handed v)) ∙ h) in
+        let r = handed_home net.site v w.durable.handed n sae (ap (λ (hs : List (Name × ℕ)). was_handed hs n sae) (sym (ap (λ (x : View). x.handed) (same v less) ∙ view_handed net w v)) ∙ h) in
         (r.0, have_moves T table to_table known (known_in views) knows_there net.site n sae (part_moves table T from_table n) (c.now.handings.entitled n sae r.1))
     | inr past ↦ let none : was_handed (view_in views v).handed n sae ≡ false = ap (λ (x : View). was_handed x.handed n sae) (nothing_here v past) in
         absurd (not_both (was_handed (view_in views v).handed n sae) h none)

@@ -7,3 +7,5 @@ pub mod NextNetwork
 pub mod Lives
 pub mod Belongs
 pub mod KeptWorld
+pub mod SameViews
+pub mod FolderLives

@@ -22,7 +22,7 @@ ghost use Rattle.run_model.specs.Begin.{MayBegin};
 ghost use Rattle.run_model.specs.Turn.{HttpTexts};
 ghost use Rattle.run_model.specs.Bench.{DiskBatches, Seen};
 ghost use Rattle.run_model.specs.Course.{Words, Course, last_world};
-ghost use Rattle.run_model.specs.Headline.{Stop, Headline};
+ghost use Rattle.run_model.specs.Headline.{Stop, Given, Headline};
 ghost use Rattle.law_safety.specs.Places.{ArePlaced};
 ghost use Rattle.law_lives.specs.Belongs.{view_in, IsLike, AreRead, Belongs, NothingBehind};
 ghost use Rattle.law_lives.specs.KeptWorld.{kept_table, spelled, kept_network, kept_world};
@@ -73,7 +73,7 @@ pub fn law_left_views_belong()
     ensures left { (net : Network) (begin : World) (actions : List Action) (images : ℕ → List (List Record)) (views : List View) → IsNetwork net → MayBegin net begin →
         AreCurrent net begin → NothingBehind net begin → IsRun net begin actions → AreLeft net begin actions images → AreRead net.site images views →
         Belongs net.site net.device views }
-    ensures seen { (words : Words) (stop : Stop) (http : HttpTexts) (reading : DiskBatches) (scenario : Scenario) (seen : Seen) (old new : Option (List ℕ)) (c : Course)
+    ensures seen { (words : Words) (stop : Stop) (http : HttpTexts) (reading : DiskBatches) (scenario : Scenario) (seen : Seen) (old new : Given) (c : Course)
         (images : ℕ → List (List Record)) (views : List View) → Headline words stop http reading scenario seen old new c → AreCurrent c.net c.begin → NothingBehind c.net c.begin →
         ((v : ℕ) → v < c.net.site.nodes → is_blank ((last_world c).journal v) ≡ false → reading (seen.disk v) ≡ Some (images v)) →
         ((v : ℕ) → v < c.net.site.nodes → is_blank ((last_world c).journal v) ≡ true → images v ≡ []) → AreRead c.net.site images views → Belongs c.net.site c.net.device views }
