@@ -8,11 +8,12 @@ use Rattle.item_audit.specs.Parts.{is_part}
 use Rattle.item_audit.specs.Making.{makes}
 use Rattle.item_audit.specs.Handing.{hands}
 use Rattle.item_audit.specs.Passing.{hears}
+use Rattle.item_audit.specs.Lengths.{has_length}
 use Rattle.item_audit.specs.Streaming.{streams}
 use Rattle.item_audit.specs.Naming.{responds, ticks, shows, names_lane}
 
 abbrev pub nothing_asked : Asked
-nothing_asked = record { parts = true; making = true; handing = true; passing = true; streaming = true; responding = true; ticking = true; showing = true; naming = true }
+nothing_asked = record { parts = true; making = true; handing = true; passing = true; lengths = true; streaming = true; responding = true; ticking = true; showing = true; naming = true }
 
 abbrev pub asks : Site → Command → Item → Asked
 asks site command item = record {
@@ -20,6 +21,7 @@ asks site command item = record {
   making = makes site.entitlements command item;
   handing = hands site.entitlements command item;
   passing = hears command item;
+  lengths = has_length item;
   streaming = streams site.entitlements command item;
   responding = responds command item;
   ticking = ticks command item;

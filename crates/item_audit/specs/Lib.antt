@@ -1,11 +1,14 @@
 pub mod Entitled
 pub mod Making
 pub mod Handing
+pub mod Heads
+pub mod Lengths
 pub mod Passing
 pub mod Streaming
 pub mod Responses
 pub mod Naming
 pub mod Sayings
 pub mod Gifts
+pub mod Stocks
 pub mod Parts
 pub mod Asked

@@ -1,5 +1,5 @@
 -- Rules 16, 17, 18 and 20: an item names the node, key, lane or link of its line.
-use Rattle.std.specs.Prelude.{ℕ, ◌==◌, Bool, true, false, not, ◌&&◌, ◌||◌, length}
+use Rattle.std.specs.Prelude.{ℕ, ◌==◌, Bool, true, false, not, ◌&&◌, length}
 use Rattle.qkd_base.specs.declared.lane.Lane.{Lane}
 use Rattle.qkd_base.specs.Lane.{lane_eq}
 use Rattle.qkd_base.specs.Name.{Name, name_eq}

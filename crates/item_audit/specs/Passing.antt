@@ -1,5 +1,5 @@
 -- Rule 14: a frame that comes to its receiver is the one that the line names, and has an answer that its changed bit, or its octets, allow.
-use Rattle.std.specs.Prelude.{ℕ, Bool, true, false, not, ◌&&◌, ◌||◌, ◌==◌, nat_le, nat_lt, if◌then◌else◌, length}
+use Rattle.std.specs.Prelude.{ℕ, Bool, true, false, not, ◌&&◌, ◌==◌, nat_le, nat_lt, if◌then◌else◌, List}
 use Rattle.qkd_base.specs.declared.lane.Lane.{Lane}
 use Rattle.qkd_base.specs.Lane.{lane_eq}
 use Rattle.qkd_base.specs.Name.{Name, kind_number}
@@ -13,6 +13,7 @@ use Rattle.run_types.specs.declared.frame_result.FrameResult.{FrameResult}
 use Rattle.run_types.specs.declared.frame_result.FrameResult.TheVariants as results
 use Rattle.run_types.specs.declared.item.Item.{Item}
 use Rattle.run_types.specs.declared.item.Item.TheVariants as items
+use Rattle.item_audit.specs.Heads.{forges, is_changed_lane}
 
 -- ---- an unchanged frame
 
@@ -56,41 +57,23 @@ is_bad_place bit place =
     else if nat_lt bit 64 then place == 6
     else nat_lt bit 128 && (place == 8)
 
-abbrev pub may_refuse_flip : (number bit : ℕ) → Refusal → Bool
-may_refuse_flip number bit (refusals.NoFrame count) = nat_le count number
-may_refuse_flip number bit (refusals.NoBit bits) = nat_le bits bit
-may_refuse_flip number bit refusals.Down = true
-may_refuse_flip number bit (refusals.BadFrame place) = is_bad_place bit place
-may_refuse_flip number bit (refusals.WrongLane link way) = nat_le 8 bit && nat_lt bit 24
-may_refuse_flip number bit (refusals.NoBits have) = nat_le 64 bit
-may_refuse_flip number bit (refusals.BadTag given computed) = nat_le 64 bit && not (given == computed)
-may_refuse_flip number bit refusals.Memory = nat_le 64 bit
-may_refuse_flip number bit (refusals.JournalFull length need) = nat_le 64 bit
-may_refuse_flip number bit refusals.Stopped = is_of_offset bit
-may_refuse_flip number bit _ = false
+abbrev pub may_refuse_flip : Lane → (number bit : ℕ) → Refusal → Bool
+may_refuse_flip l number bit (refusals.NoFrame count) = nat_le count number
+may_refuse_flip l number bit (refusals.NoBit bits) = nat_le bits bit
+may_refuse_flip l number bit refusals.Down = true
+may_refuse_flip l number bit (refusals.BadFrame place) = is_bad_place bit place
+may_refuse_flip l number bit (refusals.WrongLane link way) = nat_le 8 bit && nat_lt bit 24 && is_changed_lane l bit link way
+may_refuse_flip l number bit (refusals.NoBits have) = nat_le 64 bit
+may_refuse_flip l number bit (refusals.BadTag given computed) = nat_le 64 bit && not (given == computed)
+may_refuse_flip l number bit refusals.Memory = nat_le 64 bit
+may_refuse_flip l number bit (refusals.JournalFull length need) = nat_le 64 bit
+may_refuse_flip l number bit refusals.Stopped = is_of_offset bit
+may_refuse_flip l number bit _ = false
 
 -- With another offset the octets may be a frame that stands there.
-abbrev pub flips : (number bit : ℕ) → FrameResult → Bool
-flips number bit (results.Refused refusal) = may_refuse_flip number bit refusal
-flips number bit _ = is_of_offset bit
-
--- ---- octets that anybody could have made
-
--- A frame has 24 octets and those of its payload.
-abbrev pub may_refuse_forge : (size : ℕ) → Refusal → Bool
-may_refuse_forge size refusals.Down = true
-may_refuse_forge size (refusals.BadFrame place) = nat_le 24 size || (place == size)
-may_refuse_forge size (refusals.WrongLane link way) = nat_le 25 size
-may_refuse_forge size (refusals.NoBits have) = nat_le 25 size
-may_refuse_forge size (refusals.BadTag given computed) = nat_le 25 size && not (given == computed)
-may_refuse_forge size refusals.Memory = nat_le 25 size
-may_refuse_forge size (refusals.JournalFull length need) = nat_le 25 size
-may_refuse_forge size refusals.Stopped = nat_le 25 size
-may_refuse_forge size _ = false
-
-abbrev pub forges : (size : ℕ) → FrameResult → Bool
-forges size (results.Refused refusal) = may_refuse_forge size refusal
-forges size _ = nat_le 25 size
+abbrev pub flips : Lane → (number bit : ℕ) → FrameResult → Bool
+flips l number bit (results.Refused refusal) = may_refuse_flip l number bit refusal
+flips l number bit _ = is_of_offset bit
 
 -- ---- all
 
@@ -99,12 +82,12 @@ hears_pass l number (items.Passed lane at result) = lane_eq lane l && (at == num
 hears_pass l number _ = true
 
 abbrev pub hears_flip : Lane → (number bit : ℕ) → Item → Bool
-hears_flip l number bit (items.Flipped lane at changed result) = lane_eq lane l && (at == number) && (changed == bit) && flips at changed result
+hears_flip l number bit (items.Flipped lane at changed result) = lane_eq lane l && (at == number) && (changed == bit) && flips lane at changed result
 hears_flip l number bit _ = true
 
-abbrev pub hears_forge : Lane → (size : ℕ) → Item → Bool
-hears_forge l size (items.Forged lane result) = lane_eq lane l && forges size result
-hears_forge l size _ = true
+abbrev pub hears_forge : Lane → (octets : List ℕ) → Item → Bool
+hears_forge l octets (items.Forged lane result) = lane_eq lane l && forges l octets result
+hears_forge l octets _ = true
 
 abbrev pub hears_settle : Item → Bool
 hears_settle (items.Passed lane at result) = passes at result
@@ -113,6 +96,6 @@ hears_settle _ = true
 abbrev pub hears : Command → Item → Bool
 hears (commands.Pass lane number) item = hears_pass lane number item
 hears (commands.Flip lane number bit) item = hears_flip lane number bit item
-hears (commands.Forge lane octets) item = hears_forge lane (length octets) item
+hears (commands.Forge lane octets) item = hears_forge lane octets item
 hears (commands.Settle rounds) item = hears_settle item
 hears _ item = true

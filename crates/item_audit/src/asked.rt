@@ -3,12 +3,13 @@ ghost use Rattle.std.specs.Prelude.{◌≡◌};
 ghost use Rattle.std.specs.Option.{option_copied};
 ghost use Rattle.item_audit.specs.Asked.{nothing_asked, asks, asked_at};
 
-use crate::handing::hands;
-use crate::making::makes;
-use crate::naming::{names_lane, responds, shows, ticks};
+use crate::fill_rules::makes;
+use crate::key_rules::hands;
+use crate::lengths::has_length;
+use crate::line_rules::{names_lane, responds, shows, ticks};
 use crate::parts::is_part;
-use crate::passing::hears;
-use crate::streaming::streams;
+use crate::pass_rules::hears;
+use crate::stream_rules::streams;
 use declared_site::Site;
 use run_types::{Command, Item};
 
@@ -23,6 +24,8 @@ pub struct Asked {
     pub handing: bool,
     /// Rule 14.
     pub passing: bool,
+    /// Rule 19, of lengths.
+    pub lengths: bool,
     /// Rule 15.
     pub streaming: bool,
     /// Rule 16.
@@ -44,6 +47,7 @@ fn nothing_asked() -> Asked
         making: true,
         handing: true,
         passing: true,
+        lengths: true,
         streaming: true,
         responding: true,
         ticking: true,
@@ -61,6 +65,7 @@ fn asks(site: &Site, command: &Command, item: &Item) -> Asked
         making: makes(&site.entitlements, command, item),
         handing: hands(&site.entitlements, command, item),
         passing: hears(command, item),
+        lengths: has_length(item),
         streaming: streams(&site.entitlements, command, item),
         responding: responds(command, item),
         ticking: ticks(command, item),

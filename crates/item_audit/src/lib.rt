@@ -6,19 +6,24 @@
 
 mod asked;
 mod entitled;
+mod fill_rules;
+mod frame_heads;
 mod given;
-mod handing;
+mod key_rules;
 mod lane_ends;
-mod making;
-mod naming;
+mod lengths;
+mod line_rules;
 mod parts;
-mod passing;
+mod pass_rules;
 mod responses;
 mod said;
-mod streaming;
+mod stocks;
+mod stream_rules;
 
 pub use asked::{Asked, asked_at};
 pub use given::{Given, bounded, given_if};
 pub use lane_ends::{lane_from, lane_place, receiver, reversed, sender};
+pub use lengths::fits_length;
 pub use parts::is_among;
 pub use said::{Said, said_in};
+pub use stocks::{Change, Pool, change_if, ready_if};

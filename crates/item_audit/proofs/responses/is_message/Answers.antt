@@ -1,4 +1,4 @@
-use Rattle.std.proofs.Common.{◌≡◌, ℕ, List, ap, ◌∙◌}
+use Rattle.std.proofs.Common.{ℕ, List, ap, ◌∙◌}
 use Rattle.std.specs.Prelude.{codes}
 use Rattle.item_audit.specs.Responses.{is_told_between}
 use Rattle.item_audit.proofs.responses.is_message.Goals as goal

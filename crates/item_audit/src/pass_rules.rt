@@ -1,7 +1,8 @@
 // Rule 14: frames that come to their receivers.
 ghost use Rattle.std.specs.Prelude.{◌≡◌};
-ghost use Rattle.item_audit.specs.Passing.{may_refuse_pass, is_of_kind, passes, is_of_offset, is_bad_place, may_refuse_flip, flips, may_refuse_forge, forges, hears_pass, hears_flip, hears_forge, hears_settle, hears};
+ghost use Rattle.item_audit.specs.Passing.{may_refuse_pass, is_of_kind, passes, is_of_offset, is_bad_place, may_refuse_flip, flips, hears_pass, hears_flip, hears_forge, hears_settle, hears};
 
+use crate::frame_heads::{forges, is_changed_lane};
 use qkd_base::{KeyName, Lane, NameKind};
 use run_types::{Command, FrameResult, Item, PayloadKind, Refusal};
 
@@ -72,15 +73,17 @@ fn is_bad_place(bit: u32, place: u32) -> bool
 }
 
 // Whether a frame with a changed bit may be refused so.
-fn may_refuse_flip(number: u32, bit: u32, refusal: Refusal) -> bool
-    ensures { result ≡ may_refuse_flip number bit refusal }
+fn may_refuse_flip(lane: &Lane, number: u32, bit: u32, refusal: Refusal) -> bool
+    ensures { result ≡ may_refuse_flip lane.now number bit refusal }
 {
     match refusal {
         Refusal::NoFrame { count } => count <= u64::from(number),
         Refusal::NoBit { bits } => bits <= bit,
         Refusal::Down => true,
         Refusal::BadFrame { place } => is_bad_place(bit, place),
-        Refusal::WrongLane { .. } => 8 <= bit && bit < 24,
+        Refusal::WrongLane { link, way } => {
+            8 <= bit && bit < 24 && is_changed_lane(lane, bit, link, way)
+        }
         Refusal::BadTag { given, computed } => 64 <= bit && given != computed,
         Refusal::NoBits { .. } | Refusal::Memory | Refusal::JournalFull { .. } => 64 <= bit,
         Refusal::Stopped => is_of_offset(bit),
@@ -89,39 +92,12 @@ fn may_refuse_flip(number: u32, bit: u32, refusal: Refusal) -> bool
 }
 
 // Whether this may become of a frame with a changed bit.
-fn flips(number: u32, bit: u32, outcome: &FrameResult) -> bool
-    ensures { result ≡ flips number bit outcome.now }
+fn flips(lane: &Lane, number: u32, bit: u32, outcome: &FrameResult) -> bool
+    ensures { result ≡ flips lane.now number bit outcome.now }
 {
     match outcome {
-        FrameResult::Refused(refusal) => may_refuse_flip(number, bit, *refusal),
+        FrameResult::Refused(refusal) => may_refuse_flip(lane, number, bit, *refusal),
         _ => is_of_offset(bit),
-    }
-}
-
-// Whether so many octets, which anybody could have made, may be refused so.
-fn may_refuse_forge(size: usize, refusal: Refusal) -> bool
-    ensures { result ≡ may_refuse_forge size refusal }
-{
-    match refusal {
-        Refusal::Down => true,
-        Refusal::BadFrame { place } => 24 <= size || place as usize == size,
-        Refusal::BadTag { given, computed } => 25 <= size && given != computed,
-        Refusal::WrongLane { .. }
-        | Refusal::NoBits { .. }
-        | Refusal::Memory
-        | Refusal::JournalFull { .. }
-        | Refusal::Stopped => 25 <= size,
-        _ => false,
-    }
-}
-
-// Whether this may become of so many octets.
-fn forges(size: usize, outcome: &FrameResult) -> bool
-    ensures { result ≡ forges size outcome.now }
-{
-    match outcome {
-        FrameResult::Refused(refusal) => may_refuse_forge(size, *refusal),
-        _ => 25 <= size,
     }
 }
 
@@ -149,20 +125,25 @@ fn hears_flip(line: &Lane, number: u32, bit: u32, item: &Item) -> bool
             number: at,
             bit: changed,
             result: outcome,
-        } => { *lane == *line && *at == number && *changed == bit && flips(*at, *changed, outcome) }
+        } => {
+            *lane == *line
+                && *at == number
+                && *changed == bit
+                && flips(lane, *at, *changed, outcome)
+        }
         _ => true,
     }
 }
 
-// Whether so many octets may give the item.
-fn hears_forge(line: &Lane, size: usize, item: &Item) -> bool
-    ensures { result ≡ hears_forge line.now size item.now }
+// Whether these octets may give the item.
+fn hears_forge(line: &Lane, octets: &[u8], item: &Item) -> bool
+    ensures { result ≡ hears_forge line.now octets.now item.now }
 {
     match item {
         Item::Forged {
             lane,
             result: outcome,
-        } => *lane == *line && forges(size, outcome),
+        } => *lane == *line && forges(line, octets, outcome),
         _ => true,
     }
 }
@@ -188,7 +169,7 @@ pub fn hears(command: &Command, item: &Item) -> bool
     match command {
         Command::Pass { lane, number } => hears_pass(lane, *number, item),
         Command::Flip { lane, number, bit } => hears_flip(lane, *number, *bit, item),
-        Command::Forge { lane, octets } => hears_forge(lane, octets.len(), item),
+        Command::Forge { lane, octets } => hears_forge(lane, octets.as_slice(), item),
         Command::Settle { .. } => hears_settle(item),
         _ => true,
     }
