@@ -6,5 +6,9 @@ pub mod Managing
 pub mod Numbering
 pub mod Resting
 pub mod Tracking
+pub mod Framing
+pub mod Pooling
+pub mod Giving
+pub mod Arriving
 pub mod Knowing
 pub mod Deciding

@@ -5,8 +5,8 @@ use Rattle.ordered_set.specs.Entries.{has_entry}
 use Rattle.run_types.specs.declared.scenario.Scenario.{Scenario}
 use Rattle.run_types.specs.declared.item.NumberedItem.{NumberedItem}
 use Rattle.item_audit.specs.declared.said.Said.{Said}
-use Rattle.whole_audit.specs.Managers.{said, is_up_behind, is_node_up, start_of, is_this, was_started}
-use Rattle.whole_audit.specs.Kept.{number_entry, has_number, AreDownNodes, AreStarted}
+use Rattle.whole_audit.specs.Managers.{said, is_up_behind, is_node_up, start_of, is_this, was_started, is_crash, stop_of, was_stopped}
+use Rattle.whole_audit.specs.Kept.{number_entry, has_number, AreDownNodes, AreStarted, AreStopped}
 use Rattle.whole_audit.proofs.Walking.{number_entries}
 
 module _ (s : Scenario) (old : List (List ℕ)) (told : NumberedItem) (before : List NumberedItem) (down : AreDownNodes s old before) where
@@ -47,3 +47,14 @@ module _ (s : Scenario) (old : List (List ℕ)) (told : NumberedItem) (before : 
       ∙ ap (λ (b : Bool). b || has_number old k) (number_entries node k)
       ∙ ap (λ (b : Bool). eqb node k || b) (started k)
       ∙ ap (λ (o : Option ℕ). is_this o k || was_started s k before) is
+
+module _ (s : Scenario) (old : List (List ℕ)) (told : NumberedItem) (before : List NumberedItem) (stopped : AreStopped s old before) where
+  pub no_stop_said : None ≡ stop_of (is_crash told.item) (said s told) → AreStopped s old (told ∷ before)
+  no_stop_said none k = stopped k ∙ ap (λ (o : Option ℕ). is_this o k || was_stopped s k before) none
+
+  pub stop_said : (new : List (List ℕ)) (node : ℕ) → Some node ≡ stop_of (is_crash told.item) (said s told) → ((e : List ℕ) → has_entry new e ≡ (bytes_eq (number_entry node) e || has_entry old e)) → AreStopped s new (told ∷ before)
+  stop_said new node is put k =
+      put (number_entry k)
+      ∙ ap (λ (b : Bool). b || has_number old k) (number_entries node k)
+      ∙ ap (λ (b : Bool). eqb node k || b) (stopped k)
+      ∙ ap (λ (o : Option ℕ). is_this o k || was_stopped s k before) is

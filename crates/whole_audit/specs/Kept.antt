@@ -27,7 +27,7 @@ use Rattle.whole_audit.specs.declared.names.Names.{Names}
 use Rattle.whole_audit.specs.declared.knowledge.Heard.{Heard}
 use Rattle.whole_audit.specs.declared.knowledge.Knowledge.{Knowledge}
 use Rattle.whole_audit.specs.Knowledge.{has_heard}
-use Rattle.whole_audit.specs.Managers.{is_node_up, was_started}
+use Rattle.whole_audit.specs.Managers.{is_node_up, was_started, was_stopped}
 use Rattle.whole_audit.specs.Names.{names_of}
 use Rattle.whole_audit.specs.declared.rests.Rest.{Rest}
 use Rattle.whole_audit.specs.declared.rests.Rests.{Rests}
@@ -35,6 +35,19 @@ use Rattle.whole_audit.specs.Rests.{asked_if, rest_of}
 use Rattle.whole_audit.specs.declared.tracks.Track.{Track}
 use Rattle.whole_audit.specs.declared.tracks.Tracks.{Tracks}
 use Rattle.whole_audit.specs.Tracks.{no_track, track_of}
+use Rattle.item_audit.specs.declared.stocks.Pool.{Pool}
+use Rattle.whole_audit.specs.declared.frames.Put.{Put}
+use Rattle.whole_audit.specs.declared.frames.Frames.{Frames}
+use Rattle.whole_audit.specs.Frames.{frame_at}
+use Rattle.run_types.specs.declared.command.Command.{Command}
+use Rattle.qkd_base.specs.Name.{Name}
+use Rattle.whole_audit.specs.declared.arrivals.Arrivals.{Arrivals}
+use Rattle.whole_audit.specs.Arrivals.{has_arrived}
+use Rattle.whole_audit.specs.declared.handings.Handings.{Handings}
+use Rattle.whole_audit.specs.Handings.{node_if, sae_if, was_handed, has_unnamed}
+use Rattle.whole_audit.specs.declared.pools.Stock.{Stock}
+use Rattle.whole_audit.specs.declared.pools.Pools.{Pools}
+use Rattle.whole_audit.specs.Pools.{no_stock, stock_of}
 use Rattle.whole_audit.specs.Order.{left, has_come, owing, is_above}
 
 abbrev pub number_entry : ℕ → List ℕ
@@ -116,6 +129,10 @@ AreDownNodes s down before = (node : ℕ) → has_number down node ≡ not (is_n
 abbrev pub AreStarted : Scenario → List (List ℕ) → List NumberedItem → Type 0
 AreStarted s started before = (node : ℕ) → has_number started node ≡ was_started s node before
 
+-- The set has the nodes whose managers stopped.
+abbrev pub AreStopped : Scenario → List (List ℕ) → List NumberedItem → Type 0
+AreStopped s stopped before = (node : ℕ) → has_number stopped node ≡ was_stopped s node before
+
 -- ---- what nodes know
 
 abbrev pub bool_number : Bool → ℕ
@@ -144,6 +161,52 @@ named_at n node = unwrap_or (at n.nodes (node ∷ [])) no_count
 abbrev pub AreNamed : Scenario → Names → List NumberedItem → Type 0
 AreNamed s n before = (node : ℕ) → named_at n node ≡ names_of s node before
 
+-- ---- frames
+
+abbrev pub frame_key : Lane → (number : ℕ) → List ℕ
+frame_key l number = lane_place l ∷ number ∷ []
+
+abbrev pub frame_kept : Frames → Lane → (number : ℕ) → Option Put
+frame_kept f l number = at f.wires (frame_key l number)
+
+abbrev pub AreFrames : Frames → List NumberedItem → Type 0
+AreFrames f before = (l : Lane) (number : ℕ) → frame_kept f l number ≡ frame_at l number before
+
+-- ---- handings
+
+abbrev pub key_entry : Name → (place : ℕ) → List ℕ
+key_entry n place = n.count ∷ n.node ∷ kind_number n.kind ∷ place ∷ 0 ∷ []
+
+-- The set has the keys that were handed out, and where.
+abbrev pub AreHanded : (Option Command → Option ℕ) → Scenario → List (List ℕ) → List NumberedItem → Type 0
+AreHanded place s set before = (n : Name) (there : ℕ) → has_entry set (key_entry n there) ≡ was_handed place s before n there
+
+-- The set has the nodes that handed out keys without their names.
+abbrev pub AreUnnamed : Scenario → List (List ℕ) → List NumberedItem → Type 0
+AreUnnamed s set before = (node : ℕ) → has_number set node ≡ has_unnamed s node before
+
+pub record AreHandings (s : Scenario) (h : Handings) (before : List NumberedItem) : Type 0 where
+  pub at : AreHanded node_if s h.at before
+  pub to : AreHanded sae_if s h.to before
+  pub unnamed : AreUnnamed s h.unnamed before
+
+-- ---- arrivals
+
+-- The set has the facts that lanes' receivers took.
+abbrev pub AreArrived : Arrivals → List NumberedItem → Type 0
+AreArrived a before = (l : Lane) (n : Name) → has_entry a.came (key_entry n (lane_place l)) ≡ has_arrived before l n
+
+-- ---- pools
+
+abbrev pub pool_key : Pool → List ℕ
+pool_key p = p.master ∷ p.slave ∷ p.bits ∷ []
+
+abbrev pub stock_at : Pools → Pool → Stock
+stock_at ps p = unwrap_or (at ps.stocks (pool_key p)) no_stock
+
+abbrev pub AreStocked : Scenario → Pools → List NumberedItem → Type 0
+AreStocked s ps before = (p : Pool) → stock_at ps p ≡ stock_of s p before
+
 -- ---- all together
 
 pub record AreTablesOf (s : Scenario) (t : Tables) (before : List NumberedItem) : Type 0 where
@@ -152,10 +215,15 @@ pub record AreTablesOf (s : Scenario) (t : Tables) (before : List NumberedItem) 
   pub down : AreDown t.down before
   pub managers : AreDownNodes s t.down_nodes before
   pub started : AreStarted s t.started before
+  pub stopped : AreStopped s t.stopped before
   pub names : AreNamed s t.names before
   pub rests : AreRests s t.rests before
   pub tracks : AreTracks t.tracks before
   pub knowledge : AreHeard s t.knowledge before
+  pub frames : AreFrames t.frames before
+  pub pools : AreStocked s t.pools before
+  pub handings : AreHandings s t.handings before
+  pub arrivals : AreArrived t.arrivals before
 
 pub record IsJudgeOf (s : Scenario) (j : Judge) (before : List NumberedItem) : Type 0 where
   pub walk : IsWalkOf s j.walk before

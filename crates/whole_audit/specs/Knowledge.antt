@@ -1,6 +1,7 @@
 -- Rule 14, as to facts: who sends one, or acknowledges it, knows it.
 use Rattle.std.specs.Prelude.{ℕ, ◌==◌, Bool, true, false, ◌&&◌, ◌||◌, if◌then◌else◌, List, [], ◌∷◌, Option, Some, None}
 use Rattle.qkd_base.specs.declared.lane.Lane.{Lane}
+use Rattle.qkd_base.specs.Lane.{reverse_lane}
 use Rattle.qkd_base.specs.Name.{Name, name_eq}
 use Rattle.declared_site.specs.declared.site.Site.{Site}
 use Rattle.run_types.specs.declared.frame_result.FrameResult.{FrameResult}
@@ -13,7 +14,8 @@ use Rattle.run_audit.specs.Rows.{same}
 use Rattle.run_audit.specs.Takings.{receiver, is_ack}
 use Rattle.item_audit.specs.Sayings.{sender}
 use Rattle.whole_audit.specs.declared.knowledge.Heard.{Heard}
-use Rattle.whole_audit.specs.Managers.{was_started}
+use Rattle.whole_audit.specs.Arrivals.{has_arrived}
+use Rattle.whole_audit.specs.Managers.{was_stopped}
 
 -- ---- what a node took
 
@@ -41,9 +43,13 @@ has_heard s (t ∷ before) h = is_heard (heard_of s.site t.item) h || has_heard 
 
 -- ---- what a node may know
 
--- A node that was started may have taken a name at the event in which it stopped.
+-- A node that stopped may have taken a name in that event.
 abbrev pub may_have_heard : Scenario → List NumberedItem → (node : ℕ) → (is_ack : Bool) → Name → Bool
-may_have_heard s before v ack n = has_heard s before (record { node = v; is_ack = ack; name = n }) || was_started s v before
+may_have_heard s before v ack n = has_heard s before (record { node = v; is_ack = ack; name = n }) || was_stopped s v before
+
+-- Who acknowledges a fact took it over the same link, or may have.
+abbrev pub may_answer : Scenario → List NumberedItem → Lane → Name → Bool
+may_answer s before l n = has_arrived before (reverse_lane l) n || was_stopped s (sender s.site l) before
 
 -- The node made the fact, or took it.
 abbrev pub may_know : Scenario → List NumberedItem → (node : ℕ) → Name → Bool
@@ -51,10 +57,10 @@ may_know s before v n = (n.node == v) || may_have_heard s before v false n
 
 -- ---- the rule
 
--- Who sends a fact knows it. Who acknowledges it took it, from one who knows it.
+-- Who sends a fact knows it. Who acknowledges it took it over the same link, from one who knows it.
 abbrev pub may_tell : Scenario → List NumberedItem → Lane → (is_ack : Bool) → Name → Bool
 may_tell s before l ack n =
-    if ack then may_have_heard s before (sender s.site l) false n && may_know s before (receiver s.site.routes l) n
+    if ack then may_answer s before l n && may_know s before (receiver s.site.routes l) n
     else may_know s before (sender s.site l) n
 
 -- What comes again was taken before.

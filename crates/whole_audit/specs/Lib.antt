@@ -1,6 +1,7 @@
 pub mod Lines
 pub mod Managers
 pub mod Names
+pub mod Arrivals
 pub mod Knowledge
 pub mod Rests
 pub mod Turns
@@ -10,5 +11,8 @@ pub mod Claims
 pub mod Sums
 pub mod Shorts
 pub mod Tracks
+pub mod Frames
+pub mod Pools
+pub mod Handings
 pub mod Whole
 pub mod Kept

@@ -46,6 +46,21 @@ abbrev pub was_started : Scenario → (node : ℕ) → List NumberedItem → Boo
 was_started s v [] = false
 was_started s v (t ∷ before) = is_this (start_of (said s t)) v || was_started s v before
 
+-- ---- stops
+
+abbrev pub is_crash : Item → Bool
+is_crash items.Crashed = true
+is_crash _ = false
+
+-- the node whose manager the item says stopped in what it was asked: what it was to do may be done, or not
+abbrev pub stop_of : (crashes : Bool) → Option Said → Option ℕ
+stop_of crashes None = None
+stop_of crashes (Some said) = if said.was_up && not (said.is_up || crashes) then Some said.node else None
+
+abbrev pub was_stopped : Scenario → (node : ℕ) → List NumberedItem → Bool
+was_stopped s v [] = false
+was_stopped s v (t ∷ before) = is_this (stop_of (is_crash t.item) (said s t)) v || was_stopped s v before
+
 -- Rule 11, as to burnt bytes: a node burns bytes of its lanes when it is started.
 abbrev pub burns : Scenario → List NumberedItem → Item → Bool
 burns s before (items.Counted l counts) = was_started s (sender s.site l) before || (counts.burnt == 0)

@@ -1,7 +1,8 @@
 -- Rule 7, as to turns: which item a line may give next.
-use Rattle.std.specs.Prelude.{ℕ, ◌==◌, Bool, true, not, ◌&&◌, ◌||◌, nat_le, nat_lt, if◌then◌else◌, List, Option, Some, None}
+use Rattle.std.specs.Prelude.{ℕ, ◌+◌, ◌==◌, Bool, true, not, ◌&&◌, ◌||◌, nat_le, nat_lt, if◌then◌else◌, List, Option, Some, None}
 use Rattle.qkd_base.specs.declared.lane.Lane.{Lane}
 use Rattle.qkd_base.specs.Lane.{lane_place}
+use Rattle.declared_site.specs.declared.site.Site.{Site}
 use Rattle.run_types.specs.declared.end.End.{End}
 use Rattle.run_types.specs.declared.end.End.TheVariants as end
 use Rattle.run_types.specs.declared.command.Command.{Command}
@@ -14,6 +15,7 @@ use Rattle.whole_audit.specs.declared.rests.Rest.{Rest}
 use Rattle.whole_audit.specs.Lines.{command_at}
 use Rattle.whole_audit.specs.Rests.{rest_of}
 use Rattle.whole_audit.specs.Tracks.{in_block}
+use Rattle.item_audit.specs.Sayings.{sender}
 
 -- The ends take blocks by turns, the low end first.
 abbrev pub gives_block : End → Rest → Bool
@@ -45,32 +47,36 @@ is_over r = (r.frames == 0) && not r.lacks
 abbrev pub ticks_next : (node : ℕ) → Rest → Bool
 ticks_next v r = is_over r && (if r.passing then (r.waiting == 0) && nat_lt 0 r.rounds else nat_le r.node v)
 
-abbrev pub gives_settle : Item → Rest → Bool
-gives_settle (items.Ticked v fresh again) r = ticks_next v r
-gives_settle (items.NotTicked v refusal) r = ticks_next v r
-gives_settle (items.Short l used need received) r = comes_short l r
-gives_settle (items.Sent l number offset length) r = nat_lt 0 r.frames
-gives_settle (items.Unsent l offset cause) r = nat_lt 0 r.frames
-gives_settle (items.Passed l number result) r = is_over r && nat_lt 0 r.waiting && comes_next l number r
-gives_settle _ r = true
+-- What a settle puts, and what it lacks, is of lanes that leave the node that ticked last.
+abbrev pub is_ticking : Site → Lane → Rest → Bool
+is_ticking site l r = sender site l + 1 == r.node
+
+abbrev pub gives_settle : Site → Item → Rest → Bool
+gives_settle site (items.Ticked v fresh again) r = ticks_next v r
+gives_settle site (items.NotTicked v refusal) r = ticks_next v r
+gives_settle site (items.Short l used need received) r = comes_short l r && is_ticking site l r
+gives_settle site (items.Sent l number offset length) r = nat_lt 0 r.frames && is_ticking site l r
+gives_settle site (items.Unsent l offset cause) r = nat_lt 0 r.frames && is_ticking site l r
+gives_settle site (items.Passed l number result) r = is_over r && nat_lt 0 r.waiting && comes_next l number r
+gives_settle site _ r = true
 
 abbrev pub gives_bits : Item → Rest → Bool
 gives_bits (items.Took link e number) r = gives_block e r
 gives_bits (items.TookNone link e refusal) r = gives_block e r
 gives_bits _ r = true
 
-abbrev pub gives : Command → Item → Rest → Bool
-gives (commands.Bits link es count) item r = gives_bits item r
-gives (commands.Tick v) item r = gives_tick item r
-gives (commands.Settle rounds) item r = gives_settle item r
-gives _ item r = true
+abbrev pub gives : Site → Command → Item → Rest → Bool
+gives site (commands.Bits link es count) item r = gives_bits item r
+gives site (commands.Tick v) item r = gives_tick item r
+gives site (commands.Settle rounds) item r = gives_settle site item r
+gives site _ item r = true
 
-abbrev pub gives_if : Option Command → Item → Rest → Bool
-gives_if None item r = true
-gives_if (Some command) item r = gives command item r
+abbrev pub gives_if : Site → Option Command → Item → Rest → Bool
+gives_if site None item r = true
+gives_if site (Some command) item r = gives site command item r
 
 abbrev pub gives_next : Scenario → List NumberedItem → NumberedItem → Bool
-gives_next s before t = gives_if (command_at s t.number) t.item (rest_of s t.number before)
+gives_next s before t = gives_if s.site (command_at s t.number) t.item (rest_of s t.number before)
 
 -- ---- the order of a tick's frames
 

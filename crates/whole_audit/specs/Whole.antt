@@ -17,6 +17,9 @@ use Rattle.whole_audit.specs.Claims.{rule_10}
 use Rattle.whole_audit.specs.Tracks.{has_no_gap, comes_rightly}
 use Rattle.whole_audit.specs.Sums.{rule_11, lacks_bytes}
 use Rattle.whole_audit.specs.Knowledge.{is_known}
+use Rattle.whole_audit.specs.Frames.{comes_whole}
+use Rattle.whole_audit.specs.Pools.{ready, stock_of, is_in_stock}
+use Rattle.whole_audit.specs.Handings.{shows_handed, refuses_handed}
 use Rattle.whole_audit.specs.Lines.{command_at}
 use Rattle.item_audit.specs.Asked.{asked_at}
 use Rattle.whole_audit.specs.Shorts.{rule_17}
@@ -34,7 +37,11 @@ findings s before t = record {
   comes = comes_rightly before t.item;
   lacks = lacks_bytes before t.item;
   known = is_known s before t.item;
+  whole = comes_whole before t.item;
+  stocks = is_in_stock (ready s t) (λ p. stock_of s p before);
   sums = rule_11 before t.item;
+  given = shows_handed s before t.item;
+  refused = refuses_handed s before t;
   asked = asked_at s.site (command_at s t.number) t.item;
   burns = burns s before t.item;
   names = names_follow (given s t) (λ v. names_of s v before);
@@ -53,12 +60,13 @@ least_of f =
     else if not (f.claims && f.gaps) then Some 10
     else if not (f.sums && f.burns) then Some 11
     else if not (f.names && f.asked.making) then Some 12
-    else if not (f.handed && f.asked.handing) then Some 13
-    else if not (f.heard && f.comes && f.lacks && f.known && f.asked.passing) then Some 14
+    else if not (f.handed && f.stocks && f.refused && f.asked.handing) then Some 13
+    else if not (f.heard && f.comes && f.lacks && f.known && f.whole && f.asked.passing) then Some 14
     else if not f.asked.streaming then Some 15
     else if not f.asked.responding then Some 16
     else if not (f.shorts && f.asked.ticking) then Some 17
-    else if not (f.shown && f.asked.showing) then Some 18
+    else if not (f.shown && f.given && f.asked.showing) then Some 18
+    else if not f.asked.lengths then Some 19
     else if not f.asked.naming then Some 20
     else None
 

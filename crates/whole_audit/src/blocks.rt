@@ -6,6 +6,7 @@ ghost use Rattle.run_types.specs.declared.item.NumberedItem.{NumberedItem as Tol
 ghost use Rattle.run_audit.specs.Ledgers.{received_in};
 ghost use Rattle.whole_audit.specs.Blocks.{behind_refusal, behind_item, block_lane, may_take_none, is_next, follows};
 ghost use Rattle.whole_audit.specs.Claims.{most_received, least_received, may_have_at_end};
+ghost use Rattle.whole_audit.specs.Frames.{most_at_end};
 ghost use Rattle.whole_audit.specs.Sums.{may_have_received, lacks_rightly, lacks_bytes};
 ghost use Rattle.whole_audit.specs.Kept.{no_count, end_key, count_at, AreCounted};
 
@@ -179,6 +180,13 @@ impl Counts {
     {
         self.least_received(lane) <= u128::from(bytes)
             && u128::from(bytes) <= self.most_received(lane)
+    }
+
+    /// The most bytes of a lane that its receiver may have.
+    pub fn most_at_end(&self, lane: &Lane) -> u128
+        ensures { (before : List Told) → AreCounted self.now before → result ≡ most_at_end lane.now before }
+    {
+        received_in(lane.way, self.at(&reversed(lane)).most)
     }
 
     // Whether a lane's receiver may have just so many of its bytes.

@@ -37,11 +37,19 @@ pub struct Findings {
     pub lacks: bool,
     /// Rule 14, of what senders and receivers know.
     pub known: bool,
+    /// Rule 14, of bytes and lengths of frames that come.
+    pub whole: bool,
+    /// Rule 13, of numbers of keys.
+    pub stocks: bool,
     /// Rule 18, of names.
     pub shown: bool,
     /// Rule 17, of lanes that are short.
     pub shorts: bool,
-    /// Rules 7, 12 to 18, and 20.
+    /// Rule 13, of keys that were handed out before.
+    pub refused: bool,
+    /// Rule 18, of keys that were handed out.
+    pub given: bool,
+    /// Rules 7, 12 to 20.
     pub asked: Asked,
 }
 
@@ -67,13 +75,14 @@ pub fn least(findings: &Findings) -> Option<u8>
     if !(findings.names && findings.asked.making) {
         return Some(12);
     }
-    if !(findings.handed && findings.asked.handing) {
+    if !(findings.handed && findings.stocks && findings.refused && findings.asked.handing) {
         return Some(13);
     }
     if !(findings.heard
         && findings.comes
         && findings.lacks
         && findings.known
+        && findings.whole
         && findings.asked.passing)
     {
         return Some(14);
@@ -87,8 +96,11 @@ pub fn least(findings: &Findings) -> Option<u8>
     if !(findings.shorts && findings.asked.ticking) {
         return Some(17);
     }
-    if !(findings.shown && findings.asked.showing) {
+    if !(findings.shown && findings.given && findings.asked.showing) {
         return Some(18);
+    }
+    if !findings.asked.lengths {
+        return Some(19);
     }
     if !findings.asked.naming {
         return Some(20);

@@ -4,12 +4,13 @@ ghost use Rattle.qkd_base.specs.Name.{kind_number};
 ghost use Rattle.run_types.specs.declared.scenario.Scenario.{Scenario as Lines};
 ghost use Rattle.run_types.specs.declared.item.NumberedItem.{NumberedItem as Told};
 ghost use Rattle.run_audit.specs.Takings.{is_ack};
-ghost use Rattle.whole_audit.specs.Knowledge.{heard_on, heard_of, may_have_heard, may_know, may_tell, result_is_known, is_known};
-ghost use Rattle.whole_audit.specs.Kept.{bool_number, heard_entry, AreStarted, AreHeard};
+ghost use Rattle.whole_audit.specs.Knowledge.{heard_on, heard_of, may_have_heard, may_answer, may_know, may_tell, result_is_known, is_known};
+ghost use Rattle.whole_audit.specs.Kept.{bool_number, heard_entry, AreStopped, AreArrived, AreHeard};
 
-use crate::managers::was_started;
+use crate::arrivals::Arrivals;
+use crate::managers::was_stopped;
 use declared_site::Site;
-use item_audit::{receiver, sender};
+use item_audit::{receiver, reversed, sender};
 use ordered_set::{Entries, Entry as Numbers};
 use qkd_base::{KeyName, Lane, Memory, NameKind};
 use run_types::{FrameResult, Item, PayloadKind};
@@ -29,7 +30,8 @@ pub struct Knowledge {
     heard: Entries,
 }
 
-fn is_ack(kind: PayloadKind) -> bool
+/// Whether a payload is an acknowledgement.
+pub fn is_ack(kind: PayloadKind) -> bool
     ensures { result ≡ is_ack kind }
 {
     matches!(kind, PayloadKind::Ack)
@@ -78,8 +80,8 @@ fn bool_number(flag: bool) -> u64
     if flag { 1 } else { 0 }
 }
 
-// The number of a name's kind.
-fn kind_number(name: &KeyName) -> u64
+/// The number of a name's kind.
+pub fn kind_number(name: &KeyName) -> u64
     ensures { result ≡ kind_number name.now.kind }
 {
     match name.kind() {
@@ -102,6 +104,19 @@ fn heard_entry(heard: &Heard) -> Numbers
     ]
 }
 
+// Whether the sender of a lane may acknowledge a fact.
+fn may_answer(
+    arrivals: &Arrivals,
+    stopped: &Entries,
+    site: &Site,
+    lane: &Lane,
+    name: KeyName,
+) -> bool
+    ensures { (s : Lines) (before : List Told) → s.site ≡ site.now → AreStopped s stopped.now before → AreArrived arrivals.now before → result ≡ may_answer s before lane.now name }
+{
+    arrivals.has(&reversed(lane), &name) || was_stopped(stopped, sender(site, lane))
+}
+
 impl Knowledge {
     /// Before the first item. The call allocates nothing.
     pub fn new(alloc: Global) -> Self
@@ -113,83 +128,86 @@ impl Knowledge {
     }
 
     // Whether a node may have taken a name.
-    fn may_have_heard(&self, started: &Entries, node: u64, is_ack: bool, name: KeyName) -> bool
-        ensures { (s : Lines) (before : List Told) → AreStarted s started.now before → AreHeard s self.now before → result ≡ may_have_heard s before node is_ack name }
+    fn may_have_heard(&self, stopped: &Entries, node: u64, is_ack: bool, name: KeyName) -> bool
+        ensures { (s : Lines) (before : List Told) → AreStopped s stopped.now before → AreHeard s self.now before → result ≡ may_have_heard s before node is_ack name }
     {
-        self.heard.has(heard_entry(&Heard { node, is_ack, name })) || was_started(started, node)
+        self.heard.has(heard_entry(&Heard { node, is_ack, name })) || was_stopped(stopped, node)
     }
 
     // Whether a node may know a fact.
-    fn may_know(&self, started: &Entries, node: u64, name: KeyName) -> bool
-        ensures { (s : Lines) (before : List Told) → AreStarted s started.now before → AreHeard s self.now before → result ≡ may_know s before node name }
+    fn may_know(&self, stopped: &Entries, node: u64, name: KeyName) -> bool
+        ensures { (s : Lines) (before : List Told) → AreStopped s stopped.now before → AreHeard s self.now before → result ≡ may_know s before node name }
     {
-        u64::from(name.node().get()) == node || self.may_have_heard(started, node, false, name)
+        u64::from(name.node().get()) == node || self.may_have_heard(stopped, node, false, name)
     }
 
     // Whether the sender of a lane may tell this name, as a fact or as an acknowledgement.
     fn may_tell(
         &self,
-        started: &Entries,
+        arrivals: &Arrivals,
+        stopped: &Entries,
         site: &Site,
         lane: &Lane,
         is_ack: bool,
         name: KeyName,
     ) -> bool
-        ensures { (s : Lines) (before : List Told) → s.site ≡ site.now → AreStarted s started.now before → AreHeard s self.now before → result ≡ may_tell s before lane.now is_ack name }
+        ensures { (s : Lines) (before : List Told) → s.site ≡ site.now → AreStopped s stopped.now before → AreArrived arrivals.now before → AreHeard s self.now before → result ≡ may_tell s before lane.now is_ack name }
     {
         if is_ack {
-            self.may_have_heard(started, sender(site, lane), false, name)
-                && self.may_know(started, receiver(site, lane), name)
+            may_answer(arrivals, stopped, site, lane, name)
+                && self.may_know(stopped, receiver(site, lane), name)
         } else {
-            self.may_know(started, sender(site, lane), name)
+            self.may_know(stopped, sender(site, lane), name)
         }
     }
 
     // Whether this may have become of a frame, as far as its sender and its receiver know.
     fn result_is_known(
         &self,
-        started: &Entries,
+        arrivals: &Arrivals,
+        stopped: &Entries,
         site: &Site,
         lane: &Lane,
         outcome: &FrameResult,
     ) -> bool
-        ensures { (s : Lines) (before : List Told) → s.site ≡ site.now → AreStarted s started.now before → AreHeard s self.now before → result ≡ result_is_known s before lane.now outcome.now }
+        ensures { (s : Lines) (before : List Told) → s.site ≡ site.now → AreStopped s stopped.now before → AreArrived arrivals.now before → AreHeard s self.now before → result ≡ result_is_known s before lane.now outcome.now }
     {
         match outcome {
             FrameResult::Taken { kind, name } => self.may_tell(
-                started,
+                arrivals,
+                stopped,
                 site,
                 lane,
                 is_ack(*kind),
                 *name,
             ),
             FrameResult::Again { kind, name } => {
-                self.may_tell(started, site, lane, is_ack(*kind), *name)
-                    && self.may_have_heard(started, receiver(site, lane), is_ack(*kind), *name)
+                self.may_tell(arrivals, stopped, site, lane, is_ack(*kind), *name)
+                    && self.may_have_heard(stopped, receiver(site, lane), is_ack(*kind), *name)
             }
             FrameResult::Refused(_) => true,
         }
     }
 
     /// Whether the item, if it is of a frame that came, tells what the frame's sender and receiver may know.
-    pub fn is_known(&self, started: &Entries, site: &Site, item: &Item) -> bool
-        ensures { (s : Lines) (before : List Told) → s.site ≡ site.now → AreStarted s started.now before → AreHeard s self.now before → result ≡ is_known s before item.now }
+    pub fn is_known(&self, arrivals: &Arrivals, stopped: &Entries, site: &Site, item: &Item) -> bool
+        ensures { (s : Lines) (before : List Told) → s.site ≡ site.now → AreStopped s stopped.now before → AreArrived arrivals.now before → AreHeard s self.now before → result ≡ is_known s before item.now }
     {
         match item {
             Item::Passed {
                 lane,
                 result: outcome,
                 ..
-            } => self.result_is_known(started, site, lane, outcome),
+            } => self.result_is_known(arrivals, stopped, site, lane, outcome),
             Item::Flipped {
                 lane,
                 result: outcome,
                 ..
-            } => self.result_is_known(started, site, lane, outcome),
+            } => self.result_is_known(arrivals, stopped, site, lane, outcome),
             Item::Forged {
                 lane,
                 result: outcome,
-            } => self.result_is_known(started, site, lane, outcome),
+            } => self.result_is_known(arrivals, stopped, site, lane, outcome),
             _ => true,
         }
     }

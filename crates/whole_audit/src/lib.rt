@@ -8,8 +8,8 @@
 //! 1. to 6. are those of `run_audit`.
 //! 7. The items stand in order of their lines, those of a block in any order, and each line gives all that it asks for. A
 //!    line of blocks gives those of its ends by turns, until an end refuses. A tick tells what it lacks, link by link, and
-//!    puts as many frames as it told, of lanes that leave its node. Outside of blocks they stand link by link, in order of
-//!    their offsets. In a settle nodes tick in order, and each frame comes to its receiver, lane by lane, before the next
+//!    puts as many frames as it told, of lanes that leave its node, also in a settle. Outside of blocks they stand link by
+//!    link, in order of their offsets. In a settle nodes tick in order, and each frame comes to its receiver, lane by lane, before the next
 //!    round begins. Each other line gives one item. A report that lacks an item at its end breaks this rule on the line
 //!    behind its last one.
 //! 8. A manager says that it is down exactly if it is: behind a crash, behind an event in which it stopped, and if its start
@@ -24,28 +24,37 @@
 //!     as far as the report tells how many these were. A pair that isn't allowed is refused as such, and no other.
 //! 13. As many keys are handed out as the line asks for, of its size, named by its node and in order of their names, or those
 //!     that it names, none twice. Who may not ask is refused as such, and nobody else. Other refusals fit what was asked for.
+//!     No more keys of a pair and a size are ready than were made and not handed to their master. A key is refused as handed
+//!     only to who got it.
 //! 14. A frame that comes to its receiver is the line's, and the wire has it. Its name is one of the told kind. If one bit
-//!     was changed, or anybody made the octets, the answer is one that this bit, or the number of octets, allows. Who sends
-//!     a fact knows it, and so does who acknowledges it; what comes again was taken before. Of nodes that were started this
-//!     isn't asked. Who lacks bytes tells how many it has.
+//!     was changed, or anybody made the octets, the answer is one that this bit, or these octets, allow. A payload has a
+//!     length of its kind. Who sends a fact knows it, and who acknowledges it took it over the same link; what comes again was
+//!     taken before. Of nodes that stopped in something that they were asked this isn't asked. A receiver lacks bytes exactly
+//!     if the frame needs more than it has, and tells how many these are.
 //! 15. A call on streams is answered by a status that it can have, for the stream and the index that it names.
 //! 16. A response is that of the line's node, and its message is one of its status.
 //! 17. A tick is that of the line's node. A short item tells what was received, over a link that is up, and its need passes
 //!     that. What it has used ends at or behind the last frame, and within what was received.
 //! 18. A key is shown as the line asks for. It has bytes exactly if the node needs them, as far as its state tells that. Only
-//!     the node that named it has made it, and only others keep it or pass it on.
+//!     the node that named it has made it, and only others keep it or pass it on. It was given exactly if the node handed it
+//!     out, unless the node stopped in something that it was asked, or hands out keys without their names.
 //!     In 13, 14 and 18, a name that is told of is one that its node can have given.
+//! 19. A frame has the length of some payload, and so has one for which a lane lacks bytes.
 //! 20. A ledger names the line's lane, and a set link the line's link and state.
 #![tactic(auto)]
 
+mod arrivals;
 mod blocks;
 mod findings;
+mod frames;
+mod handings;
 mod judge;
 mod knowledge;
 mod lines;
 mod managers;
 mod names;
 mod order;
+mod pools;
 mod rests;
 mod tables;
 mod text;

@@ -2,9 +2,9 @@
 ghost use Rattle.std.specs.Prelude.{◌≡◌, List, ◌∷◌, OnOk};
 ghost use Rattle.run_types.specs.declared.scenario.Scenario.{Scenario as Lines};
 ghost use Rattle.run_types.specs.declared.item.NumberedItem.{NumberedItem as Told};
-ghost use Rattle.whole_audit.specs.Managers.{said, is_node_up, is_so, start_of, was_started, burns};
+ghost use Rattle.whole_audit.specs.Managers.{said, is_node_up, is_so, start_of, was_started, burns, is_crash, stop_of, was_stopped};
 ghost use Rattle.whole_audit.specs.Tracks.{was_started_at};
-ghost use Rattle.whole_audit.specs.Kept.{number_entry, AreDownNodes, AreStarted};
+ghost use Rattle.whole_audit.specs.Kept.{number_entry, AreDownNodes, AreStarted, AreStopped};
 
 use declared_site::Site;
 use item_audit::{Said, sender};
@@ -12,8 +12,8 @@ use ordered_set::{Entries, Entry as Numbers};
 use qkd_base::{Lane, Memory};
 use run_types::Item;
 
-// The entry of a node in a set.
-fn node_entry(node: u64) -> Numbers
+/// The entry of a node in a set.
+pub fn node_entry(node: u64) -> Numbers
     ensures { result ≡ number_entry node }
 {
     [node, 0, 0, 0, 0]
@@ -94,11 +94,43 @@ pub fn learn_start(started: &mut Entries, word: &Option<Said>) -> Result<(), Mem
     }
 }
 
-/// Whether a manager was started.
-pub fn was_started(started: &Entries, node: u64) -> bool
-    ensures { (s : Lines) (before : List Told) → AreStarted s started.now before → result ≡ was_started s node before }
+fn is_crash(item: &Item) -> bool
+    ensures { result ≡ is_crash item.now }
 {
-    started.has(node_entry(node))
+    matches!(item, Item::Crashed)
+}
+
+// The node that an item says stopped.
+fn stop_of(crashes: bool, said: &Option<Said>) -> Option<u64>
+    ensures { result ≡ stop_of crashes said.now }
+{
+    match said {
+        Some(said) => {
+            if said.was_up && !(said.is_up || crashes) {
+                Some(said.node)
+            } else {
+                None
+            }
+        }
+        None => None,
+    }
+}
+
+/// Adds a stop, if an item tells of one, to the set of nodes that stopped. The only error is that memory runs out.
+pub fn learn_stop(stopped: &mut Entries, item: &Item, word: &Option<Said>) -> Result<(), Memory>
+    ensures { (s : Lines) (told : Told) (before : List Told) → told.item ≡ item.now → word.now ≡ said s told → AreStopped s stopped.old before → OnOk result (AreStopped s stopped.new (told ∷ before)) }
+{
+    match stop_of(is_crash(item), word) {
+        Some(node) => stopped.insert(node_entry(node)),
+        None => Ok(()),
+    }
+}
+
+/// Whether a manager stopped in something that it was asked.
+pub fn was_stopped(stopped: &Entries, node: u64) -> bool
+    ensures { (s : Lines) (before : List Told) → AreStopped s stopped.now before → result ≡ was_stopped s node before }
+{
+    stopped.has(node_entry(node))
 }
 
 /// Whether a ledger tells of no burnt bytes, unless the sender was started.

@@ -10,17 +10,21 @@ ghost use Rattle.whole_audit.specs.Tracks.{in_block, has_no_gap};
 ghost use Rattle.whole_audit.specs.Whole.{findings};
 ghost use Rattle.whole_audit.specs.Kept.{number_entry, AreSpots, AreCounted, AreDown, AreStarted, AreTracks, AreTablesOf};
 
+use crate::arrivals::Arrivals;
 use crate::blocks::Counts;
 use crate::findings::Findings;
+use crate::frames::Frames;
+use crate::handings::Handings;
 use crate::knowledge::Knowledge;
 use crate::lines::Spots;
-use crate::managers::{burns, is_so, learn_manager, learn_start, was_started_at};
+use crate::managers::{burns, is_so, learn_manager, learn_start, learn_stop, was_started_at};
 use crate::names::Names;
 use crate::order::number_entry;
+use crate::pools::Pools;
 use crate::rests::{Rests, behind, owes_if};
 use crate::tracks::{Tracks, frame_lane};
 use crate::turns::{gives_if, is_in_turn};
-use item_audit::{asked_at, given_if, said_in};
+use item_audit::{asked_at, change_if, given_if, ready_if, said_in};
 use ordered_set::{Entries, Entry as Numbers};
 use qkd_base::{Lane, LinkNo, Memory};
 use run_types::{Item, NumberedItem, Scenario};
@@ -37,10 +41,16 @@ pub struct Tables {
     down_nodes: Entries,
     // The nodes whose managers were started.
     started: Entries,
+    // The nodes whose managers stopped in something that they were asked.
+    stopped: Entries,
     names: Names,
     rests: Rests,
     tracks: Tracks,
     knowledge: Knowledge,
+    frames: Frames,
+    pools: Pools,
+    handings: Handings,
+    arrivals: Arrivals,
 }
 
 // The entry of a link in a set.
@@ -92,10 +102,15 @@ impl Tables {
             down: Entries::new(alloc),
             down_nodes: Entries::new(alloc),
             started: Entries::new(alloc),
+            stopped: Entries::new(alloc),
             names: Names::new(alloc),
             rests: Rests::new(alloc),
             tracks: Tracks::new(alloc),
             knowledge: Knowledge::new(alloc),
+            frames: Frames::new(alloc),
+            pools: Pools::new(alloc),
+            handings: Handings::new(alloc),
+            arrivals: Arrivals::new(alloc),
         })
     }
 
@@ -190,7 +205,7 @@ impl Tables {
         let rest = self.rests.at(told.number, &command);
         Findings {
             order: stands,
-            gives: gives_if(&command, item, &rest),
+            gives: gives_if(&scenario.site, &command, item, &rest),
             turns: is_in_turn(inside, item, &rest),
             managers: is_so(
                 &self.down_nodes,
@@ -201,7 +216,13 @@ impl Tables {
             gaps: self.has_no_gap(scenario, item, inside),
             comes: self.tracks.comes(item),
             lacks: self.counts.lacks_bytes(item),
-            known: self.knowledge.is_known(&self.started, &scenario.site, item),
+            known: self
+                .knowledge
+                .is_known(&self.arrivals, &self.stopped, &scenario.site, item),
+            whole: self.frames.fit(&self.counts, item),
+            given: self.handings.fit_shown(&self.stopped, item),
+            refused: self.handings.fit_refusal(&self.stopped, &command, item),
+            stocks: self.pools.have(&ready_if(&command, item)),
             sums: self.sums(item),
             burns: burns(&self.started, &scenario.site, item),
             names: self.names.follow(&given_if(&scenario.site, &command, item)),
@@ -225,9 +246,14 @@ impl Tables {
         learn_link(&mut self.down, item)?;
         learn_manager(&mut self.down_nodes, &said)?;
         learn_start(&mut self.started, &said)?;
+        learn_stop(&mut self.stopped, item, &said)?;
         self.rests.learn(&command, told)?;
         self.tracks.learn(item)?;
         self.knowledge.learn(&scenario.site, item)?;
+        self.frames.learn(item)?;
+        self.handings.learn(&command, item)?;
+        self.arrivals.learn(item)?;
+        self.pools.learn(&change_if(&command, item))?;
         self.names.learn(&given)
     }
 }

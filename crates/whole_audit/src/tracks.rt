@@ -113,8 +113,8 @@ fn has_used(used: u64, received: u64, track: &Track) -> bool
     }
 }
 
-// The lane of a frame that comes to its receiver.
-fn come_lane(item: &Item) -> Option<Lane>
+/// The lane of a frame that comes to its receiver.
+pub fn come_lane(item: &Item) -> Option<Lane>
     ensures { result ≡ come_lane item.now }
 {
     match item {

@@ -1,10 +1,11 @@
 // Rule 7, as to turns: which item a line may give next.
 ghost use Rattle.std.specs.Prelude.{◌≡◌, ◌||◌};
 ghost use Rattle.std.specs.Option.{option_copied};
-ghost use Rattle.whole_audit.specs.Turns.{gives_block, comes_short, gives_tick, comes_next, is_over, ticks_next, gives_settle, gives, gives_if, stands_behind, follows_frame};
+ghost use Rattle.whole_audit.specs.Turns.{gives_block, comes_short, gives_tick, comes_next, is_over, ticks_next, is_ticking, gives_settle, gives, gives_if, stands_behind, follows_frame};
 
 use crate::rests::Rest;
-use item_audit::lane_place;
+use declared_site::Site;
+use item_audit::{lane_place, sender};
 use qkd_base::{Lane, NodeNo};
 use run_types::{Command, End, Item};
 
@@ -64,15 +65,23 @@ fn ticks_next(node: NodeNo, rest: &Rest) -> bool
         }
 }
 
+// Whether a lane leaves the node that ticked last.
+fn is_ticking(site: &Site, lane: &Lane, rest: &Rest) -> bool
+    ensures { result ≡ is_ticking site.now lane.now rest.now }
+{
+    u128::from(sender(site, lane)) + 1 == u128::from(rest.node)
+}
+
 // Whether a settle may give the item.
-fn gives_settle(item: &Item, rest: &Rest) -> bool
-    ensures { result ≡ gives_settle item.now rest.now }
+fn gives_settle(site: &Site, item: &Item, rest: &Rest) -> bool
+    ensures { result ≡ gives_settle site.now item.now rest.now }
 {
     match item {
         Item::Ticked { node, .. } => ticks_next(*node, rest),
         Item::NotTicked { node, .. } => ticks_next(*node, rest),
-        Item::Short { lane, .. } => comes_short(lane, rest),
-        Item::Sent { .. } | Item::Unsent { .. } => 0 < rest.frames,
+        Item::Short { lane, .. } => comes_short(lane, rest) && is_ticking(site, lane, rest),
+        Item::Sent { lane, .. } => 0 < rest.frames && is_ticking(site, lane, rest),
+        Item::Unsent { lane, .. } => 0 < rest.frames && is_ticking(site, lane, rest),
         Item::Passed { lane, number, .. } => {
             is_over(rest) && 0 < rest.waiting && comes_next(lane, *number, rest)
         }
@@ -81,8 +90,8 @@ fn gives_settle(item: &Item, rest: &Rest) -> bool
 }
 
 // Whether a line may give the item.
-fn gives(command: &Command, item: &Item, rest: &Rest) -> bool
-    ensures { result ≡ gives command.now item.now rest.now }
+fn gives(site: &Site, command: &Command, item: &Item, rest: &Rest) -> bool
+    ensures { result ≡ gives site.now command.now item.now rest.now }
 {
     match command {
         Command::Bits { .. } => match item {
@@ -91,17 +100,17 @@ fn gives(command: &Command, item: &Item, rest: &Rest) -> bool
             _ => true,
         },
         Command::Tick { .. } => gives_tick(item, rest),
-        Command::Settle { .. } => gives_settle(item, rest),
+        Command::Settle { .. } => gives_settle(site, item, rest),
         _ => true,
     }
 }
 
 /// Whether the item may be given, given what its line asks for, if there is one.
-pub fn gives_if(command: &Option<&Command>, item: &Item, rest: &Rest) -> bool
-    ensures { result ≡ gives_if (option_copied command.now) item.now rest.now }
+pub fn gives_if(site: &Site, command: &Option<&Command>, item: &Item, rest: &Rest) -> bool
+    ensures { result ≡ gives_if site.now (option_copied command.now) item.now rest.now }
 {
     match command {
-        Some(command) => gives(command, item, rest),
+        Some(command) => gives(site, command, item, rest),
         None => true,
     }
 }

@@ -19,6 +19,11 @@ use Rattle.whole_audit.specs.Blocks.{rule_9}
 use Rattle.whole_audit.specs.Claims.{rule_10}
 use Rattle.whole_audit.specs.Sums.{rule_11, lacks_bytes}
 use Rattle.whole_audit.specs.Knowledge.{is_known}
+use Rattle.item_audit.specs.declared.stocks.Change.{Change}
+use Rattle.item_audit.specs.Stocks.{ready_if}
+use Rattle.whole_audit.specs.Frames.{comes_whole}
+use Rattle.whole_audit.specs.Handings.{shows_handed, refuses_handed, refuses_handed_of}
+use Rattle.whole_audit.specs.Pools.{ready, stock_of, is_in_stock}
 use Rattle.whole_audit.specs.Shorts.{rule_17}
 use Rattle.whole_audit.proofs.tables.Tables.findings.Goals as goal
 
@@ -50,8 +55,8 @@ returns c before kept stands inside =
     c.at-rest.ensures ∙ ap (λ (o : Option Command). rest_at c.args.self.now.rests c.args.told.now.number (asked_if o)) (c.command-command.ensures kept.spots) ∙ kept.rests c.args.told.now.number in
     let gives : c.gives_if.result ≡ gives_next c.args.scenario.now before c.args.told.now =
     c.gives_if.ensures
-    ∙ ap (λ (o : Option Command). gives_if o c.args.told.now.item c.at-rest.result) (c.command-command.ensures kept.spots)
-    ∙ ap (gives_if (command_at c.args.scenario.now c.args.told.now.number) c.args.told.now.item) rest in
+    ∙ ap (λ (o : Option Command). gives_if c.args.scenario.now.site o c.args.told.now.item c.at-rest.result) (c.command-command.ensures kept.spots)
+    ∙ ap (gives_if c.args.scenario.now.site (command_at c.args.scenario.now c.args.told.now.number) c.args.told.now.item) rest in
     let turns : c.is_in_turn.result ≡ is_in_turn c.args.scenario.now before c.args.told.now =
     c.is_in_turn.ensures
     ∙ ap (λ (b : Bool). b || follows_frame c.args.told.now.item c.at-rest.result) inside
@@ -59,5 +64,13 @@ returns c before kept stands inside =
     let gaps : c.has_no_gap.result ≡ has_no_gap c.args.scenario.now before c.args.told.now = c.has_no_gap.ensures c.args.told.now before refl inside kept.started kept.tracks in
     let comes : c.comes.result ≡ comes_rightly before c.args.told.now.item = c.comes.ensures before kept.tracks in
     let lacks : c.lacks_bytes.result ≡ lacks_bytes before c.args.told.now.item = c.lacks_bytes.ensures before kept.counts in
-    let known : c.is_known.result ≡ is_known c.args.scenario.now before c.args.told.now.item = c.is_known.ensures c.args.scenario.now before refl kept.started kept.knowledge in
-    λ i. record { order = stands i; gives = gives i; turns = turns i; managers = managers i; blocks = blocks i; claims = claims i; gaps = gaps i; comes = comes i; lacks = lacks i; known = known i; sums = sums i; burns = burnt i; names = names i; handed = handed i; heard = heard i; shown = shown i; shorts = shorts i; asked = asked i }
+    let known : c.is_known.result ≡ is_known c.args.scenario.now before c.args.told.now.item = c.is_known.ensures c.args.scenario.now before refl kept.stopped kept.arrivals kept.knowledge in
+    let whole : c.fit.result ≡ comes_whole before c.args.told.now.item = c.fit.ensures before kept.counts kept.frames in
+    let given_there : c.fit_shown.result ≡ shows_handed c.args.scenario.now before c.args.told.now.item = c.fit_shown.ensures c.args.scenario.now before kept.stopped kept.handings in
+    let refused : c.fit_refusal.result ≡ refuses_handed c.args.scenario.now before c.args.told.now =
+    c.fit_refusal.ensures c.args.scenario.now before kept.stopped kept.handings ∙ ap (λ (o : Option Command). refuses_handed_of c.args.scenario.now before o c.args.told.now.item) (c.command-command.ensures kept.spots) in
+    let ready_so : c.ready_if.result ≡ ready c.args.scenario.now c.args.told.now =
+    c.ready_if.ensures ∙ ap (λ (o : Option Command). ready_if o c.args.told.now.item) (c.command-command.ensures kept.spots) in
+    let stocks : c.have.result ≡ is_in_stock (ready c.args.scenario.now c.args.told.now) (λ p. stock_of c.args.scenario.now p before) =
+    c.have.ensures c.args.scenario.now before kept.pools ∙ ap (λ (o : Option Change). is_in_stock o (λ p. stock_of c.args.scenario.now p before)) ready_so in
+    λ i. record { order = stands i; gives = gives i; turns = turns i; managers = managers i; blocks = blocks i; claims = claims i; gaps = gaps i; comes = comes i; lacks = lacks i; known = known i; whole = whole i; stocks = stocks i; given = given_there i; refused = refused i; sums = sums i; burns = burnt i; names = names i; handed = handed i; heard = heard i; shown = shown i; shorts = shorts i; asked = asked i }

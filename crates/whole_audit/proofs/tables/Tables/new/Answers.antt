@@ -9,8 +9,13 @@ returns c = record {
   down = λ link. ap (λ (es : List (List ℕ)). has_number es link) c.new-3.ensures;
   managers = λ node. ap (λ (es : List (List ℕ)). has_number es node) c.new-4.ensures;
   started = λ node. ap (λ (es : List (List ℕ)). has_number es node) c.new-5.ensures;
-  names = c.new-6.ensures c.args.scenario.now;
-  rests = c.new-7.ensures c.args.scenario.now;
-  tracks = c.new-8.ensures;
-  knowledge = c.new-9.ensures c.args.scenario.now;
+  stopped = λ node. ap (λ (es : List (List ℕ)). has_number es node) c.new-6.ensures;
+  names = c.new-7.ensures c.args.scenario.now;
+  rests = c.new-8.ensures c.args.scenario.now;
+  tracks = c.new-9.ensures;
+  knowledge = c.new-10.ensures c.args.scenario.now;
+  frames = c.new-11.ensures;
+  pools = c.new-12.ensures c.args.scenario.now;
+  handings = c.new-13.ensures c.args.scenario.now;
+  arrivals = c.new-14.ensures;
 }

@@ -1,5 +1,4 @@
 use Rattle.std.proofs.Common.{ap, ◌∙◌}
-use Rattle.whole_audit.specs.declared.tracks.Track.{Track}
 use Rattle.whole_audit.specs.Tracks.{leaves}
 use Rattle.whole_audit.proofs.tracks.Tracks.leaves.Goals as goal
 
