@@ -4,7 +4,7 @@
     python3 bench/load.py [PROGRAM]
 
 PROGRAM is the built program, and crates/qkdnet/out/qkdnet where none is named. The plain program stands in bench/plain and
-is built by cargo, without a network: once so that its disks keep the record of all their calls, as the program's do, and once
+is built by cargo, without a network: once so that its disks keep the record of all their calls, and once
 without that. All get the words `load N`, and then `run 1` with the same lines as a scenario, whose whole report is written too;
 what they write has to be equal. Then come the lines `run 1` of a mesh: 16 nodes, 32 links with all their blocks, and 128 and 256 keys
 for each of 240 pairs of applications. Printed are, for each N, the middle one of the processor times of 15 turns, of the mesh of 5, which
