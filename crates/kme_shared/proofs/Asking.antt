@@ -1,7 +1,6 @@
 -- A worker may ask the manager of an entry, and the lanes are at their desks.
-use Rattle.std.proofs.Common.{◌≡◌, ℕ, Bool, true, List, sym, ap, subst, Option}
+use Rattle.std.proofs.Common.{◌≡◌, ℕ, true, List, sym, ap, subst, Option}
 use Rattle.std.specs.List.{AllZip}
-use Rattle.net_model.specs.OctetSequence.{OctetSequence}
 use Rattle.net_model.specs.Site.{Site}
 use Rattle.net_model.specs.Events.{is_lane}
 use Rattle.declared_site.specs.SiteOf.{site_of}
@@ -19,15 +18,15 @@ use Rattle.par_managers.specs.PlanTaking.{MayCall}
 use Rattle.par_managers.specs.declared.turn.Turn.{Turn}
 use Rattle.kme_shared.specs.Working.{AreSeated, MayAsk}
 use Rattle.kme_shared.specs.Granting.{AreHome}
+use Rattle.world_state.specs.Outside.{Outside}
 
-module _ {K Q E X : Type 0} {is_honest : K → Bool} {moment : K → ℕ} {image : K → ℕ → List ℕ → Type 0} {left : E → Option OctetSequence} {told : Q → Option OctetSequence}
-    {frames : X → Option (List (List ℕ))} {counted : X → ℕ} where
+module _ {K Q E X : Type 0} {outside : Outside K Q E X} where
   -- if a turn may come, the manager's desk may take it
   may_call : {opening o : State K Q E X} {v u : ℕ} {shares ss : List Shares} {place : ℕ} {job : Job} {octets : Option (List ℕ)} {granted : List Share} → o ≡ opening → u ≡ v → ss ≡ shares →
-      MayCome is_honest moment image left told frames counted opening v place job octets → AllZip Fits shares granted → MayCall is_honest moment image left told frames counted o u ss place job octets granted
+      MayCome outside opening v place job octets → AllZip Fits shares granted → MayCall outside o u ss place job octets granted
   may_call {opening = opening} {u = u} {place = place} {job = job} {octets = octets} {granted = granted} opens node shared come fits = record {
-    come = subst (λ (s : State K Q E X). MayCome is_honest moment image left told frames counted s u place job octets) (sym opens)
-        (subst (λ (n : ℕ). MayCome is_honest moment image left told frames counted opening n place job octets) (sym node) come);
+    come = subst (λ (s : State K Q E X). MayCome outside s u place job octets) (sym opens)
+        (subst (λ (n : ℕ). MayCome outside opening n place job octets) (sym node) come);
     fits = subst (λ (s : List Shares). AllZip Fits s granted) (sym shared) fits;
   }
 
@@ -41,10 +40,9 @@ module _ {K Q E X M N : Type 0} {opening_of : M → State K Q E X} {node_of : M 
   }
 
   -- the entry's manager takes the turn, and what leaves its node can go out
-  pub manager : {is_honest : K → Bool} {moment : K → ℕ} {image : K → ℕ → List ℕ → Type 0} {left : E → Option OctetSequence} {told : Q → Option OctetSequence}
-      {frames : X → Option (List (List ℕ))} {counted : X → ℕ} (call : Call Turn) → MayAsk is_honest moment image left told frames counted opening first call → (granted : List Share) → AllZip Fits shares granted →
+  pub manager : {outside : Outside K Q E X} (call : Call Turn) → MayAsk outside opening first call → (granted : List Share) → AllZip Fits shares granted →
       (m : M) × IsLeft machines call.machine m
-      × MayCall is_honest moment image left told frames counted (opening_of m) (node_of m) (shares_in m) call.request.place call.request.job.now call.request.octets granted
+      × MayCall outside (opening_of m) (node_of m) (shares_in m) call.request.place call.request.job.now call.request.octets granted
       × (shares_in m ≡ shares) × AreHome machines side shares_of first shares (site_of (opening_of m).site)
   manager call may granted fits =
       let h = seated.managers call.machine may.node in

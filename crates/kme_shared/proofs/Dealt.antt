@@ -1,11 +1,10 @@
 -- Each manager gets the issuers of the lanes that leave its node.
-use Rattle.std.proofs.Common.{◌≡◌, ℕ, zero, suc, ◌+◌, ◌-◌, ◌<◌, ◌≤◌, Bool, true, List, [], ◌∷◌, ◌++◌, length, map, refl, sym, ap, subst, ◌∙◌, arith, Option, Some}
+use Rattle.std.proofs.Common.{◌≡◌, ℕ, zero, suc, ◌+◌, ◌-◌, ◌≤◌, Bool, true, List, [], ◌∷◌, ◌++◌, length, map, sym, ap, subst, ◌∙◌, arith, Option, Some}
 use Rattle.std.specs.Prelude.{slice_get, if◌then◌else◌}
 use Rattle.std.specs.List.{AllZip}
 use Rattle.std.proofs.lemmas.Option.{slice_get_within}
 use Rattle.qkd_base.specs.Lane.{lane_place}
 use Rattle.qkd_base.specs.declared.lane.Lane.{Lane}
-use Rattle.net_model.specs.OctetSequence.{OctetSequence}
 use Rattle.net_model.specs.Site.{Site, sender}
 use Rattle.net_model.specs.World.{Network, World}
 use Rattle.net_model.specs.Events.{is_lane}
@@ -13,23 +12,22 @@ use Rattle.declared_site.specs.SiteOf.{site_of}
 use Rattle.world_state.specs.Passed.{Post}
 use Rattle.lane_shares.specs.declared.share.Share.{Share}
 use Rattle.lane_shares.specs.declared.shares.Shares.{Shares}
-use Rattle.lane_shares.specs.declared.view.View.{View}
 use Rattle.lane_shares.specs.Names.{knows, Fits}
 use Rattle.lane_shares.specs.Views.{issuer, with_amount}
 use Rattle.lane_sender.specs.Lane.{LaneForm}
 use Rattle.run_ops.specs.Acting.{IsReady}
 use Rattle.par_managers.specs.Leases.{lease_at}
 use Rattle.par_lanes.specs.Emitting.{grant_at}
-use Rattle.par_managers.specs.Opening.{IsOpened, AreOpened, AllOpened, issued_by, issued_from, issued_in}
-use Rattle.par_managers.specs.Posts.{is_on}
+use Rattle.par_managers.specs.Opening.{IsOpened, AllOpened, issued_by, issued_from, issued_in}
 use Rattle.par_managers.proofs.Grants.{shares_of}
 use Rattle.par_managers.proofs.Openings.{opened_at, opened_long}
 use Rattle.par_managers.proofs.Places.{same_place}
 use Rattle.shared_objects.proofs.Zips.{zip_of, item_at}
 use Rattle.world_state.specs.declared.state.State.{State}
 use Rattle.world_state.specs.Stands.{Stands}
-use Rattle.kme_shared.specs.Seats.{IsUsed, AreUsed}
+use Rattle.kme_shared.specs.Seats.{AreUsed}
 use Rattle.kme_shared.specs.Sheets.{IsDealt}
+use Rattle.world_state.specs.Outside.{Outside}
 
 some_is : {A : Type 0} {a b : A} → ◌≡◌ {A = Option A} (Some a) (Some b) → a ≡ b
 some_is h = cc
@@ -47,9 +45,8 @@ each_more P (z ∷ xs) x h one zero y at = h 0 y at
 each_more P (z ∷ xs) x h one (suc i) y at = each_more (λ n. P (suc n)) xs x (λ n. h (suc n)) one i y at
 
 -- the number of managers is in range
-pub few_nodes : {K Q E X : Type 0} (is_honest : K → Bool) (moment : K → ℕ) (image : K → ℕ → List ℕ → Type 0) (left : E → Option OctetSequence) (told : Q → Option OctetSequence)
-    (frames : X → Option (List (List ℕ))) (counted : X → ℕ) (opening : State K Q E X) (net : Network) (w : World) → IsReady (Stands is_honest moment image left told frames counted) opening net w → length opening.posts.items ≤ 16
-few_nodes is_honest moment image left told frames counted opening net w ready = let a = ready.stands.nodes in let b = ready.stands.running.network.site.nodes in omega (arith, a, b)
+pub few_nodes : {K Q E X : Type 0} (outside : Outside K Q E X) (opening : State K Q E X) (net : Network) (w : World) → IsReady (Stands outside) opening net w → length opening.posts.items ≤ 16
+few_nodes outside opening net w ready = let a = ready.stands.nodes in let b = ready.stands.running.network.site.nodes in omega (arith, a, b)
 
 -- issuers with the same bytes as opened ones are opened too
 pub opened_as : {K Q E X : Type 0} (s : State K Q E X) (sides : List (LaneForm X)) (ds : List Shares) (rs us rs' : List Share) → AllOpened s sides ds rs us → AllZip Fits ds rs' → map knows rs' ≡ map knows rs → AllOpened s sides ds rs' us
@@ -91,8 +88,8 @@ module _ {K Q E X : Type 0} (opening : State K Q E X) (shares : List Shares) (is
       let one = opened_at opening opening.lanes.items shares issuers used opened i side d r.0 share at there r.1 here in
       record { owned = one.used'; cap = one.cap }
 
-  module _ (is_honest : K → Bool) (moment : K → ℕ) (image : K → ℕ → List ℕ → Type 0) (left : E → Option OctetSequence) (told : Q → Option OctetSequence) (frames : X → Option (List (List ℕ))) (counted : X → ℕ)
-      (net : Network) (w : World) (ready : IsReady (Stands is_honest moment image left told frames counted) opening net w) (v : ℕ) (row : List Share) (fits : AllZip Fits shares row)
+  module _ (outside : Outside K Q E X)
+      (net : Network) (w : World) (ready : IsReady (Stands outside) opening net w) (v : ℕ) (row : List Share) (fits : AllZip Fits shares row)
       (own : (i : ℕ) (side : LaneForm X) → slice_get opening.lanes.items i ≡ Some side → sender (site_of opening.site) side.lane ≡ v → grant_at i row ≡ grant_at i issuers) where
     lane_opened : (post : Post K E) → slice_get opening.posts.items v ≡ Some post → (l : Lane) (side : LaneForm X) (d : Shares) → is_lane (site_of opening.site) l ≡ true → sender (site_of opening.site) l ≡ v →
         slice_get opening.lanes.items (lane_place l) ≡ Some side → slice_get shares (lane_place l) ≡ Some d → IsOpened post side d (grant_at (lane_place l) row)

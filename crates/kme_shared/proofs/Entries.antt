@@ -1,8 +1,7 @@
 -- A worker's entries, in order.
-use Rattle.std.proofs.Common.{◌≡◌, ℕ, ◌+◌, ◌<◌, ◌≤◌, Bool, List, ◌∷◌, length, ap, subst, ◌∙◌, arith, Option}
+use Rattle.std.proofs.Common.{◌≡◌, ℕ, ◌+◌, ◌<◌, ◌≤◌, List, ◌∷◌, length, ap, subst, ◌∙◌, arith, Option}
 use Rattle.std.specs.Prelude.{IfSome}
 use Rattle.std.specs.List.{AllZip, AllByRecursion}
-use Rattle.net_model.specs.OctetSequence.{OctetSequence}
 use Rattle.lane_shares.specs.declared.share.Share.{Share}
 use Rattle.lane_shares.specs.declared.shares.Shares.{Shares}
 use Rattle.lane_shares.specs.Names.{Fits}
@@ -12,21 +11,21 @@ use Rattle.shared_objects.specs.declared.call.Call.{Call}
 use Rattle.world_state.specs.declared.state.State.{State}
 use Rattle.par_managers.specs.declared.turn.Turn.{Turn}
 use Rattle.kme_shared.specs.Working.{MayAsk, MayWork}
+use Rattle.world_state.specs.Outside.{Outside}
 
 -- the entry that is taken is the first one
 pub at_front : {shift tail : List (Option (Call Turn))} {first entry : Option (Call Turn)} → shift ≡ first ∷ tail → first ≡ entry → shift ≡ entry ∷ tail
 at_front {tail = tail} is same = is ∙ ap (λ (e : Option (Call Turn)). e ∷ tail) same
 
 module _ {K Q E X M N : Type 0} {opening_of : M → State K Q E X} {node_of : M → ℕ} {shares_in : M → List Shares} {side : N → LaneForm X} {shares_of : N → Shares}
-    {opening : State K Q E X} {first : ℕ} {shares : List Shares} {machines : List (Either M N)} {is_honest : K → Bool} {moment : K → ℕ} {image : K → ℕ → List ℕ → Type 0} {left : E → Option OctetSequence} {told : Q → Option OctetSequence}
-    {frames : X → Option (List (List ℕ))} {counted : X → ℕ} {shift tail : List (Option (Call Turn))} {granted : List Share} {replies room job : ℕ} {rest : List ℕ}
-    (h : MayWork opening_of node_of shares_in side shares_of opening first shares machines is_honest moment image left told frames counted shift granted replies room (job ∷ rest))
+    {opening : State K Q E X} {first : ℕ} {shares : List Shares} {machines : List (Either M N)} {outside : Outside K Q E X} {shift tail : List (Option (Call Turn))} {granted : List Share} {replies room job : ℕ} {rest : List ℕ}
+    (h : MayWork opening_of node_of shares_in side shares_of opening first shares machines outside shift granted replies room (job ∷ rest))
     (entry : Option (Call Turn)) (is : shift ≡ entry ∷ tail) where
-  each : AllByRecursion (λ entry. IfSome entry (MayAsk is_honest moment image left told frames counted opening first)) (entry ∷ tail)
-  each = subst (λ (s : List (Option (Call Turn))). AllByRecursion (λ entry. IfSome entry (MayAsk is_honest moment image left told frames counted opening first)) s) is h.coming
+  each : AllByRecursion (λ entry. IfSome entry (MayAsk outside opening first)) (entry ∷ tail)
+  each = subst (λ (s : List (Option (Call Turn))). AllByRecursion (λ entry. IfSome entry (MayAsk outside opening first)) s) is h.coming
 
   -- the next entry may be asked
-  pub next_may : IfSome entry (MayAsk is_honest moment image left told frames counted opening first)
+  pub next_may : IfSome entry (MayAsk outside opening first)
   next_may = each.0
 
   pub has_room : replies < room
@@ -34,7 +33,7 @@ module _ {K Q E X M N : Type 0} {opening_of : M → State K Q E X} {node_of : M 
 
   -- the other entries may still be asked afterwards
   pub rest_may : (granted' : List Share) → AllZip Fits shares granted' → (replies' room' more : ℕ) → replies' ≡ replies + more → more ≤ 1 → room' ≡ room →
-      MayWork opening_of node_of shares_in side shares_of opening first shares machines is_honest moment image left told frames counted tail granted' replies' room' rest
+      MayWork opening_of node_of shares_in side shares_of opening first shares machines outside tail granted' replies' room' rest
   rest_may granted' fits replies' room' more many one same =
       let long = ap (λ (s : List (Option (Call Turn))). length s) is in
       let all = h.entries in

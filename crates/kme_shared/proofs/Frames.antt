@@ -1,5 +1,5 @@
 -- The sorted frames of a block, lane by lane.
-use Rattle.std.proofs.Common.{◌≡◌, ℕ, Bool, true, false, List, [], ◌∷◌, ◌++◌, map, refl, sym, ◌∙◌, ap, ap₂, Option}
+use Rattle.std.proofs.Common.{◌≡◌, ℕ, Bool, true, false, List, [], ◌∷◌, ◌++◌, map, refl, sym, ◌∙◌, ap, ap₂}
 use Rattle.std.specs.Prelude.{◌==◌, cond}
 use Rattle.std.specs.List.{AllByRecursion, flat_map}
 use Rattle.qkd_base.specs.Lane.{lane_eq, lane_place}
@@ -22,6 +22,7 @@ use Rattle.par_frames.specs.Telling.{AreSorted, on_lane as placed_on}
 use Rattle.par_frames.proofs.Runs.{lane_by_lane}
 use Rattle.par_frames.proofs.SortedFrames.{just, ordered}
 use Rattle.par_frames.specs.Frames.{frame_done, frame_placing, on_lane}
+use Rattle.source_devices.specs.declared.wire.Wire as Wire
 
 -- two lanes are equal if and only if their places are
 
@@ -43,15 +44,15 @@ pub lanes_in_order : (s : Site) (es : List Emitted) → AllByRecursion (λ (e : 
     IsSortedByBoth (λ (e : Emitted). lane_place e.lane) (λ (e : Emitted). e.at) es → es ≡ flat_map (λ l. on_lane l es) (all_lanes s)
 lanes_in_order s es there order = sym (same_parts es (all_lanes s) ∙ lane_by_lane s es there order)
 
-module _ {X : Type 0} (frames : X → Option (List (List ℕ))) (counted faults : X → ℕ) (net : Network) (workers : ℕ) (w : World) (jobs : List Job) (histories : List (List Work))
-    (lanes : LanesWorked frames counted faults net workers w histories) (left : LanesLeft frames counted faults net workers w jobs histories lanes)
-    (outs : List (List (Emission × Emitted))) (es : List Emitted) (h : AreSorted frames counted faults net workers w histories lanes outs es) (l : Lane) (e : is_lane net.site l ≡ true) where
+module _ {X : Type 0} (wire_says : Wire.Ghosts X) (net : Network) (workers : ℕ) (w : World) (jobs : List Job) (histories : List (List Work))
+    (lanes : LanesWorked wire_says net workers w histories) (left : LanesLeft wire_says net workers w jobs histories lanes)
+    (outs : List (List (Emission × Emitted))) (es : List Emitted) (h : AreSorted wire_says net workers w histories lanes outs es) (l : Lane) (e : is_lane net.site l ≡ true) where
   pub reported : map frame_done (on_lane l es) ≡ reported_on (turns_over net w histories) l (left.logs l)
   reported =
       ap (map frame_done) (same_part l es)
-      ∙ (left.each l e).reported (placed_on l es) (just frames counted faults net workers w jobs histories lanes left outs es h l e) (ordered frames counted faults net workers w jobs histories lanes left outs es h l)
+      ∙ (left.each l e).reported (placed_on l es) (just wire_says net workers w jobs histories lanes left outs es h l e) (ordered wire_says net workers w jobs histories lanes left outs es h l)
 
   pub noted : map frame_placing (on_lane l es) ≡ placings_on net (turns_over net w histories) l (left.logs l)
   noted =
       ap (map frame_placing) (same_part l es)
-      ∙ (left.each l e).placed (placed_on l es) (just frames counted faults net workers w jobs histories lanes left outs es h l e) (ordered frames counted faults net workers w jobs histories lanes left outs es h l)
+      ∙ (left.each l e).placed (placed_on l es) (just wire_says net workers w jobs histories lanes left outs es h l e) (ordered wire_says net workers w jobs histories lanes left outs es h l)

@@ -1,5 +1,5 @@
 -- What the workers of a block did on the lanes.
-use Rattle.std.proofs.Common.{◌≡◌, ℕ, ◌+◌, ◌*◌, true, List, [], ◌∷◌, length, map, refl, sym, ◌∙◌, ap, subst, arith, Option, Some}
+use Rattle.std.proofs.Common.{◌≡◌, ℕ, ◌+◌, ◌*◌, true, List, [], ◌∷◌, length, map, refl, sym, ◌∙◌, ap, subst, arith, Some}
 use Rattle.std.specs.Prelude.{slice_get}
 use Rattle.std.specs.List.{AllByRecursion, flat_map}
 use Rattle.std.proofs.lemmas.List.{length-map}
@@ -42,28 +42,29 @@ use Rattle.par_managers.specs.Together.{IsLaid}
 use Rattle.kme_shared.specs.Desks.{LaneTurns}
 use Rattle.kme_shared.proofs.WorkKeeping.{AllKept, all_of_lines, one_kept}
 use Rattle.kme_shared.proofs.Owning.{own_turn}
+use Rattle.source_devices.specs.declared.wire.Wire as Wire
 
 all_emitted : (i : ℕ) (outs : List (List (Emission × Emitted))) → AllByRecursion (AllByRecursion IsOfItsLine) outs → AllByRecursion (AllByRecursion IsOfItsLine) (map (emitted_at i) outs)
 all_emitted i [] h = tt
 all_emitted i (xs ∷ outs) h = (all_kept IsOfItsLine (λ (x : Emission × Emitted). is_at i x.0) xs h.0, all_emitted i outs h.1)
 
-module _ {X L M : Type 0} (frames : X → Option (List (List ℕ))) (counted faults : X → ℕ) (side_of : L → LaneForm X) (shares_of : L → Shares) (net : Network) (workers : ℕ) (w : World) (histories : List (List Work))
+module _ {X L M : Type 0} (wire_says : Wire.Ghosts X) (side_of : L → LaneForm X) (shares_of : L → Shares) (net : Network) (workers : ℕ) (w : World) (histories : List (List Work))
     (lanes lanes' : List (LaneForm X)) (first : ℕ) (machines machines' : List (Either M L)) (mines : List (List Replied)) (outs : List (List (Emission × Emitted))) where
   abbrev wanted : List (ℕ × Emission)
   wanted = wanted_by (done_from net w (flat histories))
 
   -- A lane did what the plans want of it. Its states before and after the block are those in the lists of all lanes.
   pub record IsWorked (l : Lane) : Type 0 where
-    pub lane : LaneWorked frames counted faults net workers (turns_over net w histories) wanted l
+    pub lane : LaneWorked wire_says net workers (turns_over net w histories) wanted l
     pub was : slice_get lanes (place_of l) ≡ Some lane.old
     pub is : slice_get lanes' (place_of l) ≡ Some lane.new
     pub put : lane.outs ≡ map (emitted_at (lane_place l)) outs
 
   module _ (sat : (i : ℕ) (side : LaneForm X) → slice_get lanes i ≡ Some side → (desk : L) × (slice_get machines (first + i) ≡ Some (Right desk)) × (side_of desk ≡ side))
       (laid : (i : ℕ) (side : LaneForm X) (before : L) → slice_get lanes i ≡ Some side → slice_get machines (first + i) ≡ Some (Right before) →
-      (after : L) × (slice_get machines' (first + i) ≡ Some (Right after)) × IsLaid (LaneTurns frames counted faults side_of shares_of) i side outs before after)
+      (after : L) × (slice_get machines' (first + i) ≡ Some (Right after)) × IsLaid (LaneTurns wire_says side_of shares_of) i side outs before after)
       (risen : (i : ℕ) (desk : L) → slice_get machines' (first + i) ≡ Some (Right desk) → slice_get lanes' i ≡ Some (side_of desk))
-      (stand : (l : Lane) (side : LaneForm X) → is_lane net.site l ≡ true → slice_get lanes (place_of l) ≡ Some side → LaneStands frames counted net (turns_over net w histories) l side)
+      (stand : (l : Lane) (side : LaneForm X) → is_lane net.site l ≡ true → slice_get lanes (place_of l) ≡ Some side → LaneStands wire_says net (turns_over net w histories) l side)
       (long : length lanes ≡ 2 * net.site.links) (keeps : AllKept first mines outs) (callers : length outs ≡ workers) (network : IsNetwork net)
       (own : AreOwnTurns net workers w histories (map (map own_turn) mines)) where
     wanted_there : (mine : List Replied) → flat_map wants_of (map own_turn mine) ≡ flat_map wanted_in mine
@@ -96,8 +97,8 @@ module _ {X L M : Type 0} (frames : X → Option (List (List ℕ))) (counted fau
             calls = h.calls;
             history = h.log;
             called = record { merged = h.merged; by = h.by; each = all_emitted i outs (all_of_lines first mines outs keeps) };
-            leads = subst (λ (x : LaneForm X). Leads (Turns frames counted faults (lane_cap (shares_of s.0))) x h.log (side_of d.0)) s.2
-                (lane_leads frames counted faults side_of shares_of s.0 d.0 h.log h.leads);
+            leads = subst (λ (x : LaneForm X). Leads (Turns wire_says (lane_cap (shares_of s.0))) x h.log (side_of d.0)) s.2
+                (lane_leads wire_says side_of shares_of s.0 d.0 h.log h.leads);
             callers = length-map outs (emitted_at i) ∙ callers;
             own = λ k xs at.
                 let x = mapped_at (emitted_at i) outs xs k at in

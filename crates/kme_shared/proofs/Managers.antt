@@ -1,10 +1,8 @@
 -- The managers of a block took all turns that its workers ask of them.
-use Rattle.std.proofs.Common.{◌≡◌, ℕ, suc, ◌+◌, Bool, List, [], ◌∷◌, length, map, refl, sym, ◌∙◌, ap, ap₂, subst, arith, Option, Some, None}
+use Rattle.std.proofs.Common.{◌≡◌, ℕ, suc, ◌+◌, List, [], ◌∷◌, length, map, refl, sym, ◌∙◌, ap, ap₂, subst, arith, Option, Some, None}
 use Rattle.std.specs.Prelude.{slice_get, IfSome}
 use Rattle.std.specs.List.{AllByRecursion}
-use Rattle.disk_model.specs.declared.arm.Armings.{Armings}
 use Rattle.net_model.specs.declared.reply.Reply.{Reply}
-use Rattle.net_model.specs.OctetSequence.{OctetSequence}
 use Rattle.net_model.specs.Site.{Site, count_up}
 use Rattle.net_model.specs.World.{Network, World}
 use Rattle.net_model.specs.Action.{Ok, Replies}
@@ -40,6 +38,7 @@ use Rattle.par_managers.specs.Talking.{line_asked, line_of}
 use Rattle.kme_shared.specs.Desks.{ManagerTurns}
 use Rattle.kme_shared.proofs.Called.{IsCalled, said}
 use Rattle.kme_shared.proofs.Lists.{from_maps, fused, Listed, mapped_is, to_map}
+use Rattle.world_state.specs.Outside.{Outside}
 
 -- a manager's desk before its turns, the turns, and the desk after them
 pub record Row (D : Type 0) : Type 0 where
@@ -56,11 +55,10 @@ logs_of {D} rows = map (λ (r : Row D). r.log) rows
 abbrev pub afters : {D : Type 0} → List (Row D) → List D
 afters {D} rows = map (λ (r : Row D). r.after) rows
 
-module _ {K Q E X D : Type 0} (is_honest : K → Bool) (moment : K → ℕ) (image : K → ℕ → List ℕ → Type 0) (left : E → Option OctetSequence) (told : Q → Option OctetSequence)
-    (frames : X → Option (List (List ℕ))) (counted : X → ℕ) (disk_count : K → ℕ) (armed : K → Armings) (entropy_count : E → ℕ) (device_count : Q → ℕ) (wire_count : X → ℕ)
+module _ {K Q E X D : Type 0} (outside : Outside K Q E X)
     (opening_of : D → State K Q E X) (node_of up_of : D → ℕ) (post_of : D → Post K E) (shares_in : D → List Shares) (old : State K Q E X) (jobs : List Job) where
   abbrev turn : D → PlanAsk → PlanAnswer → D → Type 0
-  turn = ManagerTurns is_honest moment image left told frames counted disk_count armed entropy_count opening_of node_of up_of post_of shares_in
+  turn = ManagerTurns outside opening_of node_of up_of post_of shares_in
 
   abbrev place_in : PlanAsk → ℕ
   place_in q = q.place
@@ -78,7 +76,7 @@ module _ {K Q E X D : Type 0} (is_honest : K → Bool) (moment : K → ℕ) (ima
   charter_of d = (opening_of d, node_of d)
 
   abbrev TurnsHere : D → PlanAsk → PlanAnswer → D → Type 0
-  TurnsHere d q a n = Turns is_honest moment image left told frames counted disk_count armed entropy_count device_count wire_count old up_of post_of place_in job_in octets_in reply_in jobs charter_of turn d q a n
+  TurnsHere d q a n = Turns outside old up_of post_of place_in job_in octets_in reply_in jobs charter_of turn d q a n
 
   one_turn : (d : D) (q : PlanAsk) (a : PlanAnswer) (n : D) → turn d q a n → TurnsHere d q a n
   one_turn d q a n t = record { come = t.0.come; happens = t.1.happens; linked = t.1.up; kept = λ i. ((t.2 i).0, (t.2 i).1) }
@@ -104,7 +102,7 @@ module _ {K Q E X D : Type 0} (is_honest : K → Bool) (moment : K → ℕ) (ima
       pub leads : Leads turn row.desk row.log row.after
       pub called : IsCalled v keeps mines row.log
 
-    module _ (shifts : AreShifts is_honest moment image left told frames counted old workers jobs (map (λ (keep : Keep). keep.shift.items) keeps)) where
+    module _ (shifts : AreShifts outside old workers jobs (map (λ (keep : Keep). keep.shift.items) keeps)) where
       pub asks : (v : ℕ) → map (λ (keep : Keep). map work_of (requests_on v keep.shift.items)) keeps ≡ map (λ k. asked_by (site_of old.site) workers k v 0 jobs) (count_up workers)
       asks v = sym (fused (λ shift. map work_of (requests_on v shift)) (λ (keep : Keep). keep.shift.items) keeps) ∙ shifts.asked v
 
@@ -112,7 +110,7 @@ module _ {K Q E X D : Type 0} (is_honest : K → Bool) (moment : K → ℕ) (ima
       IsThere p = slice_get jobs p.0 ≡ Some p.1
 
       -- each worker asks for turns of the jobs at their places
-      asked_there : (v : ℕ) (ks : List Keep) → AllByRecursion (AreComing is_honest moment image left told frames counted old jobs) (map (λ (keep : Keep). keep.shift.items) ks) →
+      asked_there : (v : ℕ) (ks : List Keep) → AllByRecursion (AreComing outside old jobs) (map (λ (keep : Keep). keep.shift.items) ks) →
           AllByRecursion (AllByRecursion IsThere) (map (λ (keep : Keep). map line_of (requests_on v keep.shift.items)) ks)
       asked_there v [] h = tt
       asked_there v (k ∷ ks) h = (
@@ -120,7 +118,7 @@ module _ {K Q E X D : Type 0} (is_honest : K → Bool) (moment : K → ℕ) (ima
         asked_there v ks h.1,
       )
         where
-          only : (entries : List (Option (Call Turn))) → AreComing is_honest moment image left told frames counted old jobs entries →
+          only : (entries : List (Option (Call Turn))) → AreComing outside old jobs entries →
               AllByRecursion (λ (entry : Option (Call Turn)). IfSome entry (λ call. slice_get jobs call.request.place ≡ Some call.request.job.now)) entries
           only [] g = tt
           only (None ∷ entries) g = (tt, only entries g.1)
@@ -141,7 +139,7 @@ module _ {K Q E X D : Type 0} (is_honest : K → Bool) (moment : K → ℕ) (ima
 
       abbrev ServedHere : ℕ → Row D → Type 0
       ServedHere v row =
-          IsServed is_honest moment image left told frames counted disk_count armed entropy_count device_count wire_count old up_of post_of place_in job_in octets_in reply_in jobs workers v row.desk row.log row.after
+          IsServed outside old up_of post_of place_in job_in octets_in reply_in jobs workers v row.desk row.log row.after
 
       served : (v : ℕ) (row : Row D) → Manages v row → ServedHere v row
       served v row m =
@@ -153,7 +151,7 @@ module _ {K Q E X D : Type 0} (is_honest : K → Bool) (moment : K → ℕ) (ima
           lines ∙ ap (map (map work_at)) c.asked ∙ of_keeps v keeps ∙ asks v in
           let there : AllByRecursion (λ mine. AllByRecursion (λ (e : PlanAsk × PlanAnswer). slice_get jobs e.0.place ≡ Some e.0.job.now) mine) all =
           again c.calls (from_maps IsThere line_asked c.calls (subst (AllByRecursion (AllByRecursion IsThere)) (sym c.asked) (asked_there v keeps shifts.coming))) in
-          is_served is_honest moment image left told frames counted disk_count armed entropy_count device_count wire_count old up_of post_of place_in job_in octets_in reply_in jobs charter_of turn one_turn workers v
+          is_served outside old up_of post_of place_in job_in octets_in reply_in jobs charter_of turn one_turn workers v
           row.desk row.after row.log all m.opens m.up m.leads merged asked there
         where
           one : (cs : List (ℕ × (PlanAsk × PlanAnswer))) → works (map entry cs) ≡ map work_at (map line_asked cs)
@@ -181,7 +179,7 @@ module _ {K Q E X D : Type 0} (is_honest : K → Bool) (moment : K → ℕ) (ima
       -- all managers, node by node
 
       all_served : (first : ℕ) (rows : List (Row D)) → ((i : ℕ) (row : Row D) → slice_get rows i ≡ Some row → ServedHere (first + i) row) →
-          AreServed is_honest moment image left told frames counted disk_count armed entropy_count device_count wire_count old up_of post_of place_in job_in octets_in reply_in jobs workers first (desks rows) (logs_of rows) (afters rows)
+          AreServed outside old up_of post_of place_in job_in octets_in reply_in jobs workers first (desks rows) (logs_of rows) (afters rows)
       all_served first [] h = tt
       all_served first (r ∷ rows) h =
           (subst (λ (v : ℕ). ServedHere v r) (none first) (h 0 r refl), all_served (first + 1) rows (λ i row at. subst (λ (v : ℕ). ServedHere v row) (next first i) (h (suc i) row at)))
@@ -221,16 +219,16 @@ module _ {K Q E X D : Type 0} (is_honest : K → Bool) (moment : K → ℕ) (ima
         abbrev pub mid : State K Q E X
         mid = record old { posts = new.posts }
 
-        pub took : (net : Network) (w : World) → IsReady (Stands is_honest moment image left told frames counted) old net w → length new.posts.items ≡ length old.posts.items →
-            TookAllTurns is_honest moment image left told frames counted disk_count armed entropy_count device_count wire_count old mid net w workers jobs (map said (together (logs_of rows.rows)))
+        pub took : (net : Network) (w : World) → IsReady (Stands outside) old net w → length new.posts.items ≡ length old.posts.items →
+            TookAllTurns outside old mid net w workers jobs (map said (together (logs_of rows.rows)))
         took net w ready long =
-            took_all is_honest moment image left told frames counted disk_count armed entropy_count device_count wire_count old up_of post_of place_in job_in octets_in reply_in jobs net w ready workers
+            took_all outside old up_of post_of place_in job_in octets_in reply_in jobs net w ready workers
             (desks rows.rows) (logs_of rows.rows) (afters rows.rows) starts (all_served 0 rows.rows (λ i row at. served (0 + i) row (rows.each i row at))) mid refl (ends long) refl refl refl
 
         -- the largest count of armings of a disk is as before
-        pub armed_as : (net : Network) (w : World) → IsReady (Stands is_honest moment image left told frames counted) old net w → length new.posts.items ≡ length old.posts.items →
-            most_armed armed new.posts.items ≡ most_armed armed old.posts.items
+        pub armed_as : (net : Network) (w : World) → IsReady (Stands outside) old net w → length new.posts.items ≡ length old.posts.items →
+            most_armed outside.disk new.posts.items ≡ most_armed outside.disk old.posts.items
         armed_as net w ready long =
-            ap (most_armed armed) (ends long)
-            ∙ armed_all is_honest moment image left told frames counted disk_count armed entropy_count device_count wire_count old up_of post_of place_in job_in octets_in reply_in jobs net w ready workers
+            ap (most_armed outside.disk) (ends long)
+            ∙ armed_all outside old up_of post_of place_in job_in octets_in reply_in jobs net w ready workers
             (desks rows.rows) (logs_of rows.rows) (afters rows.rows) starts (all_served 0 rows.rows (λ i row at. served (0 + i) row (rows.each i row at)))

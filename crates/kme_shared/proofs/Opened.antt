@@ -1,9 +1,7 @@
 -- What a block's workers begin with, from a snapshot of the state.
-use Rattle.std.proofs.Common.{◌≡◌, ℕ, Bool, List, ◌++◌, length, map, take, drop, sym, ap, subst, ◌∙◌, arith, Option, Vec, Global}
+use Rattle.std.proofs.Common.{◌≡◌, ℕ, List, ◌++◌, length, map, take, drop, sym, ap, subst, ◌∙◌, arith, Option, Vec, Global}
 use Rattle.std.specs.List.{AllZip}
 use Rattle.std.proofs.lemmas.List.{length-map}
-use Rattle.disk_model.specs.declared.arm.Armings.{Armings}
-use Rattle.net_model.specs.OctetSequence.{OctetSequence}
 use Rattle.net_model.specs.World.{Network, World}
 use Rattle.world_state.specs.Passed.{Post}
 use Rattle.run_ops.specs.Acting.{IsReady}
@@ -25,6 +23,7 @@ use Rattle.par_frames.specs.declared.worked.Worked.{Worked}
 use Rattle.par_frames.specs.NoteWorking.{HasWorked}
 use Rattle.kme_shared.specs.Sheets.{IsDealt}
 use Rattle.kme_shared.proofs.Dealt.{opened_as}
+use Rattle.world_state.specs.Outside.{Outside}
 
 -- lists with equal images are equally long
 pub same_long : {A B C : Type 0} (f : A → C) (g : B → C) (xs : List A) (ys : List B) → map f xs ≡ map g ys → length xs ≡ length ys
@@ -42,29 +41,28 @@ still_opened s sides ds rs us h first again given gave taken n is is' from many 
     subst (λ (es : List Shares). AllOpened s sides es taken us) (sym is')
     (subst (λ (qs : List Share). AllOpened s sides ds qs us) (sym whole) (opened_as s sides ds rs us gave h fit (same ∙ ap (map knows) from)))
 
-module _ {K Q E X : Type 0} (is_honest : K → Bool) (moment : K → ℕ) (image : K → ℕ → List ℕ → Type 0) (left : E → Option OctetSequence) (told : Q → Option OctetSequence)
-    (frames : X → Option (List (List ℕ))) (counted : X → ℕ) (old opening : State K Q E X) (is : opening ≡ old) where
-  pub ready_at : (net : Network) (w : World) → IsReady (Stands is_honest moment image left told frames counted) old net w → IsReady (Stands is_honest moment image left told frames counted) opening net w
-  ready_at net w ready = subst (λ (s : State K Q E X). IsReady (Stands is_honest moment image left told frames counted) s net w) (sym is) ready
+module _ {K Q E X : Type 0} (outside : Outside K Q E X) (old opening : State K Q E X) (is : opening ≡ old) where
+  pub ready_at : (net : Network) (w : World) → IsReady (Stands outside) old net w → IsReady (Stands outside) opening net w
+  ready_at net w ready = subst (λ (s : State K Q E X). IsReady (Stands outside) s net w) (sym is) ready
 
-  pub shifts_at : (n workers : ℕ) (jobs : List Job) (xs ys : List (List (Option (Call Turn)))) → n ≡ workers → ys ≡ xs → AreShifts is_honest moment image left told frames counted old workers jobs xs →
-      AreShifts is_honest moment image left told frames counted opening n jobs ys
+  pub shifts_at : (n workers : ℕ) (jobs : List Job) (xs ys : List (List (Option (Call Turn)))) → n ≡ workers → ys ≡ xs → AreShifts outside old workers jobs xs →
+      AreShifts outside opening n jobs ys
   shifts_at n workers jobs xs ys many same h =
-      subst (λ (zs : List (List (Option (Call Turn)))). AreShifts is_honest moment image left told frames counted opening n jobs zs) (sym same)
-      (subst (λ (m : ℕ). AreShifts is_honest moment image left told frames counted opening m jobs xs) (sym many)
-      (subst (λ (s : State K Q E X). AreShifts is_honest moment image left told frames counted s workers jobs xs) (sym is) h))
+      subst (λ (zs : List (List (Option (Call Turn)))). AreShifts outside opening n jobs zs) (sym same)
+      (subst (λ (m : ℕ). AreShifts outside opening m jobs xs) (sym many)
+      (subst (λ (s : State K Q E X). AreShifts outside s workers jobs xs) (sym is) h))
 
   pub dealt_at : (ds ds' : List Shares) (v : ℕ) (issuers : List Share) (kept : State K Q E X) → ds' ≡ ds → IsDealt old ds v issuers kept → IsDealt opening ds' v issuers kept
   dealt_at ds ds' v issuers kept same h =
       subst (λ (es : List Shares). IsDealt opening es v issuers kept) (sym same) (subst (λ (s : State K Q E X). IsDealt s ds v issuers kept) (sym is) h)
 
   -- work that was done from the snapshot was done from the state
-  pub worked_from : (disk_count : K → ℕ) (armed : K → Armings) (entropy_count : E → ℕ) (device_count : Q → ℕ) (wire_count : X → ℕ) (posts : Vec (Post K E) Global) (lanes : Vec (LaneForm X) Global) (n workers : ℕ) (jobs : List Job) (worked : Worked) →
+  pub worked_from : (posts : Vec (Post K E) Global) (lanes : Vec (LaneForm X) Global) (n workers : ℕ) (jobs : List Job) (worked : Worked) →
       n ≡ workers →
-      ((net : Network) (w : World) → IsReady (Stands is_honest moment image left told frames counted) opening net w →
-      HasWorked is_honest moment image left told frames counted disk_count armed entropy_count device_count wire_count opening (record opening { posts = posts; lanes = lanes }) net w n jobs worked) →
-      (net : Network) (w : World) → IsReady (Stands is_honest moment image left told frames counted) old net w →
-      HasWorked is_honest moment image left told frames counted disk_count armed entropy_count device_count wire_count old (record old { posts = posts; lanes = lanes }) net w workers jobs worked
-  worked_from disk_count armed entropy_count device_count wire_count posts lanes n workers jobs worked many h net w ready =
-      subst (λ (m : ℕ). HasWorked is_honest moment image left told frames counted disk_count armed entropy_count device_count wire_count old (record old { posts = posts; lanes = lanes }) net w m jobs worked) many
-      (subst (λ (s : State K Q E X). HasWorked is_honest moment image left told frames counted disk_count armed entropy_count device_count wire_count s (record s { posts = posts; lanes = lanes }) net w n jobs worked) is (h net w (ready_at net w ready)))
+      ((net : Network) (w : World) → IsReady (Stands outside) opening net w →
+      HasWorked outside opening (record opening { posts = posts; lanes = lanes }) net w n jobs worked) →
+      (net : Network) (w : World) → IsReady (Stands outside) old net w →
+      HasWorked outside old (record old { posts = posts; lanes = lanes }) net w workers jobs worked
+  worked_from posts lanes n workers jobs worked many h net w ready =
+      subst (λ (m : ℕ). HasWorked outside old (record old { posts = posts; lanes = lanes }) net w m jobs worked) many
+      (subst (λ (s : State K Q E X). HasWorked outside s (record s { posts = posts; lanes = lanes }) net w n jobs worked) is (h net w (ready_at net w ready)))

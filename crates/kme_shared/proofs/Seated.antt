@@ -1,10 +1,9 @@
 -- Managers and lanes at their desks, when a block begins and when it ends.
-use Rattle.std.proofs.Common.{◌≡◌, ℕ, ◌+◌, ◌<◌, ◌≤◌, Bool, true, List, ◌++◌, length, map, sym, ap, subst, ◌∙◌, arith, length-append, Option, Some}
+use Rattle.std.proofs.Common.{◌≡◌, ℕ, ◌+◌, ◌<◌, ◌≤◌, true, List, ◌++◌, length, map, sym, ap, subst, ◌∙◌, arith, length-append, Option, Some}
 use Rattle.std.specs.Prelude.{slice_get}
 use Rattle.std.proofs.lemmas.List.{length-map}
 use Rattle.std.proofs.lemmas.Option.{slice_get_within}
 use Rattle.qkd_base.specs.Lane.{lane_place}
-use Rattle.net_model.specs.OctetSequence.{OctetSequence}
 use Rattle.net_model.specs.Site.{Site}
 use Rattle.net_model.specs.World.{Network, World}
 use Rattle.net_model.specs.Events.{is_lane}
@@ -30,6 +29,7 @@ use Rattle.world_state.specs.Stands.{Stands}
 use Rattle.par_managers.proofs.Histories.{counted_at}
 use Rattle.kme_shared.proofs.Places.{made_of, makes, left_at, right_at, right_back, lefts_of, rights_of, AreSplit, split_at}
 use Rattle.kme_shared.proofs.BlockReplies.{all_at}
+use Rattle.world_state.specs.Outside.{Outside}
 
 pub some_is : {A : Type 0} {a b : A} → ◌≡◌ {A = Option A} (Some a) (Some b) → a ≡ b
 some_is h = cc
@@ -94,8 +94,8 @@ module _ {K Q E X D L : Type 0} (opening_of : D → State K Q E X) (node_of up_o
   pub still_many_lanes : (after : List (Either D L)) → after ≡ machines → length (rights after) ≡ length opening.lanes.items
   still_many_lanes after same = sym (length-map (rights after) side_of) ∙ ap (λ (ls : List (LaneForm X)). length ls) (still_lanes after same)
 
-  module _ (is_honest : K → Bool) (moment : K → ℕ) (image : K → ℕ → List ℕ → Type 0) (left : E → Option OctetSequence) (told : Q → Option OctetSequence) (frames : X → Option (List (List ℕ))) (counted : X → ℕ)
-      (net : Network) (w : World) (ready : IsReady (Stands is_honest moment image left told frames counted) opening net w) where
+  module _ (outside : Outside K Q E X)
+      (net : Network) (w : World) (ready : IsReady (Stands outside) opening net w) where
     pub are_seated : first ≤ 16 → AreSeated opening_of node_of shares_in side_of shares_of opening first shares machines
     are_seated nodes = record {
       few = omega (arith, nodes);

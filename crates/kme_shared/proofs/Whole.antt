@@ -1,12 +1,10 @@
 -- A block that went through is a block of the network, done by its workers.
-use Rattle.std.proofs.Common.{◌≡◌, ℕ, ◌+◌, ◌<◌, Bool, true, List, length, map, refl, sym, ◌∙◌, ap, subst, arith, Option, Some}
+use Rattle.std.proofs.Common.{◌≡◌, ℕ, ◌+◌, ◌<◌, true, List, length, map, refl, sym, ◌∙◌, ap, subst, arith, Some}
 use Rattle.std.specs.Prelude.{slice_get}
 use Rattle.std.specs.List.{AllByRecursion}
 use Rattle.std.specs.List.Sorted.{IsPermutation}
 use Rattle.std.proofs.lemmas.List.{length-map}
 use Rattle.qkd_base.specs.declared.lane.Lane.{Lane}
-use Rattle.disk_model.specs.declared.arm.Armings.{Armings}
-use Rattle.net_model.specs.OctetSequence.{OctetSequence}
 use Rattle.net_model.specs.World.{Network, World}
 use Rattle.net_model.specs.Events.{is_lane}
 use Rattle.net_model.specs.Tick.{Emission}
@@ -46,12 +44,12 @@ use Rattle.kme_shared.proofs.Lists.{all_moved, fused, Listed, listed}
 use Rattle.kme_shared.proofs.Managers.{Row, logs_of, Manages, called, can, asks, mid, took, armed_as}
 use Rattle.kme_shared.proofs.Owning.{own_turn, own_turns, all_leave}
 use Rattle.kme_shared.proofs.Replies.{all_told}
+use Rattle.world_state.specs.Outside.{Outside}
 
-module _ {K Q E X D L : Type 0} (is_honest : K → Bool) (moment : K → ℕ) (image : K → ℕ → List ℕ → Type 0) (left : E → Option OctetSequence) (told_of : Q → Option OctetSequence)
-    (frames : X → Option (List (List ℕ))) (counted : X → ℕ) (disk_count : K → ℕ) (armed : K → Armings) (entropy_count : E → ℕ) (device_count : Q → ℕ) (wire_count : X → ℕ)
+module _ {K Q E X D L : Type 0} (outside : Outside K Q E X)
     (opening_of : D → State K Q E X) (node_of up_of : D → ℕ) (post_of : D → Post K E) (shares_in : D → List Shares) (side_of : L → LaneForm X) (shares_of : L → Shares)
     (old new : State K Q E X) (workers : ℕ) (jobs : List Job) (worked : Worked)
-    (h : WentThrough {L = L} is_honest moment image left told_of frames counted disk_count armed entropy_count wire_count opening_of node_of up_of post_of shares_in side_of shares_of old new workers jobs worked) where
+    (h : WentThrough {L = L} outside opening_of node_of up_of post_of shares_in side_of shares_of old new workers jobs worked) where
   abbrev first : ℕ
   first = length old.posts.items
 
@@ -65,7 +63,7 @@ module _ {K Q E X D L : Type 0} (is_honest : K → Bool) (moment : K → ℕ) (i
 
   abbrev ManagesHere : ℕ → Row D → Type 0
   ManagesHere v row =
-      Manages is_honest moment image left told_of frames counted disk_count armed entropy_count device_count wire_count opening_of node_of up_of post_of shares_in old jobs new workers h.keeps mines v row
+      Manages outside opening_of node_of up_of post_of shares_in old jobs new workers h.keeps mines v row
 
   one_managed : (v : ℕ) → v < 0 + first → (row : Row D) × ManagesHere v row
   one_managed v lt =
@@ -95,7 +93,7 @@ module _ {K Q E X D L : Type 0} (is_honest : K → Bool) (moment : K → ℕ) (i
 
   called_here : (v : ℕ) (log : List (PlanAsk × PlanAnswer)) → slice_get logs v ≡ Some log → IsCalled v h.keeps mines log
   called_here =
-      called is_honest moment image left told_of frames counted disk_count armed entropy_count device_count wire_count opening_of node_of up_of post_of shares_in old jobs new workers h.keeps mines h.shifts rows
+      called outside opening_of node_of up_of post_of shares_in old jobs new workers h.keeps mines h.shifts rows
 
   -- what the workers keep
 
@@ -113,13 +111,13 @@ module _ {K Q E X D L : Type 0} (is_honest : K → Bool) (moment : K → ℕ) (i
       ap (map turned) h.gathered.turns ∙ fused turned (λ (r : Replied). r.turned) h.gathered.replied
       ∙ all_told h.keeps mines logs called_here below h.gathered.replied gathered h.gathered.order
 
-  module _ (net : Network) (w : World) (ready : IsReady (Stands is_honest moment image left told_of frames counted) old net w) where
+  module _ (net : Network) (w : World) (ready : IsReady (Stands outside) old net w) where
     abbrev middle : State K Q E X
-    middle = mid is_honest moment image left told_of frames counted disk_count armed entropy_count device_count wire_count opening_of node_of up_of post_of shares_in old jobs new workers h.keeps mines h.shifts rows
+    middle = mid outside opening_of node_of up_of post_of shares_in old jobs new workers h.keeps mines h.shifts rows
 
-    turns : TookAllTurns is_honest moment image left told_of frames counted disk_count armed entropy_count device_count wire_count old middle net w workers jobs (map said (together logs))
+    turns : TookAllTurns outside old middle net w workers jobs (map said (together logs))
     turns =
-        took is_honest moment image left told_of frames counted disk_count armed entropy_count device_count wire_count opening_of node_of up_of post_of shares_in old jobs new workers h.keeps mines h.shifts rows
+        took outside opening_of node_of up_of post_of shares_in old jobs new workers h.keeps mines h.shifts rows
         net w ready h.risen.nodes
 
     sited : site_of old.site ≡ net.site
@@ -128,29 +126,29 @@ module _ {K Q E X D L : Type 0} (is_honest : K → Bool) (moment : K → ℕ) (i
     leave : AllByRecursion (AllByRecursion (Leaves net.site)) mines
     leave =
         all_leave h.keeps mines logs called_here below net.site
-        (can is_honest moment image left told_of frames counted disk_count armed entropy_count device_count wire_count opening_of node_of up_of post_of shares_in old jobs new workers h.keeps mines h.shifts rows net.site sited)
+        (can outside opening_of node_of up_of post_of shares_in old jobs new workers h.keeps mines h.shifts rows net.site sited)
 
     own : AreOwnTurns net workers w turns.histories (map (map own_turn) mines)
     own =
         own_turns h.keeps mines logs called_here below (site_of old.site) workers jobs
-        (asks is_honest moment image left told_of frames counted disk_count armed entropy_count device_count wire_count opening_of node_of up_of post_of shares_in old jobs new workers h.keeps mines h.shifts)
+        (asks outside opening_of node_of up_of post_of shares_in old jobs new workers h.keeps mines h.shifts)
         net w turns.histories (many ∙ ready.stands.nodes) leave turns.said
 
     -- the lanes
 
     abbrev WorkedHere : Lane → Type 0
-    WorkedHere l = IsWorked {M = D} frames counted wire_count side_of shares_of net workers w turns.histories old.lanes.items new.lanes.items first h.machines h.machines' mines outs l
+    WorkedHere l = IsWorked {M = D} outside.wire side_of shares_of net workers w turns.histories old.lanes.items new.lanes.items first h.machines h.machines' mines outs l
 
     one_worked : (l : Lane) → is_lane net.site l ≡ true → WorkedHere l
     one_worked l e =
-        is_worked frames counted wire_count side_of shares_of net workers w turns.histories old.lanes.items new.lanes.items first h.machines h.machines' mines outs
+        is_worked outside.wire side_of shares_of net workers w turns.histories old.lanes.items new.lanes.items first h.machines h.machines' mines outs
         (λ i side at. let sat = h.sat.lanes i side at in (sat.desk, sat.there, sat.is)) h.worked'.desks h.risen.lanes (λ k side f at. turns.stands.lanes k side f at) ready.stands.sides keeps_all
         ((as_many first h.keeps mines outs h.nexts h.worked'.kept).1 ∙ h.callers) ready.stands.running.network own l e
 
-    lanes : LanesWorked frames counted wire_count net workers w turns.histories
+    lanes : LanesWorked outside.wire net workers w turns.histories
     lanes l e = (one_worked l e).lane
 
-    has : HasLanes frames counted wire_count net workers w turns.histories lanes middle new
+    has : HasLanes outside.wire net workers w turns.histories lanes middle new
     unfolding lanes
     has = record {
       site = h.risen.site;
@@ -162,9 +160,9 @@ module _ {K Q E X D L : Type 0} (is_honest : K → Bool) (moment : K → ℕ) (i
       is = λ l e. (one_worked l e).is;
     }
 
-    all_left : LanesLeft frames counted wire_count net workers w jobs turns.histories lanes
+    all_left : LanesLeft outside.wire net workers w jobs turns.histories lanes
     all_left =
-        lanes_left frames counted wire_count net workers w jobs turns.histories h.some ready.stands.running ready.quiet
+        lanes_left outside.wire net workers w jobs turns.histories h.some ready.stands.running ready.quiet
         (record { nodes = turns.nodes; merged = turns.merged; turns = turns.turns }) lanes
 
     -- the frames
@@ -173,27 +171,27 @@ module _ {K Q E X D L : Type 0} (is_honest : K → Bool) (moment : K → ℕ) (i
       same : IsPermutation (together (map kept outs)) worked.frames.items
       same = subst (λ (es : List Emitted). IsPermutation es worked.frames.items) (all_frames first h.keeps mines outs h.nexts h.worked'.kept h.bare (h.gathered.whole whole)) (h.gathered.frames whole)
 
-      sorted : AreSorted frames counted wire_count net workers w turns.histories lanes outs worked.frames.items
+      sorted : AreSorted outside.wire net workers w turns.histories lanes outs worked.frames.items
       unfolding lanes
       sorted = record { lanes' = λ l e. (one_worked l e).put; told = all_of_lines first mines outs keeps_all; same = same; order = h.gathered.lanes whole }
 
       declared : AllByRecursion (λ (e : Emitted). is_lane net.site e.lane ≡ true) worked.frames.items
       declared = all_moved (λ (e : Emitted). is_lane net.site e.lane ≡ true) (together (map kept outs)) worked.frames.items same (all_on_lanes first net.site mines outs keeps_all leave)
 
-    pub has_worked : HasWorked is_honest moment image left told_of frames counted disk_count armed entropy_count device_count wire_count old new net w workers jobs worked
+    pub has_worked : HasWorked outside old new net w workers jobs worked
     has_worked = record {
       histories = turns.histories;
       logs = all_left.logs;
       are = all_left.are;
-      stands = stands is_honest moment image left told_of frames counted wire_count net workers w jobs turns.histories lanes all_left middle new has turns.stands;
-      tallied = lanes_tallied disk_count armed entropy_count device_count frames counted wire_count net workers w jobs turns.histories lanes all_left old middle new new has turns.tallied refl ready.stands.sides;
+      stands = stands outside net workers w jobs turns.histories lanes all_left middle new has turns.stands;
+      tallied = lanes_tallied outside net workers w jobs turns.histories lanes all_left old middle new new has turns.tallied refl ready.stands.sides;
       said = λ whole. replies_are ∙ turns.said;
       in_lanes = λ whole. lanes_in_order net.site worked.frames.items (declared whole) (h.gathered.lanes whole);
-      reported = λ whole l e. reported frames counted wire_count net workers w jobs turns.histories lanes all_left outs worked.frames.items (sorted whole) l e;
-      noted = λ whole l e. noted frames counted wire_count net workers w jobs turns.histories lanes all_left outs worked.frames.items (sorted whole) l e;
+      reported = λ whole l e. reported outside.wire net workers w jobs turns.histories lanes all_left outs worked.frames.items (sorted whole) l e;
+      noted = λ whole l e. noted outside.wire net workers w jobs turns.histories lanes all_left outs worked.frames.items (sorted whole) l e;
     }
 
-    pub has_armed : most_armed armed new.posts.items ≡ most_armed armed old.posts.items
+    pub has_armed : most_armed outside.disk new.posts.items ≡ most_armed outside.disk old.posts.items
     has_armed =
-        armed_as is_honest moment image left told_of frames counted disk_count armed entropy_count device_count wire_count opening_of node_of up_of post_of shares_in old jobs new workers h.keeps mines h.shifts rows
+        armed_as outside opening_of node_of up_of post_of shares_in old jobs new workers h.keeps mines h.shifts rows
         net w ready h.risen.nodes

@@ -1,7 +1,5 @@
 -- A block from its start to its end.
-use Rattle.std.specs.Prelude.{◌≡◌, ℕ, ◌≤◌, Bool, List, length, map, Option}
-use Rattle.disk_model.specs.declared.arm.Armings.{Armings}
-use Rattle.net_model.specs.OctetSequence.{OctetSequence}
+use Rattle.std.specs.Prelude.{◌≡◌, ℕ, ◌≤◌, List, length, map}
 use Rattle.world_state.specs.Passed.{Post}
 use Rattle.run_ops.specs.declared.job.Job.{Job}
 use Rattle.lane_shares.specs.declared.shares.Shares.{Shares}
@@ -16,23 +14,23 @@ use Rattle.kme_shared.specs.Desks.{ManagerTurns, LaneTurns}
 use Rattle.kme_shared.specs.WorkSeats.{AreSat, HaveRisen}
 use Rattle.kme_shared.specs.Gathering.{AreGathered}
 use Rattle.kme_shared.specs.WorkGathering.{AreBare}
+use Rattle.world_state.specs.Outside.{Outside}
 
 -- The workers begin with the shifts of their jobs, and hold no replies or frames. Managers and lanes go to their desks, and the workers do their jobs there.
 -- Then managers and lanes leave the desks, and the results of all workers are gathered.
-pub record WentThrough {K Q E X D L : Type 0} (is_honest : K → Bool) (moment : K → ℕ) (image : K → ℕ → List ℕ → Type 0) (left : E → Option OctetSequence)
-    (told : Q → Option OctetSequence) (frames : X → Option (List (List ℕ))) (counted : X → ℕ) (disk_count : K → ℕ) (armed : K → Armings) (entropy_count : E → ℕ) (wire_count : X → ℕ)
+pub record WentThrough {K Q E X D L : Type 0} (outside : Outside K Q E X)
     (opening_of : D → State K Q E X) (node_of up_of : D → ℕ) (post_of : D → Post K E) (shares_in : D → List Shares) (side_of : L → LaneForm X) (shares_of : L → Shares)
     (old new : State K Q E X) (workers : ℕ) (jobs : List Job) (worked : Worked) : Type 0 where
   pub some : 1 ≤ workers
   pub keeps : List Keep
   pub callers : length keeps ≡ workers
-  pub shifts : AreShifts is_honest moment image left told frames counted old workers jobs (map (λ (keep : Keep). keep.shift.items) keeps)
+  pub shifts : AreShifts outside old workers jobs (map (λ (keep : Keep). keep.shift.items) keeps)
   pub bare : AreBare keeps
   pub machines : List (Either D L)
   pub sat : AreSat opening_of node_of up_of post_of side_of old machines
   pub machines' : List (Either D L)
   pub nexts : List Keep
-  pub worked' : HaveWorked (ManagerTurns is_honest moment image left told frames counted disk_count armed entropy_count opening_of node_of up_of post_of shares_in) (LaneTurns frames counted wire_count side_of shares_of)
+  pub worked' : HaveWorked (ManagerTurns outside opening_of node_of up_of post_of shares_in) (LaneTurns outside.wire side_of shares_of)
       old.lanes.items (length old.posts.items) keeps machines nexts machines'
   pub risen : HaveRisen opening_of node_of up_of post_of side_of old machines' new
   pub gathered : AreGathered nexts worked

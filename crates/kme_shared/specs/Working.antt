@@ -1,9 +1,8 @@
 -- What a worker needs for its jobs.
-use Rattle.std.specs.Prelude.{◌≡◌, ℕ, ◌+◌, ◌^◌, ◌<◌, ◌≤◌, Bool, true, List, length, slice_get, Option, Some, IfSome}
+use Rattle.std.specs.Prelude.{◌≡◌, ℕ, ◌+◌, ◌^◌, ◌<◌, ◌≤◌, true, List, length, slice_get, Option, Some, IfSome}
 use Rattle.std.specs.List.{AllZip, AllByRecursion}
 use Rattle.qkd_base.specs.Lane.{lane_place}
 use Rattle.qkd_base.specs.declared.lane.Lane.{Lane}
-use Rattle.net_model.specs.OctetSequence.{OctetSequence}
 use Rattle.net_model.specs.Events.{is_lane}
 use Rattle.declared_site.specs.SiteOf.{site_of}
 use Rattle.lane_shares.specs.declared.share.Share.{Share}
@@ -16,12 +15,12 @@ use Rattle.shared_objects.specs.declared.call.Call.{Call}
 use Rattle.par_managers.specs.declared.turn.Turn.{Turn}
 use Rattle.par_managers.specs.Taking.{MayCome}
 use Rattle.world_state.specs.declared.state.State.{State}
+use Rattle.world_state.specs.Outside.{Outside}
 
 -- a call of a manager, whose turn may come at any time in a block
-pub record MayAsk {K Q E X : Type 0} (is_honest : K → Bool) (moment : K → ℕ) (image : K → ℕ → List ℕ → Type 0) (left : E → Option OctetSequence)
-    (told : Q → Option OctetSequence) (frames : X → Option (List (List ℕ))) (counted : X → ℕ) (opening : State K Q E X) (first : ℕ) (call : Call Turn) : Type 0 where
+pub record MayAsk {K Q E X : Type 0} (outside : Outside K Q E X) (opening : State K Q E X) (first : ℕ) (call : Call Turn) : Type 0 where
   pub node : call.machine < first
-  pub come : MayCome is_honest moment image left told frames counted opening call.machine call.request.place call.request.job.now call.request.octets
+  pub come : MayCome outside opening call.machine call.request.place call.request.job.now call.request.octets
 
 module _ {K Q E X M N : Type 0} (opening_of : M → State K Q E X) (node_of : M → ℕ) (shares_in : M → List Shares) (side : N → LaneForm X) (shares_of : N → Shares)
     (opening : State K Q E X) (first : ℕ) (shares : List Shares) (machines : List (Either M N)) where
@@ -48,13 +47,12 @@ module _ {K Q E X M N : Type 0} (opening_of : M → State K Q E X) (node_of : M 
     pub sides : (i : ℕ) (desk : N) → slice_get machines (first + i) ≡ Some (Right desk) → slice_get opening.lanes.items i ≡ Some (side desk)
     pub shared : (i : ℕ) (desk : N) → slice_get machines (first + i) ≡ Some (Right desk) → slice_get shares i ≡ Some (shares_of desk)
 
-  module _ (is_honest : K → Bool) (moment : K → ℕ) (image : K → ℕ → List ℕ → Type 0) (left : E → Option OctetSequence) (told : Q → Option OctetSequence)
-      (frames : X → Option (List (List ℕ))) (counted : X → ℕ) where
+  module _ (outside : Outside K Q E X) where
     -- A worker has one entry for each of its jobs, and the turn of each entry may come at any time in the block. The worker has a share of each lane, and room
     -- for all replies.
     pub record MayWork (shift : List (Option (Call Turn))) (granted : List Share) (replies room : ℕ) (jobs : List ℕ) : Type 0 where
       pub seated : AreSeated
       pub entries : length shift ≡ length jobs
-      pub coming : AllByRecursion (λ entry. IfSome entry (MayAsk is_honest moment image left told frames counted opening first)) shift
+      pub coming : AllByRecursion (λ entry. IfSome entry (MayAsk outside opening first)) shift
       pub fits : AllZip Fits shares granted
       pub replies' : replies + length shift ≤ room

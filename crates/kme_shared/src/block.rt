@@ -4,6 +4,7 @@ ghost use Rattle.world_state.specs.Armed.{most_armed};
 ghost use Rattle.world_state.specs.Rests.{Rests};
 ghost use Rattle.world_state.specs.Stands.{Stands};
 ghost use Rattle.world_state.specs.Tallied.{Tallied};
+ghost use Rattle.world_state.specs.Outside.{outside};
 
 use crate::work_block;
 use disk_model::Disk;
@@ -36,10 +37,10 @@ pub fn run_block<
     workers: u32,
     jobs: &[Job],
 ) -> Result<DoneBlock, Memory>
-    requires may { MayTogether (λ s. s.site) (Stands K.is_honest K.moment K.image E.left Q.told X.frames X.counted) state.old workers jobs.now }
-    ensures did { DidTogether (λ s. s.site) (Stands K.is_honest K.moment K.image E.left Q.told X.frames X.counted)
-        (Rests K.is_honest K.moment K.image E.left Q.told X.frames X.counted) (Tallied K.faults K.armings E.faults Q.faults X.faults)
-        (λ s. most_armed K.armings s.posts.items) state.old state.new workers jobs.now result }
+    requires may { MayTogether (λ s. s.site) (Stands (outside K.Disk Q.Device E.Entropy X.Wire)) state.old workers jobs.now }
+    ensures did { DidTogether (λ s. s.site) (Stands (outside K.Disk Q.Device E.Entropy X.Wire))
+        (Rests (outside K.Disk Q.Device E.Entropy X.Wire)) (Tallied (outside K.Disk Q.Device E.Entropy X.Wire))
+        (λ s. most_armed K.Disk s.posts.items) state.old state.new workers jobs.now result }
 {
     let worked = work_block(rt, alloc, gate, state, workers, jobs)?;
     note_block(alloc, state, worked)

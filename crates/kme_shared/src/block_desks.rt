@@ -6,6 +6,7 @@ ghost use Rattle.run_ops.specs.Acting.{IsReady};
 ghost use Rattle.kme_shared.specs.Seats.{IsUsed, AreUsed, SitLanes, SitManagers, HaveSat, lefts, rights};
 ghost use Rattle.kme_shared.specs.Sheets.{IsDealt};
 ghost use Rattle.world_state.specs.Stands.{Stands};
+ghost use Rattle.world_state.specs.Outside.{outside};
 
 use crate::node_sheets::Sheet;
 use declared_site::Site;
@@ -74,7 +75,7 @@ fn seat_managers<'a, K: Disk + Drop, Q: Device + Drop, E: Entropy + Drop, X: Wir
     requires sited { site.now ≡ opening.now.value.site }
     requires up { up ≡ opening.now.value.up }
     requires posts { posts.old.items ≡ opening.now.value.posts.items }
-    requires ready { (net : Network) × (w : World) × IsReady (Stands K.is_honest K.moment K.image E.left Q.told X.frames X.counted) opening.now.value net w }
+    requires ready { (net : Network) × (w : World) × IsReady (Stands (outside K.Disk Q.Device E.Entropy X.Wire)) opening.now.value net w }
     requires shares { length shares.now ≡ length opening.now.value.lanes.items }
     requires nodes { length posts.old.items ≤ 16 }
     requires count { vec_len sheets.old ≡ vec_len posts.old }
@@ -109,7 +110,7 @@ pub fn sit<'a, K: Disk + Drop, Q: Device + Drop, E: Entropy + Drop, X: Wire + Dr
     requires up { up ≡ opening.now.value.up }
     requires posts { posts.old.items ≡ opening.now.value.posts.items }
     requires lanes { lanes.old.items ≡ opening.now.value.lanes.items }
-    requires ready { (net : Network) × (w : World) × IsReady (Stands K.is_honest K.moment K.image E.left Q.told X.frames X.counted) opening.now.value net w }
+    requires ready { (net : Network) × (w : World) × IsReady (Stands (outside K.Disk Q.Device E.Entropy X.Wire)) opening.now.value net w }
     requires shares { length shares.now ≡ length lanes.old.items }
     requires nodes { length posts.old.items ≤ 16 }
     requires sheets { vec_len sheets.old ≡ vec_len posts.old }

@@ -11,6 +11,7 @@ ghost use Rattle.par_frames.specs.NoteWorking.{HasWorked};
 ghost use Rattle.kme_shared.specs.Seats.{AreUsed};
 ghost use Rattle.kme_shared.specs.Sheets.{IsDealt};
 ghost use Rattle.kme_shared.specs.Keeping.{IsFresh};
+ghost use Rattle.world_state.specs.Outside.{outside};
 
 use crate::worker_keeps::keeps;
 use crate::{BlockErrands, Room, Seat, Sheet, gather, rise, sheets, sit};
@@ -73,8 +74,8 @@ fn work_on_stage<
     requires up { up ≡ opening.value.up }
     requires posts { posts.old.items ≡ opening.value.posts.items }
     requires lanes { lanes.old.items ≡ opening.value.lanes.items }
-    requires ready { (net : Network) × (w : World) × IsReady (Stands K.is_honest K.moment K.image E.left Q.told X.frames X.counted) opening.value net w }
-    requires shifts { AreShifts K.is_honest K.moment K.image E.left Q.told X.frames X.counted opening.value (length keeps.items) jobs.now (map (λ keep. keep.shift.items) keeps.items) }
+    requires ready { (net : Network) × (w : World) × IsReady (Stands (outside K.Disk Q.Device E.Entropy X.Wire)) opening.value net w }
+    requires shifts { AreShifts (outside K.Disk Q.Device E.Entropy X.Wire) opening.value (length keeps.items) jobs.now (map (λ keep. keep.shift.items) keeps.items) }
     requires fresh { AllByRecursion (IsFresh shares.now) keeps.items }
     requires shares { length shares.now ≡ length lanes.old.items }
     requires sheets { vec_len stage.sheets ≡ vec_len posts.old }
@@ -85,9 +86,9 @@ fn work_on_stage<
     requires seats { vec_len posts.old + vec_len lanes.old ≤ vec_capacity stage.machines }
     requires empty { (room.replied.items ≡ []) × (room.turns.items ≡ []) × (room.frames.items ≡ []) }
     requires room { (length jobs.now ≤ vec_capacity room.replied) × (length jobs.now ≤ vec_capacity room.turns) }
-    ensures armed { most_armed K.armings posts.new.items ≡ most_armed K.armings posts.old.items }
-    ensures worked { IfOk result (λ worked. (net : Network) (w : World) → IsReady (Stands K.is_honest K.moment K.image E.left Q.told X.frames X.counted) opening.value net w
-        → HasWorked K.is_honest K.moment K.image E.left Q.told X.frames X.counted K.faults K.armings E.faults Q.faults X.faults opening.value (record opening.value { posts = posts.new; lanes = lanes.new }) net w
+    ensures armed { most_armed K.Disk posts.new.items ≡ most_armed K.Disk posts.old.items }
+    ensures worked { IfOk result (λ worked. (net : Network) (w : World) → IsReady (Stands (outside K.Disk Q.Device E.Entropy X.Wire)) opening.value net w
+        → HasWorked (outside K.Disk Q.Device E.Entropy X.Wire) opening.value (record opening.value { posts = posts.new; lanes = lanes.new }) net w
         (length keeps.entry.items) jobs.now worked) }
     ensures left { OnErr result ((posts.new ≡ posts.old) × (lanes.new ≡ lanes.old)) }
 {
@@ -145,11 +146,11 @@ pub fn work_block<
     workers: u32,
     jobs: &[Job],
 ) -> Result<Worked, Memory>
-    requires may { MayTogether (λ s. s.site) (Stands K.is_honest K.moment K.image E.left Q.told X.frames X.counted) state.old workers jobs.now }
+    requires may { MayTogether (λ s. s.site) (Stands (outside K.Disk Q.Device E.Entropy X.Wire)) state.old workers jobs.now }
     ensures site { state.new.site ≡ state.old.site }
-    ensures armed { most_armed K.armings state.new.posts.items ≡ most_armed K.armings state.old.posts.items }
-    ensures worked { IfOk result (λ worked. (net : Network) (w : World) → IsReady (Stands K.is_honest K.moment K.image E.left Q.told X.frames X.counted) state.old net w
-        → HasWorked K.is_honest K.moment K.image E.left Q.told X.frames X.counted K.faults K.armings E.faults Q.faults X.faults state.old state.new net w workers jobs.now worked) }
+    ensures armed { most_armed K.Disk state.new.posts.items ≡ most_armed K.Disk state.old.posts.items }
+    ensures worked { IfOk result (λ worked. (net : Network) (w : World) → IsReady (Stands (outside K.Disk Q.Device E.Entropy X.Wire)) state.old net w
+        → HasWorked (outside K.Disk Q.Device E.Entropy X.Wire) state.old state.new net w workers jobs.now worked) }
     ensures kept { OnErr result (state.new ≡ state.old) }
 {
     if jobs.len() > u32::MAX as usize {

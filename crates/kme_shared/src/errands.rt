@@ -2,6 +2,7 @@
 ghost use Rattle.std.specs.Prelude.{◌+◌, ◌^◌, length, vec_capacity};
 ghost use Rattle.par_managers.specs.Doing.{DoesJob};
 ghost use Rattle.kme_shared.specs.Working.{MayWork};
+ghost use Rattle.world_state.specs.Outside.{outside};
 
 use crate::manager_turn::{say_nothing, turn_and_put};
 use disk_model::Disk;
@@ -34,7 +35,7 @@ impl<'a, K: Disk + Drop, Q: Device + Drop, E: Entropy + Drop, X: Wire + Drop> Er
     type Keep = Keep<'a>;
 
     ghost may = { λ it machines keep jobs. MayWork (λ d. d.opening.value) (λ d. d.node) (λ d. d.shares.now) (λ d. d.side) (λ d. d.shares.now) it.opening.value it.lanes.first it.lanes.shares.now machines
-        K.is_honest K.moment K.image E.left Q.told X.frames X.counted keep.shift.items keep.granted.items (length keep.replies.items) (vec_capacity keep.replies) jobs };
+        (outside K.Disk Q.Device E.Entropy X.Wire) keep.shift.items keep.granted.items (length keep.replies.items) (vec_capacity keep.replies) jobs };
 
     ghost does = { λ it job keep said next. DoesJob it.opening.value.lanes.items it.lanes.first job keep said next };
 

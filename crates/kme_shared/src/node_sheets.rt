@@ -6,6 +6,7 @@ ghost use Rattle.lane_shares.specs.declared.share.Share.{Share as ShareValue};
 ghost use Rattle.par_managers.specs.Opening.{AllOpened};
 ghost use Rattle.world_state.specs.Stands.{Stands};
 ghost use Rattle.kme_shared.specs.Sheets.{IsDealt};
+ghost use Rattle.world_state.specs.Outside.{outside};
 
 use crate::rows::node_row;
 use disk_model::Disk;
@@ -32,7 +33,7 @@ pub fn sheets<K: Disk + Drop, Q: Device + Drop, E: Entropy + Drop, X: Wire + Dro
     shares: &[Shares],
     issuers: &mut [Share],
 ) -> Result<Vec<Sheet<K, Q, E, X>>, Memory>
-    requires ready { (net : Network) × (w : World) × IsReady (Stands K.is_honest K.moment K.image E.left Q.told X.frames X.counted) state.now net w }
+    requires ready { (net : Network) × (w : World) × IsReady (Stands (outside K.Disk Q.Device E.Entropy X.Wire)) state.now net w }
     requires opened { (used : List ShareValue) × AllOpened state.now state.now.lanes.items shares.now issuers.old used }
     ensures nodes { IfOk result (λ sheets. length sheets.items ≡ length state.now.posts.items) }
     ensures dealt { IfOk result (λ sheets. (v : ℕ) (sheet : _) → slice_get sheets.items v ≡ Some sheet → IsDealt state.now shares.now v sheet.issuers.items sheet.opening.value) }

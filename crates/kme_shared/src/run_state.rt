@@ -7,6 +7,7 @@ ghost use Rattle.kme_shared.specs.RunningLaws.{comes_to_rest as rests_here, none
 ghost use Rattle.world_state.specs.Rests.{Rests};
 ghost use Rattle.world_state.specs.Stands.{Stands};
 ghost use Rattle.world_state.specs.Tallied.{Tallied};
+ghost use Rattle.world_state.specs.Outside.{outside};
 
 use declared_site::Site;
 use disk_model::{Arm, Disk};
@@ -49,13 +50,13 @@ impl<K: Disk + Drop, Q: Device + Drop, E: Entropy + Drop, X: Wire + Drop> Acts
     for Running<K, Q, E, X> {
     ghost site = { λ r. r.state.site };
 
-    ghost stands = { λ r. Stands K.is_honest K.moment K.image E.left Q.told X.frames X.counted r.state };
+    ghost stands = { λ r. Stands (outside K.Disk Q.Device E.Entropy X.Wire) r.state };
 
-    ghost rests = { λ r. Rests K.is_honest K.moment K.image E.left Q.told X.frames X.counted r.state };
+    ghost rests = { λ r. Rests (outside K.Disk Q.Device E.Entropy X.Wire) r.state };
 
-    ghost tallied = { λ a b. Tallied K.faults K.armings E.faults Q.faults X.faults a.state b.state };
+    ghost tallied = { λ a b. Tallied (outside K.Disk Q.Device E.Entropy X.Wire) a.state b.state };
 
-    ghost armed = { λ r. most_armed K.armings r.state.posts.items };
+    ghost armed = { λ r. most_armed K.Disk r.state.posts.items };
 
     fn declared(&self) -> &Site {
         &self.state.site
@@ -117,9 +118,9 @@ impl<K: Disk + Drop, Q: Device + Drop, E: Entropy + Drop, X: Wire + Drop> Acts
 
     ghost is_sited = { λ s net w stands. stands.sited };
 
-    ghost comes_to_rest = { λ s net w stands. rests_here K.is_honest K.moment K.image E.left Q.told X.frames X.counted net w s.state stands };
+    ghost comes_to_rest = { λ s net w stands. rests_here _ net w s.state stands };
 
-    ghost none_tallied = { λ s net w stands. no_tally K.is_honest K.moment K.image E.left Q.told X.frames X.counted net w K.faults K.armings E.faults Q.faults X.faults s.state stands };
+    ghost none_tallied = { λ s net w stands. no_tally _ net w s.state stands };
 
-    ghost more_tallied = { λ a b c sited xs ys first then. added K.faults K.armings E.faults Q.faults X.faults sited a.state b.state c.state xs ys first then };
+    ghost more_tallied = { λ a b c sited xs ys first then. added _ sited a.state b.state c.state xs ys first then };
 }

@@ -5,6 +5,7 @@ ghost use Rattle.world_state.specs.Armed.{most_armed};
 ghost use Rattle.world_state.specs.Rests.{Rests};
 ghost use Rattle.world_state.specs.Stands.{Stands};
 ghost use Rattle.world_state.specs.Tallied.{Tallied};
+ghost use Rattle.world_state.specs.Outside.{outside};
 
 use crate::Running;
 use disk_model::Disk;
@@ -42,10 +43,10 @@ pub fn together<
     workers: u32,
     jobs: &[Job],
 ) -> Result<DoneBlock, Memory>
-    requires may { MayTogether (λ r. r.state.site) (λ r. Stands K.is_honest K.moment K.image E.left Q.told X.frames X.counted r.state) running.old workers jobs.now }
-    ensures did { DidTogether (λ r. r.state.site) (λ r. Stands K.is_honest K.moment K.image E.left Q.told X.frames X.counted r.state)
-        (λ r. Rests K.is_honest K.moment K.image E.left Q.told X.frames X.counted r.state) (λ a b. Tallied K.faults K.armings E.faults Q.faults X.faults a.state b.state)
-        (λ r. most_armed K.armings r.state.posts.items) running.old running.new workers jobs.now result }
+    requires may { MayTogether (λ r. r.state.site) (λ r. Stands (outside K.Disk Q.Device E.Entropy X.Wire) r.state) running.old workers jobs.now }
+    ensures did { DidTogether (λ r. r.state.site) (λ r. Stands (outside K.Disk Q.Device E.Entropy X.Wire) r.state)
+        (λ r. Rests (outside K.Disk Q.Device E.Entropy X.Wire) r.state) (λ a b. Tallied (outside K.Disk Q.Device E.Entropy X.Wire) a.state b.state)
+        (λ r. most_armed K.Disk r.state.posts.items) running.old running.new workers jobs.now result }
 {
     let alloc = *running.state.posts.allocator();
     let crew = crew(workers, jobs.len());

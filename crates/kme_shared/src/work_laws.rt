@@ -12,6 +12,7 @@ ghost use Rattle.world_state.specs.Armed.{most_armed};
 ghost use Rattle.par_frames.specs.declared.worked.Worked.{Worked};
 ghost use Rattle.par_frames.specs.NoteWorking.{HasWorked};
 ghost use Rattle.kme_shared.specs.Going.{WentThrough};
+ghost use Rattle.world_state.specs.Outside.{outside};
 
 use disk_model::Disk;
 use source_devices::{Device, Entropy, Wire};
@@ -22,12 +23,12 @@ use source_devices::{Device, Entropy, Wire};
 pub fn law_block_has_worked<K: Disk, Q: Device, E: Entropy, X: Wire, D, L>()
     ensures worked { (opening_of : D → State K Q E X) (node_of up_of : D → ℕ) (post_of : D → Post K E) (shares_in : D → List SharesValue) (side_of : L → LaneForm X) (shares_of : L → SharesValue)
         (old new : State K Q E X) (workers : ℕ) (jobs : List JobValue) (worked : Worked) →
-        WentThrough K.is_honest K.moment K.image E.left Q.told X.frames X.counted K.faults K.armings E.faults X.faults opening_of node_of up_of post_of shares_in side_of shares_of old new workers jobs worked →
-        (net : Network) (w : World) → IsReady (Stands K.is_honest K.moment K.image E.left Q.told X.frames X.counted) old net w →
-        HasWorked K.is_honest K.moment K.image E.left Q.told X.frames X.counted K.faults K.armings E.faults Q.faults X.faults old new net w workers jobs worked }
+        WentThrough (outside K.Disk Q.Device E.Entropy X.Wire) opening_of node_of up_of post_of shares_in side_of shares_of old new workers jobs worked →
+        (net : Network) (w : World) → IsReady (Stands (outside K.Disk Q.Device E.Entropy X.Wire)) old net w →
+        HasWorked (outside K.Disk Q.Device E.Entropy X.Wire) old new net w workers jobs worked }
     ensures armed { (opening_of : D → State K Q E X) (node_of up_of : D → ℕ) (post_of : D → Post K E) (shares_in : D → List SharesValue) (side_of : L → LaneForm X) (shares_of : L → SharesValue)
         (old new : State K Q E X) (workers : ℕ) (jobs : List JobValue) (worked : Worked) →
-        WentThrough K.is_honest K.moment K.image E.left Q.told X.frames X.counted K.faults K.armings E.faults X.faults opening_of node_of up_of post_of shares_in side_of shares_of old new workers jobs worked →
-        (net : Network) (w : World) → IsReady (Stands K.is_honest K.moment K.image E.left Q.told X.frames X.counted) old net w →
-        most_armed K.armings new.posts.items ≡ most_armed K.armings old.posts.items }
+        WentThrough (outside K.Disk Q.Device E.Entropy X.Wire) opening_of node_of up_of post_of shares_in side_of shares_of old new workers jobs worked →
+        (net : Network) (w : World) → IsReady (Stands (outside K.Disk Q.Device E.Entropy X.Wire)) old net w →
+        most_armed K.Disk new.posts.items ≡ most_armed K.Disk old.posts.items }
 {}

@@ -8,14 +8,12 @@ use Rattle.net_model.specs.declared.event.Event.{Event}
 use Rattle.net_model.specs.declared.record.Record.{Record}
 use Rattle.net_model.specs.declared.reply.Reply.{Reply}
 use Rattle.net_model.specs.declared.reply.Reply.TheVariants as replies
-use Rattle.net_model.specs.OctetSequence.{OctetSequence}
 use Rattle.net_model.specs.View.{View}
 use Rattle.net_model.specs.Journal.{journal_limit}
 use Rattle.net_model.specs.Decide.{decide, random_need}
 use Rattle.declared_site.specs.SiteOf.{site_of}
 use Rattle.declared_site.specs.declared.site.Site.{Site as Declared}
 use Rattle.disk_model.specs.Images.{AtEachMoment}
-use Rattle.disk_model.specs.declared.arm.Armings.{Armings}
 use Rattle.hop_frames.specs.Sealing.{hop_sealing}
 use Rattle.range_journal.specs.Batches.{length_of}
 use Rattle.journal_snapshot.specs.Standing.{IsKept}
@@ -33,23 +31,25 @@ use Rattle.kme_store.specs.declared.manager_state.Standing.{Standing}
 use Rattle.kme_store.specs.declared.manager_state.Standing.TheVariants.{Up, Down, Between}
 use Rattle.kme_store.proofs.Answering.{IsMadeOver, IsWritten, drawn_effect, stopped, gone}
 use Rattle.kme_store.proofs.Told.{Appends, Nothing, told_still, told_more}
+use Rattle.disk_model.specs.declared.disk.Disk as Disk
+use Rattle.source_devices.specs.declared.entropy.Entropy as Entropy
 
 -- writing a slice back gives this slice
 pub written : {X : Type 0} (n : ℕ) (new old : List X) → length new ≡ n → take n (new ++ old) ≡ new
 written n new old e = ap (λ (m : ℕ). take m (new ++ old)) (sym e) ∙ take-append_seam new old
 
-module _ {K E : Type 0} (is_honest : K → Bool) (content : K → List ℕ) (moment : K → ℕ) (image : K → ℕ → List ℕ → Type 0) (disk_faults : K → ℕ) (armings : K → Armings) (told : E → Option OctetSequence) (entropy_faults : E → ℕ) (is_up : ℕ → Bool) (event : Event) (site : Declared) (v : View) (before : E) (journal : SnapshotForm K) where
+module _ {K E : Type 0} (disk_says : Disk.Ghosts K) (entropy_says : Entropy.Ghosts E) (is_up : ℕ → Bool) (event : Event) (site : Declared) (v : View) (before : E) (journal : SnapshotForm K) where
   -- a draft over zeros, and a journal with memory for it
   pub record IsDrafted (mid : SnapshotForm K) (zeros : List ℕ) (s : Step) (body : Option (List ℕ)) : Type 0 where
-    pub roomier : IsRoomier is_honest content moment image disk_faults armings journal mid
-    pub kept : IsTrue (is_honest journal.disk) → IsKept journal.live journal.batches (content journal.disk) (image journal.disk (moment journal.disk))
+    pub roomier : IsRoomier disk_says.is_honest disk_says.content disk_says.moment disk_says.image disk_says.faults disk_says.armings journal mid
+    pub kept : IsTrue (disk_says.is_honest journal.disk) → IsKept journal.live journal.batches (disk_says.content journal.disk) (disk_says.image journal.disk (disk_says.moment journal.disk))
     pub over : zeros ≡ replicate (random_need v event) 0
     pub step : IsStep v (placings_of event) (decide (site_of site) hop_sealing is_up v zeros event) (Ok s)
     pub spelled : IsBody mid.live.version s.batch body
     pub place : HasPlace mid body
 
   pub made_over : (mid : SnapshotForm K) (zeros : List ℕ) (s : Step) (body : Option (List ℕ)) → IsDrafted mid zeros s body →
-      IsMadeOver is_honest content moment image disk_faults armings told entropy_faults is_up event site v before journal zeros s body
+      IsMadeOver disk_says entropy_says is_up event site v before journal zeros s body
   made_over mid zeros s body d = record {
     need = ap length d.over ∙ length-replicate (random_need v event) 0;
     step = d.step;
@@ -62,19 +62,19 @@ module _ {K E : Type 0} (is_honest : K → Bool) (content : K → List ℕ) (mom
   -- the step with the drawn octets, and what happened to its batch
   pub record IsFinished (mid : SnapshotForm K) (random : List ℕ) (s : Step) (body : Option (List ℕ)) (standing : Standing K) (now : View) (reply : Reply) : Type 0 where
     pub spelled : IsBody mid.live.version (with_random random s.batch) body
-    pub moments : HasDisk (λ disk. AtEachMoment moment image mid.disk disk (λ i. IsTrue (is_honest mid.disk) → HoldsEither mid body i)) standing
+    pub moments : HasDisk (λ disk. AtEachMoment disk_says.moment disk_says.image mid.disk disk (λ i. IsTrue (disk_says.is_honest mid.disk) → HoldsEither mid body i)) standing
     pub up : WhereUp (λ j. (j.live ≡ mid.live) × (j.batches ≡ with_octets mid.batches body)) standing
     pub taken : WhereUp (λ j. IsTaken v (placings_of event) (record s { batch = with_random random s.batch }) now reply) standing
-    pub down : WhereDown (λ disk. (reply ≡ replies.Stopped) × IsSome body × Rose (disk_faults mid.disk) (disk_faults disk)) standing
+    pub down : WhereDown (λ disk. (reply ≡ replies.Stopped) × IsSome body × Rose (disk_says.faults mid.disk) (disk_says.faults disk)) standing
     pub left : WhereDown (λ disk. now ≡ v) standing
-    pub calm : WhereUp (λ j. disk_faults j.disk ≡ disk_faults mid.disk) standing
+    pub calm : WhereUp (λ j. disk_says.faults j.disk ≡ disk_says.faults mid.disk) standing
 
   -- the same, from the contracts over the view and the step with drawn octets
   pub is_finished : (mid : SnapshotForm K) (random : List ℕ) (s s' : Step) (body : Option (List ℕ)) (standing : Standing K) (w now : View) (reply : Reply) → w ≡ v → s' ≡ record s { batch = with_random random s.batch } →
-      IsBody mid.live.version s'.batch body → HasDisk (λ disk. AtEachMoment moment image mid.disk disk (λ i. IsTrue (is_honest mid.disk) → HoldsEither mid body i)) standing →
+      IsBody mid.live.version s'.batch body → HasDisk (λ disk. AtEachMoment disk_says.moment disk_says.image mid.disk disk (λ i. IsTrue (disk_says.is_honest mid.disk) → HoldsEither mid body i)) standing →
       WhereUp (λ j. (j.live ≡ mid.live) × (j.batches ≡ with_octets mid.batches body)) standing → WhereUp (λ j. IsTaken w (placings_of event) s' now reply) standing →
-      WhereDown (λ disk. (reply ≡ replies.Stopped) × IsSome body × Rose (disk_faults mid.disk) (disk_faults disk)) standing → WhereDown (λ disk. now ≡ w) standing →
-      WhereUp (λ j. disk_faults j.disk ≡ disk_faults mid.disk) standing → IsFinished mid random s body standing now reply
+      WhereDown (λ disk. (reply ≡ replies.Stopped) × IsSome body × Rose (disk_says.faults mid.disk) (disk_says.faults disk)) standing → WhereDown (λ disk. now ≡ w) standing →
+      WhereUp (λ j. disk_says.faults j.disk ≡ disk_says.faults mid.disk) standing → IsFinished mid random s body standing now reply
   is_finished mid random s s' body standing w now reply same step spelled moments up taken down left calm = record {
     spelled = subst (λ (x : Step). IsBody mid.live.version x.batch body) step spelled;
     moments = moments;
@@ -86,8 +86,8 @@ module _ {K E : Type 0} (is_honest : K → Bool) (content : K → List ℕ) (mom
   }
 
   is_written : (mid : SnapshotForm K) (zeros random : List ℕ) (s : Step) (body body' : Option (List ℕ)) (disk : K) → IsDrafted mid zeros s body → IsBody mid.live.version (with_random random s.batch) body' →
-      AtEachMoment moment image mid.disk disk (λ i. IsTrue (is_honest mid.disk) → HoldsEither mid body' i) →
-      IsWritten is_honest content moment image disk_faults armings told entropy_faults is_up event site v before journal mid (record s { batch = with_random random s.batch }) body' disk
+      AtEachMoment disk_says.moment disk_says.image mid.disk disk (λ i. IsTrue (disk_says.is_honest mid.disk) → HoldsEither mid body' i) →
+      IsWritten disk_says entropy_says is_up event site v before journal mid (record s { batch = with_random random s.batch }) body' disk
   is_written mid zeros random s body body' disk d spelled moments = record {
     roomier = d.roomier;
     kept = d.kept;
@@ -97,14 +97,14 @@ module _ {K E : Type 0} (is_honest : K → Bool) (content : K → List ℕ) (mom
 
   -- the effect took place, or the manager stopped
   pub finished : AreOver → {T : Type 0} (zeros random : List ℕ) (s : Step) (body body' : Option (List ℕ)) (after : E) (done : T) (mid : SnapshotForm K) (standing : Standing K) (site' : Declared) (now : View) (reply : Reply) →
-      IsDrafted mid zeros s body → length random ≡ length zeros → Gives (told before) (told after) (Ok done) (length random) random → IsFinished mid random s body' standing now reply → entropy_faults after ≡ entropy_faults before →
-      Answers is_honest moment image disk_faults told entropy_faults is_up event (record { site = site; view = v; standing = Up journal; entropy = before }) journal
+      IsDrafted mid zeros s body → length random ≡ length zeros → Gives (entropy_says.left before) (entropy_says.left after) (Ok done) (length random) random → IsFinished mid random s body' standing now reply → entropy_says.faults after ≡ entropy_says.faults before →
+      Answers disk_says entropy_says is_up event (record { site = site; view = v; standing = Up journal; entropy = before }) journal
       (record { site = site'; view = now; standing = standing; entropy = after }) reply
   finished laws {T} zeros random s body body' after done mid (Up j) site' now reply d as_many gives f calm =
-      gone is_honest content moment image disk_faults armings told entropy_faults is_up event site v before journal laws {T = T} zeros random s body body' after done mid j site' now reply
+      gone disk_says entropy_says is_up event site v before journal laws {T = T} zeros random s body body' after done mid j site' now reply
       (made_over mid zeros s body d) as_many gives (is_written mid zeros random s body body' j.disk d f.spelled f.moments) f.up.0 f.up.1 f.taken calm f.calm
   finished laws {T} zeros random s body body' after done mid (Down disk) site' now reply d as_many gives f calm =
-      stopped is_honest content moment image disk_faults armings told entropy_faults is_up event site v before journal laws {T = T} zeros random s body body' after done mid disk site' now reply
+      stopped disk_says entropy_says is_up event site v before journal laws {T = T} zeros random s body body' after done mid disk site' now reply
       (made_over mid zeros s body d) as_many gives (is_written mid zeros random s body body' disk d f.spelled f.moments) f.down.0 f.down.1 f.down.2 f.left calm
   finished laws {T} zeros random s body body' after done mid Between site' now reply d as_many gives f calm = absurd f.moments
 
@@ -113,7 +113,7 @@ module _ {K E : Type 0} (is_honest : K → Bool) (content : K → List ℕ) (mom
       IsDrafted mid zeros s body → length random ≡ length zeros → IsFinished mid random s body' standing now reply → site' ≡ site → IsToldBy site v (Up journal) → IsToldBy site' now standing
   told_after laws appends nothing zeros random s body body' mid (Up j) site' now reply d as_many f same was =
       let made = made_over mid zeros s body d in
-      let e = drawn_effect is_honest content moment image disk_faults armings told entropy_faults is_up event site v before journal laws zeros random s body made (as_many ∙ made.need) in
+      let e = drawn_effect disk_says entropy_says is_up event site v before journal laws zeros random s body made (as_many ∙ made.need) in
       let here : IsToldBy site v (Up mid) = told_still site v journal mid site v refl refl d.roomier.live d.roomier.batches was in
       told_more site v mid j appends nothing e.effect body' site' now (subst (λ (rs : List Record). IsBody mid.live.version rs body') e.same.batch f.spelled) f.up.0 f.up.1 same (f.taken.view e.effect e.same) here
   told_after laws appends nothing zeros random s body body' mid (Down disk) site' now reply d as_many f same was = tt

@@ -17,7 +17,6 @@ use Rattle.declared_site.specs.SiteOf.{site_of}
 use Rattle.declared_site.specs.declared.site.Site.{Site as Declared}
 use Rattle.disk_model.specs.Images.{AtEachMoment, StandsStill}
 use Rattle.disk_model.specs.declared.arm.Arm.{Arm}
-use Rattle.disk_model.specs.declared.arm.Armings.{Armings}
 use Rattle.range_journal.specs.Header.{is_blank}
 use Rattle.journal_snapshot.specs.Standing.{Holds}
 use Rattle.journal_snapshot.specs.Snapshots.{SnapshotForm, journal_of}
@@ -30,6 +29,8 @@ use Rattle.kme_journal.specs.BatchRecovery.{AreReadAs}
 use Rattle.kme_journal.specs.Spelled.{with_batch, batch_in_doubt, IsBody}
 use Rattle.kme_store.specs.declared.manager_state.Standing.{Standing}
 use Rattle.kme_store.specs.declared.manager_state.Standing.TheVariants.{Up, Down, Between}
+use Rattle.disk_model.specs.declared.disk.Disk as Disk
+use Rattle.source_devices.specs.declared.entropy.Entropy as Entropy
 
 -- Its site, its view, whether it is up, and its entropy. A manager that is down has the view that it had before its disk failed.
 pub record ManagerForm (K E : Type 0) : Type 0 where
@@ -84,12 +85,12 @@ IsToldBy site view (Down disk) = Unit {0}
 IsToldBy site view Between = ⊥
 
 -- a disk after it was armed once more, which is otherwise the same
-pub record IsArmed {K : Type 0} (is_honest : K → Bool) (content : K → List ℕ) (moment : K → ℕ) (image : K → ℕ → List ℕ → Type 0) (faults : K → ℕ) (armings : K → Armings) (arm : Arm) (old new : K) : Type 0 where
-  pub armed : armings new ≡ record { count = (armings old).count + 1; last = Some arm }
-  pub same : content new ≡ content old
-  pub time : StandsStill (moment old) (moment new) (image old) (image new)
-  pub failed : faults new ≡ faults old
-  pub honest : is_honest new ≡ is_honest old
+pub record IsArmed {K : Type 0} (disk_says : Disk.Ghosts K) (arm : Arm) (old new : K) : Type 0 where
+  pub armed : disk_says.armings new ≡ record { count = (disk_says.armings old).count + 1; last = Some arm }
+  pub same : disk_says.content new ≡ disk_says.content old
+  pub time : StandsStill (disk_says.moment old) (disk_says.moment new) (disk_says.image old) (disk_says.image new)
+  pub failed : disk_says.faults new ≡ disk_says.faults old
+  pub honest : disk_says.is_honest new ≡ disk_says.is_honest old
 
 -- the manager is up or down as before, with the same batches, and its disk changes like this
 abbrev pub StandsOver : {K : Type 0} → (K → K → Type 0) → Standing K → Standing K → Type 0
@@ -117,14 +118,14 @@ IsDrawn (Some told) (suc n) now = (left : OctetSequence) × (now ≡ Some left) 
 -- the manager after an event
 
 -- from this journal to that disk, each crash image at each moment has the journal's batches and isn't blank
-abbrev pub Keeps : {K : Type 0} → (K → Bool) → (K → ℕ) → (K → ℕ → List ℕ → Type 0) → SnapshotForm K → K → Type 0
-Keeps is_honest moment image journal disk = AtEachMoment moment image journal.disk disk (λ i. IsTrue (is_honest journal.disk) → (is_blank i ≡ false) × Holds journal.live journal.batches [] i)
+abbrev pub Keeps : {K : Type 0} → Disk.Ghosts K → SnapshotForm K → K → Type 0
+Keeps disk_says journal disk = AtEachMoment disk_says.moment disk_says.image journal.disk disk (λ i. IsTrue (disk_says.is_honest journal.disk) → (is_blank i ≡ false) × Holds journal.live journal.batches [] i)
 
 -- while the new batch is in doubt, a crash image has the journal's batches, or these and the new one
-abbrev pub Writes : {K : Type 0} → (K → Bool) → (K → ℕ) → (K → ℕ → List ℕ → Type 0) → SnapshotForm K → List Record → K → Type 0
-Writes is_honest moment image journal batch disk =
-    AtEachMoment moment image journal.disk disk
-    (λ i. IsTrue (is_honest journal.disk) → (is_blank i ≡ false) × (Holds journal.live journal.batches (batch_in_doubt journal.live.version batch) i ⊎ Holds journal.live (with_batch journal.live.version journal.batches batch) [] i))
+abbrev pub Writes : {K : Type 0} → Disk.Ghosts K → SnapshotForm K → List Record → K → Type 0
+Writes disk_says journal batch disk =
+    AtEachMoment disk_says.moment disk_says.image journal.disk disk
+    (λ i. IsTrue (disk_says.is_honest journal.disk) → (is_blank i ≡ false) × (Holds journal.live journal.batches (batch_in_doubt journal.live.version batch) i ⊎ Holds journal.live (with_batch journal.live.version journal.batches batch) [] i))
 
 -- the batch is well formed in this version, and has octets if it isn't empty
 abbrev pub HasBodyIn : ℕ → List Record → Type 0
@@ -136,52 +137,52 @@ pub record IsAdded {K : Type 0} (old : SnapshotForm K) (batch : List Record) (ne
   pub batches : new.batches ≡ with_batch old.live.version old.batches batch
   pub journal : journal_of new ≡ extended (journal_of old) (added_len old.live.version batch)
 
-pub record HasStayed {K E : Type 0} (is_honest : K → Bool) (moment : K → ℕ) (image : K → ℕ → List ℕ → Type 0) (told : E → Option OctetSequence) (old : ManagerForm K E) (journal : SnapshotForm K) (refusal : Reply) (new : ManagerForm K E) (reply : Reply) : Type 0 where
+pub record HasStayed {K E : Type 0} (disk_says : Disk.Ghosts K) (entropy_says : Entropy.Ghosts E) (old : ManagerForm K E) (journal : SnapshotForm K) (refusal : Reply) (new : ManagerForm K E) (reply : Reply) : Type 0 where
   pub answer : reply ≡ refusal
   pub view : new.view ≡ old.view
-  pub entropy : IsDrawn (told old.entropy) 0 (told new.entropy)
-  pub up : IsUpWith (λ j. (j.live ≡ journal.live) × (j.batches ≡ journal.batches) × Keeps is_honest moment image journal j.disk) new.standing
+  pub entropy : IsDrawn (entropy_says.left old.entropy) 0 (entropy_says.left new.entropy)
+  pub up : IsUpWith (λ j. (j.live ≡ journal.live) × (j.batches ≡ journal.batches) × Keeps disk_says journal j.disk) new.standing
 
-pub record HasStopped {K E : Type 0} (is_honest : K → Bool) (moment : K → ℕ) (image : K → ℕ → List ℕ → Type 0) (told : E → Option OctetSequence) (old : ManagerForm K E) (journal : SnapshotForm K) (octets : ℕ) (effect : Effect) (new : ManagerForm K E) (reply : Reply) : Type 0 where
+pub record HasStopped {K E : Type 0} (disk_says : Disk.Ghosts K) (entropy_says : Entropy.Ghosts E) (old : ManagerForm K E) (journal : SnapshotForm K) (octets : ℕ) (effect : Effect) (new : ManagerForm K E) (reply : Reply) : Type 0 where
   pub answer : reply ≡ replies.Stopped
   -- Nothing was taken over before it was durable.
   pub view : new.view ≡ old.view
-  pub entropy : IsDrawn (told old.entropy) octets (told new.entropy)
+  pub entropy : IsDrawn (entropy_says.left old.entropy) octets (entropy_says.left new.entropy)
   pub spelled : HasBodyIn journal.live.version effect.batch
-  pub down : IsDownWith (Writes is_honest moment image journal effect.batch) new.standing
+  pub down : IsDownWith (Writes disk_says journal effect.batch) new.standing
 
-pub record HasGone {K E : Type 0} (is_honest : K → Bool) (moment : K → ℕ) (image : K → ℕ → List ℕ → Type 0) (told : E → Option OctetSequence) (old : ManagerForm K E) (journal : SnapshotForm K) (octets : ℕ) (effect : Effect) (new : ManagerForm K E) (reply : Reply) : Type 0 where
+pub record HasGone {K E : Type 0} (disk_says : Disk.Ghosts K) (entropy_says : Entropy.Ghosts E) (old : ManagerForm K E) (journal : SnapshotForm K) (octets : ℕ) (effect : Effect) (new : ManagerForm K E) (reply : Reply) : Type 0 where
   pub answer : reply ≡ effect.reply
   pub view : new.view ≡ view_after old.view effect
-  pub entropy : IsDrawn (told old.entropy) octets (told new.entropy)
+  pub entropy : IsDrawn (entropy_says.left old.entropy) octets (entropy_says.left new.entropy)
   pub spelled : HasBodyIn journal.live.version effect.batch
-  pub up : IsUpWith (λ j. IsAdded journal effect.batch j × Writes is_honest moment image journal effect.batch j.disk) new.standing
+  pub up : IsUpWith (λ j. IsAdded journal effect.batch j × Writes disk_says journal effect.batch j.disk) new.standing
 
-abbrev pub IsAfter : {K E : Type 0} → (K → Bool) → (K → ℕ) → (K → ℕ → List ℕ → Type 0) → (E → Option OctetSequence) → ManagerForm K E → SnapshotForm K → Course → ManagerForm K E → Reply → Type 0
-IsAfter is_honest moment image told old journal (Stays refusal) new reply = HasStayed is_honest moment image told old journal refusal new reply
-IsAfter is_honest moment image told old journal (Stops octets effect) new reply = HasStopped is_honest moment image told old journal octets effect new reply
-IsAfter is_honest moment image told old journal (Goes octets effect) new reply = HasGone is_honest moment image told old journal octets effect new reply
+abbrev pub IsAfter : {K E : Type 0} → Disk.Ghosts K → Entropy.Ghosts E → ManagerForm K E → SnapshotForm K → Course → ManagerForm K E → Reply → Type 0
+IsAfter disk_says entropy_says old journal (Stays refusal) new reply = HasStayed disk_says entropy_says old journal refusal new reply
+IsAfter disk_says entropy_says old journal (Stops octets effect) new reply = HasStopped disk_says entropy_says old journal octets effect new reply
+IsAfter disk_says entropy_says old journal (Goes octets effect) new reply = HasGone disk_says entropy_says old journal octets effect new reply
 
 -- An event is answered. The environment gave these octets and this answer. Each failure comes from a fault, and without one the
 -- count of faults is as before.
-pub record Answers {K E : Type 0} (is_honest : K → Bool) (moment : K → ℕ) (image : K → ℕ → List ℕ → Type 0) (disk_faults : K → ℕ) (told : E → Option OctetSequence) (entropy_faults : E → ℕ) (is_up : ℕ → Bool) (event : Event) (old : ManagerForm K E) (journal : SnapshotForm K) (new : ManagerForm K E) (reply : Reply) : Type 0 where
+pub record Answers {K E : Type 0} (disk_says : Disk.Ghosts K) (entropy_says : Entropy.Ghosts E) (is_up : ℕ → Bool) (event : Event) (old : ManagerForm K E) (journal : SnapshotForm K) (new : ManagerForm K E) (reply : Reply) : Type 0 where
   pub rest : OctetSequence
   pub environment : Environment
-  pub next : ComesNext (told old.entropy) rest
+  pub next : ComesNext (entropy_says.left old.entropy) rest
   pub shown : is_shown environment (Replies reply) ≡ true
-  pub entropy_fault : environment ≡ EntropyFault → Rose (entropy_faults old.entropy) (entropy_faults new.entropy)
+  pub entropy_fault : environment ≡ EntropyFault → Rose (entropy_says.faults old.entropy) (entropy_says.faults new.entropy)
   -- The entropy fails only where it is asked.
   pub entropy_asked : environment ≡ EntropyFault → 0 < random_need old.view event
-  pub disk_fault : environment ≡ IoFault → HasDisk (λ disk. Rose (disk_faults journal.disk) (disk_faults disk)) new.standing
-  pub entropy_calm : (environment ≡ EntropyFault → ⊥) → entropy_faults new.entropy ≡ entropy_faults old.entropy
-  pub disk_calm : (environment ≡ IoFault → ⊥) → HasDisk (λ disk. disk_faults disk ≡ disk_faults journal.disk) new.standing
-  pub after : IsAfter is_honest moment image told old journal (course (site_of old.site) is_up old.view (journal_of journal) rest event environment) new reply
+  pub disk_fault : environment ≡ IoFault → HasDisk (λ disk. Rose (disk_says.faults journal.disk) (disk_says.faults disk)) new.standing
+  pub entropy_calm : (environment ≡ EntropyFault → ⊥) → entropy_says.faults new.entropy ≡ entropy_says.faults old.entropy
+  pub disk_calm : (environment ≡ IoFault → ⊥) → HasDisk (λ disk. disk_says.faults disk ≡ disk_says.faults journal.disk) new.standing
+  pub after : IsAfter disk_says entropy_says old journal (course (site_of old.site) is_up old.view (journal_of journal) rest event environment) new reply
 
 -- a manager that is up answers the event, and one that is down stays as it is
-abbrev pub Acts : {K E : Type 0} → (K → Bool) → (K → ℕ) → (K → ℕ → List ℕ → Type 0) → (K → ℕ) → (E → Option OctetSequence) → (E → ℕ) → (ℕ → Bool) → Event → ManagerForm K E → Standing K → ManagerForm K E → Reply → Type 0
-Acts is_honest moment image disk_faults told entropy_faults is_up event old (Up journal) new reply = Answers is_honest moment image disk_faults told entropy_faults is_up event old journal new reply
-Acts is_honest moment image disk_faults told entropy_faults is_up event old (Down disk) new reply = (new ≡ old) × (reply ≡ replies.Down)
-Acts is_honest moment image disk_faults told entropy_faults is_up event old Between new reply = ⊥
+abbrev pub Acts : {K E : Type 0} → Disk.Ghosts K → Entropy.Ghosts E → (ℕ → Bool) → Event → ManagerForm K E → Standing K → ManagerForm K E → Reply → Type 0
+Acts disk_says entropy_says is_up event old (Up journal) new reply = Answers disk_says entropy_says is_up event old journal new reply
+Acts disk_says entropy_says is_up event old (Down disk) new reply = (new ≡ old) × (reply ≡ replies.Down)
+Acts disk_says entropy_says is_up event old Between new reply = ⊥
 
 abbrev pub is_up : {K : Type 0} → Standing K → Bool
 is_up (Up journal) = true

@@ -26,7 +26,7 @@ pub fn recover<K: Disk + Drop, E: Entropy>(
     requires site { IsDeclared site.now }
     requires used { (K.allowance disk).used ≤ 12 }
     ensures { (back : Result (RecoveredValue K) (RefusalValue × K)) × IsOver back entropy result
-        × Recovers K.is_honest K.content K.moment K.image K.faults K.allowance K.armings site.now me disk back }
+        × Recovers K.Disk site.now me disk back }
 {
     match read_back(alloc, disk, site, me) {
         Err((refusal, disk)) => Err((refusal, disk, entropy)),

@@ -70,7 +70,7 @@ pub fn handle<K: Disk, E: Entropy>(
     requires { is_valid_event (site_of node.old.site) (view node.old).me event.now ≡ true }
     ensures site { node.new.site ≡ node.old.site }
     ensures answers { (is_up : ℕ → Bool) → AreUp up is_up
-        → Answers K.is_honest K.moment K.image K.faults E.left E.faults is_up event.now
+        → Answers K.Disk E.Entropy is_up event.now
         (record { site = node.old.site; view = view node.old; standing = Standing.Up journal; entropy = entropy.old }) journal
         (record { site = node.new.site; view = view node.new; standing = result.0; entropy = entropy.new }) result.1 }
     ensures kept { WhereUp (λ j. IsTrue (K.is_honest j.disk) → IsKept j.live j.batches (K.content j.disk) (K.image j.disk (K.moment j.disk))) result.0 }

@@ -83,7 +83,7 @@ impl<K: Disk + Drop, E: Entropy> Manager<K, E> {
         requires { is_valid_event (site_of self.old.site) self.old.view.me event.now ≡ true }
         ensures site { self.new.site ≡ self.old.site }
         ensures acts { (linked : ℕ → Bool) → AreUp up linked
-            → Acts K.is_honest K.moment K.image K.faults E.left E.faults linked event.now self.old self.old.standing self.new result }
+            → Acts K.Disk E.Entropy linked event.now self.old self.old.standing self.new result }
 
         // While the manager is up, an honest disk has exactly the journal's batches, and a crash leaves nothing else.
         ensures kept { WhereUp (λ j. IsTrue (K.is_honest j.disk) → IsKept j.live j.batches (K.content j.disk) (K.image j.disk (K.moment j.disk))) self.new.standing }
@@ -116,7 +116,7 @@ impl<K: Disk + Drop, E: Entropy> Manager<K, E> {
     pub fn arm(&mut self, arm: Arm)
         requires { HasDisk (λ disk. (K.armings disk).count < 2 ^ 32) self.old.standing }
         ensures same { self.new ≡ record self.old { standing = self.new.standing } }
-        ensures armed { StandsOver (IsArmed K.is_honest K.content K.moment K.image K.faults K.armings arm) self.old.standing self.new.standing }
+        ensures armed { StandsOver (IsArmed K.Disk arm) self.old.standing self.new.standing }
     {
         match &mut self.standing {
             Standing::Up(journal) => journal.arm(arm),

@@ -1,11 +1,9 @@
 -- The state and the sink after the lines of a scenario.
-use Rattle.std.proofs.Common.{◌≡◌, ◌∙◌, inl, inr, ℕ, ◌*◌, Bool, List, [], Option, Some, Result, Ok, Err, refl, sym, ap, subst}
+use Rattle.std.proofs.Common.{◌≡◌, ◌∙◌, inl, inr, ℕ, ◌*◌, List, [], Some, Result, Ok, Err, refl, sym, ap, subst}
 use Rattle.std.specs.Prelude.{slice_get, MatchResult}
 use Rattle.std.specs.List.{flat_map}
-use Rattle.disk_model.specs.declared.arm.Armings.{Armings}
 use Rattle.declared_site.specs.SiteOf.{site_of}
 use Rattle.declared_site.specs.declared.site.Site.{Site as Declared}
-use Rattle.net_model.specs.OctetSequence.{OctetSequence}
 use Rattle.net_model.specs.World.{Network, World}
 use Rattle.net_model.specs.Site.{Site}
 use Rattle.net_model.specs.Action.{Action}
@@ -29,19 +27,18 @@ use Rattle.net_serve.specs.BenchServing.{ended, ServedBehind}
 use Rattle.net_serve.specs.Behind.{IsLineTold, IsServed, Ends}
 use Rattle.net_serve.specs.declared.stop.ServeStop.{ServeStop}
 use Rattle.net_serve.specs.declared.stop.ServeStop.TheVariants.{Stopped, Listen}
+use Rattle.world_state.specs.Outside.{Outside}
 
 -- the state has as many parts as before
-pub still_sized : {K Q E X : Type 0} (disk_count : K → ℕ) (armed : K → Armings) (entropy_count : E → ℕ) (device_count : Q → ℕ) (wire_count : X → ℕ) (old new : State K Q E X) (site : Site) (actions : List Action) →
-    Tallied disk_count armed entropy_count device_count wire_count old new site actions → new.site ≡ old.site → IsSized old → IsSized new
-still_sized disk_count armed entropy_count device_count wire_count old new site actions t same sized = record {
+pub still_sized : {K Q E X : Type 0} (outside : Outside K Q E X) (old new : State K Q E X) (site : Site) (actions : List Action) →
+    Tallied outside old new site actions → new.site ≡ old.site → IsSized old → IsSized new
+still_sized outside old new site actions t same sized = record {
   nodes = t.nodes ∙ sized.nodes ∙ ap (λ (s : Declared). (site_of s).nodes) (sym same);
   sides = t.sides ∙ sized.sides ∙ ap (λ (s : Declared). 2 * (site_of s).links) (sym same);
   links = t.links ∙ sized.links ∙ ap (λ (s : Declared). (site_of s).links) (sym same);
 }
 
-module _ {K Q E X D : Type 0} (is_honest : K → Bool) (moment : K → ℕ) (image : K → ℕ → List ℕ → Type 0) (left : E → Option OctetSequence)
-    (told : Q → Option OctetSequence) (frames : X → Option (List (List ℕ))) (counted : X → ℕ)
-    (disk_count : K → ℕ) (armed : K → Armings) (entropy_count : E → ℕ) (device_count : Q → ℕ) (wire_count : X → ℕ) (tell : D → Door) (failed : D → ℕ) (told_ports : Type 0) (workers connections port : ℕ)
+module _ {K Q E X D : Type 0} (outside : Outside K Q E X) (tell : D → Door) (failed : D → ℕ) (told_ports : Type 0) (workers connections port : ℕ)
     (old new : State K Q E X) (net : Network) (w : World) (before after : PortsTold D) where
   abbrev Behind : headline.Stop → List (List Action) → Type 0
   Behind stop served = ServedBehind tell failed told_ports workers connections port old.site before after stop net w served
@@ -64,27 +61,27 @@ module _ {K Q E X D : Type 0} (is_honest : K → Bool) (moment : K → ℕ) (ima
 
   module _ (a b : Given) (text : List ℕ) where
     abbrev AllEnds : {T U : Type 0} → Result T Stop → Result U ServeStop → Type 0
-    AllEnds {T} {U} lines result = Ends is_honest moment image left told frames counted disk_count armed entropy_count device_count wire_count tell failed told_ports workers connections port old new net w before after {T = T} {U = U} a b text lines result
+    AllEnds {T} {U} lines result = Ends outside tell failed told_ports workers connections port old new net w before after {T = T} {U = U} a b text lines result
 
     -- the lines came to their end
-    ends_so : {T U : Type 0} (done : T) (stop : headline.Stop) (result : Result U ServeStop) → (s : IsServed is_honest moment image left told frames counted disk_count armed entropy_count device_count wire_count tell failed told_ports workers connections port old new net w before after stop) →
+    ends_so : {T U : Type 0} (done : T) (stop : headline.Stop) (result : Result U ServeStop) → (s : IsServed outside tell failed told_ports workers connections port old new net w before after stop) →
         Behind (ended result) s.served → IsLineTold (ended result) a b text → AllEnds {T = T} {U = U} (Ok done) result
     ends_so done stop result s ports line = record {
       served = s.served;
       asked = elim s.asked [ inl none ↦ inl none | inr asked ↦ inr (refl, asked) ];
-      rests = comes_to_rest is_honest moment image left told frames counted net (run net w (flat_map (λ h. h) s.served)) new s.stands;
+      rests = comes_to_rest outside net (run net w (flat_map (λ h. h) s.served)) new s.stands;
       tallied = s.tallied;
       ports = ports;
       line = line;
     }
 
-    ends_last : {T U : Type 0} (done : T) (result : Result U ServeStop) → IsServed is_honest moment image left told frames counted disk_count armed entropy_count device_count wire_count tell failed told_ports workers connections port old new net w before after headline.Done →
+    ends_last : {T U : Type 0} (done : T) (result : Result U ServeStop) → IsServed outside tell failed told_ports workers connections port old new net w before after headline.Done →
         (result ≡ Err Listen → ⊥) → IsLineTold (ended result) a b text → AllEnds {T = T} {U = U} (Ok done) result
     ends_last done result s calm line = ends_so done headline.Done result s (last_ports result s.served a b text calm line s.ports) line
 
     -- the lines came to their end, but not all connections were served
     pub ends_there : {T U : Type 0} (lines : Result T Stop) (done : T) → lines ≡ Ok done → (stop : headline.Stop) (result : Result U ServeStop) → ended result ≡ stop →
-        IsServed is_honest moment image left told frames counted disk_count armed entropy_count device_count wire_count tell failed told_ports workers connections port old new net w before after stop →
+        IsServed outside tell failed told_ports workers connections port old new net w before after stop →
         IsLineTold (ended result) a b text → AllEnds {T = T} {U = U} lines result
     ends_there {T} {U} lines done is stop result so s line =
         subst (λ (r : Result T Stop). AllEnds {T = T} {U = U} r result) (sym is)
@@ -92,27 +89,27 @@ module _ {K Q E X D : Type 0} (is_honest : K → Bool) (moment : K → ℕ) (ima
 
     -- all connections were served, whether or not the last line was written
     pub ends_at_last : {T U : Type 0} (lines : Result T Stop) (done : T) → lines ≡ Ok done → (result : Result U ServeStop) →
-        IsServed is_honest moment image left told frames counted disk_count armed entropy_count device_count wire_count tell failed told_ports workers connections port old new net w before after headline.Done →
+        IsServed outside tell failed told_ports workers connections port old new net w before after headline.Done →
         (result ≡ Err Listen → ⊥) → IsLineTold (ended result) a b text → AllEnds {T = T} {U = U} lines result
     ends_at_last {T} {U} lines done is result s calm line = subst (λ (r : Result T Stop). AllEnds {T = T} {U = U} r result) (sym is) (ends_last done result s calm line)
 
     -- the lines ended early
-    ends_amid : {T U : Type 0} (stop : Stop) (result : Result U ServeStop) → result ≡ Err (Stopped stop) → new ≡ old → after ≡ before → b ≡ a → Rests is_honest moment image left told frames counted old net w →
+    ends_amid : {T U : Type 0} (stop : Stop) (result : Result U ServeStop) → result ≡ Err (Stopped stop) → new ≡ old → after ≡ before → b ≡ a → Rests outside old net w →
         AllEnds {T = T} {U = U} (Err stop) result
     ends_amid {T} {U} stop result is state ports sink rests = record {
       served = [];
       asked = inl refl;
-      rests = subst (λ (s : State K Q E X). Rests is_honest moment image left told frames counted s net (run net w [])) (sym state) (subst (λ (x : World). Rests is_honest moment image left told frames counted old net x) (sym (run_none net w)) rests);
-      tallied = subst (λ (s : State K Q E X). Tallied disk_count armed entropy_count device_count wire_count old s net.site []) (sym state) (none_tallied disk_count armed entropy_count device_count wire_count net.site old disks);
+      rests = subst (λ (s : State K Q E X). Rests outside s net (run net w [])) (sym state) (subst (λ (x : World). Rests outside old net x) (sym (run_none net w)) rests);
+      tallied = subst (λ (s : State K Q E X). Tallied outside old s net.site []) (sym state) (none_tallied outside net.site old disks);
       ports = subst (λ (r : Result U ServeStop). Behind (ended r) []) (sym is) (ports_kept U stop ports);
       line = (is, sink);
     }
       where
         disks : (v : ℕ) (p : Post K E) → slice_get old.posts.items v ≡ Some p → (k : K) × (disk_of p ≡ Some k)
-        disks v p at = let r = rests.posts v p at in post_disk is_honest moment image net r.0 v left p r.2
+        disks v p at = let r = rests.posts v p at in post_disk outside.disk net r.0 v outside.entropy p r.2
 
     pub ends_with_lines : {T U : Type 0} (lines : Result T Stop) (stop : Stop) → lines ≡ Err stop → (result : Result U ServeStop) → result ≡ Err (Stopped stop) → new ≡ old → after ≡ before → b ≡ a →
-        Rests is_honest moment image left told frames counted old net w → AllEnds {T = T} {U = U} lines result
+        Rests outside old net w → AllEnds {T = T} {U = U} lines result
     ends_with_lines {T} {U} lines stop amid result is state ports sink rests = subst (λ (r : Result T Stop). AllEnds {T = T} {U = U} r result) (sym amid) (ends_amid stop result is state ports sink rests)
 
 -- if the lines came to their end, the case for that end holds

@@ -6,9 +6,7 @@ use Rattle.std.specs.Option.{option_map}
 use Rattle.std.proofs.Math.Nat.{mul-le-mul_right}
 use Rattle.std.proofs.lemmas.List.{length-map, length-reverse}
 use Rattle.std.proofs.lemmas.Option.{slice_get-map, slice_get_within}
-use Rattle.disk_model.specs.declared.arm.Armings.{Armings}
 use Rattle.net_model.specs.declared.event.Event.{Event}
-use Rattle.net_model.specs.OctetSequence.{OctetSequence}
 use Rattle.net_model.specs.Site.{count_up}
 use Rattle.net_model.specs.World.{Network, World}
 use Rattle.declared_site.specs.declared.site.Site.{Site as Declared}
@@ -32,6 +30,7 @@ use Rattle.net_serve.specs.Serving.{Said, Call}
 use Rattle.net_serve.specs.Asked.{HaveAsked}
 use Rattle.net_serve.specs.Served.{Serves}
 use Rattle.net_serve.proofs.Ending.{Turns, armed_all, serves_all}
+use Rattle.world_state.specs.Outside.{Outside}
 
 some_is : {A : Type 0} {a b : A} → ◌≡◌ {A = Option A} (Some a) (Some b) → a ≡ b
 some_is h = cc
@@ -54,11 +53,10 @@ few_calls workers connections few some =
     let product : workers * (1000 * connections) ≤ 32 * (1000 * connections) = mul-le-mul_right (1000 * connections) few in
     omega (arith, product, some)
 
-module _ {K Q E X : Type 0} (is_honest : K → Bool) (moment : K → ℕ) (image : K → ℕ → List ℕ → Type 0) (left : E → Option OctetSequence) (told : Q → Option OctetSequence)
-    (frames : X → Option (List (List ℕ))) (counted : X → ℕ) (disk_count : K → ℕ) (armed : K → Armings) (entropy_count : E → ℕ) (device_count : Q → ℕ) (wire_count : X → ℕ)
+module _ {K Q E X : Type 0} (outside : Outside K Q E X)
     (opening : State K Q E X) where
   -- each node of the site has its manager
-  pub as_many_nodes : (net : Network) (w : World) → Stands is_honest moment image left told frames counted opening net w → length opening.posts.items ≡ length opening.site.nodes
+  pub as_many_nodes : (net : Network) (w : World) → Stands outside opening net w → length opening.posts.items ≡ length opening.site.nodes
   as_many_nodes net w stands = stands.nodes ∙ ap (λ s. s.nodes) stands.sited
 
   module _ {M A : Type 0} (node : M → ℕ) (site_in : M → Declared) (up : M → ℕ) (post : M → Post K E) (said_in : A → Said) {C : Type 0} (ts : List (Turnstile M Event A C)) (first rest : List M)
@@ -92,7 +90,7 @@ module _ {K Q E X : Type 0} (is_honest : K → Bool) (moment : K → ℕ) (image
           ∙ posts
 
       module _ (turns : (m : M) (event : Event) (a : A) (n : M) → turn m event a n →
-          Turns is_honest moment image left told frames counted disk_count armed entropy_count device_count wire_count opening up post said_in (λ m. (site_in m, node m)) turn m event a n) (none : rest ≡ []) where
+          Turns outside opening up post said_in (λ m. (site_in m, node m)) turn m event a n) (none : rest ≡ []) where
         ended : reverse after ≡ closed.ended
         ended = turned_round rest closed.ended after (reverse after) closed.behind refl ∙ ap (λ (ms : List M). closed.ended ++ reverse ms) none ∙ append-nil closed.ended
 
@@ -102,34 +100,33 @@ module _ {K Q E X : Type 0} (is_honest : K → Bool) (moment : K → ℕ) (image
         all_posts : map post (map first_of ts) ≡ opening.posts.items
         all_posts = ap (map post) (openings none) ∙ posts
 
-        pub armed_after : (net : Network) (w : World) → Stands is_honest moment image left told frames counted opening net w →
-            most_armed armed (map post (reverse after)) ≡ most_armed armed opening.posts.items
+        pub armed_after : (net : Network) (w : World) → Stands outside opening net w →
+            most_armed outside.disk (map post (reverse after)) ≡ most_armed outside.disk opening.posts.items
         armed_after net w stands =
-            ap (λ (ms : List M). most_armed armed (map post ms)) ended
-            ∙ armed_all is_honest moment image left told frames counted disk_count armed entropy_count device_count wire_count opening up post said_in (λ m. (site_in m, node m)) turn turns ts kept closed.ended closed.ends under
+            ap (λ (ms : List M). most_armed outside.disk (map post ms)) ended
+            ∙ armed_all outside opening up post said_in (λ m. (site_in m, node m)) turn turns ts kept closed.ended closed.ends under
             all_posts net w stands
 
-        pub served_after : (net : Network) (w : World) → Stands is_honest moment image left told frames counted opening net w → (call_in : ℕ × (Event × A) → Call) →
+        pub served_after : (net : Network) (w : World) → Stands outside opening net w → (call_in : ℕ × (Event × A) → Call) →
             ((c : ℕ × (Event × A)) → call_in c ≡ (c.0, said_in c.1.1)) → {D : Type 0} (tell : D → Door) (failed : D → ℕ) (connections : ℕ) (before back : List D) (all : Bool) →
             HaveAsked tell failed opening.site.nodes opening.site.entitlements (length ts) connections before back (λ v. map call_in (calls_at v kept)) all → (new : State K Q E X) → new.site ≡ opening.site →
             new.posts.items ≡ map post (reverse after) → new.lanes.items ≡ opening.lanes.items → new.devices.items ≡ opening.devices.items → new.up ≡ opening.up →
-            Serves is_honest moment image left told frames counted disk_count armed entropy_count device_count wire_count tell failed opening new net w connections before back all
+            Serves outside tell failed opening new net w connections before back all
         served_after net w stands call_in in_call tell failed connections before back all asked new sited are lanes devices links =
-            serves_all is_honest moment image left told frames counted disk_count armed entropy_count device_count wire_count opening up post said_in (λ m. (site_in m, node m)) turn turns ts kept closed.ended closed.ends under
+            serves_all outside opening up post said_in (λ m. (site_in m, node m)) turn turns ts kept closed.ended closed.ends under
             all_posts net w stands call_in in_call tell failed connections before back all asked new sited (are ∙ ap (map post) ended) lanes devices links
 
 -- the result for the state itself, of which the opening is a copy
-pub of_state : {K Q E X D : Type 0} (is_honest : K → Bool) (moment : K → ℕ) (image : K → ℕ → List ℕ → Type 0) (left : E → Option OctetSequence) (told : Q → Option OctetSequence)
-    (frames : X → Option (List (List ℕ))) (counted : X → ℕ) (disk_count : K → ℕ) (armed : K → Armings) (entropy_count : E → ℕ) (device_count : Q → ℕ) (wire_count : X → ℕ) (tell : D → Door) (failed : D → ℕ)
+pub of_state : {K Q E X D : Type 0} (outside : Outside K Q E X) (tell : D → Door) (failed : D → ℕ)
     (Done : Type 0) (s copy : State K Q E X) (posts : Vec (Post K E) Global) (connections : ℕ) (before back : List D) (all : Bool) → copy ≡ s →
-    (Done → (net : Network) (w : World) → Stands is_honest moment image left told frames counted copy net w →
-    Serves is_honest moment image left told frames counted disk_count armed entropy_count device_count wire_count tell failed copy (record copy { posts = posts }) net w connections before back all) →
-    Done → (net : Network) (w : World) → Stands is_honest moment image left told frames counted s net w →
-    Serves is_honest moment image left told frames counted disk_count armed entropy_count device_count wire_count tell failed s (record s { posts = posts }) net w connections before back all
-of_state {K} {Q} {E} {X} is_honest moment image left told frames counted disk_count armed entropy_count device_count wire_count tell failed Done s copy posts connections before back all is h =
+    (Done → (net : Network) (w : World) → Stands outside copy net w →
+    Serves outside tell failed copy (record copy { posts = posts }) net w connections before back all) →
+    Done → (net : Network) (w : World) → Stands outside s net w →
+    Serves outside tell failed s (record s { posts = posts }) net w connections before back all
+of_state {K} {Q} {E} {X} outside tell failed Done s copy posts connections before back all is h =
     subst
-    (λ (x : State K Q E X). Done → (net : Network) (w : World) → Stands is_honest moment image left told frames counted x net w →
-    Serves is_honest moment image left told frames counted disk_count armed entropy_count device_count wire_count tell failed x (record x { posts = posts }) net w connections before back all)
+    (λ (x : State K Q E X). Done → (net : Network) (w : World) → Stands outside x net w →
+    Serves outside tell failed x (record x { posts = posts }) net w connections before back all)
     is h
 
 -- closing gives back as many machines as there are turnstiles

@@ -2,10 +2,8 @@
 use Rattle.std.proofs.Common.{◌≡◌, ℕ, zero, suc, ◌+◌, ◌%◌, Bool, List, [], ◌∷◌, length, map, refl, sym, ap, subst, ◌∙◌, arith, Option, Some, Result}
 use Rattle.std.specs.Prelude.{slice_get}
 use Rattle.std.proofs.lemmas.List.{length-map}
-use Rattle.disk_model.specs.declared.arm.Armings.{Armings}
 use Rattle.edge_io.specs.declared.failed.Failed.{Failed}
 use Rattle.net_model.specs.declared.event.Event.{Event}
-use Rattle.net_model.specs.OctetSequence.{OctetSequence}
 use Rattle.net_model.specs.Site.{Site}
 use Rattle.net_model.specs.World.{Network, World}
 use Rattle.declared_site.specs.SiteOf.{site_of}
@@ -31,6 +29,7 @@ use Rattle.net_serve.proofs.Nodes.{AllLead, all_said, AllReplayed, replay_all}
 use Rattle.net_serve.proofs.Parts.{SameParts, same_stands, same_tallied}
 use Rattle.net_serve.proofs.Replaying.{Took}
 use Rattle.net_serve.proofs.Whole.{told as in_place, whole_told}
+use Rattle.world_state.specs.Outside.{Outside}
 
 some_is : {A : Type 0} {a b : A} → ◌≡◌ {A = Option A} (Some a) (Some b) → a ≡ b
 some_is h = cc
@@ -45,13 +44,12 @@ imaged f [] k y h = cc
 imaged f (x ∷ xs) zero y h = record { x = x; at = refl; is = some_is h }
 imaged f (x ∷ xs) (suc k) y h = let rest = imaged f xs k y h in record { x = rest.x; at = rest.at; is = rest.is }
 
-module _ {K Q E X : Type 0} (is_honest : K → Bool) (moment : K → ℕ) (image : K → ℕ → List ℕ → Type 0) (left : E → Option OctetSequence) (told : Q → Option OctetSequence)
-    (frames : X → Option (List (List ℕ))) (counted : X → ℕ) (disk_count : K → ℕ) (armed : K → Armings) (entropy_count : E → ℕ) (device_count : Q → ℕ) (wire_count : X → ℕ)
+module _ {K Q E X : Type 0} (outside : Outside K Q E X)
     (opening : State K Q E X) {M A : Type 0} (up : M → ℕ) (post : M → Post K E) (said_in : A → Said) (charter : M → Declared × ℕ) (turn : M → Event → A → M → Type 0) where
   -- a turn of the manager, under its charter
   pub record Turns (m : M) (event : Event) (a : A) (n : M) : Type 0 where
     pub may : IsRequestTo (site_of (charter m).0) (charter m).1 event
-    pub took : TookRequest is_honest moment image disk_count armed left entropy_count (charter m).1 (up m) (post m) event (said_in a) (up n) (post n)
+    pub took : TookRequest outside.disk outside.entropy (charter m).1 (up m) (post m) event (said_in a) (up n) (post n)
     pub kept : charter n ≡ charter m
 
   abbrev site : Site
@@ -61,19 +59,19 @@ module _ {K Q E X : Type 0} (is_honest : K → Bool) (moment : K → ℕ) (image
   Under v m = charter m ≡ (opening.site, v)
 
   abbrev TookHere : (v : ℕ) → M → Event → A → M → Type 0
-  TookHere v m event a n = Took is_honest moment image left told frames counted disk_count armed entropy_count device_count wire_count site up post said_in v m event a n
+  TookHere v m event a n = Took outside site up post said_in v m event a n
 
   abbrev LeadHere : (v : ℕ) → List M → List (List (Event × A)) → List M → Type 0
-  LeadHere v ms logs ns = AllLead is_honest moment image left told frames counted disk_count armed entropy_count device_count wire_count site up post said_in opening.up v ms logs ns
+  LeadHere v ms logs ns = AllLead outside site up post said_in opening.up v ms logs ns
 
   abbrev SaidHere : List (List (Event × A)) → List (List Said)
-  SaidHere logs = all_said is_honest moment image left told frames counted disk_count armed entropy_count device_count wire_count site up post said_in opening.up logs
+  SaidHere logs = all_said outside site up post said_in opening.up logs
 
   module _ (turns : (m : M) (event : Event) (a : A) (n : M) → turn m event a n → Turns m event a n) where
     took : (v : ℕ) (m : M) (event : Event) (a : A) (n : M) → Under v m → Turns m event a n → TookHere v m event a n
     took v m event a n is h = record {
       may = subst (λ (c : Declared × ℕ). IsRequestTo (site_of c.0) c.1 event) is h.may;
-      took = subst (λ (c : Declared × ℕ). TookRequest is_honest moment image disk_count armed left entropy_count c.1 (up m) (post m) event (said_in a) (up n) (post n)) is h.took;
+      took = subst (λ (c : Declared × ℕ). TookRequest outside.disk outside.entropy c.1 (up m) (post m) event (said_in a) (up n) (post n)) is h.took;
     }
 
     leads_of : (v : ℕ) (m n : M) (log : List (Event × A)) → Under v m → Leads turn m log n → Leads (TookHere v) m log n
@@ -129,20 +127,20 @@ module _ {K Q E X : Type 0} (is_honest : K → Bool) (moment : K → ℕ) (image
             zero_more : (i : ℕ) → i ≡ 0 + i
             zero_more i = omega arith
 
-        module _ (net : Network) (w : World) (stands : Stands is_honest moment image left told frames counted opening net w) where
+        module _ (net : Network) (w : World) (stands : Stands outside opening net w) where
           many : length ts ≡ net.site.nodes
           many = sym (length-map ts first_of) ∙ sym (length-map (map first_of ts) post) ∙ ap (λ (xs : List (Post K E)). length xs) posts ∙ stands.nodes
 
-          r : AllReplayed is_honest moment image left told frames counted disk_count armed entropy_count device_count wire_count site up post said_in opening.up net stands.sited 0 opening w [] l.logs ns
-          r = replay_all is_honest moment image left told frames counted disk_count armed entropy_count device_count wire_count site up post said_in opening.up net stands.sited (map first_of ts) l.logs ns 0 opening w []
+          r : AllReplayed outside site up post said_in opening.up net stands.sited 0 opening w [] l.logs ns
+          r = replay_all outside site up post said_in opening.up net stands.sited (map first_of ts) l.logs ns 0 opening w []
               l.lead stands (sym posts) refl refl (few (length (map first_of ts)) (length-map ts first_of ∙ many))
             where
               few : (n : ℕ) → n ≡ net.site.nodes → 0 + n ≡ net.site.nodes
               few n h = omega (arith, h)
 
           -- the largest count of armings of a disk is as before
-          pub armed_all : most_armed armed (map post ns) ≡ most_armed armed opening.posts.items
-          armed_all = ap (most_armed armed) (sym r.posts) ∙ r.armings
+          pub armed_all : most_armed outside.disk (map post ns) ≡ most_armed outside.disk opening.posts.items
+          armed_all = ap (most_armed outside.disk) (sym r.posts) ∙ r.armings
 
           module _ (call_in : ℕ × (Event × A) → Call) (in_call : (c : ℕ × (Event × A)) → call_in c ≡ (c.0, said_in c.1.1)) {D : Type 0} (tell : D → Door) (failed : D → ℕ) (connections : ℕ) (before after : List D) (all : Bool)
               (asked : HaveAsked tell failed opening.site.nodes opening.site.entitlements (length ts) connections before after (λ v. map call_in (calls_at v ps)) all) where
@@ -179,7 +177,7 @@ module _ {K Q E X : Type 0} (is_honest : K → Bool) (moment : K → ℕ) (image
             }
 
             pub serves_all : (new : State K Q E X) → new.site ≡ opening.site → new.posts.items ≡ map post ns → new.lanes.items ≡ opening.lanes.items → new.devices.items ≡ opening.devices.items → new.up ≡ opening.up →
-                Serves is_honest moment image left told frames counted disk_count armed entropy_count device_count wire_count tell failed opening new net w connections before after all
+                Serves outside tell failed opening new net w connections before after all
             serves_all new sited posts' lanes devices links =
                 let same : SameParts r.now new = record {
                   site = sited ∙ sym r.site;
@@ -194,7 +192,7 @@ module _ {K Q E X : Type 0} (is_honest : K → Bool) (moment : K → ℕ) (image
                   requests = r.requests;
                   chains = are_chains net w stands.running.network stands.running.conserved r.histories r.of r.runs;
                   steps = r.runs;
-                  stands = same_stands is_honest moment image left told frames counted disk_count armed entropy_count device_count wire_count net r.now new same _ r.stands;
-                  tallied = same_tallied is_honest moment image left told frames counted disk_count armed entropy_count device_count wire_count net r.now new same opening _ r.tallied;
+                  stands = same_stands outside net r.now new same _ r.stands;
+                  tallied = same_tallied outside net r.now new same opening _ r.tallied;
                   connected = connected;
                 }

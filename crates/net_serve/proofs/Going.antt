@@ -1,10 +1,8 @@
 -- A state whose managers are served.
-use Rattle.std.proofs.Common.{◌≡◌, ◌∙◌, inl, inr, ℕ, ◌+◌, ◌<◌, min, Bool, true, false, List, [], length, take, Option, refl, sym, ap, subst, arith}
+use Rattle.std.proofs.Common.{◌≡◌, ◌∙◌, inl, inr, ℕ, ◌+◌, ◌<◌, min, Bool, true, false, List, [], length, take, refl, sym, ap, subst, arith}
 use Rattle.std.specs.Prelude.{Result, Ok, Err, is_ok}
 use Rattle.std.proofs.lemmas.List.{take_all}
-use Rattle.disk_model.specs.declared.arm.Armings.{Armings}
 use Rattle.edge_io.specs.Writes.{Adds}
-use Rattle.net_model.specs.OctetSequence.{OctetSequence}
 use Rattle.net_model.specs.World.{Network, World}
 use Rattle.run_model.specs.Headline.{Stop, Done, ListenFault, Memory}
 use Rattle.law_locality.proofs.Runs.{run_none}
@@ -20,6 +18,7 @@ use Rattle.world_state.proofs.Tallies.{none_tallied}
 use Rattle.net_serve.specs.Served.{Serves}
 use Rattle.net_serve.specs.BenchServing.{WereServed, ServedBehind}
 use Rattle.net_serve.specs.Behind.{IsServed, served_as}
+use Rattle.world_state.specs.Outside.{Outside}
 
 -- listeners at which nothing was served
 module _ {D : Type 0} (tell : D → Door) (failed : D → ℕ) (told_ports : Type 0) (workers port nodes : ℕ) (before after : PortsTold D) where
@@ -36,25 +35,23 @@ module _ {D : Type 0} (tell : D → Door) (failed : D → ℕ) (told_ports : Typ
     given = given;
   }
 
-module _ {K Q E X D : Type 0} (is_honest : K → Bool) (moment : K → ℕ) (image : K → ℕ → List ℕ → Type 0) (left : E → Option OctetSequence)
-    (told : Q → Option OctetSequence) (frames : X → Option (List (List ℕ))) (counted : X → ℕ)
-    (disk_count : K → ℕ) (armed : K → Armings) (entropy_count : E → ℕ) (device_count : Q → ℕ) (wire_count : X → ℕ) (tell : D → Door) (failed : D → ℕ) (told_ports : Type 0) (workers connections port : ℕ)
+module _ {K Q E X D : Type 0} (outside : Outside K Q E X) (tell : D → Door) (failed : D → ℕ) (told_ports : Type 0) (workers connections port : ℕ)
     (old : State K Q E X) (net : Network) (w : World) (before after : PortsTold D) where
   abbrev Goes : State K Q E X → Stop → Type 0
-  Goes new stop = IsServed is_honest moment image left told frames counted disk_count armed entropy_count device_count wire_count tell failed told_ports workers connections port old new net w before after stop
+  Goes new stop = IsServed outside tell failed told_ports workers connections port old new net w before after stop
 
-  pub nothing_served : Stands is_honest moment image left told frames counted old net w → (new : State K Q E X) → new ≡ old → (stop : Stop) → ServedBehind tell failed told_ports workers connections port old.site before after stop net w [] → Goes new stop
+  pub nothing_served : Stands outside old net w → (new : State K Q E X) → new ≡ old → (stop : Stop) → ServedBehind tell failed told_ports workers connections port old.site before after stop net w [] → Goes new stop
   nothing_served stands new same stop ports =
       subst (λ (s : State K Q E X). Goes s stop) (sym same)
       (record {
         served = [];
         asked = inl refl;
-        stands = subst (λ (x : World). Stands is_honest moment image left told frames counted old net x) (sym (run_none net w)) stands;
-        tallied = none_tallied disk_count armed entropy_count device_count wire_count net.site old (has_disks is_honest moment image left told frames counted old net w stands);
+        stands = subst (λ (x : World). Stands outside old net x) (sym (run_none net w)) stands;
+        tallied = none_tallied outside net.site old (has_disks outside old net w stands);
         ports = ports;
       })
 
-  module _ (new : State K Q E X) (opened closed : List D) (all : Bool) (serves : Serves is_honest moment image left told frames counted disk_count armed entropy_count device_count wire_count tell failed old new net w connections opened closed all) where
+  module _ (new : State K Q E X) (opened closed : List D) (all : Bool) (serves : Serves outside tell failed old new net w connections opened closed all) where
     pub were_served : 0 < length old.site.nodes → AreOpened tell failed told_ports before.queues port workers (length old.site.nodes) opened → Adds before.asked after.asked (ports_of port workers (length old.site.nodes)) →
         Adds before.back after.back closed → WereServed tell failed told_ports workers connections port old.site before after all net w serves.histories
     were_served some new asked given = record { nodes = some; opened = opened; new = new; asked = asked; closed = closed; given = given; connected = serves.connected }
@@ -69,10 +66,10 @@ module _ {K Q E X D : Type 0} (is_honest : K → Bool) (moment : K → ℕ) (ima
     }
 
   -- the state and the ports, by how the connections ended; if memory ran out the listeners came back as they were
-  pub served_over : {T : Type 0} → Stands is_honest moment image left told frames counted old net w → (new : State K Q E X) (opened closed : List D) → 0 < length old.site.nodes → AreOpened tell failed told_ports before.queues port workers (length old.site.nodes) opened →
+  pub served_over : {T : Type 0} → Stands outside old net w → (new : State K Q E X) (opened closed : List D) → 0 < length old.site.nodes → AreOpened tell failed told_ports before.queues port workers (length old.site.nodes) opened →
       Adds before.asked after.asked (ports_of port workers (length old.site.nodes)) → Adds before.back after.back closed → (result : Result T ServeRefusal) →
       (result ≡ Err refusals.Memory → (new ≡ old) × (closed ≡ opened)) →
-      ((result ≡ Err refusals.Memory → ⊥) → Serves is_honest moment image left told frames counted disk_count armed entropy_count device_count wire_count tell failed old new net w connections opened closed (is_ok result)) → Goes new (served_as result)
+      ((result ≡ Err refusals.Memory → ⊥) → Serves outside tell failed old new net w connections opened closed (is_ok result)) → Goes new (served_as result)
   served_over stands new opened closed some are asked given (Ok done) memory serves =
       let h = serves (λ wrong. cc) in
       goes_on new opened closed true h Done (inr (were_served new opened closed true h some are asked given))

@@ -1,9 +1,7 @@
 -- The lines of a scenario, and what was done after them, give the headline of the whole.
-use Rattle.std.proofs.Common.{◌≡◌, ◌∙◌, ◌⊎◌, inl, inr, ℕ, Bool, true, List, [], ◌∷◌, length, Option, Result, Ok, Err, sym, ap, subst}
+use Rattle.std.proofs.Common.{◌≡◌, ◌∙◌, ◌⊎◌, inl, inr, ℕ, true, List, [], ◌∷◌, length, Result, Ok, Err, sym, ap, subst}
 use Rattle.std.specs.Prelude.{MatchResult, is_ok}
 use Rattle.std.specs.List.{flat_map}
-use Rattle.disk_model.specs.declared.arm.Armings.{Armings}
-use Rattle.net_model.specs.OctetSequence.{OctetSequence}
 use Rattle.net_model.specs.Premises.{IsNetwork}
 use Rattle.net_model.specs.Invariant.{Conserved}
 use Rattle.net_model.specs.World.{Network, World, first}
@@ -49,6 +47,7 @@ use Rattle.net_serve.specs.Behind.{AreRequests, IsLineTold, Ends}
 use Rattle.net_serve.specs.declared.stop.ServeStop.{ServeStop}
 use Rattle.net_serve.specs.declared.stop.ServeStop.TheVariants.{Listen, Stopped}
 use Rattle.net_serve.proofs.Told.{all_told}
+use Rattle.world_state.specs.Outside.{Outside}
 
 -- if the lines came to their end, requests may follow them
 follows : {T : Type 0} (lines : Result T Stop) (http : HttpTexts) (scenario : Scenario) (net : Network) (done : List Performed) (served : List (List Action)) (before after : Given) →
@@ -84,12 +83,10 @@ cut_at (Ok answer) result nodes http net tasks done before between after text to
 cut_at (Err stop) result nodes http net tasks done before between after text told line cut =
     subst (λ (t : Given). IsCut (λ (items : List NumberedItem). items) nodes http net first tasks done before t) (sym line.1) cut
 
-module _ {K Q E X D : Type 0} (is_honest : K → Bool) (content : K → List ℕ) (moment : K → ℕ) (image : K → ℕ → List ℕ → Type 0) (left : E → Option OctetSequence)
-    (told : Q → Option OctetSequence) (frames : X → Option (List (List ℕ))) (counted : X → ℕ)
-    (disk_count : K → ℕ) (armed : K → Armings) (entropy_count : E → ℕ) (device_count : Q → ℕ) (wire_count : X → ℕ) (tell : D → Door) (failed : D → ℕ) (told_ports : Type 0) where
+module _ {K Q E X D : Type 0} (outside : Outside K Q E X) (tell : D → Door) (failed : D → ℕ) (told_ports : Type 0) where
   left_of : {T : Type 0} (s : State K Q E X) (net : Network) (w : World) (result : Result T Stop) →
-      MatchResult result (λ answer. IsReady (Stands is_honest moment image left told frames counted) s net w) (λ stop. Rests is_honest moment image left told frames counted s net w) →
-      MatchResult result (λ answer. Stands is_honest moment image left told frames counted s net w) (λ stop. Rests is_honest moment image left told frames counted s net w)
+      MatchResult result (λ answer. IsReady (Stands outside) s net w) (λ stop. Rests outside s net w) →
+      MatchResult result (λ answer. Stands outside s net w) (λ stop. Rests outside s net w)
   left_of s net w (Ok done) h = h.stands
   left_of s net w (Err stop) h = h
 
@@ -97,38 +94,38 @@ module _ {K Q E X D : Type 0} (is_honest : K → Bool) (content : K → List ℕ
       (ports_before ports_after : PortsTold D) (lines : Result T Stop) (result : Result U ServeStop)
       (tasks_lead : (http : HttpTexts) (net : Network) (workers : ℕ) (w : World) (tasks : List Task) (done : List Performed) → IsNetwork net → Conserved net w →
       IsRunOf http net workers w tasks done → (report http net w tasks done).world ≡ run net w (actions_of net done))
-      (bench_begins : (b : Bench K Q E X) (scenario : Scenario) → IsNew is_honest moment image left told frames b → IsDeclared scenario.site → IsBenched scenario (network_on told left b scenario.site))
+      (bench_begins : (b : Bench K Q E X) (scenario : Scenario) → IsNew outside b → IsDeclared scenario.site → IsBenched scenario (network_on outside.device outside.entropy b scenario.site))
       (bench_serves : (http : HttpTexts) (scenario : Scenario) (workers connections port : ℕ) (stop : headline.Stop) (old new : Bench K Q E X) (before after : Given)
       (done : List Performed) (served : List (List Action)) →
-      IsOver is_honest content moment image left told frames counted disk_count armed entropy_count device_count wire_count old new scenario.site
-      (whole_run (course_on told left old scenario done served)) (last_world (course_on told left old scenario done served)) →
-      IsRunOf http (network_on told left old scenario.site) workers first (tasks_of scenario) done → MayFollow http scenario (network_on told left old scenario.site) first done served →
-      IsServeTold stop scenario.site.nodes (report http (network_on told left old scenario.site) first (tasks_of scenario) done)
+      IsOver outside old new scenario.site
+      (whole_run (course_on outside.device outside.entropy old scenario done served)) (last_world (course_on outside.device outside.entropy old scenario done served)) →
+      IsRunOf http (network_on outside.device outside.entropy old scenario.site) workers first (tasks_of scenario) done → MayFollow http scenario (network_on outside.device outside.entropy old scenario.site) first done served →
+      IsServeTold stop scenario.site.nodes (report http (network_on outside.device outside.entropy old scenario.site) first (tasks_of scenario) done)
       (served_by (Serve workers connections port) (length scenario.site.nodes)) before after →
-      IsCut (headline.written_of (Serve workers connections port)) scenario.site.nodes http (network_on told left old scenario.site) first (tasks_of scenario) done before after →
-      HasHeadline moment image left told frames disk_count armed entropy_count device_count wire_count old new (Serve workers connections port) stop http scenario before after
-      (course_on told left old scenario done served))
-      (fresh : IsNew is_honest moment image left told frames old) (declared : IsDeclared scenario.site)
-      (ran : RanOut is_honest moment image left told frames counted disk_count armed entropy_count device_count wire_count old stayed workers scenario before between state lines)
+      IsCut (headline.written_of (Serve workers connections port)) scenario.site.nodes http (network_on outside.device outside.entropy old scenario.site) first (tasks_of scenario) done before after →
+      HasHeadline outside old new (Serve workers connections port) stop http scenario before after
+      (course_on outside.device outside.entropy old scenario done served))
+      (fresh : IsNew outside old) (declared : IsDeclared scenario.site)
+      (ran : RanOut outside old stayed workers scenario before between state lines)
       (ends : (net : Network) (w : World) →
-      MatchResult lines (λ done. Stands is_honest moment image left told frames counted state net w) (λ stop. Rests is_honest moment image left told frames counted state net w) →
-      Ends is_honest moment image left told frames counted disk_count armed entropy_count device_count wire_count tell failed told_ports workers connections port state final net w ports_before ports_after
+      MatchResult lines (λ done. Stands outside state net w) (λ stop. Rests outside state net w) →
+      Ends outside tell failed told_ports workers connections port state final net w ports_before ports_after
       between after (served_text (served_by (Serve workers connections port) (length state.site.nodes))) lines result)
-      (back : IsPutBack is_honest content moment image final stayed new) where
-    pub headlines : HasServedHeadlines moment image left told frames disk_count armed entropy_count device_count wire_count tell failed told_ports old new ports_before ports_after workers connections port
+      (back : IsPutBack outside.disk final stayed new) where
+    pub headlines : HasServedHeadlines outside tell failed told_ports old new ports_before ports_after workers connections port
         scenario before after (ended result)
     headlines = λ http speaks.
-        let net = network_on told left old scenario.site in
+        let net = network_on outside.device outside.entropy old scenario.site in
         let r = ran.ran http speaks in
         let p = report http net first (tasks_of scenario) r.done in
         let actions = actions_of net r.done in
         let benched = bench_begins old scenario fresh declared in
         let leads : p.world ≡ run net first actions = tasks_lead http net workers first (tasks_of scenario) r.done benched.network (first_begins net).conserved r.is in
         let e = ends net p.world (left_of state net p.world lines r.left) in
-        let course : Course = course_on told left old scenario r.done e.served in
+        let course : Course = course_on outside.device outside.entropy old scenario r.done e.served in
         let behind : List Action = flat_map (λ h. h) e.served in
         let last : run net p.world behind ≡ last_world course = ap (λ (w : World). run net w behind) {x = p.world} {y = run net first actions} leads ∙ sym (run-append net actions behind first) in
-        let over : IsOver is_honest content moment image left told frames counted disk_count armed entropy_count device_count wire_count old new scenario.site (whole_run course) (last_world course) = record {
+        let over : IsOver outside old new scenario.site (whole_run course) (last_world course) = record {
           fresh = fresh;
           declared = declared;
           ran = record {
@@ -136,8 +133,8 @@ module _ {K Q E X D : Type 0} (is_honest : K → Bool) (content : K → List ℕ
             end = final;
             stayed = stayed;
             laid = ran.laid;
-            rests = subst (λ (w : World). Rests is_honest moment image left told frames counted final net w) last e.rests;
-            tallied = tallied_more disk_count armed entropy_count device_count wire_count net.site ran.begin state final actions behind r.tallied e.tallied;
+            rests = subst (λ (w : World). Rests outside final net w) last e.rests;
+            tallied = tallied_more outside net.site ran.begin state final actions behind r.tallied e.tallied;
             back = back;
           };
         } in

@@ -1,11 +1,9 @@
 -- For each node, the requests that its manager took are actions of the run's network.
-use Rattle.std.proofs.Common.{◌≡◌, ℕ, ◌+◌, Bool, true, List, [], ◌∷◌, ◌++◌, length, map, refl, sym, ap, subst, ◌∙◌, arith, append_assoc, length-append}
-use Rattle.std.specs.Prelude.{nat_lt, Option}
+use Rattle.std.proofs.Common.{◌≡◌, ℕ, ◌+◌, true, List, [], ◌∷◌, ◌++◌, length, map, refl, sym, ap, subst, ◌∙◌, arith, append_assoc, length-append}
+use Rattle.std.specs.Prelude.{nat_lt}
 use Rattle.std.specs.List.{list_all, flat_map}
 use Rattle.std.proofs.lemmas.Bool.Decides.{nat_tests}
-use Rattle.disk_model.specs.declared.arm.Armings.{Armings}
 use Rattle.net_model.specs.declared.event.Event.{Event}
-use Rattle.net_model.specs.OctetSequence.{OctetSequence}
 use Rattle.net_model.specs.Site.{Site}
 use Rattle.net_model.specs.World.{Network, World}
 use Rattle.net_model.specs.Action.{Action}
@@ -25,16 +23,16 @@ use Rattle.net_serve.specs.Serving.{Said}
 use Rattle.net_serve.specs.Served.{AllAreSaid}
 use Rattle.net_serve.proofs.Alone.{AreOf}
 use Rattle.net_serve.proofs.Replaying.{Took, said_of, Replayed, replay}
+use Rattle.world_state.specs.Outside.{Outside}
 
 below : (v n m : ℕ) → v + (n + 1) ≡ m → nat_lt v m ≡ true
 below v n m h = grind (arith, nat_tests)
 
-module _ {K Q E X : Type 0} (is_honest : K → Bool) (moment : K → ℕ) (image : K → ℕ → List ℕ → Type 0) (left : E → Option OctetSequence) (told : Q → Option OctetSequence)
-    (frames : X → Option (List (List ℕ))) (counted : X → ℕ) (disk_count : K → ℕ) (armed : K → Armings) (entropy_count : E → ℕ) (device_count : Q → ℕ) (wire_count : X → ℕ)
+module _ {K Q E X : Type 0} (outside : Outside K Q E X)
     (s₀ : Site) {M A : Type 0} (up : M → ℕ) (post : M → Post K E) (said_in : A → Said) (links : ℕ) where
   abbrev pub Leading : (v : ℕ) → M → List (Event × A) → M → Type 0
   Leading v m log n =
-      Leads (Took is_honest moment image left told frames counted disk_count armed entropy_count device_count wire_count s₀ up post said_in v) m log n
+      Leads (Took outside s₀ up post said_in v) m log n
 
   -- the managers from node `v` on, each with its history and with the links that are up
   abbrev pub AllLead : (v : ℕ) → List M → List (List (Event × A)) → List M → Type 0
@@ -43,14 +41,14 @@ module _ {K Q E X : Type 0} (is_honest : K → Bool) (moment : K → ℕ) (image
   AllLead v _ _ _ = ⊥
 
   abbrev pub all_said : List (List (Event × A)) → List (List Said)
-  all_said logs = map (map (said_of is_honest moment image left told frames counted disk_count armed entropy_count device_count wire_count s₀ up post said_in)) logs
+  all_said logs = map (map (said_of outside s₀ up post said_in)) logs
 
   module _ (net : Network) (sited : net.site ≡ s₀) where
     abbrev StandsHere : State K Q E X → World → Type 0
-    StandsHere s w = Stands is_honest moment image left told frames counted s net w
+    StandsHere s w = Stands outside s net w
 
     abbrev TalliedHere : State K Q E X → State K Q E X → List Action → Type 0
-    TalliedHere s t actions = Tallied disk_count armed entropy_count device_count wire_count s t net.site actions
+    TalliedHere s t actions = Tallied outside s t net.site actions
 
     abbrev flat : List (List Action) → List Action
     flat hs = flat_map (λ h. h) hs
@@ -63,7 +61,7 @@ module _ {K Q E X : Type 0} (is_honest : K → Bool) (moment : K → ℕ) (image
       pub lanes : now.lanes.items ≡ s.lanes.items
       pub devices : now.devices.items ≡ s.devices.items
       pub links' : now.up ≡ s.up
-      pub armings : most_armed armed now.posts.items ≡ most_armed armed s.posts.items
+      pub armings : most_armed outside.disk now.posts.items ≡ most_armed outside.disk s.posts.items
       pub long : length histories ≡ length ns
       pub runs : IsRun net w (flat histories)
       pub of : AreOf net v histories
@@ -89,12 +87,12 @@ module _ {K Q E X : Type 0} (is_honest : K → Bool) (moment : K → ℕ) (image
       requests = refl;
       said = tt;
       stands = subst (λ (x : World). StandsHere s x) (sym (run_none net w)) stands;
-      tallied = none_tallied disk_count armed entropy_count device_count wire_count net.site s (has_disks is_honest moment image left told frames counted s net w stands);
+      tallied = none_tallied outside net.site s (has_disks outside s net w stands);
     }
     replay_all (m ∷ ms) (log ∷ logs) (n ∷ ns) v s w front lead stands posts at ups few =
-        let r : Replayed is_honest moment image left told frames counted disk_count armed entropy_count device_count wire_count s₀ up post said_in net sited v (below v (length ms) net.site.nodes (omega (arith, few)))
+        let r : Replayed outside s₀ up post said_in net sited v (below v (length ms) net.site.nodes (omega (arith, few)))
         front (map post ms) at s w log n =
-        replay is_honest moment image left told frames counted disk_count armed entropy_count device_count wire_count s₀ up post said_in net sited v (below v (length ms) net.site.nodes (omega (arith, few)))
+        replay outside s₀ up post said_in net sited v (below v (length ms) net.site.nodes (omega (arith, few)))
         front (map post ms) at log s w m n lead.0 stands posts (ups ∙ sym lead.1) in
         let later : World = run net w r.history in
         let moved : r.now.posts.items ≡ (front ++ post n ∷ []) ++ map post ms = r.posts ∙ sym (append_assoc front (post n ∷ []) (map post ms)) in
@@ -116,7 +114,7 @@ module _ {K Q E X : Type 0} (is_honest : K → Bool) (moment : K → ℕ) (image
           requests = and_both (list_all is_request_of r.history) (list_all (list_all is_request_of) rest.histories) r.requests rest.requests;
           said = (r.said, rest.said);
           stands = subst (λ (x : World). StandsHere rest.now x) (sym (run-append net r.history (flat rest.histories) w)) rest.stands;
-          tallied = tallied_more disk_count armed entropy_count device_count wire_count net.site s r.now rest.now r.history (flat rest.histories) r.tallied rest.tallied;
+          tallied = tallied_more outside net.site s r.now rest.now r.history (flat rest.histories) r.tallied rest.tallied;
         }
     replay_all [] [] (n ∷ ns) v s w front lead stands posts at ups few = absurd lead
     replay_all [] (log ∷ logs) ns v s w front lead stands posts at ups few = absurd lead

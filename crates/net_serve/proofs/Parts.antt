@@ -1,8 +1,6 @@
 -- If two states have the same parts, they stand for the same world.
-use Rattle.std.proofs.Common.{◌≡◌, ℕ, Bool, List, length, sym, ap, subst, ◌∙◌, Option}
+use Rattle.std.proofs.Common.{◌≡◌, ℕ, List, length, sym, ap, subst, ◌∙◌}
 use Rattle.std.specs.Prelude.{slice_get}
-use Rattle.disk_model.specs.declared.arm.Armings.{Armings}
-use Rattle.net_model.specs.OctetSequence.{OctetSequence}
 use Rattle.net_model.specs.World.{Network, World}
 use Rattle.net_model.specs.Action.{Action}
 use Rattle.declared_site.specs.SiteOf.{site_of}
@@ -11,6 +9,7 @@ use Rattle.world_state.specs.Passed.{Post}
 use Rattle.world_state.specs.Stands.{Stands, place_of}
 use Rattle.world_state.specs.Tallied.{Tallied}
 use Rattle.world_state.specs.declared.state.State.{State}
+use Rattle.world_state.specs.Outside.{Outside}
 
 pub record SameParts {K Q E X : Type 0} (s t : State K Q E X) : Type 0 where
   pub site : t.site ≡ s.site
@@ -19,10 +18,9 @@ pub record SameParts {K Q E X : Type 0} (s t : State K Q E X) : Type 0 where
   pub devices : t.devices.items ≡ s.devices.items
   pub links : t.up ≡ s.up
 
-module _ {K Q E X : Type 0} (is_honest : K → Bool) (moment : K → ℕ) (image : K → ℕ → List ℕ → Type 0) (left : E → Option OctetSequence) (told : Q → Option OctetSequence)
-    (frames : X → Option (List (List ℕ))) (counted : X → ℕ) (disk_count : K → ℕ) (armed : K → Armings) (entropy_count : E → ℕ) (device_count : Q → ℕ) (wire_count : X → ℕ)
+module _ {K Q E X : Type 0} (outside : Outside K Q E X)
     (net : Network) (s t : State K Q E X) (same : SameParts s t) where
-  pub same_stands : (w : World) → Stands is_honest moment image left told frames counted s net w → Stands is_honest moment image left told frames counted t net w
+  pub same_stands : (w : World) → Stands outside s net w → Stands outside t net w
   same_stands w h = record {
     running = h.running;
     sited = h.sited ∙ ap site_of (sym same.site);
@@ -35,8 +33,8 @@ module _ {K Q E X : Type 0} (is_honest : K → Bool) (moment : K → ℕ) (image
     up = subst (λ (n : ℕ). AreUp n w.link_up) (sym same.links) h.up;
   }
 
-  pub same_tallied : (old : State K Q E X) (actions : List Action) → Tallied disk_count armed entropy_count device_count wire_count old s net.site actions →
-      Tallied disk_count armed entropy_count device_count wire_count old t net.site actions
+  pub same_tallied : (old : State K Q E X) (actions : List Action) → Tallied outside old s net.site actions →
+      Tallied outside old t net.site actions
   same_tallied old actions h = record {
     nodes = ap (λ (ps : List (Post K E)). length ps) same.posts ∙ h.nodes;
     posts = λ v p q was is. h.posts v p q was (sym (ap (λ (ps : List (Post K E)). slice_get ps v) same.posts) ∙ is);

@@ -1,12 +1,10 @@
 -- The requests that a node's manager took are consecutive actions of the run's network, in each world for which the run's state stands.
-use Rattle.std.proofs.Common.{◌≡◌, ℕ, Bool, true, ◌&&◌, List, [], ◌∷◌, ◌++◌, length, map, refl, sym, ap, subst, ◌∙◌, Option, Some}
+use Rattle.std.proofs.Common.{◌≡◌, ℕ, true, ◌&&◌, List, [], ◌∷◌, ◌++◌, length, map, refl, sym, ap, subst, ◌∙◌, Some}
 use Rattle.std.specs.Prelude.{slice_get, slice_set, ◌==◌, nat_lt}
 use Rattle.std.specs.List.{list_all}
 use Rattle.std.proofs.Math.Seq.{set-append_seam}
-use Rattle.disk_model.specs.declared.arm.Armings.{Armings}
 use Rattle.net_model.specs.declared.event.Event.{Event}
 use Rattle.net_model.specs.declared.event.Event.TheVariants.{Enc, Dec, Status, EncGroup}
-use Rattle.net_model.specs.OctetSequence.{OctetSequence}
 use Rattle.net_model.specs.Site.{Site}
 use Rattle.net_model.specs.World.{Network, World}
 use Rattle.net_model.specs.Action.{Action, Ask, Ok}
@@ -31,6 +29,7 @@ use Rattle.world_state.proofs.PostTallies.{asked_tallied}
 use Rattle.world_state.proofs.Tallies.{none_tallied, tallied_more}
 use Rattle.net_serve.specs.Serving.{Said, IsRequestTo, TookRequest}
 use Rattle.net_serve.specs.Served.{AreSaid}
+use Rattle.world_state.specs.Outside.{Outside}
 
 get_seam : {A : Type 0} (xs : List A) (x : A) (ys : List A) (n : ℕ) → length xs ≡ n → slice_get (xs ++ x ∷ ys) n ≡ Some x
 get_seam {A} xs x ys n long = subst (λ (k : ℕ). slice_get (xs ++ x ∷ ys) k ≡ Some x) long (here xs)
@@ -63,13 +62,12 @@ unfolding is_enabled
 request_enabled net w v event node h =
     and_both (nat_lt v net.site.nodes && is_asked event) (is_valid_event net.site v event) (and_both (nat_lt v net.site.nodes) (is_asked event) node (asked_request event h.request)) h.valid
 
-module _ {K Q E X : Type 0} (is_honest : K → Bool) (moment : K → ℕ) (image : K → ℕ → List ℕ → Type 0) (left : E → Option OctetSequence) (told : Q → Option OctetSequence)
-    (frames : X → Option (List (List ℕ))) (counted : X → ℕ) (disk_count : K → ℕ) (armed : K → Armings) (entropy_count : E → ℕ) (device_count : Q → ℕ) (wire_count : X → ℕ)
+module _ {K Q E X : Type 0} (outside : Outside K Q E X)
     (s₀ : Site) {M A : Type 0} (up : M → ℕ) (post : M → Post K E) (said_in : A → Said) where
   -- a node's manager took one request
   pub record Took (v : ℕ) (m : M) (event : Event) (a : A) (n : M) : Type 0 where
     pub may : IsRequestTo s₀ v event
-    pub took : TookRequest is_honest moment image disk_count armed left entropy_count v (up m) (post m) event (said_in a) (up n) (post n)
+    pub took : TookRequest outside.disk outside.entropy v (up m) (post m) event (said_in a) (up n) (post n)
 
   -- the event and the reply of an entry of its history
   abbrev pub said_of : Event × A → Said
@@ -77,10 +75,10 @@ module _ {K Q E X : Type 0} (is_honest : K → Bool) (moment : K → ℕ) (image
 
   module _ (net : Network) (sited : net.site ≡ s₀) (v : ℕ) (node : nat_lt v net.site.nodes ≡ true) (front back : List (Post K E)) (before : length front ≡ v) where
     abbrev StandsHere : State K Q E X → World → Type 0
-    StandsHere s w = Stands is_honest moment image left told frames counted s net w
+    StandsHere s w = Stands outside s net w
 
     abbrev TalliedHere : State K Q E X → State K Q E X → List Action → Type 0
-    TalliedHere s t actions = Tallied disk_count armed entropy_count device_count wire_count s t net.site actions
+    TalliedHere s t actions = Tallied outside s t net.site actions
 
     -- one request
 
@@ -91,11 +89,11 @@ module _ {K Q E X : Type 0} (is_honest : K → Bool) (moment : K → ℕ) (image
       mine : IsRequestTo net.site v event
       mine = subst (λ (x : Site). IsRequestTo x v event) (sym sited) h.may
 
-      may_ask : MayAsk is_honest moment image left net w v (post m) event (up m)
-      may_ask = subst (λ (n : ℕ). MayAsk is_honest moment image left net w v (post m) event n) ups
+      may_ask : MayAsk outside.disk outside.entropy net w v (post m) event (up m)
+      may_ask = subst (λ (n : ℕ). MayAsk outside.disk outside.entropy net w v (post m) event n) ups
           (record { running = stands.running; stands = stands.posts v (post m) at; enabled = request_enabled net w v event node mine; links = stands.up })
 
-      pub asked : Asked is_honest moment image disk_count armed left entropy_count net w v event (post m) (post k) (said_in a).1
+      pub asked : Asked outside.disk outside.entropy net w v event (post m) (post k) (said_in a).1
       asked = h.took.asked net w may_ask
 
       abbrev pub goes : State K Q E X
@@ -115,17 +113,17 @@ module _ {K Q E X : Type 0} (is_honest : K → Bool) (moment : K → ℕ) (image
 
       pub one_stands : StandsHere goes after
       one_stands =
-          stands_after is_honest moment image left told frames counted s goes net w v (post m) (post k) change stands action asked.may (asks_post net.site v event asked.environment) asked.stands
+          stands_after outside s goes net w v (post m) (post k) change stands action asked.may (asks_post net.site v event asked.environment) asked.stands
 
       pub one_tallied : TalliedHere s goes (action ∷ [])
       one_tallied =
-          asked_tallied disk_count armed entropy_count device_count wire_count net.site s goes v (post m) (post k) change (has_disks is_honest moment image left told frames counted s net w stands) event
+          asked_tallied outside net.site s goes v (post m) (post k) change (has_disks outside s net w stands) event
           asked.environment asked.counts
 
-      pub one_armed : most_armed armed goes.posts.items ≡ most_armed armed s.posts.items
+      pub one_armed : most_armed outside.disk goes.posts.items ≡ most_armed outside.disk s.posts.items
       one_armed =
-          most_same armed s.posts.items v (post m) (post k) at
-          (times_same armed disk_count entropy_count _ _ (post m) (post k) asked.counts)
+          most_same outside.disk s.posts.items v (post m) (post k) at
+          (times_same outside.disk outside.entropy _ _ (post m) (post k) asked.counts)
 
       pub one_turn : is_turn_of net.site v action ≡ true
       one_turn = and_both (v == v) (is_block_event event) (eq_same v) (block_request event h.may.request)
@@ -140,7 +138,7 @@ module _ {K Q E X : Type 0} (is_honest : K → Bool) (moment : K → ℕ) (image
       pub lanes : now.lanes.items ≡ s.lanes.items
       pub devices : now.devices.items ≡ s.devices.items
       pub links : now.up ≡ s.up
-      pub armings : most_armed armed now.posts.items ≡ most_armed armed s.posts.items
+      pub armings : most_armed outside.disk now.posts.items ≡ most_armed outside.disk s.posts.items
       pub runs : IsRun net w history
       pub turns : list_all (is_turn_of net.site v) history ≡ true
       pub requests : list_all is_request_of history ≡ true
@@ -164,7 +162,7 @@ module _ {K Q E X : Type 0} (is_honest : K → Bool) (moment : K → ℕ) (image
           requests = refl;
           said = tt;
           stands = subst (λ (x : World). StandsHere s x) (sym (run_none net w)) stands;
-          tallied = none_tallied disk_count armed entropy_count device_count wire_count net.site s (has_disks is_honest moment image left told frames counted s net w stands);
+          tallied = none_tallied outside net.site s (has_disks outside s net w stands);
         } in
         subst (λ (x : M). Replayed s w [] x) same here
     replay (e ∷ log) s w m n leads stands is ups =
@@ -172,7 +170,7 @@ module _ {K Q E X : Type 0} (is_honest : K → Bool) (moment : K → ℕ) (image
         let h : Took v m e.0 e.1 k = leads.1 in
         let mid : State K Q E X = goes s w m k e.0 e.1 h stands is ups in
         let next : World = after s w m k e.0 e.1 h stands is ups in
-        let did : Asked is_honest moment image disk_count armed left entropy_count net w v e.0 (post m) (post k) (said_in e.1).1 = asked s w m k e.0 e.1 h stands is ups in
+        let did : Asked outside.disk outside.entropy net w v e.0 (post m) (post k) (said_in e.1).1 = asked s w m k e.0 e.1 h stands is ups in
         let x : Action = action s w m k e.0 e.1 h stands is ups in
         let r : Replayed mid next log n =
         replay log mid next k n leads.2 (one_stands s w m k e.0 e.1 h stands is ups) (one_posts s w m k e.0 e.1 h stands is ups) (ups ∙ sym h.took.links) in
@@ -190,5 +188,5 @@ module _ {K Q E X : Type 0} (is_honest : K → Bool) (moment : K → ℕ) (image
           requests = and_both (is_request_of x) (list_all is_request_of r.history) h.may.request r.requests;
           said = ((did.environment, ap (λ (event : Event). Ask v event did.environment) (sym h.took.event_is)), did.said, r.said);
           stands = subst (λ (y : World). StandsHere r.now y) (sym (run_one net w x r.history)) r.stands;
-          tallied = tallied_more disk_count armed entropy_count device_count wire_count net.site s mid r.now (x ∷ []) r.history (one_tallied s w m k e.0 e.1 h stands is ups) r.tallied;
+          tallied = tallied_more outside net.site s mid r.now (x ∷ []) r.history (one_tallied s w m k e.0 e.1 h stands is ups) r.tallied;
         }

@@ -1,13 +1,11 @@
 -- A manager that is asked takes its turn, and may then be asked again.
-use Rattle.std.proofs.Common.{◌≡◌, ℕ, Bool, true, ◌&&◌, List, refl, sym, subst, ◌∙◌, Option}
+use Rattle.std.proofs.Common.{◌≡◌, ℕ, true, ◌&&◌, refl, sym, subst, ◌∙◌}
 use Rattle.std.proofs.Math.Logic.{∥∥₁_elim, ∥∥₁_map}
 use Rattle.std.proofs.lemmas.Bool.{lt-ltb}
 use Rattle.std.specs.Coded.{coded_bool}
 use base.Stored.{Coded-set}
-use Rattle.disk_model.specs.declared.arm.Armings.{Armings}
 use Rattle.net_model.specs.declared.event.Event.{Event}
 use Rattle.net_model.specs.declared.reply.Reply.{Reply}
-use Rattle.net_model.specs.OctetSequence.{OctetSequence}
 use Rattle.net_model.specs.Site.{Site}
 use Rattle.net_model.specs.World.{Network, World}
 use Rattle.net_model.specs.Events.{is_valid_event}
@@ -22,21 +20,23 @@ use Rattle.law_locality.proofs.Links.{step_link}
 use Rattle.world_state.proofs.Passed.{may_handle, asked, valid_there}
 use Rattle.net_serve.specs.Serving.{IsRequestTo, IsServable, TookRequest}
 use Rattle.net_serve.proofs.Requests.{asked_too}
+use Rattle.disk_model.specs.declared.disk.Disk as Disk
+use Rattle.source_devices.specs.declared.entropy.Entropy as Entropy
 
 ask_enabled : (net : Network) (w : World) (v : ℕ) (event : Event) → is_node net v ≡ true → is_asked event ≡ true → is_valid_event net.site v event ≡ true → is_enabled net w (Ask v event Fine) ≡ true
 unfolding is_enabled
 ask_enabled net w v event here comes valid =
     and_both (is_node net v && is_asked event) (is_valid_event net.site v event) (and_both (is_node net v) (is_asked event) here comes) valid
 
-module _ {K E : Type 0} (is_honest : K → Bool) (moment : K → ℕ) (image : K → ℕ → List ℕ → Type 0) (left : E → Option OctetSequence) (site : Declared) (v : ℕ) (post : Post K E) (up : ℕ) (event : Event)
+module _ {K E : Type 0} (disk_says : Disk.Ghosts K) (entropy_says : Entropy.Ghosts E) (site : Declared) (v : ℕ) (post : Post K E) (up : ℕ) (event : Event)
     (request : IsRequestTo (site_of site) v event) where
   abbrev Servable : Post K E → Type 0
-  Servable p = IsServable is_honest moment image left site v p up
+  Servable p = IsServable disk_says entropy_says site v p up
 
   valid : (x : Servable post) → is_valid_event x.net.site v event ≡ true
   valid x = subst (λ (s : Site). is_valid_event s v event ≡ true) (sym x.sited) request.valid
 
-  may_ask : (x : Servable post) → MayAsk is_honest moment image left x.net x.now v post event up
+  may_ask : (x : Servable post) → MayAsk disk_says entropy_says x.net x.now v post event up
   may_ask x = record {
     running = x.running;
     stands = x.stands;
@@ -46,15 +46,15 @@ module _ {K E : Type 0} (is_honest : K → Bool) (moment : K → ℕ) (image : K
 
   -- the event that is put to the manager is valid for it
   pub valid_for : ∥ Servable post ∥₁ → (m : ManagerForm K E) → post ≡ On m → is_up m.standing ≡ true → is_valid_event (site_of m.site) m.view.me event ≡ true
-  valid_for h m on up_now = ∥∥₁_elim h (Coded-set coded_bool _ _) (λ x. valid_there is_honest moment image left x.net x.now v m up_now post on x.stands event (valid x))
+  valid_for h m on up_now = ∥∥₁_elim h (Coded-set coded_bool _ _) (λ x. valid_there disk_says entropy_says x.net x.now v m up_now post on x.stands event (valid x))
 
-  module _ (disk_count : K → ℕ) (armed : K → Armings) (entropy_count : E → ℕ) (q : Post K E) (reply : Reply)
-      (puts : (net : Network) (w : World) (u : ℕ) → MayHandle is_honest moment image left net w u post event up → Handled is_honest moment image disk_count armed left entropy_count net w u event post q reply) where
+  module _ (q : Post K E) (reply : Reply)
+      (puts : (net : Network) (w : World) (u : ℕ) → MayHandle disk_says entropy_says net w u post event up → Handled disk_says entropy_says net w u event post q reply) where
     -- the turn is the network's action
-    asks : (net : Network) (w : World) → MayAsk is_honest moment image left net w v post event up → Asked is_honest moment image disk_count armed left entropy_count net w v event post q reply
-    asks net w may = asked is_honest moment image left net w v event up disk_count armed entropy_count post q reply may (puts net w v (may_handle is_honest moment image left net w v event up post may))
+    asks : (net : Network) (w : World) → MayAsk disk_says entropy_says net w v post event up → Asked disk_says entropy_says net w v event post q reply
+    asks net w may = asked disk_says entropy_says net w v event up post q reply may (puts net w v (may_handle disk_says entropy_says net w v event up post may))
 
-    pub took : TookRequest is_honest moment image disk_count armed left entropy_count v up post event (event, reply) up q
+    pub took : TookRequest disk_says entropy_says v up post event (event, reply) up q
     took = record { event_is = refl; asked = asks; links = refl }
 
     goes_on : Servable post → Servable q

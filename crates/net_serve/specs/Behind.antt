@@ -1,8 +1,6 @@
 -- The state, the ports and the sink after the lines of a scenario.
-use Rattle.std.specs.Prelude.{◌≡◌, ◌⊎◌, ℕ, Bool, true, List, [], ◌∷◌, length, Option, Result, Ok, Err, MatchResult, is_ok}
+use Rattle.std.specs.Prelude.{◌≡◌, ◌⊎◌, ℕ, true, List, [], ◌∷◌, length, Result, Ok, Err, MatchResult, is_ok}
 use Rattle.std.specs.List.{flat_map, list_all}
-use Rattle.disk_model.specs.declared.arm.Armings.{Armings}
-use Rattle.net_model.specs.OctetSequence.{OctetSequence}
 use Rattle.net_model.specs.World.{Network, World}
 use Rattle.net_model.specs.Action.{Action}
 use Rattle.net_model.specs.Step.{run}
@@ -21,6 +19,7 @@ use Rattle.world_state.specs.declared.state.State.{State}
 use Rattle.net_serve.specs.BenchServing.{ended, ServedBehind}
 use Rattle.net_serve.specs.declared.stop.ServeStop.{ServeStop}
 use Rattle.net_serve.specs.declared.stop.ServeStop.TheVariants.{Stopped}
+use Rattle.world_state.specs.Outside.{Outside}
 
 -- how the connections ended
 abbrev pub served_as : {T : Type 0} → Result T ServeRefusal → Stop
@@ -42,23 +41,21 @@ IsLineTold WriteFault old new text = TookFirst old new (text ∷ [])
 IsLineTold Memory old new text = TookFirst old new (text ∷ [])
 IsLineTold (ForgedMatch line) old new text = ⊥
 
-module _ {K Q E X D : Type 0} (is_honest : K → Bool) (moment : K → ℕ) (image : K → ℕ → List ℕ → Type 0) (left : E → Option OctetSequence)
-    (told : Q → Option OctetSequence) (frames : X → Option (List (List ℕ))) (counted : X → ℕ)
-    (disk_count : K → ℕ) (armed : K → Armings) (entropy_count : E → ℕ) (device_count : Q → ℕ) (wire_count : X → ℕ)
+module _ {K Q E X D : Type 0} (outside : Outside K Q E X)
     (tell : D → Door) (failed : D → ℕ) (told_ports : Type 0) (workers connections port : ℕ) (old new : State K Q E X) (net : Network) (w : World) (before after : PortsTold D) where
   -- from a state that stands for a world, the managers took turns for connections, or did not; the new state stands for the world after these turns
   pub record IsServed (stop : Stop) : Type 0 where
     pub served : List (List Action)
     pub asked : (served ≡ []) ⊎ AreRequests net w served
-    pub stands : Stands is_honest moment image left told frames counted new net (run net w (flat_map (λ h. h) served))
-    pub tallied : Tallied disk_count armed entropy_count device_count wire_count old new net.site (flat_map (λ h. h) served)
+    pub stands : Stands outside new net (run net w (flat_map (λ h. h) served))
+    pub tallied : Tallied outside old new net.site (flat_map (λ h. h) served)
     pub ports : ServedBehind tell failed told_ports workers connections port old.site before after stop net w served
 
   -- If the lines came to their end, their managers are served, and the sink takes the last line. Otherwise nothing more is done.
   pub record Ends {T U : Type 0} (sink_before sink_after : Given) (text : List ℕ) (lines : Result T LinesStop) (result : Result U ServeStop) : Type 0 where
     pub served : List (List Action)
     pub asked : (served ≡ []) ⊎ ((is_ok lines ≡ true) × AreRequests net w served)
-    pub rests : Rests is_honest moment image left told frames counted new net (run net w (flat_map (λ h. h) served))
-    pub tallied : Tallied disk_count armed entropy_count device_count wire_count old new net.site (flat_map (λ h. h) served)
+    pub rests : Rests outside new net (run net w (flat_map (λ h. h) served))
+    pub tallied : Tallied outside old new net.site (flat_map (λ h. h) served)
     pub ports : ServedBehind tell failed told_ports workers connections port old.site before after (ended result) net w served
     pub line : MatchResult lines (λ done. IsLineTold (ended result) sink_before sink_after text) (λ stop. (result ≡ Err (Stopped stop)) × (sink_after ≡ sink_before))

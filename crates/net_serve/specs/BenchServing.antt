@@ -1,9 +1,7 @@
 -- The result of a scenario that is run over a bench, and whose managers are then served over ports.
-use Rattle.std.specs.Prelude.{◌≡◌, ◌⊎◌, ℕ, ◌<◌, ◌≤◌, Bool, true, false, List, [], length, Option, Result, Ok, Err, IsErrOf}
+use Rattle.std.specs.Prelude.{◌≡◌, ◌⊎◌, ℕ, ◌<◌, ◌≤◌, Bool, true, false, List, [], length, Result, Ok, Err, IsErrOf}
 use Rattle.qkd_base.specs.Faults.{Rose}
-use Rattle.disk_model.specs.declared.arm.Armings.{Armings}
 use Rattle.edge_io.specs.Writes.{Adds}
-use Rattle.net_model.specs.OctetSequence.{OctetSequence}
 use Rattle.net_model.specs.World.{Network, World}
 use Rattle.net_model.specs.Action.{Action}
 use Rattle.net_model.specs.Step.{run}
@@ -22,6 +20,7 @@ use Rattle.net_world.specs.Over.{HasHeadline}
 use Rattle.net_world.specs.declared.bench.Bench.{Bench}
 use Rattle.net_serve.specs.declared.stop.ServeStop.{ServeStop}
 use Rattle.net_serve.specs.declared.stop.ServeStop.TheVariants.{Stopped, Listen}
+use Rattle.world_state.specs.Outside.{Outside}
 
 -- how the call ended
 abbrev pub ended : {T : Type 0} → Result T ServeStop → headline.Stop
@@ -82,10 +81,9 @@ module _ {D : Type 0} (tell : D → Door) (failed : D → ℕ) (told : Type 0) (
 
 -- For all texts of HTTP that are the site's there is one course whose headline holds: it goes on with what connections asked. What became of the ports is told
 -- of the same course.
-abbrev pub HasServedHeadlines : {K Q E X D : Type 0} → (K → ℕ) → (K → ℕ → List ℕ → Type 0) → (E → Option OctetSequence) → (Q → Option OctetSequence) → (X → Option (List (List ℕ))) →
-    (K → ℕ) → (K → Armings) → (E → ℕ) → (Q → ℕ) → (X → ℕ) → (tell : D → Door) → (failed : D → ℕ) → (told_ports : Type 0) → (old new : Bench K Q E X) → (ports_before ports_after : PortsTold D) →
+abbrev pub HasServedHeadlines : {K Q E X D : Type 0} → Outside K Q E X → (tell : D → Door) → (failed : D → ℕ) → (told_ports : Type 0) → (old new : Bench K Q E X) → (ports_before ports_after : PortsTold D) →
     (workers connections port : ℕ) → Scenario → (before after : Given) → headline.Stop → Type 0
-HasServedHeadlines moment image left told frames disk_count armed entropy_count device_count wire_count tell failed told_ports old new ports_before ports_after workers connections port scenario before after stop =
+HasServedHeadlines outside tell failed told_ports old new ports_before ports_after workers connections port scenario before after stop =
     (http : HttpTexts) → IsTextsOf scenario.site.nodes scenario.site.entitlements http →
-    (c : Course) × HasHeadline moment image left told frames disk_count armed entropy_count device_count wire_count old new (Serve workers connections port) stop http scenario before after c ×
+    (c : Course) × HasHeadline outside old new (Serve workers connections port) stop http scenario before after c ×
     ServedBy tell failed told_ports workers connections port scenario.site ports_before ports_after stop c

@@ -1,9 +1,7 @@
 -- What the managers of a run did for connections.
-use Rattle.std.specs.Prelude.{◌≡◌, ℕ, ◌+◌, ◌%◌, ◌==◌, if◌then◌else◌, Bool, true, List, [], ◌∷◌, ◌++◌, length, slice_get, Option, Some, Result, is_ok}
+use Rattle.std.specs.Prelude.{◌≡◌, ℕ, ◌+◌, ◌%◌, ◌==◌, if◌then◌else◌, Bool, true, List, [], ◌∷◌, ◌++◌, length, slice_get, Some, Result, is_ok}
 use Rattle.std.specs.List.{flat_map, list_all}
-use Rattle.disk_model.specs.declared.arm.Armings.{Armings}
 use Rattle.edge_io.specs.declared.failed.Failed.{Failed}
-use Rattle.net_model.specs.OctetSequence.{OctetSequence}
 use Rattle.net_model.specs.World.{Network, World}
 use Rattle.net_model.specs.Action.{Action, Ask, Environment, Replies}
 use Rattle.net_model.specs.Step.{step, run, IsRun}
@@ -17,6 +15,7 @@ use Rattle.net_serve.specs.Serving.{Said, Call, IsNextCall, next_place}
 use Rattle.world_state.specs.Stands.{Stands}
 use Rattle.world_state.specs.Tallied.{Tallied}
 use Rattle.world_state.specs.declared.state.State.{State}
+use Rattle.world_state.specs.Outside.{Outside}
 
 -- ---- histories
 
@@ -60,15 +59,13 @@ pub record AreConnected {D : Type 0} (tell : D → Door) (failed : D → ℕ) (n
 -- ---- the run goes on
 
 -- The managers' turns lead from a state that stands for a world to a state that stands for the world after them. There is one history for each node.
-pub record Serves {K Q E X D : Type 0} (is_honest : K → Bool) (moment : K → ℕ) (image : K → ℕ → List ℕ → Type 0) (left : E → Option OctetSequence)
-    (told : Q → Option OctetSequence) (frames : X → Option (List (List ℕ))) (counted : X → ℕ)
-    (disk_count : K → ℕ) (armed : K → Armings) (entropy_count : E → ℕ) (device_count : Q → ℕ) (wire_count : X → ℕ)
+pub record Serves {K Q E X D : Type 0} (outside : Outside K Q E X)
     (tell : D → Door) (failed : D → ℕ) (old new : State K Q E X) (net : Network) (w : World) (connections : ℕ) (before after : List D) (all : Bool) : Type 0 where
   pub histories : List (List Action)
   pub nodes : length histories ≡ net.site.nodes
   pub requests : list_all (list_all is_request_of) histories ≡ true
   pub chains : AreChains net w 0 histories
   pub steps : IsRun net w (flat_map (λ h. h) histories)
-  pub stands : Stands is_honest moment image left told frames counted new net (run net w (flat_map (λ h. h) histories))
-  pub tallied : Tallied disk_count armed entropy_count device_count wire_count old new net.site (flat_map (λ h. h) histories)
+  pub stands : Stands outside new net (run net w (flat_map (λ h. h) histories))
+  pub tallied : Tallied outside old new net.site (flat_map (λ h. h) histories)
   pub connected : AreConnected tell failed old.site.nodes old.site.entitlements net w histories connections before after all

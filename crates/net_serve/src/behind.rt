@@ -15,6 +15,7 @@ ghost use Rattle.net_serve.specs.Behind.{Ends};
 ghost use Rattle.net_serve.specs.Lines.{IsServedLine};
 ghost use Rattle.net_serve.specs.BenchServing.{IsBlamed};
 ghost use Rattle.net_serve.specs.declared.stop.ServeStop.TheVariants.{Listen, Stopped};
+ghost use Rattle.world_state.specs.Outside.{outside};
 
 use crate::ServeStop;
 use crate::line::{connections_in_all, write_served};
@@ -54,7 +55,7 @@ where
     P::Door: Drop + Send + Sync,
     <P::Door as Listener>::In: Send,
     <P::Door as Listener>::Out: Send,
-    requires ready { OnOk lines ((net : Network) × (w : World) × Stands K.is_honest K.moment K.image E.left Q.told X.frames X.counted state.old net w) }
+    requires ready { OnOk lines ((net : Network) × (w : World) × Stands (outside K.Disk Q.Device E.Entropy X.Wire) state.old net w) }
     requires declared { IsDeclared state.old.site }
     requires sized { IsSized state.old }
     requires workers { (1 ≤ workers) × (workers ≤ 32) }
@@ -64,8 +65,8 @@ where
     requires back { HasRoom P.back ports.old workers }
     ensures site { state.new.site ≡ state.old.site }
     ensures sized { IsSized state.new }
-    ensures ends { (net : Network) (w : World) → MatchResult lines (λ done. Stands K.is_honest K.moment K.image E.left Q.told X.frames X.counted state.old net w) (λ stop. Rests K.is_honest K.moment K.image E.left Q.told X.frames X.counted state.old net w) →
-        Ends K.is_honest K.moment K.image E.left Q.told X.frames X.counted K.faults K.armings E.faults Q.faults X.faults
+    ensures ends { (net : Network) (w : World) → MatchResult lines (λ done. Stands (outside K.Disk Q.Device E.Entropy X.Wire) state.old net w) (λ stop. Rests (outside K.Disk Q.Device E.Entropy X.Wire) state.old net w) →
+        Ends (outside K.Disk Q.Device E.Entropy X.Wire)
         (λ d. record { port = P.Door.port d; accepted = P.Door.accepted d; finished = P.Door.finished d; waiting = P.Door.waiting d; done = P.Door.done d }) P.Door.faults (IsSome (P.asked ports.old))
         workers connections port state.old state.new net w (ports_told P.asked P.back P.queues ports.old) (ports_told P.asked P.back P.queues ports.new)
         (given_to W.taken W.pieces sink.old) (given_to W.taken W.pieces sink.new) (served_text (served_by (Serve workers connections port) (length state.old.site.nodes))) lines result }

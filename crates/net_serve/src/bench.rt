@@ -13,6 +13,7 @@ ghost use Rattle.net_world.specs.Over.{IsOver, HasHeadline};
 ghost use Rattle.net_world.specs.declared.bench.Bench.{Bench as BenchValue};
 ghost use Rattle.net_serve.specs.ServedRun.{course_on, MayFollow};
 ghost use Rattle.net_serve.specs.Told.{IsServeTold};
+ghost use Rattle.world_state.specs.Outside.{outside};
 
 use crate::courses::{
     law_headline_of_a_course, law_reported_of_serve, law_served_lines_make_a_course,
@@ -26,15 +27,15 @@ use source_devices::{Device, Entropy, Wire};
 pub fn law_bench_serves<K: Disk + Drop, Q: Device + Drop, E: Entropy + Drop, X: Wire + Drop>()
     ensures { (http : HttpTexts) (scenario : Scenario) (workers connections port : ℕ) (stop : Stop) (old new : BenchValue K Q E X) (before after : Given)
         (done : List Performed) (served : List (List Action)) →
-        IsOver K.is_honest K.content K.moment K.image E.left Q.told X.frames X.counted K.faults K.armings E.faults Q.faults X.faults old new scenario.site
-        (whole_run (course_on Q.told E.left old scenario done served)) (last_world (course_on Q.told E.left old scenario done served)) →
-        IsRunOf http (network_on Q.told E.left old scenario.site) workers first (tasks_of scenario) done →
-        MayFollow http scenario (network_on Q.told E.left old scenario.site) first done served →
-        IsServeTold stop scenario.site.nodes (report http (network_on Q.told E.left old scenario.site) first (tasks_of scenario) done)
+        IsOver (outside K.Disk Q.Device E.Entropy X.Wire) old new scenario.site
+        (whole_run (course_on Q.Device E.Entropy old scenario done served)) (last_world (course_on Q.Device E.Entropy old scenario done served)) →
+        IsRunOf http (network_on Q.Device E.Entropy old scenario.site) workers first (tasks_of scenario) done →
+        MayFollow http scenario (network_on Q.Device E.Entropy old scenario.site) first done served →
+        IsServeTold stop scenario.site.nodes (report http (network_on Q.Device E.Entropy old scenario.site) first (tasks_of scenario) done)
         (served_by (Serve workers connections port) (length scenario.site.nodes)) before after →
-        IsCut (written_of (Serve workers connections port)) scenario.site.nodes http (network_on Q.told E.left old scenario.site) first (tasks_of scenario) done before after →
-        HasHeadline K.moment K.image E.left Q.told X.frames K.faults K.armings E.faults Q.faults X.faults old new (Serve workers connections port) stop http scenario before after
-        (course_on Q.told E.left old scenario done served) }
+        IsCut (written_of (Serve workers connections port)) scenario.site.nodes http (network_on Q.Device E.Entropy old scenario.site) first (tasks_of scenario) done before after →
+        HasHeadline (outside K.Disk Q.Device E.Entropy X.Wire) old new (Serve workers connections port) stop http scenario before after
+        (course_on Q.Device E.Entropy old scenario done served) }
 {
     law_bench_begins::<K, Q, E, X>();
     law_bench_is_seen::<K, Q, E, X>();

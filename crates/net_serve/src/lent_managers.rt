@@ -5,6 +5,7 @@ ghost use Rattle.std.specs.Vec.{vec_ptr};
 ghost use Rattle.net_model.specs.Site.{count_up};
 ghost use Rattle.net_model.specs.World.{Network, World};
 ghost use Rattle.world_state.specs.Stands.{Stands};
+ghost use Rattle.world_state.specs.Outside.{outside};
 
 use crate::ServedPost;
 use declared_site::Site;
@@ -25,7 +26,7 @@ pub(crate) fn take_out<K: Disk + Drop, Q: Device + Drop, E: Entropy + Drop, X: W
     requires sited { site.now ≡ opening.now.value.site }
     requires up { up ≡ opening.now.value.up }
     requires posts { posts.old.items ≡ opening.now.value.posts.items }
-    requires ready { (net : Network) × (w : World) × Stands K.is_honest K.moment K.image E.left Q.told X.frames X.counted opening.now.value net w }
+    requires ready { (net : Network) × (w : World) × Stands (outside K.Disk Q.Device E.Entropy X.Wire) opening.now.value net w }
     requires nodes { length posts.old.items ≤ 16 }
     requires none { managers.old.items ≡ [] }
     requires room { vec_len posts.old ≤ vec_capacity managers.old }

@@ -22,7 +22,7 @@ impl<K: Disk + Drop, E: Entropy + Drop> Machine for ServedPost<K, E> {
 
     ghost takes = { λ c event. IsRequestTo (site_of c.0) c.1 event };
 
-    ghost turns = { λ p event answered n. TookRequest K.is_honest K.moment K.image K.faults K.armings E.left E.faults p.node p.up p.post event (answered.event, answered.reply) n.up n.post };
+    ghost turns = { λ p event answered n. TookRequest K.Disk E.Entropy p.node p.up p.post event (answered.event, answered.reply) n.up n.post };
 
     fn turn(&mut self, request: Event) -> Answered {
         let reply = ask_if_up(&mut self.post, &request, self.up);

@@ -7,6 +7,7 @@ ghost use Rattle.kme_serve.specs.declared.refusal.ServeRefusal.TheVariants as re
 ghost use Rattle.kme_serve.specs.Endless.{endless};
 ghost use Rattle.world_state.specs.Stands.{Stands};
 ghost use Rattle.net_serve.specs.Behind.{IsServed, served_as};
+ghost use Rattle.world_state.specs.Outside.{outside};
 
 use crate::serve;
 use disk_model::Disk;
@@ -39,7 +40,7 @@ where
     P::Door: Drop + Send + Sync,
     <P::Door as Listener>::In: Send,
     <P::Door as Listener>::Out: Send,
-    requires ready { (net : Network) × (w : World) × Stands K.is_honest K.moment K.image E.left Q.told X.frames X.counted state.old net w }
+    requires ready { (net : Network) × (w : World) × Stands (outside K.Disk Q.Device E.Entropy X.Wire) state.old net w }
     requires declared { IsDeclared state.old.site }
     requires some { 0 < length state.old.site.nodes }
     requires workers { (1 ≤ workers) × (workers ≤ 32) }
@@ -48,8 +49,8 @@ where
     requires asked { HasRoom P.asked ports.old workers }
     requires back { HasRoom P.back ports.old workers }
     ensures site { state.new.site ≡ state.old.site }
-    ensures served { (net : Network) (w : World) → Stands K.is_honest K.moment K.image E.left Q.told X.frames X.counted state.old net w →
-        IsServed K.is_honest K.moment K.image E.left Q.told X.frames X.counted K.faults K.armings E.faults Q.faults X.faults
+    ensures served { (net : Network) (w : World) → Stands (outside K.Disk Q.Device E.Entropy X.Wire) state.old net w →
+        IsServed (outside K.Disk Q.Device E.Entropy X.Wire)
         (λ d. record { port = P.Door.port d; accepted = P.Door.accepted d; finished = P.Door.finished d; waiting = P.Door.waiting d; done = P.Door.done d }) P.Door.faults (IsSome (P.asked ports.old))
         workers connections port state.old state.new net w (ports_told P.asked P.back P.queues ports.old) (ports_told P.asked P.back P.queues ports.new)
         (served_as result) }
@@ -89,7 +90,7 @@ where
     P::Door: Drop + Send + Sync,
     <P::Door as Listener>::In: Send,
     <P::Door as Listener>::Out: Send,
-    requires ready { (net : Network) × (w : World) × Stands K.is_honest K.moment K.image E.left Q.told X.frames X.counted state.old net w }
+    requires ready { (net : Network) × (w : World) × Stands (outside K.Disk Q.Device E.Entropy X.Wire) state.old net w }
     requires declared { IsDeclared state.old.site }
     requires workers { (1 ≤ workers) × (workers ≤ 32) }
     requires connections { connections ≤ endless }
@@ -97,8 +98,8 @@ where
     requires asked { HasRoom P.asked ports.old workers }
     requires back { HasRoom P.back ports.old workers }
     ensures site { state.new.site ≡ state.old.site }
-    ensures served { (net : Network) (w : World) → Stands K.is_honest K.moment K.image E.left Q.told X.frames X.counted state.old net w →
-        IsServed K.is_honest K.moment K.image E.left Q.told X.frames X.counted K.faults K.armings E.faults Q.faults X.faults
+    ensures served { (net : Network) (w : World) → Stands (outside K.Disk Q.Device E.Entropy X.Wire) state.old net w →
+        IsServed (outside K.Disk Q.Device E.Entropy X.Wire)
         (λ d. record { port = P.Door.port d; accepted = P.Door.accepted d; finished = P.Door.finished d; waiting = P.Door.waiting d; done = P.Door.done d }) P.Door.faults (IsSome (P.asked ports.old))
         workers connections port state.old state.new net w (ports_told P.asked P.back P.queues ports.old) (ports_told P.asked P.back P.queues ports.new)
         (served_as result) }

@@ -11,6 +11,7 @@ ghost use Rattle.net_world.specs.New.{IsNew};
 ghost use Rattle.net_serve.specs.Lines.{IsServeLine};
 ghost use Rattle.net_serve.specs.BenchServing.{HasServedHeadlines, IsBlamed, WasLeft, ended};
 ghost use Rattle.net_serve.specs.declared.stop.ServeStop.TheVariants.{Listen};
+ghost use Rattle.world_state.specs.Outside.{outside};
 
 use crate::behind::serve_behind;
 use crate::{ServeStop, law_bench_serves};
@@ -61,12 +62,12 @@ where
     requires workers { (1 ≤ workers) × (workers ≤ 32) }
     requires connections { connections ≤ endless }
     requires port { port ≤ 65520 }
-    requires fresh { IsNew K.is_honest K.moment K.image E.left Q.told X.frames bench.old }
+    requires fresh { IsNew (outside K.Disk Q.Device E.Entropy X.Wire) bench.old }
     requires unarmed { All (λ k. (K.armings k).count ≡ 0) bench.old.disks.items }
     requires asked { HasRoom P.asked ports.old workers }
     requires back { HasRoom P.back ports.old workers }
     ensures headline { WasLeft bench.old bench.new sink.old sink.new ports.old ports.new result
-        ⊎ HasServedHeadlines K.moment K.image E.left Q.told X.frames K.faults K.armings E.faults Q.faults X.faults
+        ⊎ HasServedHeadlines (outside K.Disk Q.Device E.Entropy X.Wire)
         (λ d. record { port = P.Door.port d; accepted = P.Door.accepted d; finished = P.Door.finished d; waiting = P.Door.waiting d; done = P.Door.done d }) P.Door.faults (IsSome (P.asked ports.old))
         bench.old bench.new (ports_told P.asked P.back P.queues ports.old) (ports_told P.asked P.back P.queues ports.new)
         workers connections port scenario (given_to W.taken W.pieces sink.old) (given_to W.taken W.pieces sink.new) (ended result) }

@@ -19,5 +19,5 @@ pub struct ServedPost<K: Disk + Drop, E: Entropy + Drop> {
     pub post: Post<K, E>,
     /// The declared site.
     pub site: Snapshot<Site>,
-    ghost servable: { ∥ IsServable K.is_honest K.moment K.image E.left site.value node post up ∥₁ },
+    ghost servable: { ∥ IsServable K.Disk E.Entropy site.value node post up ∥₁ },
 }

@@ -8,6 +8,7 @@ ghost use Rattle.world_state.specs.Armed.{most_armed};
 ghost use Rattle.world_state.specs.Stands.{Stands};
 ghost use Rattle.net_serve.specs.Asked.{DoorFailed};
 ghost use Rattle.net_serve.specs.Served.{Serves};
+ghost use Rattle.world_state.specs.Outside.{outside};
 
 use crate::door_workers::serve_doors;
 use crate::lent_managers::{put_back, take_out};
@@ -52,7 +53,7 @@ where
     requires sited { site.now ≡ opening.now.value.site }
     requires up { up ≡ opening.now.value.up }
     requires posts { posts.old.items ≡ opening.now.value.posts.items }
-    requires ready { (net : Network) × (w : World) × Stands K.is_honest K.moment K.image E.left Q.told X.frames X.counted opening.now.value net w }
+    requires ready { (net : Network) × (w : World) × Stands (outside K.Disk Q.Device E.Entropy X.Wire) opening.now.value net w }
     requires declared { IsDeclared site.now }
     requires node { 0 < length site.now.nodes }
     requires api { (api.now.nodes ≡ site.now.nodes) × (api.now.entitlements ≡ site.now.entitlements) }
@@ -66,10 +67,10 @@ where
     requires workers { (room.workers.items ≡ []) × (vec_len doors ≤ vec_capacity room.workers) }
     requires back { (room.doors.items ≡ []) × (vec_len doors ≤ vec_capacity room.doors) }
     ensures doors { length result.1.items ≡ length doors.items }
-    ensures armed { most_armed K.armings posts.new.items ≡ most_armed K.armings posts.old.items }
+    ensures armed { most_armed K.Disk posts.new.items ≡ most_armed K.Disk posts.old.items }
     ensures memory { result.0 ≡ Err refusals.Memory → (posts.new ≡ posts.old) × (result.1.items ≡ doors.items) }
-    ensures served { ¬ (result.0 ≡ Err refusals.Memory) → (net : Network) (w : World) → Stands K.is_honest K.moment K.image E.left Q.told X.frames X.counted opening.now.value net w →
-        Serves K.is_honest K.moment K.image E.left Q.told X.frames X.counted K.faults K.armings E.faults Q.faults X.faults
+    ensures served { ¬ (result.0 ≡ Err refusals.Memory) → (net : Network) (w : World) → Stands (outside K.Disk Q.Device E.Entropy X.Wire) opening.now.value net w →
+        Serves (outside K.Disk Q.Device E.Entropy X.Wire)
         (λ d. record { port = D.port d; accepted = D.accepted d; finished = D.finished d; waiting = D.waiting d; done = D.done d }) D.faults
         opening.now.value (record opening.now.value { posts = posts.new }) net w connections doors.items result.1.items (is_ok result.0) }
     ensures listen { result.0 ≡ Err refusals.Listen → DoorFailed D.faults doors.items result.1.items }
@@ -129,7 +130,7 @@ pub fn serve<
 where
     D::In: Send,
     D::Out: Send,
-    requires ready { (net : Network) × (w : World) × Stands K.is_honest K.moment K.image E.left Q.told X.frames X.counted state.old net w }
+    requires ready { (net : Network) × (w : World) × Stands (outside K.Disk Q.Device E.Entropy X.Wire) state.old net w }
     requires declared { IsDeclared state.old.site }
     requires node { 0 < length state.old.site.nodes }
     requires some { 0 < length doors.items }
@@ -138,10 +139,10 @@ where
     requires fresh { (k : ℕ) (d : D) → slice_get doors.items k ≡ Some d → (D.accepted d + connections ≤ 2 ^ 48) × (D.finished d ≤ D.accepted d) }
     ensures doors { length result.1.items ≡ length doors.items }
     ensures site { state.new.site ≡ state.old.site }
-    ensures armed { most_armed K.armings state.new.posts.items ≡ most_armed K.armings state.old.posts.items }
+    ensures armed { most_armed K.Disk state.new.posts.items ≡ most_armed K.Disk state.old.posts.items }
     ensures memory { result.0 ≡ Err refusals.Memory → (state.new ≡ state.old) × (result.1.items ≡ doors.items) }
-    ensures served { ¬ (result.0 ≡ Err refusals.Memory) → (net : Network) (w : World) → Stands K.is_honest K.moment K.image E.left Q.told X.frames X.counted state.old net w →
-        Serves K.is_honest K.moment K.image E.left Q.told X.frames X.counted K.faults K.armings E.faults Q.faults X.faults
+    ensures served { ¬ (result.0 ≡ Err refusals.Memory) → (net : Network) (w : World) → Stands (outside K.Disk Q.Device E.Entropy X.Wire) state.old net w →
+        Serves (outside K.Disk Q.Device E.Entropy X.Wire)
         (λ d. record { port = D.port d; accepted = D.accepted d; finished = D.finished d; waiting = D.waiting d; done = D.done d }) D.faults
         state.old state.new net w connections doors.items result.1.items (is_ok result.0) }
     ensures listen { result.0 ≡ Err refusals.Listen → DoorFailed D.faults doors.items result.1.items }

@@ -1,5 +1,5 @@
 -- A state that was laid out of a new bench stands for the world before any start.
-use Rattle.std.proofs.Common.{◌≡◌, inl, inr, ℕ, zero, suc, ◌-◌, ◌<◌, ◌≤◌, Bool, true, IsTrue, List, [], ◌∷◌, length, take, refl, sym, ap, subst, ◌∙◌, arith, Option, Some, None}
+use Rattle.std.proofs.Common.{◌≡◌, inl, inr, ℕ, zero, suc, ◌-◌, ◌<◌, ◌≤◌, true, IsTrue, List, [], ◌∷◌, length, take, refl, sym, ap, subst, ◌∙◌, arith, Option, Some, None}
 use Rattle.std.specs.Prelude.{slice_get, IfSome, is_some}
 use Rattle.std.specs.Option.{option_map}
 use Rattle.std.proofs.lemmas.Bool.{ltb-true}
@@ -31,6 +31,10 @@ use Rattle.net_world.specs.declared.bench.Bench.{Bench}
 use Rattle.net_world.proofs.Lists.{some_is, mapped, at_take, all_at}
 use Rattle.net_world.proofs.Bits.{all_up}
 use Rattle.net_world.proofs.Networks.{told_by, is_network}
+use Rattle.disk_model.specs.declared.disk.Disk as Disk
+use Rattle.source_devices.specs.declared.entropy.Entropy as Entropy
+use Rattle.source_devices.specs.declared.wire.Wire as Wire
+use Rattle.world_state.specs.Outside.{Outside}
 
 -- a node that was never started has a disk and an entropy
 
@@ -78,12 +82,12 @@ all_left t = record { octet = λ i. ap t.octet (omega arith); last = same_end t.
 nothing_back : (net : Network) (v : ℕ) → GivesBack net.site v [] (view_of net first v)
 nothing_back net v = recovered_restarts net.site v [] ∙ ap view_restarted (nothing_given net.site v ∙ sym (first_empty net v))
 
-module _ {K : Type 0} (is_honest : K → Bool) (moment : K → ℕ) (image : K → ℕ → List ℕ → Type 0) (net : Network) (v : ℕ) where
+module _ {K : Type 0} (disk_says : Disk.Ghosts K) (net : Network) (v : ℕ) where
   empty_disk : HoldsNothing net first v []
   unfolding first
   empty_disk = record { blank = refl; certain = refl; empty = nothing_back net v; unused = inl (inl refl) }
 
-  pub down_first : (disk : K) → IsTrue (is_honest disk) → Only [] (image disk (moment disk)) → DownStands is_honest moment image net first v disk
+  pub down_first : (disk : K) → IsTrue (disk_says.is_honest disk) → Only [] (disk_says.image disk (disk_says.moment disk)) → DownStands disk_says net first v disk
   unfolding first
   down_first disk honest empty = record {
     down = refl;
@@ -92,17 +96,17 @@ module _ {K : Type 0} (is_honest : K → Bool) (moment : K → ℕ) (image : K �
     images = λ i is. inr (inr (subst (HoldsNothing net first v) (sym (empty i is)) empty_disk));
   }
 
-pub entropy_first : {E : Type 0} (left : E → Option OctetSequence) (net : Network) (v : ℕ) (entropy : E) → left entropy ≡ Some (net.entropy v) → EntropyStands left net first v entropy
+pub entropy_first : {E : Type 0} (entropy_says : Entropy.Ghosts E) (net : Network) (v : ℕ) (entropy : E) → entropy_says.left entropy ≡ Some (net.entropy v) → EntropyStands entropy_says net first v entropy
 unfolding first
-entropy_first left net v entropy tells = record { rest = net.entropy v; tells = tells; left = all_left (net.entropy v) }
+entropy_first entropy_says net v entropy tells = record { rest = net.entropy v; tells = tells; left = all_left (net.entropy v) }
 
 pub no_frames : (n : ℕ) (o : Option (List (List ℕ))) → IfSome o (λ all. length all ≡ n) → o ≡ Some [] → n ≡ 0
 no_frames n o counted none = sym (subst (λ (x : Option (List (List ℕ))). IfSome x (λ all. length all ≡ n)) none counted)
 
-lane_first : {X : Type 0} (frames : X → Option (List (List ℕ))) (counted : X → ℕ) (net : Network) (l : Lane) (wire : X) → IfSome (frames wire) (λ all. length all ≡ counted wire) → frames wire ≡ Some [] →
-    LaneStands frames counted net first l (without_bytes l wire)
-lane_first frames counted net l wire all none =
-    begins frames counted net l wire all (no_frames (counted wire) (frames wire) all none) (ap is_some none) (without_bytes l wire) refl
+lane_first : {X : Type 0} (wire_says : Wire.Ghosts X) (net : Network) (l : Lane) (wire : X) → IfSome (wire_says.frames wire) (λ all. length all ≡ wire_says.counted wire) → wire_says.frames wire ≡ Some [] →
+    LaneStands wire_says net first l (without_bytes l wire)
+lane_first wire_says net l wire all none =
+    begins wire_says net l wire all (no_frames (wire_says.counted wire) (wire_says.frames wire) all none) (ap is_some none) (without_bytes l wire) refl
 
 pub node_first : {K Q E X : Type 0} (old stayed : Bench K Q E X) (site : Declared) (s : State K Q E X) → IsLaidOut old stayed site s → (v : ℕ) (p : Post K E) → slice_get s.posts.items v ≡ Some p →
     Unstarted old.disks.items old.entropies.items v p
@@ -118,12 +122,11 @@ node_first old stayed site s laid v p at =
       is = u.is;
     }
 
-module _ {K Q E X : Type 0} (is_honest : K → Bool) (moment : K → ℕ) (image : K → ℕ → List ℕ → Type 0) (left : E → Option OctetSequence) (told : Q → Option OctetSequence)
-    (frames : X → Option (List (List ℕ))) (counted : X → ℕ) (all_counted : (wire : X) → IfSome (frames wire) (λ all. length all ≡ counted wire))
-    (old stayed : Bench K Q E X) (new : IsNew is_honest moment image left told frames old) (site : Declared) (declared : IsDeclared site) (sealing : IsSealing hop_sealing)
+module _ {K Q E X : Type 0} (outside : Outside K Q E X) (all_counted : (wire : X) → IfSome (outside.wire.frames wire) (λ all. length all ≡ outside.wire.counted wire))
+    (old stayed : Bench K Q E X) (new : IsNew outside old) (site : Declared) (declared : IsDeclared site) (sealing : IsSealing hop_sealing)
     (s : State K Q E X) (laid : IsLaidOut old stayed site s) where
   abbrev net : Network
-  net = network_on told left old site
+  net = network_on outside.device outside.entropy old site
 
   abbrev nodes : ℕ
   nodes = (site_of site).nodes
@@ -136,32 +139,32 @@ module _ {K Q E X : Type 0} (is_honest : K → Bool) (moment : K → ℕ) (image
   nodes_few = declared.nodes
 
   links_few : links ≤ 32
-  links_few = (is_network is_honest moment image left told frames old new site declared sealing).site.links
+  links_few = (is_network outside old new site declared sealing).site.links
 
-  post_first : (v : ℕ) (p : Post K E) → slice_get s.posts.items v ≡ Some p → PostStands is_honest moment image left net first v p
+  post_first : (v : ℕ) (p : Post K E) → slice_get s.posts.items v ≡ Some p → PostStands outside.disk outside.entropy net first v p
   post_first v p at =
       let u = node_first old stayed site s laid v p at in
-      subst (λ (x : Post K E). PostStands is_honest moment image left net first v x) (sym u.is) (
-        entropy_first left net v u.entropy (told_by left old.entropies.items v u.entropy new.entropies u.has_entropy),
-        down_first is_honest moment image net v u.disk (all_at (λ k. IsTrue (is_honest k)) old.disks.items v u.disk new.honest u.has_disk)
-            (all_at (λ k. Only [] (image k (moment k))) old.disks.items v u.disk new.empty u.has_disk),
+      subst (λ (x : Post K E). PostStands outside.disk outside.entropy net first v x) (sym u.is) (
+        entropy_first outside.entropy net v u.entropy (told_by outside.entropy.left old.entropies.items v u.entropy new.entropies u.has_entropy),
+        down_first outside.disk net v u.disk (all_at (λ k. IsTrue (outside.disk.is_honest k)) old.disks.items v u.disk new.honest u.has_disk)
+            (all_at (λ k. Only [] (outside.disk.image k (outside.disk.moment k))) old.disks.items v u.disk new.empty u.has_disk),
       )
 
-  side_first : (l : Lane) (side : LaneForm X) → is_lane net.site l ≡ true → slice_get s.lanes.items (place_of l) ≡ Some side → LaneStands frames counted net first l side
+  side_first : (l : Lane) (side : LaneForm X) → is_lane net.site l ≡ true → slice_get s.lanes.items (place_of l) ≡ Some side → LaneStands outside.wire net first l side
   side_first l side lane at =
       let m = mapped (without_bytes l) (slice_get old.wires.items (place_of l)) side (sym (laid.lanes l (ltb-true l.link links lane)) ∙ at) in
-      subst (LaneStands frames counted net first l) (sym m.2) (lane_first frames counted net l m.0 (all_counted m.0) (all_at (λ x. frames x ≡ Some []) old.wires.items (place_of l) m.0 new.wires m.1))
+      subst (LaneStands outside.wire net first l) (sym m.2) (lane_first outside.wire net l m.0 (all_counted m.0) (all_at (λ x. outside.wire.frames x ≡ Some []) old.wires.items (place_of l) m.0 new.wires m.1))
 
-  device_first : (link : ℕ) (q : Q) → slice_get s.devices.items link ≡ Some q → told q ≡ Some (net.device link)
+  device_first : (link : ℕ) (q : Q) → slice_get s.devices.items link ≡ Some q → outside.device.told q ≡ Some (net.device link)
   device_first link q at =
       let taken = ap (λ (qs : List Q). slice_get qs link) (sym laid.devices) ∙ at in
       let below : link < links = within_taken links old.devices.items link q taken in
-      told_by told old.devices.items link q new.devices (sym (at_take links old.devices.items link below) ∙ taken)
+      told_by outside.device.told old.devices.items link q new.devices (sym (at_take links old.devices.items link below) ∙ taken)
 
   pub running_first : IsRunning net first
-  running_first = record { network = is_network is_honest moment image left told frames old new site declared sealing; conserved = first_keeps net; sealing = refl }
+  running_first = record { network = is_network outside old new site declared sealing; conserved = first_keeps net; sealing = refl }
 
-  pub stands_first : Stands is_honest moment image left told frames counted s net first
+  pub stands_first : Stands outside s net first
   stands_first = record {
     running = running_first;
     sited = sym (ap site_of laid.sited);

@@ -1,7 +1,6 @@
 -- Every image of a started node's disk encodes batches from which the node can be restored.
-use Rattle.std.proofs.Common.{◌≡◌, ◌⊎◌, inl, inr, ℕ, Bool, true, false, IsTrue, List, [], sym, ap, subst, ◌∙◌, Option, Some}
+use Rattle.std.proofs.Common.{◌≡◌, inl, inr, ℕ, Bool, true, false, IsTrue, List, [], sym, ap, subst, ◌∙◌, Option, Some}
 use Rattle.net_model.specs.declared.record.Record.{Record}
-use Rattle.net_model.specs.OctetSequence.{OctetSequence}
 use Rattle.net_model.specs.World.{Network, World, InDoubt, Journal}
 use Rattle.net_model.specs.View.{View}
 use Rattle.net_model.specs.Journal.{is_blank}
@@ -19,6 +18,8 @@ use Rattle.world_state.specs.Rests.{KeepsAs, PostRests}
 use Rattle.net_world.specs.Laid.{IsOnDisk}
 use Rattle.net_world.specs.Reading.{ReadsDisks}
 use Rattle.net_world.proofs.Lists.{some_is}
+use Rattle.disk_model.specs.declared.disk.Disk as Disk
+use Rattle.source_devices.specs.declared.entropy.Entropy as Entropy
 
 -- what is read from an image
 
@@ -36,15 +37,15 @@ module _ (net : Network) (w : World) (v : ℕ) (running : IsRunning net w) (star
       HasStory net.site v live.version bodies (resolved_view net w v committed) → Gives i
   gives committed may live bodies i has told = (told.0, reads i live bodies told.0 has told.1.read, record { committed = committed; may = may; given = told.1.back })
 
-  module _ {K : Type 0} (is_honest : K → Bool) (content : K → List ℕ) (moment : K → ℕ) (image : K → ℕ → List ℕ → Type 0) where
-    up_gives : (site : Declared) (view : View) (journal : SnapshotForm K) → UpStands is_honest net w v site view journal →
-        (IsTrue (is_honest journal.disk) → IsKept journal.live journal.batches (content journal.disk) (image journal.disk (moment journal.disk))) → (i : List ℕ) → image journal.disk (moment journal.disk) i → Gives i
+  module _ {K : Type 0} (disk_says : Disk.Ghosts K) where
+    up_gives : (site : Declared) (view : View) (journal : SnapshotForm K) → UpStands disk_says net w v site view journal →
+        (IsTrue (disk_says.is_honest journal.disk) → IsKept journal.live journal.batches (disk_says.content journal.disk) (disk_says.image journal.disk (disk_says.moment journal.disk))) → (i : List ℕ) → disk_says.image journal.disk (disk_says.moment journal.disk) i → Gives i
     up_gives site view journal u kept i is =
         gives false (ap (λ (d : InDoubt). may_resolve d false) (running.conserved.doubtful v u.up)) journal.live journal.batches i
-        (kept_batches journal.live journal.batches (content journal.disk) (image journal.disk (moment journal.disk)) (kept u.honest) i is)
+        (kept_batches journal.live journal.batches (disk_says.content journal.disk) (disk_says.image journal.disk (disk_says.moment journal.disk)) (kept u.honest) i is)
         (subst (λ (x : View). HasStory net.site v journal.live.version journal.batches x) u.sees u.told)
 
-    down_gives : (disk : K) → DownStands is_honest moment image net w v disk → (i : List ℕ) → image disk (moment disk) i → Gives i
+    down_gives : (disk : K) → DownStands disk_says net w v disk → (i : List ℕ) → disk_says.image disk (disk_says.moment disk) i → Gives i
     down_gives disk d i is = by (d.images i is)
       where
         by : MayFind net w v i → Gives i
@@ -52,17 +53,17 @@ module _ (net : Network) (w : World) (v : ℕ) (running : IsRunning net w) (star
         by (inr (inl h)) = gives h.committed h.may.may h.live h.bodies i (batches_of h.live h.bodies [] i h.holds) h.told
         by (inr (inr h)) = absurd (not_both (is_blank (w.journal v)) h.blank started)
 
-    standing_gives : (site : Declared) (view : View) (s : Standing K) → StandingStands is_honest moment image net w v site view s →
-        WhereUp (λ j. IsTrue (is_honest j.disk) → IsKept j.live j.batches (content j.disk) (image j.disk (moment j.disk))) s → (disk : K) → disk_in s ≡ Some disk → (i : List ℕ) → image disk (moment disk) i → Gives i
+    standing_gives : (site : Declared) (view : View) (s : Standing K) → StandingStands disk_says net w v site view s →
+        WhereUp (λ j. IsTrue (disk_says.is_honest j.disk) → IsKept j.live j.batches (disk_says.content j.disk) (disk_says.image j.disk (disk_says.moment j.disk))) s → (disk : K) → disk_in s ≡ Some disk → (i : List ℕ) → disk_says.image disk (disk_says.moment disk) i → Gives i
     standing_gives site view (Up journal) u kept disk is i at =
-        up_gives site view journal u kept i (subst (λ (k : K). image k (moment k) i) (sym (some_is is)) at)
-    standing_gives site view (Down left) d kept disk is i at = down_gives left d i (subst (λ (k : K). image k (moment k) i) (sym (some_is is)) at)
+        up_gives site view journal u kept i (subst (λ (k : K). disk_says.image k (disk_says.moment k) i) (sym (some_is is)) at)
+    standing_gives site view (Down left) d kept disk is i at = down_gives left d i (subst (λ (k : K). disk_says.image k (disk_says.moment k) i) (sym (some_is is)) at)
     standing_gives site view Between h kept disk is i at = absurd h
 
-    post_gives : {E : Type 0} (left : E → Option OctetSequence) (p : Post K E) → PostStands is_honest moment image left net w v p → IsOnDisk is_honest content moment image p →
-        (disk : K) → disk_of p ≡ Some disk → (i : List ℕ) → image disk (moment disk) i → Gives i
-    post_gives left (On m) h kept disk is i at = standing_gives m.site m.view m.standing h.standing kept disk is i at
-    post_gives left (Off k entropy) h kept disk is i at = down_gives k h.1 i (subst (λ (x : K). image x (moment x) i) (sym (some_is is)) at)
+    post_gives : {E : Type 0} (entropy_says : Entropy.Ghosts E) (p : Post K E) → PostStands disk_says entropy_says net w v p → IsOnDisk disk_says p →
+        (disk : K) → disk_of p ≡ Some disk → (i : List ℕ) → disk_says.image disk (disk_says.moment disk) i → Gives i
+    post_gives entropy_says (On m) h kept disk is i at = standing_gives m.site m.view m.standing h.standing kept disk is i at
+    post_gives entropy_says (Off k entropy) h kept disk is i at = down_gives k h.1 i (subst (λ (x : K). disk_says.image x (disk_says.moment x) i) (sym (some_is is)) at)
 
 -- a post that rests can be restored too, since no journal has volatile state
 module _ (net : Network) (w : World) (v : ℕ) (started : is_blank (w.journal v) ≡ false) (batches : List ℕ → Option (List (List Record))) (reads : ReadsDisks batches) where
@@ -73,10 +74,10 @@ module _ (net : Network) (w : World) (v : ℕ) (started : is_blank (w.journal v)
     given = g.given ∙ sym (k.given g.committed);
   }
 
-  pub rest_gives : {K E : Type 0} (is_honest : K → Bool) (content : K → List ℕ) (moment : K → ℕ) (image : K → ℕ → List ℕ → Type 0) (left : E → Option OctetSequence) (p : Post K E) →
-      PostRests is_honest moment image left net w v p → IsOnDisk is_honest content moment image p → (disk : K) → disk_of p ≡ Some disk → (i : List ℕ) → image disk (moment disk) i →
+  pub rest_gives : {K E : Type 0} (disk_says : Disk.Ghosts K) (entropy_says : Entropy.Ghosts E) (p : Post K E) →
+      PostRests disk_says entropy_says net w v p → IsOnDisk disk_says p → (disk : K) → disk_of p ≡ Some disk → (i : List ℕ) → disk_says.image disk (disk_says.moment disk) i →
       (story : List (List Record)) × (batches i ≡ Some story) × IsGiven net w v story
-  rest_gives is_honest content moment image left p h kept disk is i at =
+  rest_gives disk_says entropy_says p h kept disk is i at =
       let u = h.0 in
-      let g = post_gives net u v h.1.running (subst (λ (j : Journal). is_blank j ≡ false) h.1.journal started) batches reads is_honest content moment image left p h.2 kept disk is i at in
+      let g = post_gives net u v h.1.running (subst (λ (j : Journal). is_blank j ≡ false) h.1.journal started) batches reads disk_says entropy_says p h.2 kept disk is i at in
       (g.0, g.1, given_there u h.1 g.0 g.2)

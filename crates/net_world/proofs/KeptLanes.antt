@@ -14,7 +14,7 @@ use Rattle.net_model.specs.Events.{is_lane}
 use Rattle.net_model.specs.Frames.{octets_sent, frame_octets}
 use Rattle.net_model.specs.Invariant.{Conserved}
 use Rattle.net_model.specs.Ledger.{is_burnt}
-use Rattle.net_model.specs.OctetSequence.{OctetSequence, first_blocks}
+use Rattle.net_model.specs.OctetSequence.{first_blocks}
 use Rattle.net_model.specs.Ownership.{is_frame, is_key, covers, IsOwned}
 use Rattle.net_model.specs.Site.{Site}
 use Rattle.net_model.specs.World.{Network, World, Allocation, Owner, HashKey, Frame, Burnt, first, received}
@@ -35,6 +35,8 @@ use Rattle.net_world.specs.declared.kept_lane.KeptLane.{KeptLane}
 use Rattle.net_world.proofs.Bits.{up_when}
 use Rattle.net_world.proofs.Firsts.{no_frames, node_first, within_taken, taken_length, unstarted_length}
 use Rattle.net_world.proofs.Lists.{mapped, at_take, none_left, within, all_at}
+use Rattle.source_devices.specs.declared.wire.Wire as Wire
+use Rattle.world_state.specs.Outside.{Outside}
 
 -- ---- the owners of a lane's bytes, if no frame is known: the hash key, and then nobody
 
@@ -103,7 +105,7 @@ laid_anew old stayed site s laid = record { fresh = s; laid = laid; sited = refl
 
 -- ---- a lane at rest
 
-module _ {X : Type 0} (frames : X → Option (List (List ℕ))) (counted : X → ℕ) (net : Network) (w : World) (rest : IsAtRest w) (conserved : Conserved net w) (l : Lane) (kept : Option KeptLane)
+module _ {X : Type 0} (wire_says : Wire.Ghosts X) (net : Network) (w : World) (rest : IsAtRest w) (conserved : Conserved net w) (l : Lane) (kept : Option KeptLane)
     (is : IsKeptLane net w l kept) where
   bytes_are : flat_map (λ b. b) (blocks_of kept) ≡ octets_sent net w l
   unfolding lane_octets
@@ -119,15 +121,15 @@ module _ {X : Type 0} (frames : X → Option (List (List ℕ))) (counted : X →
       ap (λ (n : ℕ). n - 8) is.lease
       ∙ sym (burnt_at_rest w.durable.facts (w.durable.own l) (w.frames l) (w.durable.lease l) (received w.durable l) (rest.framed l) (conserved.now.owned l) (rest.owned l) (conserved.now.room l).leased)
 
-  wire_rests : (wire : X) → IfSome (frames wire) (λ all. length all ≡ counted wire) → frames wire ≡ Some [] → WireStands frames counted net w l wire
+  wire_rests : (wire : X) → IfSome (wire_says.frames wire) (λ all. length all ≡ wire_says.counted wire) → wire_says.frames wire ≡ Some [] → WireStands wire_says net w l wire
   wire_rests wire all none = record {
-    count = no_frames (counted wire) (frames wire) all none ∙ sym (ap length (rest.wired l));
+    count = no_frames (wire_says.counted wire) (wire_says.frames wire) all none ∙ sym (ap length (rest.wired l));
     tells = ap is_some none;
     told = subst (λ (o : Option (List (List ℕ))). IfSome o (λ all. all ≡ spelled_wire net w l)) (sym none)
         (sym (ap (map (λ (j : ℕ). frame_octets net w l (slice_get (w.frames l) j))) (rest.wired l)));
   }
 
-  lane_rests : (wire : X) → IfSome (frames wire) (λ all. length all ≡ counted wire) → frames wire ≡ Some [] → LaneStands frames counted net w l (going_on l kept wire)
+  lane_rests : (wire : X) → IfSome (wire_says.frames wire) (λ all. length all ≡ wire_says.counted wire) → wire_says.frames wire ≡ Some [] → LaneStands wire_says net w l (going_on l kept wire)
   lane_rests wire all none = record {
     lane = refl;
     bytes = bytes_are;
@@ -138,9 +140,8 @@ module _ {X : Type 0} (frames : X → Option (List (List ℕ))) (counted : X →
     wire = wire_rests wire all none;
   }
 
-module _ {K Q E X : Type 0} (is_honest : K → Bool) (moment : K → ℕ) (image : K → ℕ → List ℕ → Type 0) (left : E → Option OctetSequence) (told : Q → Option OctetSequence)
-    (frames : X → Option (List (List ℕ))) (counted : X → ℕ) (all_counted : (wire : X) → IfSome (frames wire) (λ all. length all ≡ counted wire))
-    (old stayed : Bench K Q E X) (site : Declared) (net : Network) (w : World) (kept : IsKept is_honest moment image left told frames old site net w) (may : MayBegin net w) (declared : IsDeclared site)
+module _ {K Q E X : Type 0} (outside : Outside K Q E X) (all_counted : (wire : X) → IfSome (outside.wire.frames wire) (λ all. length all ≡ outside.wire.counted wire))
+    (old stayed : Bench K Q E X) (site : Declared) (net : Network) (w : World) (kept : IsKept outside old site net w) (may : MayBegin net w) (declared : IsDeclared site)
     (lanes : List KeptLane) (are : AreKeptLanes net w lanes) (s : State K Q E X) (laid : IsLaidAgain old stayed site lanes s) where
   abbrev nodes : ℕ
   nodes = (site_of site).nodes
@@ -163,28 +164,28 @@ module _ {K Q E X : Type 0} (is_honest : K → Bool) (moment : K → ℕ) (image
       (taken_length nodes old.disks.items (omega (arith, nodes_few, kept.whole.disks))) (taken_length nodes old.entropies.items (omega (arith, nodes_few, kept.whole.entropies)))
       ∙ ap (λ (x : Site). x.nodes) (sym kept.sited)
 
-  post_rests : (v : ℕ) (p : Post K E) → slice_get s.posts.items v ≡ Some p → PostStands is_honest moment image left net w v p
+  post_rests : (v : ℕ) (p : Post K E) → slice_get s.posts.items v ≡ Some p → PostStands outside.disk outside.entropy net w v p
   post_rests v p at =
       let u = node_first old stayed site laid.fresh laid.laid v p (ap (λ (ps : List (Post K E)). slice_get ps v) (sym laid.posts) ∙ at) in
       let inside : v < length s.posts.items = within s.posts.items v p at in
-      subst (λ (x : Post K E). PostStands is_honest moment image left net w v x) (sym u.is)
+      subst (λ (x : Post K E). PostStands outside.disk outside.entropy net w v x) (sym u.is)
       (kept.entropies v u.entropy u.has_entropy, kept.disks v u.disk (omega (arith, inside, count_nodes)) u.has_disk)
 
-  side_rests : (l : Lane) (side : LaneForm X) → is_lane net.site l ≡ true → slice_get s.lanes.items (place_of l) ≡ Some side → LaneStands frames counted net w l side
+  side_rests : (l : Lane) (side : LaneForm X) → is_lane net.site l ≡ true → slice_get s.lanes.items (place_of l) ≡ Some side → LaneStands outside.wire net w l side
   side_rests l side lane at =
       let below : l.link < net.site.links = ltb-true l.link net.site.links lane in
       let o : Option KeptLane = slice_get lanes (place_of l) in
       let m = mapped (going_on l o) (slice_get old.wires.items (place_of l)) side (sym (laid.lanes l (omega (arith, below, links_same))) ∙ at) in
-      subst (LaneStands frames counted net w l) (sym m.2)
-      (lane_rests frames counted net w may.rest may.conserved l o (are l lane) m.0 (all_counted m.0) (all_at (λ x. frames x ≡ Some []) old.wires.items (place_of l) m.0 kept.wires m.1))
+      subst (LaneStands outside.wire net w l) (sym m.2)
+      (lane_rests outside.wire net w may.rest may.conserved l o (are l lane) m.0 (all_counted m.0) (all_at (λ x. outside.wire.frames x ≡ Some []) old.wires.items (place_of l) m.0 kept.wires m.1))
 
-  device_there : (link : ℕ) (q : Q) → slice_get s.devices.items link ≡ Some q → told q ≡ Some (net.device link)
+  device_there : (link : ℕ) (q : Q) → slice_get s.devices.items link ≡ Some q → outside.device.told q ≡ Some (net.device link)
   device_there link q at =
       let taken = ap (λ (qs : List Q). slice_get qs link) (sym (laid.devices ∙ laid.laid.devices)) ∙ at in
       let below : link < links = within_taken links old.devices.items link q taken in
       kept.devices link q (sym (at_take links old.devices.items link below) ∙ taken)
 
-  pub stands_again : Stands is_honest moment image left told frames counted s net w
+  pub stands_again : Stands outside s net w
   stands_again = record {
     running = record { network = kept.network; conserved = may.conserved; sealing = kept.sealing };
     sited = kept.sited ∙ sym (ap site_of (laid.sited ∙ laid.laid.sited));

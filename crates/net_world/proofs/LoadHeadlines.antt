@@ -1,13 +1,11 @@
 -- The contracts of the calls of a load give its headline.
-use Rattle.std.proofs.Common.{◌≡◌, ℕ, Bool, List, Option, Result, Ok, Err, refl, subst}
+use Rattle.std.proofs.Common.{◌≡◌, ℕ, List, Result, Ok, Err, refl, subst}
 use Rattle.std.specs.Prelude.{MatchResult}
-use Rattle.net_model.specs.OctetSequence.{OctetSequence}
 use Rattle.net_model.specs.World.{Network, World, first}
 use Rattle.net_model.specs.Sealing.{IsSealing}
 use Rattle.net_model.specs.Site.{Site}
 use Rattle.net_model.specs.Action.{Action}
 use Rattle.declared_site.specs.SiteOf.{IsDeclared}
-use Rattle.disk_model.specs.declared.arm.Armings.{Armings}
 use Rattle.hop_frames.specs.Sealing.{hop_sealing}
 use Rattle.run_types.specs.declared.scenario.Scenario.{Scenario}
 use Rattle.run_model.specs.Turn.{HttpTexts}
@@ -36,6 +34,7 @@ use Rattle.net_world.specs.Over.{IsOver, HasHeadline}
 use Rattle.net_world.specs.declared.bench.Bench.{Bench}
 use Rattle.net_world.proofs.Headlines.{over_benched}
 use Rattle.net_world.specs.Running.{ended, HasHeadlines}
+use Rattle.world_state.specs.Outside.{Outside}
 
 ends_alike : {T : Type 0} (result : Result T Stop) → loads.ended result ≡ ended result
 ends_alike (Ok done) = refl
@@ -43,51 +42,49 @@ ends_alike (Err stops.WriteFault) = refl
 ends_alike (Err stops.Memory) = refl
 ends_alike (Err (stops.Forged line)) = refl
 
-module _ {K Q E X S : Type 0} (is_honest : K → Bool) (content : K → List ℕ) (moment : K → ℕ) (image : K → ℕ → List ℕ → Type 0) (left : E → Option OctetSequence)
-    (told : Q → Option OctetSequence) (frames : X → Option (List (List ℕ))) (counted : X → ℕ)
-    (disk_count : K → ℕ) (armed : K → Armings) (entropy_count : E → ℕ) (device_count : Q → ℕ) (wire_count : X → ℕ) (part : S → State K Q E X) where
+module _ {K Q E X S : Type 0} (outside : Outside K Q E X) (part : S → State K Q E X) where
   abbrev Standing : S → Network → World → Type 0
-  Standing s = Stands is_honest moment image left told frames counted (part s)
+  Standing s = Stands outside (part s)
 
   abbrev Resting : S → Network → World → Type 0
-  Resting s = Rests is_honest moment image left told frames counted (part s)
+  Resting s = Rests outside (part s)
 
   abbrev Counting : S → S → Site → List Action → Type 0
-  Counting a b = Tallied disk_count armed entropy_count device_count wire_count (part a) (part b)
+  Counting a b = Tallied outside (part a) (part b)
 
   rests_in : {T : Type 0} (s : S) (net : Network) (w : World) (result : Result T Stop) → MatchResult result (λ answer. IsReady Standing s net w) (λ stop. Resting s net w) → Resting s net w
-  rests_in s net w (Ok done) h = comes_to_rest is_honest moment image left told frames counted net w (part s) h.stands
+  rests_in s net w (Ok done) h = comes_to_rest outside net w (part s) h.stands
   rests_in s net w (Err stop) h = h
 
   pub headlines : {T : Type 0} (old stayed new : Bench K Q E X) (begin end : S) (scenario : Scenario) (rounds : ℕ) (before after : Given) (result : Result T Stop) →
       ((http : HttpTexts) (scenario : Scenario) (rounds : ℕ) (stop : headline.Stop) (old new : Bench K Q E X) (before after : Given) (done : List Performed) →
       scenario ≡ load_scenario rounds →
-      IsOver is_honest content moment image left told frames counted disk_count armed entropy_count device_count wire_count old new scenario.site
-      (actions_of (network_on told left old scenario.site) done) (report http (network_on told left old scenario.site) first (tasks_of scenario) done).world →
-      IsRunOf http (network_on told left old scenario.site) 1 first (tasks_of scenario) done →
-      headline.IsReported (Load rounds) stop http scenario (lines_alone (network_on told left old scenario.site) first done) before after →
-      IsCut (headline.written_of (Load rounds)) scenario.site.nodes http (network_on told left old scenario.site) first (tasks_of scenario) done before after →
-      HasHeadline moment image left told frames disk_count armed entropy_count device_count wire_count old new (Load rounds) stop http scenario before after
-      (lines_alone (network_on told left old scenario.site) first done)) →
+      IsOver outside old new scenario.site
+      (actions_of (network_on outside.device outside.entropy old scenario.site) done) (report http (network_on outside.device outside.entropy old scenario.site) first (tasks_of scenario) done).world →
+      IsRunOf http (network_on outside.device outside.entropy old scenario.site) 1 first (tasks_of scenario) done →
+      headline.IsReported (Load rounds) stop http scenario (lines_alone (network_on outside.device outside.entropy old scenario.site) first done) before after →
+      IsCut (headline.written_of (Load rounds)) scenario.site.nodes http (network_on outside.device outside.entropy old scenario.site) first (tasks_of scenario) done before after →
+      HasHeadline outside old new (Load rounds) stop http scenario before after
+      (lines_alone (network_on outside.device outside.entropy old scenario.site) first done)) →
       ((http : HttpTexts) (scenario : Scenario) (rounds : ℕ) (c : Course) (stop : headline.Stop) (old new : Given) → IsLoadOver http scenario rounds c →
       IsLoadTold stop scenario.site.nodes (lines_played http scenario c) (enc_keys c.net c.begin (lines_run c)) (dec_keys c.net c.begin (lines_run c)) old new →
       headline.IsReported (Load rounds) stop http scenario c old new) →
       IsSealing hop_sealing → scenario ≡ load_scenario rounds →
-      IsNew is_honest moment image left told frames old → IsDeclared scenario.site → IsLaidOut old stayed scenario.site (part begin) →
+      IsNew outside old → IsDeclared scenario.site → IsLaidOut old stayed scenario.site (part begin) →
       ((http : HttpTexts) →
-      RanLoad Standing Resting Counting scenario.site.nodes begin end before after http (network_on told left old scenario.site) first (tasks_of scenario) result) →
-      IsPutBack is_honest content moment image (part end) stayed new →
-      HasHeadlines moment image left told frames disk_count armed entropy_count device_count wire_count old new (Load rounds) scenario before after (ended result)
+      RanLoad Standing Resting Counting scenario.site.nodes begin end before after http (network_on outside.device outside.entropy old scenario.site) first (tasks_of scenario) result) →
+      IsPutBack outside.disk (part end) stayed new →
+      HasHeadlines outside old new (Load rounds) scenario before after (ended result)
   headlines old stayed new begin end scenario rounds before after result law reported frame_law is fresh declared laid ran back = λ http speaks.
-      let net = network_on told left old scenario.site in
+      let net = network_on outside.device outside.entropy old scenario.site in
       let r = ran http in
       let w = (report http net first (tasks_of scenario) r.done).world in
-      let over : IsOver is_honest content moment image left told frames counted disk_count armed entropy_count device_count wire_count old new scenario.site (actions_of net r.done) w = record {
+      let over : IsOver outside old new scenario.site (actions_of net r.done) w = record {
         fresh = fresh;
         declared = declared;
         ran = record { begin = part begin; end = part end; stayed = stayed; laid = laid; rests = rests_in end net w result r.left; tallied = r.tallied; back = back };
       } in
-      let benched = over_benched is_honest content moment image left told frames counted disk_count armed entropy_count device_count wire_count old new scenario (actions_of net r.done) w frame_law over in
+      let benched = over_benched outside old new scenario (actions_of net r.done) w frame_law over in
       let told_so = subst (λ (stop : headline.Stop). IsLoadTold stop scenario.site.nodes (report http net first (tasks_of scenario) r.done)
       (enc_keys net first (actions_of net r.done)) (dec_keys net first (actions_of net r.done)) before after) (ends_alike result) r.told in (
         lines_alone net first r.done,

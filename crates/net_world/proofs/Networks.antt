@@ -1,5 +1,5 @@
 -- The network of a site over a bench is a network of the scenario.
-use Rattle.std.proofs.Common.{◌≡◌, ℕ, Bool, List, refl, sym, ap, ◌∙◌, arith, Option, Some, None}
+use Rattle.std.proofs.Common.{◌≡◌, ℕ, List, refl, sym, ap, ◌∙◌, arith, Option, Some, None}
 use Rattle.std.specs.Prelude.{slice_get, unwrap_or}
 use Rattle.std.specs.List.{All}
 use Rattle.net_model.specs.OctetSequence.{OctetSequence}
@@ -14,6 +14,7 @@ use Rattle.law_run.specs.Benched.{IsBenched}
 use Rattle.net_world.specs.New.{TellsOctets, IsNew, zeros, octets_of, network_on}
 use Rattle.net_world.specs.declared.bench.Bench.{Bench}
 use Rattle.net_world.proofs.Lists.{all_at}
+use Rattle.world_state.specs.Outside.{Outside}
 
 zeros_are : IsOctetSequence zeros
 zeros_are i = omega arith
@@ -38,15 +39,14 @@ are_octets {T} told parts all n = of (slice_get parts n) (λ part at. all_at (λ
     of None h = zeros_are
     of (Some part) h = tells_octets (told part) (h part refl)
 
-module _ {K Q E X : Type 0} (is_honest : K → Bool) (moment : K → ℕ) (image : K → ℕ → List ℕ → Type 0) (left : E → Option OctetSequence) (told : Q → Option OctetSequence)
-    (frames : X → Option (List (List ℕ))) (b : Bench K Q E X) (new : IsNew is_honest moment image left told frames b) where
-  pub is_network : (site : Declared) → IsDeclared site → IsSealing hop_sealing → IsNetwork (network_on told left b site)
+module _ {K Q E X : Type 0} (outside : Outside K Q E X) (b : Bench K Q E X) (new : IsNew outside b) where
+  pub is_network : (site : Declared) → IsDeclared site → IsSealing hop_sealing → IsNetwork (network_on outside.device outside.entropy b site)
   is_network site declared sealing = record {
     site = is_site site declared;
     sealing = sealing;
-    devices = λ link. are_octets told b.devices.items new.devices link;
-    entropies = λ v. are_octets left b.entropies.items new.entropies v;
+    devices = λ link. are_octets outside.device.told b.devices.items new.devices link;
+    entropies = λ v. are_octets outside.entropy.left b.entropies.items new.entropies v;
   }
 
-  pub is_benched : (scenario : Scenario) → IsDeclared scenario.site → IsSealing hop_sealing → IsBenched scenario (network_on told left b scenario.site)
+  pub is_benched : (scenario : Scenario) → IsDeclared scenario.site → IsSealing hop_sealing → IsBenched scenario (network_on outside.device outside.entropy b scenario.site)
   is_benched scenario declared sealing = record { network = is_network scenario.site declared sealing; site = refl }

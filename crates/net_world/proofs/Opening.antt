@@ -23,6 +23,7 @@ use Rattle.net_world.specs.Veiled.{veiled_payload, veiled_facts}
 use Rattle.net_world.proofs.Apart.{IsSent}
 use Rattle.net_world.proofs.Tables.{payload_veiled}
 use Rattle.net_world.specs.Frame.{IsFrame, veiled_frame}
+use Rattle.source_devices.specs.declared.wire.Wire as Wire
 
 -- ---- the parts of a frame
 
@@ -95,9 +96,9 @@ told_is None given frame tells told = cc
 told_is (Some all) given frame tells told = told
 
 -- what a wire returned for a number is the frame with that number
-pub seen_is : {X : Type 0} (frames : X → Option (List (List ℕ))) (counted : X → ℕ) (net : Network) (w : World) (side : LaneForm X) (number n : ℕ) (octets given : List ℕ) → LaneStands frames counted net w side.lane side →
-    (s : IsSeen (frames side.wire) net w side.lane number n octets) → given ≡ take n octets → given ≡ frame_octets net w side.lane (slice_get (w.frames side.lane) s.frame)
-seen_is frames counted net w side number n octets given stands s is = is ∙ told_is (frames side.wire) (take n octets) _ stands.wire.tells s.told
+pub seen_is : {X : Type 0} (wire_says : Wire.Ghosts X) (net : Network) (w : World) (side : LaneForm X) (number n : ℕ) (octets given : List ℕ) → LaneStands wire_says net w side.lane side →
+    (s : IsSeen (wire_says.frames side.wire) net w side.lane number n octets) → given ≡ take n octets → given ≡ frame_octets net w side.lane (slice_get (w.frames side.lane) s.frame)
+seen_is wire_says net w side number n octets given stands s is = is ∙ told_is (wire_says.frames side.wire) (take n octets) _ stands.wire.tells s.told
 
 pub if_ok : {T E : Type 0} (P Q : T → Type 0) (r : Result T E) → ((x : T) → P x → Q x) → IfOk r P → IfOk r Q
 if_ok P Q (Ok x) f h = f x h

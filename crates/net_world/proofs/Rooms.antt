@@ -1,5 +1,5 @@
 -- The bench has room for the parts of a run, and no disk was armed before it.
-use Rattle.std.proofs.Common.{◌≡◌, ℕ, zero, suc, ◌*◌, ◌≤◌, Bool, List, [], ◌∷◌, ◌++◌, map, length, take, drop, refl, sym, ap, ◌∙◌, arith, Some}
+use Rattle.std.proofs.Common.{◌≡◌, ℕ, zero, suc, ◌*◌, ◌≤◌, List, [], ◌∷◌, ◌++◌, map, length, take, drop, refl, sym, ap, ◌∙◌, arith, Some}
 use Rattle.std.specs.Prelude.{max}
 use Rattle.std.specs.List.{All}
 use Rattle.std.proofs.lemmas.List.{length-map, length-append, length-drop, map-id}
@@ -8,7 +8,6 @@ use Rattle.net_model.specs.Premises.{IsSite}
 use Rattle.declared_site.specs.SiteOf.{site_of, IsDeclared}
 use Rattle.declared_site.specs.declared.site.Site.{Site as Declared}
 use Rattle.declared_site.proofs.Sites.{is_site}
-use Rattle.disk_model.specs.declared.arm.Armings.{Armings}
 use Rattle.run_ops.specs.Quiet.{IsQuiet}
 use Rattle.world_state.specs.Armed.{most_armed}
 use Rattle.world_state.specs.declared.state.State.{State}
@@ -17,6 +16,7 @@ use Rattle.world_state.specs.Passed.{disk_of, entropy_of}
 use Rattle.net_world.specs.Laid.{unstarted, IsWhole, IsLaidOut, IsPutBack, HasRoomFor}
 use Rattle.net_world.specs.declared.bench.Bench.{Bench}
 use Rattle.world_state.specs.Sized.{IsSized}
+use Rattle.disk_model.specs.declared.disk.Disk as Disk
 
 pub has_room : {K Q E X : Type 0} (b : Bench K Q E X) (old new : State K Q E X) → IsSized old → IsSized new → new.site ≡ old.site → HasRoomFor b old → HasRoomFor b new
 has_room b old new before after same room =
@@ -30,14 +30,14 @@ has_room b old new before after same room =
       wires = omega (arith, room.wires, sides);
     }
 
-pub none_armed : {K E : Type 0} (armings : K → Armings) (n m : ℕ) (ks : List K) (es : List E) → All (λ k. (armings k).count ≡ 0) ks →
-    most_armed armings (unstarted (take n ks) (take m es)) ≡ 0
-none_armed armings zero m ks es h = refl
-none_armed armings (suc n) m [] es h = refl
-none_armed armings (suc n) zero (k ∷ ks) es h = refl
-none_armed armings (suc n) (suc m) (k ∷ ks) [] h = refl
-none_armed armings (suc n) (suc m) (k ∷ ks) (e ∷ es) h =
-    ap (λ c. max c (most_armed armings (unstarted (take n ks) (take m es)))) (h zero k (omega arith)) ∙ ap (λ c. max 0 c) (none_armed armings n m ks es (λ i x below. h (suc i) x (omega (arith, below))))
+pub none_armed : {K E : Type 0} (disk_says : Disk.Ghosts K) (n m : ℕ) (ks : List K) (es : List E) → All (λ k. (disk_says.armings k).count ≡ 0) ks →
+    most_armed disk_says (unstarted (take n ks) (take m es)) ≡ 0
+none_armed disk_says zero m ks es h = refl
+none_armed disk_says (suc n) m [] es h = refl
+none_armed disk_says (suc n) zero (k ∷ ks) es h = refl
+none_armed disk_says (suc n) (suc m) (k ∷ ks) [] h = refl
+none_armed disk_says (suc n) (suc m) (k ∷ ks) (e ∷ es) h =
+    ap (λ c. max c (most_armed disk_says (unstarted (take n ks) (take m es)))) (h zero k (omega arith)) ∙ ap (λ c. max 0 c) (none_armed disk_says n m ks es (λ i x below. h (suc i) x (omega (arith, below))))
 
 pub first_is_quiet : IsQuiet first
 unfolding first
@@ -56,10 +56,10 @@ after_own of new old stayed parts n is count rest within =
     ap length is ∙ omega (arith, length-append (map of parts) stayed, length-map parts of, count, ap length rest ∙ length-drop n old, within)
 
 -- the bench is whole again after the run
-pub whole_again : {K Q E X : Type 0} (is_honest : K → Bool) (content : K → List ℕ) (moment : K → ℕ) (image : K → ℕ → List ℕ → Type 0)
+pub whole_again : {K Q E X : Type 0} (disk_says : Disk.Ghosts K)
     (old stayed new : Bench K Q E X) (site : Declared) (begin end : State K Q E X) → IsDeclared site → IsWhole old → IsLaidOut old stayed site begin → IsSized end → end.site ≡ site →
-    IsPutBack is_honest content moment image end stayed new → IsWhole new
-whole_again {X = X} is_honest content moment image old stayed new site begin end declared whole laid sized same back =
+    IsPutBack disk_says end stayed new → IsWhole new
+whole_again {X = X} disk_says old stayed new site begin end declared whole laid sized same back =
     let limits : IsSite (site_of site) = is_site site declared in
     let nodes : length end.posts.items ≡ (site_of site).nodes = sized.nodes ∙ ap (λ s. (site_of s).nodes) same in
     let sides : length end.lanes.items ≡ 2 * (site_of site).links = sized.sides ∙ ap (λ s. 2 * (site_of s).links) same in

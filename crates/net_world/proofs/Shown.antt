@@ -9,6 +9,7 @@ use Rattle.law_run.specs.Benched.{counter}
 use Rattle.law_run.proofs.Places.{placed}
 use Rattle.world_state.specs.Tallied.{Counted, IsArmedBy}
 use Rattle.net_world.specs.Seen.{shown, counted_in, armings_of, armed_between}
+use Rattle.disk_model.specs.declared.disk.Disk as Disk
 
 rose : (n before now top : ℕ) → min (before + n) top ≤ now → (min before top + n ≤ min now top) ⊎ (min now top ≡ top)
 rose n before now top least =
@@ -56,17 +57,17 @@ module _ {T : Type 0} (faults : T → ℕ) (p : Action → Bool) (actions : List
 armed_by : (faults : List Fault) (before now : Armings) → IsArmedBy faults before now → IsArmedWith (armed_between before now) faults
 armed_by faults before now h = (omega (arith, h.times), h.last)
 
-module _ {K : Type 0} (armed : K → Armings) (olds news : List K) (v : ℕ) where
+module _ {K : Type 0} (disk_says : Disk.Ghosts K) (olds news : List K) (v : ℕ) where
   abbrev Armed : List Fault → Type 0
-  Armed faults = IsArmedWith (armed_between (armings_of armed (slice_get olds v)) (armings_of armed (slice_get news v))) faults
+  Armed faults = IsArmedWith (armed_between (armings_of disk_says (slice_get olds v)) (armings_of disk_says (slice_get news v))) faults
 
-  pub seen_armed : (faults : List Fault) (before now : K) → slice_get olds v ≡ Some before → slice_get news v ≡ Some now → IsArmedBy faults (armed before) (armed now) → Armed faults
+  pub seen_armed : (faults : List Fault) (before now : K) → slice_get olds v ≡ Some before → slice_get news v ≡ Some now → IsArmedBy faults (disk_says.armings before) (disk_says.armings now) → Armed faults
   seen_armed faults before now was is h =
-      subst (λ (o : Option K). IsArmedWith (armed_between (armings_of armed o) (armings_of armed (slice_get news v))) faults) (sym was)
-      (subst (λ (o : Option K). IsArmedWith (armed_between (armed before) (armings_of armed o)) faults) (sym is) (armed_by faults (armed before) (armed now) h))
+      subst (λ (o : Option K). IsArmedWith (armed_between (armings_of disk_says o) (armings_of disk_says (slice_get news v))) faults) (sym was)
+      (subst (λ (o : Option K). IsArmedWith (armed_between (disk_says.armings before) (armings_of disk_says o)) faults) (sym is) (armed_by faults (disk_says.armings before) (disk_says.armings now) h))
 
   pub seen_unarmed : (faults : List Fault) → faults ≡ [] → slice_get news v ≡ slice_get olds v → Armed faults
   seen_unarmed faults none same =
       subst (λ (fs : List Fault). Armed fs) (sym none)
-      (subst (λ (o : Option K). IsArmedWith (armed_between (armings_of armed (slice_get olds v)) (armings_of armed o)) []) (sym same)
-      (armed_by [] (armings_of armed (slice_get olds v)) (armings_of armed (slice_get olds v)) (record { times = omega arith; last = refl })))
+      (subst (λ (o : Option K). IsArmedWith (armed_between (armings_of disk_says (slice_get olds v)) (armings_of disk_says o)) []) (sym same)
+      (armed_by [] (armings_of disk_says (slice_get olds v)) (armings_of disk_says (slice_get olds v)) (record { times = omega arith; last = refl })))

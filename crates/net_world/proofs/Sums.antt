@@ -1,5 +1,5 @@
 -- Sums over the lanes of a network.
-use Rattle.std.proofs.Common.{◌≡◌, ℕ, zero, suc, ◌+◌, ◌*◌, ◌<◌, ◌≤◌, true, List, [], ◌∷◌, length, take, get_or, refl, sym, ap, ◌∙◌, subst, arith, Option, Some, inl, inr, ◌⊎◌}
+use Rattle.std.proofs.Common.{◌≡◌, ℕ, zero, suc, ◌+◌, ◌*◌, ◌<◌, ◌≤◌, true, List, [], ◌∷◌, length, take, get_or, refl, sym, ap, ◌∙◌, subst, arith, Some, inl, inr, ◌⊎◌}
 use Rattle.std.specs.Prelude.{slice_get}
 use Rattle.std.specs.List.{sum_by}
 use Rattle.std.proofs.lemmas.Bool.{lt-ltb}
@@ -16,6 +16,7 @@ use Rattle.net_world.specs.Veiled.{over_lanes}
 use Rattle.world_state.specs.Passed.{LaneStands}
 use Rattle.world_state.specs.Stands.{place_of}
 use Rattle.net_world.specs.Lanes.{AreLanes}
+use Rattle.source_devices.specs.declared.wire.Wire as Wire
 
 -- a number is even or odd
 pub halves : (n : ℕ) → ((k : ℕ) × (n ≡ 2 * k)) ⊎ ((k : ℕ) × (n ≡ 2 * k + 1))
@@ -36,11 +37,11 @@ lane_at net i lt = elim (halves i) [
   | inr h ↦ (lane_of h.0 Down, record { at = lt-ltb h.0 net.site.links (omega (arith, h.1, lt)); place = omega (arith, h.1) })
 ]
 
-module _ {X : Type 0} (frames : X → Option (List (List ℕ))) (counted : X → ℕ) (net : Network) (w : World) (sides : List (LaneForm X)) (lanes : AreLanes frames counted net w sides) where
+module _ {X : Type 0} (wire_says : Wire.Ghosts X) (net : Network) (w : World) (sides : List (LaneForm X)) (lanes : AreLanes wire_says net w sides) where
   -- the side at a place stands for its own lane
   pub record IsSide (side : LaneForm X) : Type 0 where
     pub at : is_lane net.site side.lane ≡ true
-    pub stands : LaneStands frames counted net w side.lane side
+    pub stands : LaneStands wire_says net w side.lane side
     pub size : length side.bytes ≤ 524288
 
   side_of : (l : Lane) (side : LaneForm X) → is_lane net.site l ≡ true → slice_get sides (place_of l) ≡ Some side → IsSide side
@@ -51,7 +52,7 @@ module _ {X : Type 0} (frames : X → Option (List (List ℕ))) (counted : X →
       omega (arith, ap length s.bytes, lane_length l.way (net.device l.link) (w.durable.blocks l), lane_small l.way (w.durable.blocks l) (lanes.running.conserved.few_blocks l)) in
       record {
         at = subst (λ (k : Lane). is_lane net.site k ≡ true) (sym same) at;
-        stands = subst (λ (k : Lane). LaneStands frames counted net w k side) (sym same) s;
+        stands = subst (λ (k : Lane). LaneStands wire_says net w k side) (sym same) s;
         size = size;
       }
 

@@ -1,11 +1,11 @@
 -- What entropies and wires tell after a run.
-use Rattle.std.proofs.Common.{◌≡◌, ℕ, ◌*◌, ◌<◌, ◌≤◌, Bool, false, List, [], drop, map, refl, sym, ap, subst, ◌∙◌, arith, Option, Some}
+use Rattle.std.proofs.Common.{◌≡◌, ℕ, ◌*◌, ◌<◌, ◌≤◌, false, List, [], drop, map, refl, sym, ap, subst, ◌∙◌, arith, Option, Some}
 use Rattle.std.specs.Prelude.{IfSome}
 use Rattle.std.proofs.lemmas.Bool.{ltb-true}
 use Rattle.qkd_base.specs.declared.lane.Way.{Way}
 use Rattle.qkd_base.specs.declared.lane.Way.TheVariants.{Up, Down}
 use Rattle.qkd_base.specs.declared.lane.Lane.{Lane}
-use Rattle.net_model.specs.OctetSequence.{OctetSequence, sequence_of}
+use Rattle.net_model.specs.OctetSequence.{sequence_of}
 use Rattle.net_model.specs.Site.{Site}
 use Rattle.net_model.specs.World.{Network, World}
 use Rattle.net_model.specs.Events.{is_lane}
@@ -15,11 +15,14 @@ use Rattle.law_base.proofs.Base.{not_false}
 use Rattle.law_run.proofs.Rests.{rest_is}
 use Rattle.world_state.specs.Passed.{Post, On, Off, spelled_wire, WireStands, entropy_of, EntropyStands, PostStands}
 use Rattle.world_state.specs.Stands.{place_of}
+use Rattle.disk_model.specs.declared.disk.Disk as Disk
+use Rattle.source_devices.specs.declared.entropy.Entropy as Entropy
+use Rattle.source_devices.specs.declared.wire.Wire as Wire
 
-pub entropy_there : {K E : Type 0} (is_honest : K → Bool) (moment : K → ℕ) (image : K → ℕ → List ℕ → Type 0) (left : E → Option OctetSequence) (net : Network) (w : World) (v : ℕ) (p : Post K E) →
-    PostStands is_honest moment image left net w v p → EntropyStands left net w v (entropy_of p)
-entropy_there is_honest moment image left net w v (On m) h = h.entropy
-entropy_there is_honest moment image left net w v (Off disk entropy) h = h.0
+pub entropy_there : {K E : Type 0} (disk_says : Disk.Ghosts K) (entropy_says : Entropy.Ghosts E) (net : Network) (w : World) (v : ℕ) (p : Post K E) →
+    PostStands disk_says entropy_says net w v p → EntropyStands entropy_says net w v (entropy_of p)
+entropy_there disk_says entropy_says net w v (On m) h = h.entropy
+entropy_there disk_says entropy_says net w v (Off disk entropy) h = h.0
 
 -- the octets left are those that were told, without those drawn
 
@@ -47,6 +50,6 @@ pub empty_wire : (net : Network) (w : World) (l : Lane) → w.wire l ≡ [] → 
 unfolding wire_octets
 empty_wire net w l none = ap (map _) none
 
-pub told_frames : {X : Type 0} (frames : X → Option (List (List ℕ))) (counted : X → ℕ) (net : Network) (w : World) (l : Lane) (wire : X) (all : List (List ℕ)) → WireStands frames counted net w l wire → frames wire ≡ Some all →
+pub told_frames : {X : Type 0} (wire_says : Wire.Ghosts X) (net : Network) (w : World) (l : Lane) (wire : X) (all : List (List ℕ)) → WireStands wire_says net w l wire → wire_says.frames wire ≡ Some all →
     all ≡ wire_octets net w l
-told_frames frames counted net w l wire all h is = subst (λ (o : Option (List (List ℕ))). IfSome o (λ xs. xs ≡ spelled_wire net w l)) is h.told ∙ sym (wire_is net w l)
+told_frames wire_says net w l wire all h is = subst (λ (o : Option (List (List ℕ))). IfSome o (λ xs. xs ≡ spelled_wire net w l)) is h.told ∙ sym (wire_is net w l)

@@ -1,14 +1,12 @@
 -- A run out of a bench and what the sink took of it give the headline of the veil.
-use Rattle.std.proofs.Common.{◌≡◌, ℕ, Bool, List, [], ◌∷◌, Option, Result, Ok, Err, refl, sym, subst, arith}
+use Rattle.std.proofs.Common.{◌≡◌, ℕ, List, [], ◌∷◌, Result, Ok, Err, refl, sym, subst, arith}
 use Rattle.std.specs.Prelude.{MatchResult, OnOk}
-use Rattle.net_model.specs.OctetSequence.{OctetSequence}
 use Rattle.net_model.specs.Premises.{IsNetwork}
 use Rattle.net_model.specs.Sealing.{IsSealing}
 use Rattle.net_model.specs.Invariant.{Conserved}
 use Rattle.net_model.specs.World.{Network, World, first}
 use Rattle.net_model.specs.Step.{run, IsRun}
 use Rattle.declared_site.specs.SiteOf.{IsDeclared}
-use Rattle.disk_model.specs.declared.arm.Armings.{Armings}
 use Rattle.hop_frames.specs.Sealing.{hop_sealing}
 use Rattle.run_types.specs.declared.scenario.Scenario.{Scenario}
 use Rattle.run_model.specs.Turn.{HttpTexts}
@@ -41,6 +39,7 @@ use Rattle.net_world.proofs.Headlines.{over_benched, over_seen}
 use Rattle.net_world.specs.Running.{RanOut, ended}
 use Rattle.net_world.specs.Lanes.{AreLanes, veil_line, Tells}
 use Rattle.net_world.specs.Veiling.{Ends, IsVeilTold, HasVeiled}
+use Rattle.world_state.specs.Outside.{Outside}
 
 -- if a sink doesn't tell what it took, every text counts as given in part
 none_taken : (texts : List (List ℕ)) → TookFirst unknown unknown texts
@@ -90,17 +89,15 @@ never_blamed (Err stops.WriteFault) h e = omega (arith, h.rose refl)
 never_blamed (Err stops.Memory) h e = cc
 never_blamed (Err (stops.Forged line)) h e = cc
 
-module _ {K Q E X : Type 0} (is_honest : K → Bool) (content : K → List ℕ) (moment : K → ℕ) (image : K → ℕ → List ℕ → Type 0) (left : E → Option OctetSequence)
-    (told : Q → Option OctetSequence) (frames : X → Option (List (List ℕ))) (counted : X → ℕ)
-    (disk_count : K → ℕ) (armed : K → Armings) (entropy_count : E → ℕ) (device_count : Q → ℕ) (wire_count : X → ℕ) where
+module _ {K Q E X : Type 0} (outside : Outside K Q E X) where
   rests_in : {T : Type 0} (s : State K Q E X) (net : Network) (w : World) (result : Result T Stop) →
-      MatchResult result (λ answer. IsReady (Stands is_honest moment image left told frames counted) s net w) (λ stop. Rests is_honest moment image left told frames counted s net w) →
-      Rests is_honest moment image left told frames counted s net w
-  rests_in s net w (Ok done) h = comes_to_rest is_honest moment image left told frames counted net w s h.stands
+      MatchResult result (λ answer. IsReady (Stands outside) s net w) (λ stop. Rests outside s net w) →
+      Rests outside s net w
+  rests_in s net w (Ok done) h = comes_to_rest outside net w s h.stands
   rests_in s net w (Err stop) h = h
 
   -- the lanes of a state
-  pub are_lanes : (s : State K Q E X) (net : Network) (w : World) → Stands is_honest moment image left told frames counted s net w → AreLanes frames counted net w s.lanes.items
+  pub are_lanes : (s : State K Q E X) (net : Network) (w : World) → Stands outside s net w → AreLanes outside.wire net w s.lanes.items
   are_lanes s net w h = record { running = h.running; count = h.sides; lanes = h.lanes }
 
   module _ {T U W : Type 0} (given : W → Given) (old stayed new : Bench K Q E X) (state : State K Q E X) (scenario : Scenario) (result : Result T Stop) (before after : W) (final : Result U Stop)
@@ -117,25 +114,25 @@ module _ {K Q E X : Type 0} (is_honest : K → Bool) (content : K → List ℕ) 
       (whole_law : (http : HttpTexts) (scenario : Scenario) (workers : ℕ) (net : Network) (begin : World) (done : List Performed) → IsBenched scenario net → Conserved net begin →
       IsRunOf http net workers begin (tasks_of scenario) done → (report http net begin (tasks_of scenario) done).world ≡ last_world (lines_alone net begin done))
       (fit_law : (net : Network) (w : World) → IsNetwork net → Conserved net w → net.sealing ≡ hop_sealing → EveryKeyFits net w)
-      (fresh : IsNew is_honest moment image left told frames old) (declared : IsDeclared scenario.site)
-      (ran : RanOut is_honest moment image left told frames counted disk_count armed entropy_count device_count wire_count old stayed 1 scenario unknown unknown state result)
-      (back : IsPutBack is_honest content moment image state stayed new) (calm : result ≡ Err stops.WriteFault → ⊥)
-      (ends : (net : Network) (w : World) → OnOk result (Stands is_honest moment image left told frames counted state net w) → Ends given result (veil_line net w) before after final) where
-    pub veiled : HasVeiled moment image left told frames disk_count armed entropy_count device_count wire_count given old new scenario before after (ended final)
+      (fresh : IsNew outside old) (declared : IsDeclared scenario.site)
+      (ran : RanOut outside old stayed 1 scenario unknown unknown state result)
+      (back : IsPutBack outside.disk state stayed new) (calm : result ≡ Err stops.WriteFault → ⊥)
+      (ends : (net : Network) (w : World) → OnOk result (Stands outside state net w) → Ends given result (veil_line net w) before after final) where
+    pub veiled : HasVeiled outside given old new scenario before after (ended final)
     veiled http speaks =
-        let net = network_on told left old scenario.site in
+        let net = network_on outside.device outside.entropy old scenario.site in
         let r = ran.ran http speaks in
         let actions = actions_of net r.done in
         let p = report http net first (tasks_of scenario) r.done in
         let rests = rests_in state net p.world result r.left in
-        let over : IsOver is_honest content moment image left told frames counted disk_count armed entropy_count device_count wire_count old new scenario.site actions p.world = record {
+        let over : IsOver outside old new scenario.site actions p.world = record {
           fresh = fresh;
           declared = declared;
           ran = record { begin = ran.begin; end = state; stayed = stayed; laid = ran.laid; rests = rests; tallied = r.tallied; back = back };
         } in
         let begins : MayBegin net first = first_begins net in
-        let benched = over_benched is_honest content moment image left told frames counted disk_count armed entropy_count device_count wire_count old new scenario actions p.world frame_law over in
-        let sees = over_seen is_honest content moment image left told frames counted disk_count armed entropy_count device_count wire_count old new scenario actions p.world frame_law over
+        let benched = over_benched outside old new scenario actions p.world frame_law over in
+        let sees = over_seen outside old new scenario actions p.world frame_law over
         (tasks_run http net 1 first (tasks_of scenario) r.done benched.network begins.conserved r.is) (tasks_lead http net 1 first (tasks_of scenario) r.done benched.network begins.conserved r.is) in
         let end : Ends given result (veil_line net p.world) before after final = ends net p.world (stands_of net p.world result r.left) in
         let leads : last_world (lines_alone net first r.done) ≡ p.world = sym (whole_law http scenario 1 net first r.done benched begins.conserved r.is) in
@@ -155,7 +152,7 @@ module _ {K Q E X : Type 0} (is_honest : K → Bool) (content : K → List ℕ) 
         )
       where
         stands_of : {T : Type 0} (net : Network) (w : World) (result : Result T Stop) →
-            MatchResult result (λ answer. IsReady (Stands is_honest moment image left told frames counted) state net w) (λ stop. Rests is_honest moment image left told frames counted state net w) →
-            OnOk result (Stands is_honest moment image left told frames counted state net w)
+            MatchResult result (λ answer. IsReady (Stands outside) state net w) (λ stop. Rests outside state net w) →
+            OnOk result (Stands outside state net w)
         stands_of net w (Ok done) h = h.stands
         stands_of net w (Err stop) h = tt

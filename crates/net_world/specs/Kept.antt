@@ -1,11 +1,11 @@
 -- A bench that has been used before, and the lanes that its user had.
-use Rattle.std.specs.Prelude.{◌≡◌, ℕ, ◌*◌, ◌-◌, ◌<◌, ◌≤◌, Bool, true, IsTrue, List, [], length, slice_get, Option, Some, None}
+use Rattle.std.specs.Prelude.{◌≡◌, ℕ, ◌*◌, ◌-◌, ◌<◌, ◌≤◌, true, IsTrue, List, [], length, slice_get, Option, Some, None}
 use Rattle.std.specs.List.{All, AllByRecursion, flat_map}
 use Rattle.std.specs.Option.{option_map}
 use Rattle.qkd_base.specs.declared.lane.Lane.{Lane}
 use Rattle.qkd_base.specs.LaneBytes.{way_blocks}
 use Rattle.net_model.specs.Events.{is_lane}
-use Rattle.net_model.specs.OctetSequence.{OctetSequence, first_blocks}
+use Rattle.net_model.specs.OctetSequence.{first_blocks}
 use Rattle.net_model.specs.Premises.{IsNetwork}
 use Rattle.net_model.specs.World.{Network, World}
 use Rattle.declared_site.specs.SiteOf.{site_of}
@@ -19,20 +19,20 @@ use Rattle.world_state.specs.declared.state.State.{State}
 use Rattle.net_world.specs.Laid.{IsWhole, IsLaidOut}
 use Rattle.net_world.specs.declared.bench.Bench.{Bench}
 use Rattle.net_world.specs.declared.kept_lane.KeptLane.{KeptLane}
+use Rattle.world_state.specs.Outside.{Outside}
 
 -- The bench stands for a network whose managers are all down. Each disk of a node is the node's, and each other disk is honest and empty. Entropies tell the
 -- octets that were not drawn yet, devices tell all of theirs, and no wire has taken a frame.
-pub record IsKept {K Q E X : Type 0} (is_honest : K → Bool) (moment : K → ℕ) (image : K → ℕ → List ℕ → Type 0) (left : E → Option OctetSequence)
-    (told : Q → Option OctetSequence) (frames : X → Option (List (List ℕ))) (b : Bench K Q E X) (site : Declared) (net : Network) (w : World) : Type 0 where
+pub record IsKept {K Q E X : Type 0} (outside : Outside K Q E X) (b : Bench K Q E X) (site : Declared) (net : Network) (w : World) : Type 0 where
   pub network : IsNetwork net
   pub sited : net.site ≡ site_of site
   pub sealing : net.sealing ≡ hop_sealing
   pub whole : IsWhole b
-  pub disks : (v : ℕ) (k : K) → v < net.site.nodes → slice_get b.disks.items v ≡ Some k → DownStands is_honest moment image net w v k
-  pub other_disks : (v : ℕ) (k : K) → net.site.nodes ≤ v → slice_get b.disks.items v ≡ Some k → IsTrue (is_honest k) × Only [] (image k (moment k))
-  pub entropies : (v : ℕ) (e : E) → slice_get b.entropies.items v ≡ Some e → EntropyStands left net w v e
-  pub devices : (link : ℕ) (q : Q) → slice_get b.devices.items link ≡ Some q → told q ≡ Some (net.device link)
-  pub wires : All (λ x. frames x ≡ Some []) b.wires.items
+  pub disks : (v : ℕ) (k : K) → v < net.site.nodes → slice_get b.disks.items v ≡ Some k → DownStands outside.disk net w v k
+  pub other_disks : (v : ℕ) (k : K) → net.site.nodes ≤ v → slice_get b.disks.items v ≡ Some k → IsTrue (outside.disk.is_honest k) × Only [] (outside.disk.image k (outside.disk.moment k))
+  pub entropies : (v : ℕ) (e : E) → slice_get b.entropies.items v ≡ Some e → EntropyStands outside.entropy net w v e
+  pub devices : (link : ℕ) (q : Q) → slice_get b.devices.items link ≡ Some q → outside.device.told q ≡ Some (net.device link)
+  pub wires : All (λ x. outside.wire.frames x ≡ Some []) b.wires.items
 
 -- ---- the lanes
 

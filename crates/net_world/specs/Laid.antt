@@ -1,5 +1,5 @@
 -- The state that is laid out of a bench, and the bench to which it is put back.
-use Rattle.std.specs.Prelude.{◌≡◌, ℕ, ◌+◌, ◌-◌, ◌*◌, ◌^◌, ◌<◌, ◌≤◌, Bool, IsTrue, List, [], ◌∷◌, ◌++◌, length, map, take, drop, slice_get, vec_capacity, Some}
+use Rattle.std.specs.Prelude.{◌≡◌, ◌+◌, ◌-◌, ◌*◌, ◌^◌, ◌<◌, ◌≤◌, IsTrue, List, [], ◌∷◌, ◌++◌, length, map, take, drop, slice_get, vec_capacity, Some}
 use Rattle.std.specs.List.{All}
 use Rattle.std.specs.Option.{option_map}
 use Rattle.qkd_base.specs.declared.lane.Lane.{Lane}
@@ -11,6 +11,7 @@ use Rattle.world_state.specs.Passed.{WhereUp, Post, On, Off, disk_of, entropy_of
 use Rattle.world_state.specs.Stands.{place_of}
 use Rattle.world_state.specs.declared.state.State.{State}
 use Rattle.net_world.specs.declared.bench.Bench.{Bench}
+use Rattle.disk_model.specs.declared.disk.Disk as Disk
 
 -- a bench has enough parts for every site: 16 nodes and 32 links
 pub record IsWhole {K Q E X : Type 0} (b : Bench K Q E X) : Type 0 where
@@ -50,16 +51,16 @@ pub record HasRoomFor {K Q E X : Type 0} (b : Bench K Q E X) (s : State K Q E X)
   pub wires : length s.lanes.items + length b.wires.items ≤ vec_capacity b.wires
 
 -- the batches of a manager that is up are what an honest disk holds, and a crash can leave no other image
-abbrev pub IsOnDisk : {K E : Type 0} → (K → Bool) → (K → List ℕ) → (K → ℕ) → (K → ℕ → List ℕ → Type 0) → Post K E → Type 0
-IsOnDisk is_honest content moment image (On m) =
-    WhereUp (λ j. IsTrue (is_honest j.disk) → IsKept j.live j.batches (content j.disk) (image j.disk (moment j.disk))) m.standing
-IsOnDisk is_honest content moment image (Off disk entropy) = Unit {0}
+abbrev pub IsOnDisk : {K E : Type 0} → Disk.Ghosts K → Post K E → Type 0
+IsOnDisk disk_says (On m) =
+    WhereUp (λ j. IsTrue (disk_says.is_honest j.disk) → IsKept j.live j.batches (disk_says.content j.disk) (disk_says.image j.disk (disk_says.moment j.disk))) m.standing
+IsOnDisk disk_says (Off disk entropy) = Unit {0}
 
 -- The bench has the state's parts, and then those that stayed.
-pub record IsPutBack {K Q E X : Type 0} (is_honest : K → Bool) (content : K → List ℕ) (moment : K → ℕ) (image : K → ℕ → List ℕ → Type 0)
+pub record IsPutBack {K Q E X : Type 0} (disk_says : Disk.Ghosts K)
     (s : State K Q E X) (old new : Bench K Q E X) : Type 0 where
   pub disks : map Some new.disks.items ≡ map disk_of s.posts.items ++ map Some old.disks.items
   pub entropies : new.entropies.items ≡ map entropy_of s.posts.items ++ old.entropies.items
   pub devices : new.devices.items ≡ s.devices.items ++ old.devices.items
   pub wires : new.wires.items ≡ map (λ (side : LaneForm X). side.wire) s.lanes.items ++ old.wires.items
-  pub on_disk : All (IsOnDisk is_honest content moment image) s.posts.items
+  pub on_disk : All (IsOnDisk disk_says) s.posts.items

@@ -1,5 +1,5 @@
 -- The lanes of a network, and the line of their veils.
-use Rattle.std.specs.Prelude.{◌≡◌, ℕ, ◌*◌, true, List, [], ◌∷◌, ◌++◌, length, slice_get, Option, Some, Result, Ok, Err}
+use Rattle.std.specs.Prelude.{◌≡◌, ℕ, ◌*◌, true, List, [], ◌∷◌, ◌++◌, length, slice_get, Some, Result, Ok, Err}
 use Rattle.std.specs.Fmt.{decimal}
 use lib.Chars.{codes}
 use Rattle.qkd_base.specs.declared.lane.Lane.{Lane}
@@ -12,12 +12,13 @@ use Rattle.run_lines.specs.declared.stop.Stop.TheVariants as stops
 use Rattle.net_world.specs.Veiled.{all_frames, all_changed}
 use Rattle.world_state.specs.Passed.{IsRunning, LaneStands}
 use Rattle.world_state.specs.Stands.{place_of}
+use Rattle.source_devices.specs.declared.wire.Wire as Wire
 
 -- the lanes of a network, link by link, the lane up before the lane down
-pub record AreLanes {X : Type 0} (frames : X → Option (List (List ℕ))) (counted : X → ℕ) (net : Network) (w : World) (sides : List (LaneForm X)) : Type 0 where
+pub record AreLanes {X : Type 0} (wire_says : Wire.Ghosts X) (net : Network) (w : World) (sides : List (LaneForm X)) : Type 0 where
   pub running : IsRunning net w
   pub count : length sides ≡ 2 * net.site.links
-  pub lanes : (l : Lane) (side : LaneForm X) → is_lane net.site l ≡ true → slice_get sides (place_of l) ≡ Some side → LaneStands frames counted net w l side
+  pub lanes : (l : Lane) (side : LaneForm X) → is_lane net.site l ≡ true → slice_get sides (place_of l) ≡ Some side → LaneStands wire_says net w l side
 
 -- the number of different frames on all wires, and the number of bytes of all lanes that the veils change
 unfoldable pub veil_text : (frames bytes : ℕ) → List ℕ

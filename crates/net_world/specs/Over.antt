@@ -1,11 +1,9 @@
 -- Actions that were done over a new bench, and the headline of their course.
-use Rattle.std.specs.Prelude.{◌≡◌, ℕ, Bool, List, Option}
-use Rattle.net_model.specs.OctetSequence.{OctetSequence}
+use Rattle.std.specs.Prelude.{◌≡◌, List}
 use Rattle.net_model.specs.World.{World, first}
 use Rattle.net_model.specs.Action.{Action}
 use Rattle.declared_site.specs.SiteOf.{IsDeclared}
 use Rattle.declared_site.specs.declared.site.Site.{Site as Declared}
-use Rattle.disk_model.specs.declared.arm.Armings.{Armings}
 use Rattle.run_types.specs.declared.scenario.Scenario.{Scenario}
 use Rattle.run_model.specs.Turn.{HttpTexts}
 use Rattle.run_model.specs.Bench.{DiskBatches, Seen}
@@ -17,25 +15,23 @@ use Rattle.net_world.specs.Reading.{ReadsDisks}
 use Rattle.net_world.specs.Seen.{IsSeenOn}
 use Rattle.net_world.specs.Ran.{HasRun}
 use Rattle.net_world.specs.declared.bench.Bench.{Bench}
+use Rattle.world_state.specs.Outside.{Outside}
 
 -- the bench was new, and the actions were done in the network over its parts
-pub record IsOver {K Q E X : Type 0} (is_honest : K → Bool) (content : K → List ℕ) (moment : K → ℕ) (image : K → ℕ → List ℕ → Type 0) (left : E → Option OctetSequence)
-    (told : Q → Option OctetSequence) (frames : X → Option (List (List ℕ))) (counted : X → ℕ)
-    (disk_count : K → ℕ) (armed : K → Armings) (entropy_count : E → ℕ) (device_count : Q → ℕ) (wire_count : X → ℕ)
+pub record IsOver {K Q E X : Type 0} (outside : Outside K Q E X)
     (old new : Bench K Q E X) (site : Declared) (actions : List Action) (w : World) : Type 0 where
-  pub fresh : IsNew is_honest moment image left told frames old
+  pub fresh : IsNew outside old
   pub declared : IsDeclared site
-  pub ran : HasRun is_honest content moment image left told frames counted disk_count armed entropy_count device_count wire_count old new site (network_on told left old site) actions w
+  pub ran : HasRun outside old new site (network_on outside.device outside.entropy old site) actions w
 
 -- The course is a run over what the bench's parts told. Its headline holds for whatever is seen of the bench afterwards, if the batches of a disk are read from
 -- it.
-pub record HasHeadline {K Q E X : Type 0} (moment : K → ℕ) (image : K → ℕ → List ℕ → Type 0) (left : E → Option OctetSequence) (told : Q → Option OctetSequence)
-    (frames : X → Option (List (List ℕ))) (disk_count : K → ℕ) (armed : K → Armings) (entropy_count : E → ℕ) (device_count : Q → ℕ) (wire_count : X → ℕ)
+pub record HasHeadline {K Q E X : Type 0} (outside : Outside K Q E X)
     (old new : Bench K Q E X) (words : Words) (stop : Stop) (http : HttpTexts) (scenario : Scenario) (before after : Given) (c : Course) : Type 0 where
-  pub net : c.net ≡ network_on told left old scenario.site
+  pub net : c.net ≡ network_on outside.device outside.entropy old scenario.site
   -- nothing was there before
   pub begin : c.begin ≡ first
-  pub holds : (reading : DiskBatches) (seen : Seen) → ReadsDisks reading → IsSeenOn moment image left frames disk_count armed entropy_count device_count wire_count old new seen →
+  pub holds : (reading : DiskBatches) (seen : Seen) → ReadsDisks reading → IsSeenOn outside old new seen →
       Headline words stop http reading scenario seen before after c
   -- where the run was cut, only items of the last task that was done may be missing
   pub cut : IsCut (written_of words) scenario.site.nodes http c.net first (tasks_of scenario) c.done before after

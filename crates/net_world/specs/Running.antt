@@ -1,8 +1,6 @@
 -- The result of a scenario that is run over a bench.
-use Rattle.std.specs.Prelude.{◌≡◌, ℕ, Bool, List, Option, Result, Ok, Err}
-use Rattle.net_model.specs.OctetSequence.{OctetSequence}
+use Rattle.std.specs.Prelude.{◌≡◌, ℕ, Result, Ok, Err}
 use Rattle.net_model.specs.World.{first}
-use Rattle.disk_model.specs.declared.arm.Armings.{Armings}
 use Rattle.run_types.specs.declared.scenario.Scenario.{Scenario}
 use Rattle.run_model.specs.Turn.{HttpTexts}
 use Rattle.run_model.specs.Course.{Words, Course, tasks_of}
@@ -21,6 +19,7 @@ use Rattle.net_world.specs.New.{network_on}
 use Rattle.net_world.specs.Over.{HasHeadline}
 use Rattle.net_world.specs.declared.bench.Bench.{Bench}
 use Rattle.world_state.specs.Sized.{IsSized}
+use Rattle.world_state.specs.Outside.{Outside}
 
 -- how the run ended
 abbrev pub ended : {T : Type 0} → Result T Stop → headline.Stop
@@ -37,22 +36,19 @@ pub record WasLeft {K Q E X W T : Type 0} (old new : Bench K Q E X) (before afte
 
 -- A scenario was run out of a bench. The bench's parts were laid out, and the run did the scenario's tasks in the network over these parts. The parts of the
 -- resulting state are not yet put back.
-pub record RanOut {K Q E X T : Type 0} (is_honest : K → Bool) (moment : K → ℕ) (image : K → ℕ → List ℕ → Type 0) (left : E → Option OctetSequence)
-    (told : Q → Option OctetSequence) (frames : X → Option (List (List ℕ))) (counted : X → ℕ)
-    (disk_count : K → ℕ) (armed : K → Armings) (entropy_count : E → ℕ) (device_count : Q → ℕ) (wire_count : X → ℕ)
+pub record RanOut {K Q E X T : Type 0} (outside : Outside K Q E X)
     (old stayed : Bench K Q E X) (workers : ℕ) (scenario : Scenario) (before after : Given) (state : State K Q E X) (ended : Result T Stop) : Type 0 where
   pub begin : State K Q E X
   pub laid : IsLaidOut old stayed scenario.site begin
   pub ran : (http : HttpTexts) → IsTextsOf scenario.site.nodes scenario.site.entitlements http →
-      RanTasks (Stands is_honest moment image left told frames counted) (Rests is_honest moment image left told frames counted) (Tallied disk_count armed entropy_count device_count wire_count)
-      scenario.site.nodes begin state before after http (network_on told left old scenario.site) workers first (tasks_of scenario) ended
+      RanTasks (Stands outside) (Rests outside) (Tallied outside)
+      scenario.site.nodes begin state before after http (network_on outside.device outside.entropy old scenario.site) workers first (tasks_of scenario) ended
   pub sized : IsSized state
   pub sited : state.site ≡ scenario.site
   pub room : HasRoomFor stayed state
 
 -- For all texts of HTTP that are the site's there is one course whose headline holds.
-abbrev pub HasHeadlines : {K Q E X : Type 0} → (K → ℕ) → (K → ℕ → List ℕ → Type 0) → (E → Option OctetSequence) → (Q → Option OctetSequence) → (X → Option (List (List ℕ))) →
-    (K → ℕ) → (K → Armings) → (E → ℕ) → (Q → ℕ) → (X → ℕ) → (old new : Bench K Q E X) → Words → Scenario → (before after : Given) → headline.Stop → Type 0
-HasHeadlines moment image left told frames disk_count armed entropy_count device_count wire_count old new words scenario before after stop =
+abbrev pub HasHeadlines : {K Q E X : Type 0} → Outside K Q E X → (old new : Bench K Q E X) → Words → Scenario → (before after : Given) → headline.Stop → Type 0
+HasHeadlines outside old new words scenario before after stop =
     (http : HttpTexts) → IsTextsOf scenario.site.nodes scenario.site.entitlements http →
-    (c : Course) × HasHeadline moment image left told frames disk_count armed entropy_count device_count wire_count old new words stop http scenario before after c
+    (c : Course) × HasHeadline outside old new words stop http scenario before after c

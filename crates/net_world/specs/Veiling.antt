@@ -1,7 +1,5 @@
 -- The result of a scenario that is run over a bench, with the veil of its wires.
-use Rattle.std.specs.Prelude.{◌≡◌, ℕ, List, [], ◌∷◌, Option, Result, Ok, Err}
-use Rattle.net_model.specs.OctetSequence.{OctetSequence}
-use Rattle.disk_model.specs.declared.arm.Armings.{Armings}
+use Rattle.std.specs.Prelude.{◌≡◌, ℕ, List, [], ◌∷◌, Result, Ok, Err}
 use Rattle.run_types.specs.declared.scenario.Scenario.{Scenario}
 use Rattle.run_model.specs.Play.{Ending, Whole}
 use Rattle.run_model.specs.Turn.{HttpTexts}
@@ -15,6 +13,7 @@ use Rattle.net_world.specs.Other.{EveryKeyFits}
 use Rattle.run_lines.specs.declared.stop.Stop.{Stop}
 use Rattle.net_world.specs.Running.{ended}
 use Rattle.net_world.specs.Lanes.{veil_line, Tells}
+use Rattle.world_state.specs.Outside.{Outside}
 
 -- If the run stopped early, the call ended the same way and the sink was not touched. If all lines were done, the line was written to the sink.
 abbrev pub Ends : {T U W : Type 0} → (W → Given) → (ran : Result T Stop) → (line : List ℕ) → (before after : W) → (final : Result U Stop) → Type 0
@@ -31,16 +30,14 @@ IsVeilTold given (headline.ForgedMatch line) ending c before after = after ≡ b
 IsVeilTold given headline.ListenFault ending c before after = ⊥
 
 -- The headline of the run with one worker holds of the course, except that no sink took its report. The wires fit every other key, and the sink took the line.
-pub record IsVeiled {K Q E X W : Type 0} (moment : K → ℕ) (image : K → ℕ → List ℕ → Type 0) (left : E → Option OctetSequence) (told : Q → Option OctetSequence)
-    (frames : X → Option (List (List ℕ))) (disk_count : K → ℕ) (armed : K → Armings) (entropy_count : E → ℕ) (device_count : Q → ℕ) (wire_count : X → ℕ)
+pub record IsVeiled {K Q E X W : Type 0} (outside : Outside K Q E X)
     (given : W → Given) (old new : Bench K Q E X) (stop : headline.Stop) (http : HttpTexts) (scenario : Scenario) (before after : W) (c : Course) : Type 0 where
-  pub run : HasHeadline moment image left told frames disk_count armed entropy_count device_count wire_count old new (Run 1) stop http scenario unknown unknown c
+  pub run : HasHeadline outside old new (Run 1) stop http scenario unknown unknown c
   pub fits : EveryKeyFits c.net (last_world c)
   pub line : IsVeilTold given stop (lines_played http scenario c).ending c before after
 
 -- For all texts of HTTP that are the site's there is one course that is veiled.
-abbrev pub HasVeiled : {K Q E X W : Type 0} → (K → ℕ) → (K → ℕ → List ℕ → Type 0) → (E → Option OctetSequence) → (Q → Option OctetSequence) → (X → Option (List (List ℕ))) →
-    (K → ℕ) → (K → Armings) → (E → ℕ) → (Q → ℕ) → (X → ℕ) → (W → Given) → (old new : Bench K Q E X) → Scenario → (before after : W) → headline.Stop → Type 0
-HasVeiled moment image left told frames disk_count armed entropy_count device_count wire_count given old new scenario before after stop =
+abbrev pub HasVeiled : {K Q E X W : Type 0} → Outside K Q E X → (W → Given) → (old new : Bench K Q E X) → Scenario → (before after : W) → headline.Stop → Type 0
+HasVeiled outside given old new scenario before after stop =
     (http : HttpTexts) → IsTextsOf scenario.site.nodes scenario.site.entitlements http →
-    (c : Course) × IsVeiled moment image left told frames disk_count armed entropy_count device_count wire_count given old new stop http scenario before after c
+    (c : Course) × IsVeiled outside given old new stop http scenario before after c

@@ -15,7 +15,7 @@ use world_state::{Post, State};
 fn parts_of<K: Disk + Drop, E: Entropy + Drop>(post: Post<K, E>) -> (K, E)
     ensures disk { disk_of post ≡ Some result.0 }
     ensures entropy { result.1 ≡ entropy_of post }
-    ensures on_disk { IsOnDisk K.is_honest K.content K.moment K.image post }
+    ensures on_disk { IsOnDisk K.Disk post }
 {
     match post {
         Post::On(manager) => manager.crash(),
@@ -33,7 +33,7 @@ fn put_posts<K: Disk + Drop, E: Entropy + Drop>(
     requires entropy_room { vec_len posts.old + vec_len entropies.old ≤ vec_capacity entropies.old }
     ensures disks { map Some disks.new.items ≡ map disk_of posts.old.items ++ map Some disks.old.items }
     ensures entropies { entropies.new.items ≡ map entropy_of posts.old.items ++ entropies.old.items }
-    ensures on_disk { All (IsOnDisk K.is_honest K.content K.moment K.image) posts.old.items }
+    ensures on_disk { All (IsOnDisk K.Disk) posts.old.items }
 {
     for _ in 0..posts.len() {
         let post = posts.take_last();
@@ -61,7 +61,7 @@ pub fn put_back<K: Disk + Drop, Q: Device + Drop, E: Entropy + Drop, X: Wire + D
     bench: &mut Bench<K, Q, E, X>,
 )
     requires room { HasRoomFor bench.old state }
-    ensures { IsPutBack K.is_honest K.content K.moment K.image state bench.old bench.new }
+    ensures { IsPutBack K.Disk state bench.old bench.new }
 {
     let State {
         mut posts,

@@ -28,9 +28,9 @@ fn is_new(marks: &mut [bool], offset: u64) -> bool
 // The frame with this number on a wire, opened.
 fn frame_at<X: Wire>(alloc: Global, side: &LaneSide<X>, number: u64) -> Result<SealedFrame, Memory>
     requires there { number < X.counted side.now.wire }
-    requires ready { (net : Network) × (w : World) × IsRunning net w × (is_lane net.site side.now.lane ≡ true) × LaneStands X.frames X.counted net w side.now.lane side.now }
+    requires ready { (net : Network) × (w : World) × IsRunning net w × (is_lane net.site side.now.lane ≡ true) × LaneStands X.Wire net w side.now.lane side.now }
     ensures frame { IfOk result (λ frame. (net : Network) (w : World) (j : ℕ) → IsRunning net w → is_lane net.site side.now.lane ≡ true →
-        LaneStands X.frames X.counted net w side.now.lane side.now → slice_get (w.wire side.now.lane) number ≡ Some j →
+        LaneStands X.Wire net w side.now.lane side.now → slice_get (w.wire side.now.lane) number ≡ Some j →
         frame ≡ sealed_with w.durable.facts (veiled_facts w) (slice_get (w.frames side.now.lane) j)) }
     ensures within { IfOk result (λ frame. frame.offset < length side.now.bytes) }
 {
@@ -44,11 +44,11 @@ fn frame_at<X: Wire>(alloc: Global, side: &LaneSide<X>, number: u64) -> Result<S
 // Collects the different frames of a wire, in the order of their first occurrences. There is one mark for each byte of the lane, and none
 // is set.
 fn collect<X: Wire>(alloc: Global, side: &LaneSide<X>, marks: &mut [bool]) -> Result<Sealed, Memory>
-    requires ready { (net : Network) × (w : World) × IsRunning net w × (is_lane net.site side.now.lane ≡ true) × LaneStands X.frames X.counted net w side.now.lane side.now }
+    requires ready { (net : Network) × (w : World) × IsRunning net w × (is_lane net.site side.now.lane ≡ true) × LaneStands X.Wire net w side.now.lane side.now }
     requires size { length marks.old ≡ length side.now.bytes }
     requires none { (x : ℕ) → x < length marks.old → slice_index_or marks.old x false ≡ false }
     ensures frames { IfOk result (λ frames. (net : Network) (w : World) → IsRunning net w → is_lane net.site side.now.lane ≡ true →
-        LaneStands X.frames X.counted net w side.now.lane side.now → frames ≡ sealed_on w (veiled_facts w) side.now.lane) }
+        LaneStands X.Wire net w side.now.lane side.now → frames ≡ sealed_on w (veiled_facts w) side.now.lane) }
     ensures few { IfOk result (λ frames. length frames ≤ length side.now.bytes) }
 {
     let mut frames = Sealed::new(alloc);
@@ -64,9 +64,9 @@ fn collect<X: Wire>(alloc: Global, side: &LaneSide<X>, marks: &mut [bool]) -> Re
 
 /// The different frames on a lane's wire, in the order in which they were first put, with the complements of their keys.
 pub fn frames_of<X: Wire>(alloc: Global, side: &LaneSide<X>) -> Result<Sealed, Memory>
-    requires ready { (net : Network) × (w : World) × IsRunning net w × (is_lane net.site side.now.lane ≡ true) × LaneStands X.frames X.counted net w side.now.lane side.now }
+    requires ready { (net : Network) × (w : World) × IsRunning net w × (is_lane net.site side.now.lane ≡ true) × LaneStands X.Wire net w side.now.lane side.now }
     ensures frames { IfOk result (λ frames. (net : Network) (w : World) → IsRunning net w → is_lane net.site side.now.lane ≡ true →
-        LaneStands X.frames X.counted net w side.now.lane side.now → frames ≡ sealed_on w (veiled_facts w) side.now.lane) }
+        LaneStands X.Wire net w side.now.lane side.now → frames ≡ sealed_on w (veiled_facts w) side.now.lane) }
     ensures few { IfOk result (λ frames. length frames ≤ length side.now.bytes) }
 {
     let mut marks = vec![in alloc; false; side.bytes().len()]?;

@@ -11,6 +11,7 @@ ghost use Rattle.net_world.specs.New.{IsNew, network_on};
 ghost use Rattle.net_world.specs.Kept.{IsKept, AreKeptLanes, IsLaidAgain};
 ghost use Rattle.net_world.specs.declared.bench.Bench.{Bench as BenchValue};
 ghost use Rattle.net_world.specs.declared.kept_lane.KeptLane.{KeptLane as KeptLaneValue};
+ghost use Rattle.world_state.specs.Outside.{outside};
 
 use disk_model::Disk;
 use hop_frames::frames_of_a_network;
@@ -19,8 +20,8 @@ use source_devices::{Device, Entropy, Wire};
 /// A new bench is kept, for the network of a declared site over it and the world before any start. No lane received anything there, so the
 /// state that `lay_out` makes is the one that goes on with no lane's blocks.
 pub fn law_new_is_kept<K: Disk + Drop, Q: Device + Drop, E: Entropy + Drop, X: Wire + Drop>()
-    ensures kept { (b : BenchValue K Q E X) (site : Declared) → IsNew K.is_honest K.moment K.image E.left Q.told X.frames b → IsDeclared site →
-        IsKept K.is_honest K.moment K.image E.left Q.told X.frames b site (network_on Q.told E.left b site) first }
+    ensures kept { (b : BenchValue K Q E X) (site : Declared) → IsNew (outside K.Disk Q.Device E.Entropy X.Wire) b → IsDeclared site →
+        IsKept (outside K.Disk Q.Device E.Entropy X.Wire) b site (network_on Q.Device E.Entropy b site) first }
     ensures lanes { (net : Network) → AreKeptLanes net first [] }
     ensures laid { (old stayed : BenchValue K Q E X) (site : Declared) (s : StateValue K Q E X) → IsLaidOut old stayed site s → IsLaidAgain old stayed site [] s }
 {
@@ -30,6 +31,6 @@ pub fn law_new_is_kept<K: Disk + Drop, Q: Device + Drop, E: Entropy + Drop, X: W
 /// A state that is laid out of a kept bench, and whose lanes go on at their leased ends, stands for the world at rest.
 pub fn law_kept_stands<K: Disk + Drop, Q: Device + Drop, E: Entropy + Drop, X: Wire + Drop>()
     ensures { (old stayed : BenchValue K Q E X) (site : Declared) (net : Network) (w : World) (lanes : List KeptLaneValue) (s : StateValue K Q E X) →
-        IsKept K.is_honest K.moment K.image E.left Q.told X.frames old site net w → MayBegin net w → AreKeptLanes net w lanes → IsDeclared site →
-        IsLaidAgain old stayed site lanes s → Stands K.is_honest K.moment K.image E.left Q.told X.frames X.counted s net w }
+        IsKept (outside K.Disk Q.Device E.Entropy X.Wire) old site net w → MayBegin net w → AreKeptLanes net w lanes → IsDeclared site →
+        IsLaidAgain old stayed site lanes s → Stands (outside K.Disk Q.Device E.Entropy X.Wire) s net w }
 {}

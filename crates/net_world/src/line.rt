@@ -28,8 +28,8 @@ pub fn tell<X: Wire + Drop, W: Sink>(
     sides: &[LaneSide<X>],
     sink: &mut W,
 ) -> Result<(), Stop>
-    requires ready { (net : Network) × (w : World) × AreLanes X.frames X.counted net w sides.now }
-    ensures told { (net : Network) (w : World) → AreLanes X.frames X.counted net w sides.now → Tells (λ k. given_to W.taken W.pieces k) result sink.old sink.new (veil_line net w) }
+    requires ready { (net : Network) × (w : World) × AreLanes X.Wire net w sides.now }
+    ensures told { (net : Network) (w : World) → AreLanes X.Wire net w sides.now → Tells (λ k. given_to W.taken W.pieces k) result sink.old sink.new (veil_line net w) }
     ensures blame { IsBlamed (W.faults sink.old) (W.faults sink.new) result }
 {
     let Ok(veiled) = veil_lanes(alloc, sides) else {

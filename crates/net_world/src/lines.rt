@@ -11,6 +11,7 @@ ghost use Rattle.law_run.specs.Kinds.{is_load_entry};
 ghost use Rattle.net_world.specs.Laid.{IsWhole};
 ghost use Rattle.net_world.specs.New.{IsNew};
 ghost use Rattle.net_world.specs.Running.{HasHeadlines, WasLeft, ended};
+ghost use Rattle.world_state.specs.Outside.{outside};
 
 use crate::{Bench, law_bench_headline, lay_out, put_back};
 use disk_model::Disk;
@@ -33,9 +34,9 @@ pub fn run_lines_of<K: Disk + Drop, Q: Device + Drop, E: Entropy + Drop, X: Wire
 ) -> Result<(), Stop>
     requires runnable { IsRunnable scenario }
     requires load { list_all is_load_entry scenario.entries ≡ true }
-    requires fresh { IsNew K.is_honest K.moment K.image E.left Q.told X.frames bench.old }
+    requires fresh { IsNew (outside K.Disk Q.Device E.Entropy X.Wire) bench.old }
     ensures headline { (rounds : ℕ) → scenario ≡ load_scenario rounds → WasLeft bench.old bench.new sink.old sink.new result
-        ⊎ HasHeadlines K.moment K.image E.left Q.told X.frames K.faults K.armings E.faults Q.faults X.faults bench.old bench.new (Load rounds) scenario (given_to W.taken W.pieces sink.old) (given_to W.taken W.pieces sink.new) (ended result) }
+        ⊎ HasHeadlines (outside K.Disk Q.Device E.Entropy X.Wire) bench.old bench.new (Load rounds) scenario (given_to W.taken W.pieces sink.old) (given_to W.taken W.pieces sink.new) (ended result) }
     ensures whole { IsWhole bench.new }
     ensures blame { IsBlamed (W.faults sink.old) (W.faults sink.new) result }
     ensures lined { InLines W.taken W.pieces (IsLoadLine scenario.site.nodes) sink.old sink.new result }

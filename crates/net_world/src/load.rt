@@ -8,6 +8,7 @@ ghost use Rattle.run_model.specs.Headline.{given_to};
 ghost use Rattle.net_world.specs.Laid.{IsWhole};
 ghost use Rattle.net_world.specs.New.{IsNew};
 ghost use Rattle.net_world.specs.Running.{HasHeadlines, WasLeft, ended};
+ghost use Rattle.world_state.specs.Outside.{outside};
 
 use crate::Bench;
 use crate::generated::generated;
@@ -27,9 +28,9 @@ pub fn run_load<K: Disk + Drop, Q: Device + Drop, E: Entropy + Drop, X: Wire + D
     bench: &mut Bench<K, Q, E, X>,
 ) -> Result<(), Stop>
     requires rounds { (1 ≤ rounds) × (rounds ≤ 500) }
-    requires fresh { IsNew K.is_honest K.moment K.image E.left Q.told X.frames bench.old }
+    requires fresh { IsNew (outside K.Disk Q.Device E.Entropy X.Wire) bench.old }
     ensures headline { WasLeft bench.old bench.new sink.old sink.new result
-        ⊎ HasHeadlines K.moment K.image E.left Q.told X.frames K.faults K.armings E.faults Q.faults X.faults bench.old bench.new (Load rounds) (load_scenario rounds) (given_to W.taken W.pieces sink.old) (given_to W.taken W.pieces sink.new) (ended result) }
+        ⊎ HasHeadlines (outside K.Disk Q.Device E.Entropy X.Wire) bench.old bench.new (Load rounds) (load_scenario rounds) (given_to W.taken W.pieces sink.old) (given_to W.taken W.pieces sink.new) (ended result) }
     ensures whole { IsWhole bench.new }
     ensures blame { IsBlamed (W.faults sink.old) (W.faults sink.new) result }
     ensures lined { InLines W.taken W.pieces (IsLoadLine (load_scenario rounds).site.nodes) sink.old sink.new result }

@@ -12,6 +12,7 @@ ghost use Rattle.world_state.specs.Rests.{Rests};
 ghost use Rattle.world_state.specs.Stands.{Stands};
 ghost use Rattle.world_state.specs.Tallied.{Tallied};
 ghost use Rattle.net_world.specs.Running.{RanOut};
+ghost use Rattle.world_state.specs.Outside.{outside};
 
 use crate::{Bench, Left, law_bench_begins, lay_out};
 use disk_model::Disk;
@@ -49,11 +50,11 @@ pub fn run_out<
 ) -> Result<Left<K, Q, E, X>, Memory>
     requires runnable { IsRunnable scenario }
     requires workers { (1 ≤ workers) × (workers ≤ 32) }
-    requires fresh { IsNew K.is_honest K.moment K.image E.left Q.told X.frames bench.old }
+    requires fresh { IsNew (outside K.Disk Q.Device E.Entropy X.Wire) bench.old }
     requires unarmed { All (λ k. (K.armings k).count ≡ 0) bench.old.disks.items }
-    ensures ran { IfOk result (λ left. RanOut K.is_honest K.moment K.image E.left Q.told X.frames X.counted K.faults K.armings E.faults Q.faults X.faults
+    ensures ran { IfOk result (λ left. RanOut (outside K.Disk Q.Device E.Entropy X.Wire)
         bench.old bench.new workers scenario (given_to W.taken W.pieces sink.old) (given_to W.taken W.pieces sink.new) left.state left.ended) }
-    ensures ready { IfOk result (λ left. OnOk left.ended ((net : Network) × (w : World) × Stands K.is_honest K.moment K.image E.left Q.told X.frames X.counted left.state net w)) }
+    ensures ready { IfOk result (λ left. OnOk left.ended ((net : Network) × (w : World) × Stands (outside K.Disk Q.Device E.Entropy X.Wire) left.state net w)) }
     ensures blame { IfOk result (λ left. IsBlamed (W.faults sink.old) (W.faults sink.new) left.ended) }
     ensures lined { IfOk result (λ left. InLines W.taken W.pieces (IsItemLine scenario.site.nodes) sink.old sink.new left.ended) }
     ensures err { OnErr result ((bench.new ≡ bench.old) × (sink.new ≡ sink.old)) }
@@ -78,10 +79,10 @@ pub fn run_out<
         &mut running,
         &requests,
         &|running: &mut Running<K, Q, E, X>, workers: u32, jobs: &[Job]|
-            requires may { MayTogether (λ r. r.state.site) (λ r. Stands K.is_honest K.moment K.image E.left Q.told X.frames X.counted r.state) running.now workers jobs.now }
-            ensures did { DidTogether (λ r. r.state.site) (λ r. Stands K.is_honest K.moment K.image E.left Q.told X.frames X.counted r.state)
-                (λ r. Rests K.is_honest K.moment K.image E.left Q.told X.frames X.counted r.state) (λ a b. Tallied K.faults K.armings E.faults Q.faults X.faults a.state b.state)
-                (λ r. most_armed K.armings r.state.posts.items) running.entry.now running.exit.now workers jobs.entry.now result }
+            requires may { MayTogether (λ r. r.state.site) (λ r. Stands (outside K.Disk Q.Device E.Entropy X.Wire) r.state) running.now workers jobs.now }
+            ensures did { DidTogether (λ r. r.state.site) (λ r. Stands (outside K.Disk Q.Device E.Entropy X.Wire) r.state)
+                (λ r. Rests (outside K.Disk Q.Device E.Entropy X.Wire) r.state) (λ a b. Tallied (outside K.Disk Q.Device E.Entropy X.Wire) a.state b.state)
+                (λ r. most_armed K.Disk r.state.posts.items) running.entry.now running.exit.now workers jobs.entry.now result }
         { together(rt, gate, running, workers, jobs) },
         workers,
         node_lines.as_slice(),

@@ -8,6 +8,7 @@ ghost use Rattle.run_lines.specs.Reporting.{InLines, IsBlamed, IsItemLine};
 ghost use Rattle.net_world.specs.Laid.{IsWhole};
 ghost use Rattle.net_world.specs.New.{IsNew};
 ghost use Rattle.net_world.specs.Running.{HasHeadlines, WasLeft, ended};
+ghost use Rattle.world_state.specs.Outside.{outside};
 
 use crate::out::run_out;
 use crate::{Bench, Left, law_bench_headline, put_back};
@@ -41,10 +42,10 @@ pub fn run_scenario<
 ) -> Result<(), Stop>
     requires runnable { IsRunnable scenario }
     requires workers { (1 ≤ workers) × (workers ≤ 32) }
-    requires fresh { IsNew K.is_honest K.moment K.image E.left Q.told X.frames bench.old }
+    requires fresh { IsNew (outside K.Disk Q.Device E.Entropy X.Wire) bench.old }
     requires unarmed { All (λ k. (K.armings k).count ≡ 0) bench.old.disks.items }
     ensures headline { WasLeft bench.old bench.new sink.old sink.new result
-        ⊎ HasHeadlines K.moment K.image E.left Q.told X.frames K.faults K.armings E.faults Q.faults X.faults bench.old bench.new (Run workers) scenario (given_to W.taken W.pieces sink.old) (given_to W.taken W.pieces sink.new) (ended result) }
+        ⊎ HasHeadlines (outside K.Disk Q.Device E.Entropy X.Wire) bench.old bench.new (Run workers) scenario (given_to W.taken W.pieces sink.old) (given_to W.taken W.pieces sink.new) (ended result) }
     ensures whole { IsWhole bench.new }
     ensures blame { IsBlamed (W.faults sink.old) (W.faults sink.new) result }
     ensures lined { InLines W.taken W.pieces (IsItemLine scenario.site.nodes) sink.old sink.new result }

@@ -1,5 +1,5 @@
 // The veil of a lane, and its counts.
-ghost use Rattle.std.specs.Prelude.{◌≡◌, ◌≤◌, ℕ, true, IfOk, length};
+ghost use Rattle.std.specs.Prelude.{◌≡◌, ◌≤◌, true, IfOk, length};
 ghost use Rattle.net_model.specs.World.{Network, World};
 ghost use Rattle.net_model.specs.Events.{is_lane};
 ghost use Rattle.world_state.specs.Passed.{IsRunning, LaneStands};
@@ -44,9 +44,9 @@ fn veil_of(alloc: Global, bytes: &[u8], frames: &Sealed) -> Result<Octets, Memor
 /// The number of different frames on a lane's wire, and the number of the lane's bytes that change when each key in the frames is
 /// complemented and the wire stays the same. Time and memory grow with the lane's bytes and the frames of its wire.
 pub fn veil_lane<X: Wire>(alloc: Global, side: &LaneSide<X>) -> Result<Veiled, Memory>
-    requires ready { (net : Network) × (w : World) × IsRunning net w × (is_lane net.site side.now.lane ≡ true) × LaneStands X.frames X.counted net w side.now.lane side.now }
+    requires ready { (net : Network) × (w : World) × IsRunning net w × (is_lane net.site side.now.lane ≡ true) × LaneStands X.Wire net w side.now.lane side.now }
     ensures counts { IfOk result (λ v. (net : Network) (w : World) → IsRunning net w → is_lane net.site side.now.lane ≡ true →
-        LaneStands X.frames X.counted net w side.now.lane side.now → (v.frames ≡ frames_on w side.now.lane) × (v.bytes ≡ changed_on net w side.now.lane)) }
+        LaneStands X.Wire net w side.now.lane side.now → (v.frames ≡ frames_on w side.now.lane) × (v.bytes ≡ changed_on net w side.now.lane)) }
     ensures few { IfOk result (λ v. (v.frames ≤ length side.now.bytes) × (v.bytes ≤ length side.now.bytes)) }
 {
     law_sent_lie_apart();

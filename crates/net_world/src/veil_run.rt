@@ -12,6 +12,7 @@ ghost use Rattle.net_world.specs.Laid.{IsWhole};
 ghost use Rattle.net_world.specs.New.{IsNew};
 ghost use Rattle.net_world.specs.Running.{WasLeft, ended};
 ghost use Rattle.net_world.specs.Veiling.{HasVeiled, Ends};
+ghost use Rattle.world_state.specs.Outside.{outside};
 
 use crate::{Bench, Left, law_other_keys_fit, put_back, run_out, tell};
 use disk_model::Disk;
@@ -32,9 +33,9 @@ fn tell_after<K: Disk + Drop, Q: Device + Drop, E: Entropy + Drop, X: Wire + Dro
     left: &Left<K, Q, E, X>,
     sink: &mut W,
 ) -> Result<(), Stop>
-    requires ready { OnOk left.now.ended ((net : Network) × (w : World) × Stands K.is_honest K.moment K.image E.left Q.told X.frames X.counted left.now.state net w) }
+    requires ready { OnOk left.now.ended ((net : Network) × (w : World) × Stands (outside K.Disk Q.Device E.Entropy X.Wire) left.now.state net w) }
     requires calm { left.now.ended ≡ Err WriteFault → ⊥ }
-    ensures ends { (net : Network) (w : World) → OnOk left.now.ended (Stands K.is_honest K.moment K.image E.left Q.told X.frames X.counted left.now.state net w) →
+    ensures ends { (net : Network) (w : World) → OnOk left.now.ended (Stands (outside K.Disk Q.Device E.Entropy X.Wire) left.now.state net w) →
         Ends (λ k. given_to W.taken W.pieces k) left.now.ended (veil_line net w) sink.old sink.new result }
     ensures blame { IsBlamed (W.faults sink.old) (W.faults sink.new) result }
 {
@@ -65,10 +66,10 @@ pub fn run_veil<
     bench: &mut Bench<K, Q, E, X>,
 ) -> Result<(), Stop>
     requires runnable { IsRunnable scenario }
-    requires fresh { IsNew K.is_honest K.moment K.image E.left Q.told X.frames bench.old }
+    requires fresh { IsNew (outside K.Disk Q.Device E.Entropy X.Wire) bench.old }
     requires unarmed { All (λ k. (K.armings k).count ≡ 0) bench.old.disks.items }
     ensures veiled { WasLeft bench.old bench.new sink.old sink.new result
-        ⊎ HasVeiled K.moment K.image E.left Q.told X.frames K.faults K.armings E.faults Q.faults X.faults (λ k. given_to W.taken W.pieces k) bench.old bench.new scenario sink.old sink.new (ended result) }
+        ⊎ HasVeiled (outside K.Disk Q.Device E.Entropy X.Wire) (λ k. given_to W.taken W.pieces k) bench.old bench.new scenario sink.old sink.new (ended result) }
     ensures whole { IsWhole bench.new }
     ensures blame { IsBlamed (W.faults sink.old) (W.faults sink.new) result }
 {

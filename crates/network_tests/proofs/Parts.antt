@@ -1,14 +1,9 @@
 -- Lists of new parts, one more at a time, and what they make of a bench.
-use Rattle.std.proofs.Common.{◌≡◌, ℕ, zero, suc, ◌<◌, List, [], ◌∷◌, ◌++◌, length, get_or, refl, sym, ap, subst, ◌∙◌, arith}
-use Rattle.std.specs.Prelude.{Some, true}
+use Rattle.std.proofs.Common.{◌≡◌, ℕ, zero, suc, ◌<◌, List, [], ◌∷◌, ◌++◌, length, get_or, sym, subst, ◌∙◌, arith}
 use Rattle.std.specs.List.{All}
 use Rattle.std.proofs.lemmas.List.Elements.{All-push}
 use Rattle.disk_model.specs.MemForm.{MemForm, images_of}
 use Rattle.disk_model.specs.Images.{Only}
-use Rattle.net_model.specs.OctetSequence.{sequence_of}
-use Rattle.source_devices.specs.Forms.{DeviceForm, EntropyForm, WireForm}
-use Rattle.net_world.specs.New.{IsNew}
-use Rattle.net_world.specs.declared.bench.Bench.{Bench}
 use Rattle.network_tests.specs.Fresh.{AreOctets, IsBlank}
 
 pub of_places : (octets : List ℕ) → ((i : ℕ) → i < length octets → get_or octets i 0 < 256) → AreOctets octets
@@ -25,19 +20,6 @@ only_first first d is none =
 
 is_empty : (d : MemForm) → IsBlank d → Only [] (images_of d (length d.used))
 is_empty d b = only_first [] d b.first b.used
-
-pub is_new : (b : Bench MemForm DeviceForm EntropyForm WireForm) → length b.disks.items ≡ 16 → All IsBlank b.disks.items → length b.entropies.items ≡ 16 → All (λ (e : EntropyForm). AreOctets e.left) b.entropies.items →
-    length b.devices.items ≡ 32 → All (λ (q : DeviceForm). AreOctets q.octets) b.devices.items → length b.wires.items ≡ 64 → All (λ (w : WireForm). w.frames ≡ []) b.wires.items →
-    IsNew (λ (d : MemForm). true) (λ (d : MemForm). length d.used) images_of (λ (e : EntropyForm). Some (sequence_of e.left)) (λ (q : DeviceForm). Some (sequence_of q.octets)) (λ (w : WireForm). Some w.frames) b
-is_new b disks blank entropies supplied devices loaded wires silent =
-    record {
-      whole = record { disks = disks; entropies = entropies; devices = devices; wires = wires };
-      honest = λ k d lt. refl;
-      empty = λ k d lt. is_empty (get_or b.disks.items k d) (blank k d lt);
-      entropies = λ k d lt. supplied k d lt;
-      devices = λ k d lt. loaded k d lt;
-      wires = λ k d lt. ap Some (silent k d lt);
-    }
 
 pub unarmed : (disks : List MemForm) → All IsBlank disks → All (λ (d : MemForm). d.armings.count ≡ 0) disks
 unarmed disks blank = λ k d lt. (blank k d lt).armed

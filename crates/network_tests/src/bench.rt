@@ -1,7 +1,7 @@
 // New benches in memory.
 ghost use Rattle.std.specs.Prelude.{◌≡◌, [], IfOk, length};
 ghost use Rattle.std.specs.List.{All};
-ghost use Rattle.net_world.specs.New.{IsNew};
+ghost use Rattle.net_world.specs.New.{IsNew, outside};
 ghost use Rattle.network_tests.specs.Fresh.{AreOctets, IsBlank};
 
 use disk_model::{Disk, MemDisk};
@@ -132,7 +132,7 @@ fn wires(alloc: Global, first: MemWire) -> Result<Vec<MemWire>, Memory>
 
 /// A bench with these parts. Its disks are empty and were never armed.
 pub fn new_bench(alloc: Global, first: FirstParts) -> Result<TestBench, Memory>
-    ensures fresh { IfOk result (λ bench. IsNew ⟦<MemDisk as Disk>⟧.is_honest ⟦<MemDisk as Disk>⟧.moment ⟦<MemDisk as Disk>⟧.image ⟦<MemEntropy as Entropy>⟧.left ⟦<MemDevice as Device>⟧.told ⟦<MemWire as Wire>⟧.frames bench) }
+    ensures fresh { IfOk result (λ bench. IsNew (outside ⟦<MemDisk as Disk>⟧ ⟦<MemDevice as Device>⟧ ⟦<MemEntropy as Entropy>⟧ ⟦<MemWire as Wire>⟧) bench) }
     ensures unarmed { IfOk result (λ bench. All (λ k. (⟦<MemDisk as Disk>⟧.armings k).count ≡ 0) bench.disks.items) }
 {
     let FirstParts {

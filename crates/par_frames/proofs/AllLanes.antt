@@ -1,5 +1,5 @@
 -- All lanes of a block, taken together, are left as one block leaves them.
-use Rattle.std.proofs.Common.{◌≡◌, ℕ, ◌≤◌, Bool, true, false, List, [], map, refl, sym, ◌∙◌, ap, subst, Option}
+use Rattle.std.proofs.Common.{◌≡◌, ℕ, ◌≤◌, Bool, true, false, List, [], map, refl, sym, ◌∙◌, ap, subst}
 use mathlib.Core.Bool.{Bool-set, true≢false, false≢true}
 use Rattle.std.specs.List.Sorted.{IsNonDecreasingBy}
 use Rattle.qkd_base.specs.declared.lane.Lane.{Lane}
@@ -29,6 +29,7 @@ use Rattle.par_frames.proofs.OfWorkers.{of_workers}
 use Rattle.par_frames.proofs.Sizing.{all_sized}
 use Rattle.par_frames.proofs.Together.{done}
 use Rattle.par_frames.proofs.WholeBlock.{block, left}
+use Rattle.source_devices.specs.declared.wire.Wire as Wire
 
 -- the first value if the test is true, the second if it is false
 abbrev where_true : {A : Type 0} (t : Bool) → (t ≡ true → A) → A → A
@@ -43,8 +44,8 @@ not_chosen : {A : Type 0} (t : Bool) (f : t ≡ true → A) (other : A) → t �
 not_chosen true f other e = absurd (true≢false e)
 not_chosen false f other e = refl
 
-module _ {X : Type 0} (frames : X → Option (List (List ℕ))) (counted faults : X → ℕ) (net : Network) (workers : ℕ) (w : World) (jobs : List Job) (histories : List (List Work))
-    (some : 1 ≤ workers) (running : IsRunning net w) (quiet : IsQuiet w) (turns : AreTurns net workers w jobs histories) (lanes : LanesWorked frames counted faults net workers w histories) where
+module _ {X : Type 0} (wire_says : Wire.Ghosts X) (net : Network) (workers : ℕ) (w : World) (jobs : List Job) (histories : List (List Work))
+    (some : 1 ≤ workers) (running : IsRunning net w) (quiet : IsQuiet w) (turns : AreTurns net workers w jobs histories) (lanes : LanesWorked wire_says net workers w histories) where
   abbrev wanted : List (ℕ × Emission)
   wanted = wanted_by (done_from net w (flat histories))
 
@@ -72,9 +73,9 @@ module _ {X : Type 0} (frames : X → Option (List (List ℕ))) (counted faults 
     undeclared = λ l e. ap (λ (p : List (List (ℕ × Deed)) × List Deed). p.1) (not_chosen (is_lane net.site l) (there l) ([], []) e);
   }
 
-  left_of : (l : Lane) (e : is_lane net.site l ≡ true) → IsLeftBy frames counted faults net (turns_over net w histories) (λ k. numbered ((all k).1)) l (did l e).log (lanes l e).old (lanes l e).new
+  left_of : (l : Lane) (e : is_lane net.site l ≡ true) → IsLeftBy wire_says net (turns_over net w histories) (λ k. numbered ((all k).1)) l (did l e).log (lanes l e).old (lanes l e).new
   left_of l e =
-      left frames counted faults net workers w jobs histories (λ k. (all k).0) (λ k. (all k).1) some running quiet works l e (lanes l e).cap (lanes l e).outs (lanes l e).history (lanes l e).old
+      left wire_says net workers w jobs histories (λ k. (all k).0) (λ k. (all k).1) some running quiet works l e (lanes l e).cap (lanes l e).outs (lanes l e).history (lanes l e).old
       (lanes l e).new (lanes l e).stands (lanes l e).leads (did l e) (ap (λ (p : List (List (ℕ × Deed)) × List Deed). p.1) (is_there l e))
 
   sorted_is : (l : Lane) (e : is_lane net.site l ≡ true) (sorted : List Emitted) → HasJust (together (map kept (lanes l e).outs)) sorted → IsNonDecreasingBy (λ (x : Emitted). x.at) sorted →
@@ -85,12 +86,12 @@ module _ {X : Type 0} (frames : X → Option (List (List ℕ))) (counted faults 
   logs l = numbered ((all l).1)
 
   is_block : IsLaneBlock net workers w jobs histories logs
-  is_block = block frames counted faults net workers w jobs histories (λ k. (all k).0) (λ k. (all k).1) some running quiet works
+  is_block = block wire_says net workers w jobs histories (λ k. (all k).0) (λ k. (all k).1) some running quiet works
 
   running_after : IsRunning net (world_after net (turns_over net w histories) logs)
   running_after = record { network = running.network; conserved = is_block.conserved; sealing = running.sealing }
 
-  pub lanes_left : LanesLeft frames counted faults net workers w jobs histories lanes
+  pub lanes_left : LanesLeft wire_says net workers w jobs histories lanes
   lanes_left = record {
     logs = logs;
     are = are_lane_works net workers w jobs histories (λ k. (all k).0) (λ k. (all k).1) some works;

@@ -1,5 +1,5 @@
 -- The counts of a block's faults.
-use Rattle.std.proofs.Common.{◌≡◌, ℕ, ◌+◌, ◌*◌, ◌<◌, Bool, true, false, List, [], ◌∷◌, ◌++◌, length, map, refl, sym, ◌∙◌, ap, subst, arith, Option, Some}
+use Rattle.std.proofs.Common.{◌≡◌, ℕ, ◌+◌, ◌*◌, ◌<◌, Bool, true, false, List, [], ◌∷◌, ◌++◌, length, map, refl, sym, ◌∙◌, ap, subst, arith, Some}
 use Rattle.std.specs.Prelude.{cond, count_by, slice_get, filter_map}
 use Rattle.std.proofs.lemmas.Bool.{lt-ltb}
 use Rattle.std.proofs.lemmas.List.{append-nil}
@@ -9,7 +9,6 @@ use Rattle.std.proofs.lemmas.Option.{slice_get_within}
 use Rattle.qkd_base.specs.declared.lane.Lane.{Lane}
 use Rattle.qkd_base.specs.declared.lane.Way.{Way}
 use Rattle.qkd_base.specs.declared.lane.Way.TheVariants.{Up, Down}
-use Rattle.disk_model.specs.declared.arm.Armings.{Armings}
 use Rattle.net_model.specs.Site.{Site, count_up}
 use Rattle.net_model.specs.World.{Network, World}
 use Rattle.net_model.specs.Events.{is_lane}
@@ -29,6 +28,7 @@ use Rattle.world_state.proofs.Tallies.{tallied_more}
 use Rattle.law_parallel.specs.LaneWorks.{works_of}
 use Rattle.par_frames.specs.Blocks.{LanesWorked, LanesLeft}
 use Rattle.par_frames.specs.States.{HasLanes}
+use Rattle.world_state.specs.Outside.{Outside}
 
 -- No part fails in a note.
 
@@ -54,12 +54,12 @@ link_below : (link links n : ℕ) (way : Way) → 2 * link + of_way way < n → 
 link_below link links n Up lt is = omega (arith, lt, is)
 link_below link links n Down lt is = omega (arith, lt, is)
 
-module _ {K Q E X : Type 0} (disk_count : K → ℕ) (armed : K → Armings) (entropy_count : E → ℕ) (device_count : Q → ℕ) (frames : X → Option (List (List ℕ))) (counted faults : X → ℕ) where
+module _ {K Q E X : Type 0} (outside : Outside K Q E X) where
   abbrev All : State K Q E X → State K Q E X → Site → List Action → Type 0
-  All old new site actions = Tallied disk_count armed entropy_count device_count faults old new site actions
+  All old new site actions = Tallied outside old new site actions
 
   abbrev OfPost : Site → ℕ → List Action → Post K E → Post K E → Type 0
-  OfPost site v actions p q = PostTallied disk_count armed entropy_count site v actions p q
+  OfPost site v actions p q = PostTallied outside.disk outside.entropy site v actions p q
 
   -- If two runs have the same faults and armings at a node, the counts of its post hold for both.
   same_post : (site : Site) (v : ℕ) (xs ys : List Action) (p q : Post K E) → disk_faults site v ys ≡ disk_faults site v xs → entropy_faults v ys ≡ entropy_faults v xs → armings v ys ≡ armings v xs →
@@ -69,9 +69,9 @@ module _ {K Q E X : Type 0} (disk_count : K → ℕ) (armed : K → Armings) (en
     now = h.now;
     was = h.was;
     is = h.is;
-    failed = subst (λ (n : ℕ). Counted n (disk_count h.before) (disk_count h.now)) (sym disks) h.failed;
-    armed_with = subst (λ (fs : List Fault). IsArmedBy fs (armed h.before) (armed h.now)) (sym arms) h.armed_with;
-    refused = subst (λ (n : ℕ). Counted n (entropy_count (entropy_of p)) (entropy_count (entropy_of q))) (sym entropies) h.refused;
+    failed = subst (λ (n : ℕ). Counted n (outside.disk.faults h.before) (outside.disk.faults h.now)) (sym disks) h.failed;
+    armed_with = subst (λ (fs : List Fault). IsArmedBy fs (outside.disk.armings h.before) (outside.disk.armings h.now)) (sym arms) h.armed_with;
+    refused = subst (λ (n : ℕ). Counted n (outside.entropy.faults (entropy_of p)) (outside.entropy.faults (entropy_of q))) (sym entropies) h.refused;
   }
 
   -- Notes add no faults.
@@ -86,13 +86,13 @@ module _ {K Q E X : Type 0} (disk_count : K → ℕ) (armed : K → Armings) (en
             (sym (filter_map-append (fault_armed v) xs (completions net) ∙ ap (λ (fs : List Fault). filter_map (fault_armed v) xs ++ fs) (none_armed v vs) ∙ append-nil (filter_map (fault_armed v) xs)))
             (h.posts v p q was is);
         links = h.links;
-        devices = λ link p q was is. subst (λ (n : ℕ). Counted n (device_count p) (device_count q)) (none_more (is_block_fault link) (λ u. refl) xs vs) (h.devices link p q was is);
+        devices = λ link p q was is. subst (λ (n : ℕ). Counted n (outside.device.faults p) (outside.device.faults q)) (none_more (is_block_fault link) (λ u. refl) xs vs) (h.devices link p q was is);
         sides = h.sides;
-        wires = λ l p q was is. subst (λ (n : ℕ). Counted n (faults p.wire) (faults q.wire)) (none_more (is_wire_fault l) (λ u. refl) xs vs) (h.wires l p q was is);
+        wires = λ l p q was is. subst (λ (n : ℕ). Counted n (outside.wire.faults p.wire) (outside.wire.faults q.wire)) (none_more (is_wire_fault l) (λ u. refl) xs vs) (h.wires l p q was is);
       }
 
-  module _ (net : Network) (workers : ℕ) (w : World) (jobs : List Job) (histories : List (List Work)) (lanes : LanesWorked frames counted faults net workers w histories)
-      (behind : LanesLeft frames counted faults net workers w jobs histories lanes) (first old new last : State K Q E X) (h : HasLanes frames counted faults net workers w histories lanes old new)
+  module _ (net : Network) (workers : ℕ) (w : World) (jobs : List Job) (histories : List (List Work)) (lanes : LanesWorked outside.wire net workers w histories)
+      (behind : LanesLeft outside.wire net workers w jobs histories lanes) (first old new last : State K Q E X) (h : HasLanes outside.wire net workers w histories lanes old new)
       (turned : All first old net.site (actions_in (flat histories))) (same : old.lanes.items ≡ first.lanes.items) (sides : length first.lanes.items ≡ 2 * net.site.links) where
     abbrev whole : List Action
     whole = block_run net (works_of net w histories behind.logs)
@@ -100,14 +100,14 @@ module _ {K Q E X : Type 0} (disk_count : K → ℕ) (armed : K → Armings) (en
     declared : (l : Lane) (p : LaneForm X) → slice_get first.lanes.items (place_of l) ≡ Some p → is_lane net.site l ≡ true
     declared l p at = lt-ltb l.link net.site.links (link_below l.link net.site.links (length first.lanes.items) l.way (slice_get_within first.lanes.items (place_of l) p at) sides)
 
-    wire_counted : (l : Lane) (p q : LaneForm X) → slice_get first.lanes.items (place_of l) ≡ Some p → slice_get new.lanes.items (place_of l) ≡ Some q → Counted (wire_faults l whole) (faults p.wire) (faults q.wire)
+    wire_counted : (l : Lane) (p q : LaneForm X) → slice_get first.lanes.items (place_of l) ≡ Some p → slice_get new.lanes.items (place_of l) ≡ Some q → Counted (wire_faults l whole) (outside.wire.faults p.wire) (outside.wire.faults q.wire)
     wire_counted l p q was is =
         let e = declared l p was in
         let before : (lanes l e).old ≡ p = some_same (sym (h.was l e) ∙ ap (λ ls. slice_get ls (place_of l)) same ∙ was) in
         let now : (lanes l e).new ≡ q = some_same (sym (h.is l e) ∙ is) in
-        subst (λ (x : LaneForm X). Counted (wire_faults l whole) (faults x.wire) (faults q.wire)) before
-        (subst (λ (y : LaneForm X). Counted (wire_faults l whole) (faults (lanes l e).old.wire) (faults y.wire)) now
-        (subst (λ (n : ℕ). Counted n (faults (lanes l e).old.wire) (faults (lanes l e).new.wire)) (sym (behind.block.wires l)) (behind.each l e).faulty))
+        subst (λ (x : LaneForm X). Counted (wire_faults l whole) (outside.wire.faults x.wire) (outside.wire.faults q.wire)) before
+        (subst (λ (y : LaneForm X). Counted (wire_faults l whole) (outside.wire.faults (lanes l e).old.wire) (outside.wire.faults y.wire)) now
+        (subst (λ (n : ℕ). Counted n (outside.wire.faults (lanes l e).old.wire) (outside.wire.faults (lanes l e).new.wire)) (sym (behind.block.wires l)) (behind.each l e).faulty))
 
     pub lanes_tallied : All first new net.site whole
     lanes_tallied = record {
@@ -116,10 +116,10 @@ module _ {K Q E X : Type 0} (disk_count : K → ℕ) (armed : K → Armings) (en
           same_post net.site v (actions_in (flat histories)) whole p q (behind.block.disks v) (behind.block.entropies v) (behind.block.armed v)
           (turned.posts v p q was (ap (λ ps. slice_get ps v) (sym h.posts) ∙ is));
       links = ap length h.devices ∙ turned.links;
-      devices = λ link p q was is. subst (λ (n : ℕ). Counted n (device_count p) (device_count q)) (sym (behind.block.devices link)) (turned.devices link p q was (ap (λ qs. slice_get qs link) (sym h.devices) ∙ is));
+      devices = λ link p q was is. subst (λ (n : ℕ). Counted n (outside.device.faults p) (outside.device.faults q)) (sym (behind.block.devices link)) (turned.devices link p q was (ap (λ qs. slice_get qs link) (sym h.devices) ∙ is));
       sides = h.sides ∙ turned.sides;
       wires = wire_counted;
     }
 
     pub all_tallied : All new last net.site (completions net) → All first last net.site whole
-    all_tallied notes = noted net first last whole (tallied_more disk_count armed entropy_count device_count faults net.site first new last whole (completions net) lanes_tallied notes)
+    all_tallied notes = noted net first last whole (tallied_more outside net.site first new last whole (completions net) lanes_tallied notes)

@@ -1,5 +1,5 @@
 -- The count of faults of a lane's wire.
-use Rattle.std.proofs.Common.{◌≡◌, ℕ, ◌+◌, Bool, List, [], ◌∷◌, map, refl, sym, ◌∙◌, ap, subst, arith, Option, Result, Ok, Err}
+use Rattle.std.proofs.Common.{◌≡◌, ℕ, ◌+◌, Bool, List, [], ◌∷◌, map, refl, sym, ◌∙◌, ap, subst, arith, Result, Ok, Err}
 use Rattle.std.specs.Prelude.{count_by, IsErrOf}
 use Rattle.qkd_base.specs.Faults.{Rose}
 use Rattle.qkd_base.specs.declared.lane.Lane.{Lane}
@@ -16,6 +16,7 @@ use Rattle.world_state.specs.Tallied.{Counted}
 use Rattle.par_frames.specs.LaneCalls.{LaneCall, ClaimsFor, PutsFor, RepeatsFor, deed_of}
 use Rattle.world_state.proofs.Tallies.{counted_more, none_counted}
 use Rattle.par_frames.proofs.Stepping.{Leading}
+use Rattle.source_devices.specs.declared.wire.Wire as Wire
 
 same_counted : (before after : ℕ) → after ≡ before → Counted 0 before after
 same_counted before after same = subst (Counted 0 before) (sym same) (none_counted before)
@@ -26,7 +27,7 @@ one_counted (Ok n) before after cause calm = same_counted before after (calm (λ
 one_counted (Err Fault) before after cause calm = record { rose = cause refl; calm = λ none. omega (arith, none) }
 one_counted (Err Memory) before after cause calm = same_counted before after (calm (λ fault. cc fault))
 
-module _ {X : Type 0} (frames : X → Option (List (List ℕ))) (counted faults : X → ℕ) (cap : ℕ) (l : Lane) (bytes : List ℕ) (ds : List Deed) where
+module _ {X : Type 0} (wire_says : Wire.Ghosts X) (cap : ℕ) (l : Lane) (bytes : List ℕ) (ds : List Deed) where
   abbrev failures : List LaneCall → ℕ
   failures log = count_by is_wire_failure (map (with_number ds) (map deed_of log))
 
@@ -37,15 +38,15 @@ module _ {X : Type 0} (frames : X → Option (List (List ℕ))) (counted faults 
       (sym (count_more is_wire_failure d (map (with_number ds) (map deed_of log)) ∙ ap (λ (t : Bool). one_if t + failures log) is))
       (counted_more (one_if (is_io_fault e)) (failures log) before between after one rest)
 
-  pub faulty : (log : List LaneCall) (old new : LaneForm X) → Leading frames counted faults cap l bytes old log new → Counted (failures log) (faults old.wire) (faults new.wire)
-  faulty [] old new h = same_counted (faults old.wire) (faults new.wire) (sym (ap (λ (s : LaneForm X). faults s.wire) h))
+  pub faulty : (log : List LaneCall) (old new : LaneForm X) → Leading wire_says cap l bytes old log new → Counted (failures log) (wire_says.faults old.wire) (wire_says.faults new.wire)
+  faulty [] old new h = same_counted (wire_says.faults old.wire) (wire_says.faults new.wire) (sym (ap (λ (s : LaneForm X). wire_says.faults s.wire) h))
   faulty (ClaimsFor line o grant claimed ∷ log) old new h =
-      subst (λ (n : ℕ). Counted (failures log) n (faults new.wire)) (ap (λ (s : LaneForm X). faults s.wire) h.1.after) (faulty log h.0 new h.2)
+      subst (λ (n : ℕ). Counted (failures log) n (wire_says.faults new.wire)) (ap (λ (s : LaneForm X). wire_says.faults s.wire) h.1.after) (faulty log h.0 new h.2)
   faulty (PutsFor claim o claimed out ∷ log) old new h =
       let e = wire_answer (answer_of out.sent) in
-      one_more (with_number ds (Puts claim e)) e log (faults old.wire) (faults h.0.wire) (faults new.wire) refl
-      (one_counted (answer_of out.sent) (faults old.wire) (faults h.0.wire) h.1.cause h.1.calm) (faulty log h.0 new h.2)
+      one_more (with_number ds (Puts claim e)) e log (wire_says.faults old.wire) (wire_says.faults h.0.wire) (wire_says.faults new.wire) refl
+      (one_counted (answer_of out.sent) (wire_says.faults old.wire) (wire_says.faults h.0.wire) h.1.cause h.1.calm) (faulty log h.0 new h.2)
   faulty (RepeatsFor r out ∷ log) old new h =
       let e = wire_answer (answer_of out.sent) in
-      one_more (with_number ds (Repeats out.line r e)) e log (faults old.wire) (faults h.0.wire) (faults new.wire) refl
-      (one_counted (answer_of out.sent) (faults old.wire) (faults h.0.wire) h.1.cause h.1.calm) (faulty log h.0 new h.2)
+      one_more (with_number ds (Repeats out.line r e)) e log (wire_says.faults old.wire) (wire_says.faults h.0.wire) (wire_says.faults new.wire) refl
+      (one_counted (answer_of out.sent) (wire_says.faults old.wire) (wire_says.faults h.0.wire) h.1.cause h.1.calm) (faulty log h.0 new h.2)

@@ -25,6 +25,7 @@ use Rattle.law_parallel.proofs.Sealed.{IsOfLane}
 use Rattle.world_state.specs.Passed.{wire_answer}
 use Rattle.par_frames.specs.LaneCalls.{LaneCall, ClaimsFor, PutsFor, RepeatsFor, deed_of, IsSound}
 use Rattle.par_frames.proofs.Stepping.{Leading, claim_used}
+use Rattle.source_devices.specs.declared.wire.Wire as Wire
 
 -- the frame of the claim with this number
 abbrev frame_for : ℕ → LaneCall → Option LaneFrame
@@ -55,7 +56,7 @@ module _ (net : Network) (w : World) (l : Lane) where
     puts_by (PutsFor claim o claimed out) = (new_frame claim o claimed out.line, wire_answer (answer_of out.sent)) ∷ []
     puts_by (RepeatsFor r out) = (old_frame r out.line, wire_answer (answer_of out.sent)) ∷ []
 
-module _ {X : Type 0} (frames : X → Option (List (List ℕ))) (counted faults : X → ℕ) (cap : ℕ) (net : Network) (w : World) (l : Lane) (bytes : List ℕ) where
+module _ {X : Type 0} (wire_says : Wire.Ghosts X) (cap : ℕ) (net : Network) (w : World) (l : Lane) (bytes : List ℕ) where
   abbrev facts : List Fact
   facts = w.durable.facts
 
@@ -65,7 +66,7 @@ module _ {X : Type 0} (frames : X → Option (List (List ℕ))) (counted faults 
   moved : (a b : ℕ) → a + 1 + b ≡ a + suc b
   moved a b = omega arith
 
-  pub found : (log : List LaneCall) (old new : LaneForm X) → Leading frames counted faults cap l bytes old log new → AllOfLane net w l log → (number n line : ℕ) (o : Order) (grant : Share) (claimed : Claimed) →
+  pub found : (log : List LaneCall) (old new : LaneForm X) → Leading wire_says cap l bytes old log new → AllOfLane net w l log → (number n line : ℕ) (o : Order) (grant : Share) (claimed : Claimed) →
       slice_get log n ≡ Some (ClaimsFor line o grant claimed) →
       slice_get (claimed_from facts number old.ledger.used (claims_in (map deed_of log))) (before log n) ≡ frame_for (number + before log n) (ClaimsFor line o grant claimed)
   found [] old new h of number n line o grant claimed is = cc
@@ -76,7 +77,7 @@ module _ {X : Type 0} (frames : X → Option (List (List ℕ))) (counted faults 
       (λ i. Some (record { place = line'; emission = New o'; number = none i; offset = sym start i })) ∙ ap (frame_for (number + 0)) same
   found (ClaimsFor line' o' grant' claimed' ∷ log) old new h of number (suc n) line o grant claimed is =
       let goes : h.0.ledger.used ≡ old.ledger.used + need facts (item_in o'.payload) =
-      claim_used frames counted faults cap l bytes line' o' grant' claimed' old h.0 h.1 ∙ ap (λ (k : ℕ). old.ledger.used + k) (sym (needed o' of.0.1.spelled)) in
+      claim_used wire_says cap l bytes line' o' grant' claimed' old h.0 h.1 ∙ ap (λ (k : ℕ). old.ledger.used + k) (sym (needed o' of.0.1.spelled)) in
       ap (λ (k : ℕ). slice_get (claimed_from facts (number + 1) k (claims_in (map deed_of log))) (before log n)) (sym goes)
       ∙ found log h.0 new h.2 of.1 (number + 1) n line o grant claimed is ∙ ap (λ (k : ℕ). frame_for k (ClaimsFor line o grant claimed)) (moved number (before log n))
   found (PutsFor claim o' claimed' out ∷ log) old new h of number zero line o grant claimed is = cc
@@ -87,11 +88,11 @@ module _ {X : Type 0} (frames : X → Option (List (List ℕ))) (counted faults 
       ap (λ g. slice_get (claimed_from facts number g.used (claims_in (map deed_of log))) (before log n)) (sym h.1.lane.2) ∙ found log h.0 new h.2 of.1 number n line o grant claimed is
 
   -- the bytes that all claims take
-  pub all_used : (log : List LaneCall) (old new : LaneForm X) → Leading frames counted faults cap l bytes old log new → AllOfLane net w l log →
+  pub all_used : (log : List LaneCall) (old new : LaneForm X) → Leading wire_says cap l bytes old log new → AllOfLane net w l log →
       new.ledger.used ≡ old.ledger.used + octets_claimed facts (claims_in (map deed_of log))
   all_used [] old new h of = let same = ap (λ (s : LaneForm X). s.ledger.used) h in omega (arith, same)
   all_used (ClaimsFor line o grant claimed ∷ log) old new h of =
-      let one = claim_used frames counted faults cap l bytes line o grant claimed old h.0 h.1 in
+      let one = claim_used wire_says cap l bytes line o grant claimed old h.0 h.1 in
       let need' = needed o of.0.1.spelled in
       let rest = all_used log h.0 new h.2 of.1 in omega (arith, one, need', rest)
   all_used (PutsFor claim o claimed out ∷ log) old new h of =
@@ -102,7 +103,7 @@ module _ {X : Type 0} (frames : X → Option (List (List ℕ))) (counted faults 
   -- ---- the frames that are put
 
   module _ (all : List LaneCall) where
-    module _ (old new : LaneForm X) (h : Leading frames counted faults cap l bytes old all new) (of : AllOfLane net w l all) (used : old.ledger.used ≡ length (w.durable.own l)) where
+    module _ (old new : LaneForm X) (h : Leading wire_says cap l bytes old all new) (of : AllOfLane net w l all) (used : old.ledger.used ≡ length (w.durable.own l)) where
       abbrev log : List Deed
       log = map deed_of all
 

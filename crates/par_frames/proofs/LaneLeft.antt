@@ -1,5 +1,5 @@
 -- After a block, a lane stands for the world that its log leaves.
-use Rattle.std.proofs.Common.{◌≡◌, ℕ, ◌≤◌, List, [], ◌++◌, length, map, sym, ◌∙◌, ap, subst, arith, Option}
+use Rattle.std.proofs.Common.{◌≡◌, ℕ, ◌≤◌, List, [], ◌++◌, length, map, sym, ◌∙◌, ap, subst, arith}
 use Rattle.std.specs.Prelude.{slice_get, IfSome}
 use Rattle.std.specs.List.{flat_map, AllByRecursion}
 use Rattle.std.proofs.lemmas.List.{length-map, append-nil}
@@ -25,10 +25,11 @@ use Rattle.par_frames.proofs.Good.{Good, all_good}
 use Rattle.par_frames.proofs.Stepping.{Leading, all_stay}
 use Rattle.par_frames.proofs.Telling.{all_reported, all_placed}
 use Rattle.par_frames.proofs.Wiring.{Has, taken_of, wired}
+use Rattle.source_devices.specs.declared.wire.Wire as Wire
 
-module _ {X : Type 0} (frames : X → Option (List (List ℕ))) (counted faults : X → ℕ) (cap : ℕ) (net : Network) (w : World) (running : IsRunning net w) (l : Lane) (all : List LaneCall)
+module _ {X : Type 0} (wire_says : Wire.Ghosts X) (cap : ℕ) (net : Network) (w : World) (running : IsRunning net w) (l : Lane) (all : List LaneCall)
     (logs : Lane → List Deed) (is : logs l ≡ numbered (map deed_of all)) (left : IsLeft net w logs l) (after : Conserved net (world_after net w logs)) (of : AllOfLane net w l all)
-    (old new : LaneForm X) (before : LaneStands frames counted net w l old) (h : Leading frames counted faults cap l (octets_sent net w l) old all new)
+    (old new : LaneForm X) (before : LaneStands wire_says net w l old) (h : Leading wire_says cap l (octets_sent net w l) old all new)
     (sound : AllByRecursion (IsSound l (octets_sent net w l) all) (placed_from 0 all)) where
   abbrev base : List (List ℕ)
   base = octets_on_wire net w l
@@ -41,7 +42,7 @@ module _ {X : Type 0} (frames : X → Option (List (List ℕ))) (counted faults 
   puts = flat_map (puts_by net w l all) all
 
   puts_are : frames_put w l (logs l) ≡ puts
-  puts_are = ap (frames_put w l) is ∙ frames_are frames counted faults cap net w l (octets_sent net w l) all old new h of before.used sound
+  puts_are = ap (frames_put w l) is ∙ frames_are wire_says cap net w l (octets_sent net w l) all old new h of before.used sound
 
   -- ---- the lane's bytes
 
@@ -50,7 +51,7 @@ module _ {X : Type 0} (frames : X → Option (List (List ℕ))) (counted faults 
       let own = left.used in
       let same : octets_claimed w.durable.facts (claims_in (logs l)) ≡ octets_claimed w.durable.facts (claims_in (map deed_of all)) =
       ap (λ (ds : List Deed). octets_claimed w.durable.facts (claims_in ds)) is ∙ ap (octets_claimed w.durable.facts) (claims_same (map deed_of all) (map deed_of all)) in
-      let goes = all_used frames counted faults cap net w l (octets_sent net w l) all old new h of in
+      let goes = all_used wire_says cap net w l (octets_sent net w l) all old new h of in
       let was = before.used in omega (arith, own, same, goes, was)
 
   within : new.ledger.used ≤ w.durable.lease l
@@ -60,32 +61,32 @@ module _ {X : Type 0} (frames : X → Option (List (List ℕ))) (counted faults 
 
   -- ---- the lane's wire
 
-  has_before : Has frames counted old.wire (base ++ [])
-  has_before = subst (Has frames counted old.wire) (sym (append-nil base)) (record {
+  has_before : Has wire_says old.wire (base ++ [])
+  has_before = subst (Has wire_says old.wire) (sym (append-nil base)) (record {
     count = before.wire.count ∙ sym (length-map (w.wire l) (λ (j : ℕ). frame_octets net w l (slice_get (w.frames l) j)));
     tells = before.wire.tells;
     told = before.wire.told;
   })
 
-  has_after : Has frames counted new.wire (base ++ octets_taken net w l (logs l))
+  has_after : Has wire_says new.wire (base ++ octets_taken net w l (logs l))
   has_after =
-      subst (λ (ps : List (LaneFrame × Environment)). Has frames counted new.wire (base ++ taken_of frames counted faults cap net w l all ps)) (sym puts_are)
-      (wired frames counted faults cap net w l all all old new h good [] has_before)
+      subst (λ (ps : List (LaneFrame × Environment)). Has wire_says new.wire (base ++ taken_of wire_says cap net w l all ps)) (sym puts_are)
+      (wired wire_says cap net w l all all old new h good [] has_before)
 
-  wire_after : WireStands frames counted net (world_after net w logs) l new.wire
+  wire_after : WireStands wire_says net (world_after net w logs) l new.wire
   wire_after =
       let spelled : octets_on_wire net (world_after net w logs) l ≡ base ++ octets_taken net w l (logs l) = left.wire in
       record {
         count = has_after.count ∙ ap length (sym spelled) ∙ length-map ((world_after net w logs).wire l) (λ (j : ℕ). frame_octets net w l (slice_get ((world_after net w logs).frames l) j));
         tells = has_after.tells;
-        told = subst (λ (xs : List (List ℕ)). IfSome (frames new.wire) (λ x. x ≡ xs)) (sym spelled) has_after.told;
+        told = subst (λ (xs : List (List ℕ)). IfSome (wire_says.frames new.wire) (λ x. x ≡ xs)) (sym spelled) has_after.told;
       }
 
   -- ---- the whole lane
 
-  stands_after : LaneStands frames counted net (world_after net w logs) l new
+  stands_after : LaneStands wire_says net (world_after net w logs) l new
   stands_after =
-      let stay = all_stay frames counted faults cap l (octets_sent net w l) all old new h in
+      let stay = all_stay wire_says cap l (octets_sent net w l) all old new h in
       record {
         lane = stay.lane ∙ before.lane;
         bytes = stay.octets ∙ before.bytes;
@@ -96,13 +97,13 @@ module _ {X : Type 0} (frames : X → Option (List (List ℕ))) (counted faults 
         wire = wire_after;
       }
 
-  pub left_by : IsLeftBy frames counted faults net w logs l all old new
+  pub left_by : IsLeftBy wire_says net w logs l all old new
   left_by = record {
     stands = stands_after;
-    reported = all_reported net w l frames counted faults cap all all old new h good (length (w.wire l)) (sym before.wire.count)
+    reported = all_reported net w l wire_says cap all all old new h good (length (w.wire l)) (sym before.wire.count)
         ∙ ap (reported_from w.durable.facts l (length (w.wire l))) (sym puts_are);
-    placed = all_placed net w l frames counted faults cap all all old new h good (length (w.wire l)) (sym before.wire.count)
+    placed = all_placed net w l wire_says cap all all old new h good (length (w.wire l)) (sym before.wire.count)
         ∙ ap (placings_from net w l (length (w.wire l))) (sym puts_are);
-    faulty = subst (λ (ds : List Deed). Counted (wire_faults_in ds) (faults old.wire) (faults new.wire)) (sym is)
-        (faulty frames counted faults cap l (octets_sent net w l) (map deed_of all) all old new h);
+    faulty = subst (λ (ds : List Deed). Counted (wire_faults_in ds) (wire_says.faults old.wire) (wire_says.faults new.wire)) (sym is)
+        (faulty wire_says cap l (octets_sent net w l) (map deed_of all) all old new h);
   }

@@ -1,8 +1,6 @@
 -- A block whose workers did the jobs, and which was then ended, was done by that number of workers side by side.
-use Rattle.std.proofs.Common.{◌≡◌, ℕ, ◌≤◌, Bool, List, sym, subst, Option, Result, Ok, Err, inl, inr}
+use Rattle.std.proofs.Common.{◌≡◌, ℕ, ◌≤◌, List, sym, subst, Result, Ok, Err, inl, inr}
 use Rattle.std.specs.Prelude.{IfOk, OnErr}
-use Rattle.disk_model.specs.declared.arm.Armings.{Armings}
-use Rattle.net_model.specs.OctetSequence.{OctetSequence}
 use Rattle.net_model.specs.World.{Network, World}
 use Rattle.run_ops.specs.Acting.{IsReady}
 use Rattle.run_ops.specs.declared.job.Job.{Job}
@@ -17,40 +15,40 @@ use Rattle.world_state.proofs.Resting.{comes_to_rest}
 use Rattle.world_state.proofs.Tallies.{none_tallied}
 use Rattle.par_frames.specs.declared.worked.Worked.{Worked}
 use Rattle.par_frames.specs.NoteWorking.{HasWorked, CameFrom}
+use Rattle.world_state.specs.Outside.{Outside}
 
-module _ {K Q E X : Type 0} (is_honest : K → Bool) (moment : K → ℕ) (image : K → ℕ → List ℕ → Type 0) (left : E → Option OctetSequence) (told : Q → Option OctetSequence)
-    (frames : X → Option (List (List ℕ))) (counted : X → ℕ) (disk_count : K → ℕ) (armed : K → Armings) (entropy_count : E → ℕ) (device_count : Q → ℕ) (wire_count : X → ℕ) where
+module _ {K Q E X : Type 0} (outside : Outside K Q E X) where
   abbrev StandsHere : State K Q E X → Network → World → Type 0
-  StandsHere = Stands is_honest moment image left told frames counted
+  StandsHere = Stands outside
 
   abbrev RestsHere : State K Q E X → Network → World → Type 0
-  RestsHere = Rests is_honest moment image left told frames counted
+  RestsHere = Rests outside
 
   abbrev Came : State K Q E X → State K Q E X → Network → World → ℕ → List Job → Worked → Type 0
-  Came old mid net w workers jobs worked = CameFrom is_honest moment image left told frames counted disk_count armed entropy_count device_count wire_count old mid net w workers jobs worked
+  Came old mid net w workers jobs worked = CameFrom outside old mid net w workers jobs worked
 
   abbrev Done : State K Q E X → State K Q E X → Network → World → ℕ → List Job → DoneBlock → Type 0
-  Done old new net w workers jobs done = DoesTogether StandsHere (Tallied disk_count armed entropy_count device_count wire_count) old new net workers w jobs done
+  Done old new net w workers jobs done = DoesTogether StandsHere (Tallied outside) old new net workers w jobs done
 
   abbrev Ends : State K Q E X → State K Q E X → Network → World → ℕ → List Job → Type 0
-  Ends old new net w workers jobs = EndsTogether RestsHere (Tallied disk_count armed entropy_count device_count wire_count) old new net workers w jobs
+  Ends old new net w workers jobs = EndsTogether RestsHere (Tallied outside) old new net workers w jobs
 
   abbrev Left : State K Q E X → State K Q E X → Network → World → ℕ → List Job → Type 0
-  Left old new net w workers jobs = LeftTogether RestsHere (Tallied disk_count armed entropy_count device_count wire_count) old new net workers w jobs
+  Left old new net w workers jobs = LeftTogether RestsHere (Tallied outside) old new net workers w jobs
 
   -- a block in which nothing happened
   pub nothing_done : (old new : State K Q E X) (net : Network) (w : World) (workers : ℕ) (jobs : List Job) → StandsHere old net w → new ≡ old → Left old new net w workers jobs
   nothing_done old new net w workers jobs stands is =
       subst (λ (s : State K Q E X). Left old s net w workers jobs) (sym is)
       (inl (
-        comes_to_rest is_honest moment image left told frames counted net w old stands,
-        none_tallied disk_count armed entropy_count device_count wire_count net.site old (has_disks is_honest moment image left told frames counted old net w stands),
+        comes_to_rest outside net w old stands,
+        none_tallied outside net.site old (has_disks outside old net w stands),
       ))
 
   -- a block whose workers did the jobs, and which was then ended
   module _ (old mid new : State K Q E X) (workers : ℕ) (jobs : List Job) (worked : Worked) (some : 1 ≤ workers)
       (did : (net : Network) (w : World) → IsReady StandsHere old net w →
-      HasWorked is_honest moment image left told frames counted disk_count armed entropy_count device_count wire_count old mid net w workers jobs worked) where
+      HasWorked outside old mid net w workers jobs worked) where
     pub came : (net : Network) (w : World) → IsReady StandsHere old net w → Came old mid net w workers jobs worked
     came net w ready = record { some = some; ready = ready; worked' = did net w ready }
 

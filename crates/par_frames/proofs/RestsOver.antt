@@ -1,9 +1,7 @@
 -- A state that stands for a world before the nodes note rests in the world after their notes, whether they noted or not.
-use Rattle.std.proofs.Common.{◌≡◌, ℕ, ◌*◌, Bool, true, false, List, [], ◌∷◌, length, refl, sym, ap, subst, ◌∙◌, Option, Some}
+use Rattle.std.proofs.Common.{◌≡◌, ℕ, ◌*◌, Bool, true, false, List, [], ◌∷◌, length, refl, sym, ap, subst, ◌∙◌, Some}
 use Rattle.std.specs.Prelude.{slice_get}
 use Rattle.qkd_base.specs.declared.lane.Lane.{Lane}
-use Rattle.disk_model.specs.declared.arm.Armings.{Armings}
-use Rattle.net_model.specs.OctetSequence.{OctetSequence}
 use Rattle.net_model.specs.Site.{Site}
 use Rattle.net_model.specs.World.{Network, World}
 use Rattle.net_model.specs.Needed.{view_of}
@@ -27,6 +25,7 @@ use Rattle.world_state.proofs.StateGoesOn.{running_on, enabled_of}
 use Rattle.world_state.proofs.Tallies.{none_tallied, tallied_more}
 use Rattle.par_frames.proofs.Completing.{Keeps, complete_keeps, doubted}
 use Rattle.par_frames.proofs.Noted.{notes_of}
+use Rattle.world_state.specs.Outside.{Outside}
 
 -- The view that a start of the node would restore stays the same.
 
@@ -44,25 +43,24 @@ keeps_on net v u w x h k = record {
   given = λ committed. given_on net v w x k committed ∙ h.given committed;
 }
 
-module _ {K Q E X : Type 0} (is_honest : K → Bool) (moment : K → ℕ) (image : K → ℕ → List ℕ → Type 0) (left : E → Option OctetSequence) (told : Q → Option OctetSequence)
-    (frames : X → Option (List (List ℕ))) (counted : X → ℕ) (net : Network) (s : State K Q E X) where
+module _ {K Q E X : Type 0} (outside : Outside K Q E X) (net : Network) (s : State K Q E X) where
   -- A state that rests in a world, and whose lanes still stand for it.
   record Half (w : World) : Type 0 where
     running : IsRunning net w
     sited : net.site ≡ site_of s.site
     nodes : length s.posts.items ≡ net.site.nodes
-    posts : (v : ℕ) (p : Post K E) → slice_get s.posts.items v ≡ Some p → PostRests is_honest moment image left net w v p
+    posts : (v : ℕ) (p : Post K E) → slice_get s.posts.items v ≡ Some p → PostRests outside.disk outside.entropy net w v p
     sides : length s.lanes.items ≡ 2 * net.site.links
-    lanes : (l : Lane) (side : LaneForm X) → is_lane net.site l ≡ true → slice_get s.lanes.items (place_of l) ≡ Some side → LaneStands frames counted net w l side
+    lanes : (l : Lane) (side : LaneForm X) → is_lane net.site l ≡ true → slice_get s.lanes.items (place_of l) ≡ Some side → LaneStands outside.wire net w l side
     links : length s.devices.items ≡ net.site.links
-    devices : (link : ℕ) (q : Q) → slice_get s.devices.items link ≡ Some q → told q ≡ Some (net.device link)
+    devices : (link : ℕ) (q : Q) → slice_get s.devices.items link ≡ Some q → outside.device.told q ≡ Some (net.device link)
 
-  half_of : (w : World) → Stands is_honest moment image left told frames counted s net w → Half w
+  half_of : (w : World) → Stands outside s net w → Half w
   half_of w h = record {
     running = h.running;
     sited = h.sited;
     nodes = h.nodes;
-    posts = λ v p at. post_rests net v w h.running is_honest moment image left p (h.posts v p at);
+    posts = λ v p at. post_rests net v w h.running outside.disk outside.entropy p (h.posts v p at);
     sides = h.sides;
     lanes = h.lanes;
     links = h.links;
@@ -80,7 +78,7 @@ module _ {K Q E X : Type 0} (is_honest : K → Bool) (moment : K → ℕ) (image
             let r = h.posts v p at in
             (r.0, keeps_on net v r.0 w (step net w (Complete k)).0 r.1 (complete_keeps net w h.running.network h.running.conserved k v enabled), r.2);
         sides = h.sides;
-        lanes = λ l side at there. lane_goes_on net w h.running l frames counted (Complete k) side at enabled refl (h.lanes l side at there);
+        lanes = λ l side at there. lane_goes_on net w h.running l outside.wire (Complete k) side at enabled refl (h.lanes l side at there);
         links = h.links;
         devices = h.devices;
       }
@@ -91,7 +89,7 @@ module _ {K Q E X : Type 0} (is_honest : K → Bool) (moment : K → ℕ) (image
       subst Half (sym (run_one net w (Complete v) (notes_of vs)))
       (half_over vs (step net w (Complete v)).0 (later_steps net w (Complete v) (notes_of vs) may) (half_on w v (first_step net w (Complete v) (notes_of vs) may) h))
 
-  pub rests_over : (vs : List ℕ) (w : World) → IsRun net w (notes_of vs) → Stands is_honest moment image left told frames counted s net w → Rests is_honest moment image left told frames counted s net (run net w (notes_of vs))
+  pub rests_over : (vs : List ℕ) (w : World) → IsRun net w (notes_of vs) → Stands outside s net w → Rests outside s net (run net w (notes_of vs))
   rests_over vs w may stands =
       let h = half_over vs w may (half_of w stands) in
       record {
@@ -107,15 +105,15 @@ module _ {K Q E X : Type 0} (is_honest : K → Bool) (moment : K → ℕ) (image
 
 -- Notes add to no count.
 
-module _ {K Q E X : Type 0} (disk_count : K → ℕ) (armed : K → Armings) (entropy_count : E → ℕ) (device_count : Q → ℕ) (wire_count : X → ℕ) (site : Site) (s : State K Q E X)
+module _ {K Q E X : Type 0} (outside : Outside K Q E X) (site : Site) (s : State K Q E X)
     (disks : (v : ℕ) (p : Post K E) → slice_get s.posts.items v ≡ Some p → (k : K) × (disk_of p ≡ Some k)) where
-  one_still : (v : ℕ) → Tallied disk_count armed entropy_count device_count wire_count s s site (Complete v ∷ [])
+  one_still : (v : ℕ) → Tallied outside s s site (Complete v ∷ [])
   one_still v =
-      all_tallied disk_count armed entropy_count device_count wire_count site (Complete v) s s refl refl refl
-      (posts_still disk_count armed entropy_count device_count wire_count site (Complete v) s s disks refl (λ u. (refl, refl, refl)))
-      (devices_still disk_count armed entropy_count device_count wire_count site (Complete v) s s refl (λ link. refl))
-      (wires_still disk_count armed entropy_count device_count wire_count site (Complete v) s s refl (λ l. refl))
+      all_tallied outside site (Complete v) s s refl refl refl
+      (posts_still outside site (Complete v) s s disks refl (λ u. (refl, refl, refl)))
+      (devices_still outside site (Complete v) s s refl (λ link. refl))
+      (wires_still outside site (Complete v) s s refl (λ l. refl))
 
-  pub notes_still : (vs : List ℕ) → Tallied disk_count armed entropy_count device_count wire_count s s site (notes_of vs)
-  notes_still [] = none_tallied disk_count armed entropy_count device_count wire_count site s disks
-  notes_still (v ∷ vs) = tallied_more disk_count armed entropy_count device_count wire_count site s s s (Complete v ∷ []) (notes_of vs) (one_still v) (notes_still vs)
+  pub notes_still : (vs : List ℕ) → Tallied outside s s site (notes_of vs)
+  notes_still [] = none_tallied outside site s disks
+  notes_still (v ∷ vs) = tallied_more outside site s s s (Complete v ∷ []) (notes_of vs) (one_still v) (notes_still vs)

@@ -1,5 +1,5 @@
 -- The sorted records of a block's frames say what is reported and noted of them.
-use Rattle.std.proofs.Common.{◌≡◌, ℕ, zero, suc, ◌<◌, ◌≤◌, Bool, true, List, [], ◌∷◌, ◌++◌, map, refl, sym, ◌∙◌, ap, ap₂, subst, arith, Option}
+use Rattle.std.proofs.Common.{◌≡◌, ℕ, zero, suc, ◌<◌, ◌≤◌, Bool, true, List, [], ◌∷◌, ◌++◌, map, refl, sym, ◌∙◌, ap, ap₂, subst, arith}
 use Rattle.std.specs.Prelude.{◌==◌, filter}
 use Rattle.std.specs.List.{flat_map, AllByRecursion}
 use Rattle.std.specs.List.Sorted.{IsNonDecreasingBy}
@@ -30,6 +30,7 @@ use Rattle.par_frames.specs.Working.{kept}
 use Rattle.par_frames.proofs.OnALane.{all_kept_emitted}
 use Rattle.par_frames.proofs.Parts.{just_moved, just_part, part_ordered}
 use Rattle.par_frames.proofs.Sorted.{in_part}
+use Rattle.source_devices.specs.declared.wire.Wire as Wire
 
 -- All lanes of the site are declared.
 declared_to : (s : Site) (n : ℕ) → n ≤ s.links → AllByRecursion (λ (l : Lane). is_lane s l ≡ true) (flat_map (λ link. lane_of link Up ∷ lane_of link Down ∷ []) (count_up n))
@@ -45,9 +46,9 @@ same_of_all : {B : Type 0} (f g : Lane → List B) (ls : List Lane) → AllByRec
 same_of_all f g [] h = refl
 same_of_all {B} f g (l ∷ ls) h = ap₂ (λ (xs ys : List B). xs ++ ys) h.0 (same_of_all f g ls h.1)
 
-module _ {X : Type 0} (frames : X → Option (List (List ℕ))) (counted faults : X → ℕ) (net : Network) (workers : ℕ) (w : World) (jobs : List Job) (histories : List (List Work))
-    (lanes : LanesWorked frames counted faults net workers w histories) (left : LanesLeft frames counted faults net workers w jobs histories lanes)
-    (outs : List (List (Emission × Emitted))) (sorted : List Emitted) (h : AreSorted frames counted faults net workers w histories lanes outs sorted) where
+module _ {X : Type 0} (wire_says : Wire.Ghosts X) (net : Network) (workers : ℕ) (w : World) (jobs : List Job) (histories : List (List Work))
+    (lanes : LanesWorked wire_says net workers w histories) (left : LanesLeft wire_says net workers w jobs histories lanes)
+    (outs : List (List (Emission × Emitted))) (sorted : List Emitted) (h : AreSorted wire_says net workers w histories lanes outs sorted) where
   abbrev here : Lane → Emitted → Bool
   here l e = lane_place e.lane == lane_place l
 

@@ -1,7 +1,6 @@
 -- After the workers' calls on its lanes, a state stands for the world that they leave.
-use Rattle.std.proofs.Common.{ℕ, Bool, List, length, sym, ◌∙◌, ap, subst, Option}
+use Rattle.std.proofs.Common.{ℕ, List, length, sym, ◌∙◌, ap, subst}
 use Rattle.std.specs.Prelude.{slice_get}
-use Rattle.net_model.specs.OctetSequence.{OctetSequence}
 use Rattle.net_model.specs.World.{Network, World}
 use Rattle.declared_site.specs.SiteOf.{site_of}
 use Rattle.kme_base.specs.Up.{AreUp}
@@ -16,22 +15,22 @@ use Rattle.law_parallel.specs.LaneWorks.{world_after}
 use Rattle.law_parallel.specs.InOrder.{turns_over}
 use Rattle.par_frames.specs.Blocks.{LanesWorked, LanesLeft}
 use Rattle.par_frames.specs.States.{HasLanes}
+use Rattle.world_state.specs.Outside.{Outside}
 
-module _ {K Q E X : Type 0} (is_honest : K → Bool) (moment : K → ℕ) (image : K → ℕ → List ℕ → Type 0) (left : E → Option OctetSequence) (told : Q → Option OctetSequence)
-    (frames : X → Option (List (List ℕ))) (counted faults : X → ℕ) (net : Network) (workers : ℕ) (w : World) (jobs : List Job) (histories : List (List Work))
-    (lanes : LanesWorked frames counted faults net workers w histories) (behind : LanesLeft frames counted faults net workers w jobs histories lanes)
-    (old new : State K Q E X) (h : HasLanes frames counted faults net workers w histories lanes old new) where
+module _ {K Q E X : Type 0} (outside : Outside K Q E X) (net : Network) (workers : ℕ) (w : World) (jobs : List Job) (histories : List (List Work))
+    (lanes : LanesWorked outside.wire net workers w histories) (behind : LanesLeft outside.wire net workers w jobs histories lanes)
+    (old new : State K Q E X) (h : HasLanes outside.wire net workers w histories lanes old new) where
   abbrev u : World
   u = turns_over net w histories
 
-  pub stands : Stands is_honest moment image left told frames counted old net u → Stands is_honest moment image left told frames counted new net (world_after net u behind.logs)
+  pub stands : Stands outside old net u → Stands outside new net (world_after net u behind.logs)
   stands s = record {
     running = behind.running;
     sited = s.sited ∙ ap site_of (sym h.site);
     nodes = ap length h.posts ∙ s.nodes;
-    posts = λ v p at. post_on is_honest moment image left net u (world_after net u behind.logs) v (behind.block.managers v) p (s.posts v p (ap (λ ps. slice_get ps v) (sym h.posts) ∙ at));
+    posts = λ v p at. post_on outside.disk outside.entropy net u (world_after net u behind.logs) v (behind.block.managers v) p (s.posts v p (ap (λ ps. slice_get ps v) (sym h.posts) ∙ at));
     sides = h.sides ∙ s.sides;
-    lanes = λ l side e at. subst (LaneStands frames counted net (world_after net u behind.logs) l) (some_same (sym (h.is l e) ∙ at)) (behind.each l e).stands;
+    lanes = λ l side e at. subst (LaneStands outside.wire net (world_after net u behind.logs) l) (some_same (sym (h.is l e) ∙ at)) (behind.each l e).stands;
     links = ap length h.devices ∙ s.links;
     devices = λ link q at. s.devices link q (ap (λ qs. slice_get qs link) (sym h.devices) ∙ at);
     up = subst (λ (n : ℕ). AreUp n u.link_up) (sym h.up) s.up;

@@ -1,5 +1,5 @@
 -- Calls of a lane keep the lane and its bytes, and its ledger grows by what they claim.
-use Rattle.std.proofs.Common.{◌≡◌, ℕ, ◌+◌, ◌≤◌, true, false, List, [], ◌∷◌, map, refl, sym, ◌∙◌, ap, subst, arith, Option}
+use Rattle.std.proofs.Common.{◌≡◌, ℕ, ◌+◌, ◌≤◌, true, false, List, [], ◌∷◌, map, refl, sym, ◌∙◌, ap, subst, arith}
 use Rattle.std.specs.Prelude.{nat_le, if◌then◌else◌}
 use Rattle.qkd_base.specs.declared.lane.Lane.{Lane}
 use Rattle.turnstile.specs.Turns.{Leads}
@@ -7,6 +7,7 @@ use Rattle.pad_ledger.specs.Ledger.{Ledger}
 use Rattle.lane_sender.specs.Lane.{LaneForm, reaching, frame_need}
 use Rattle.par_lanes.specs.Turns.{Turns}
 use Rattle.par_frames.specs.LaneCalls.{LaneCall, ClaimsFor, PutsFor, RepeatsFor, asked}
+use Rattle.source_devices.specs.declared.wire.Wire as Wire
 
 -- a ledger whose end was raised
 
@@ -22,14 +23,14 @@ raised_burnt n g = elim (nat_le (g.used + n) g.end) as (λ t. (if t then g else 
 raised_end : (n : ℕ) (g : Ledger) (most : ℕ) → g.end ≤ most → g.used + n ≤ most → (reaching n g).end ≤ most
 raised_end n g most low high = elim (nat_le (g.used + n) g.end) as (λ t. (if t then g else record g { end = g.used + n }).end ≤ most) [ true ↦ low | false ↦ high ]
 
-module _ {X : Type 0} (frames : X → Option (List (List ℕ))) (counted faults : X → ℕ) (cap : ℕ) (l : Lane) (bytes : List ℕ) where
+module _ {X : Type 0} (wire_says : Wire.Ghosts X) (cap : ℕ) (l : Lane) (bytes : List ℕ) where
   -- These calls lead from one state of the lane to another.
   abbrev pub Leading : LaneForm X → List LaneCall → LaneForm X → Type 0
-  Leading old log new = Leads (Turns frames counted faults cap) old (map (asked l bytes) log) new
+  Leading old log new = Leads (Turns wire_says cap) old (map (asked l bytes) log) new
 
   -- one of these calls
   abbrev pub Turned : LaneForm X → LaneCall → LaneForm X → Type 0
-  Turned old c new = Turns frames counted faults cap old (asked l bytes c).0 (asked l bytes c).1 new
+  Turned old c new = Turns wire_says cap old (asked l bytes c).0 (asked l bytes c).1 new
 
   pub record Stays (old new : LaneForm X) : Type 0 where
     pub lane : new.lane ≡ old.lane

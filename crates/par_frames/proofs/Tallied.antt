@@ -3,7 +3,6 @@ use Rattle.std.proofs.Common.{◌≡◌, ℕ, Bool, false, List, [], ◌∷◌, 
 use Rattle.std.specs.Prelude.{slice_get, count_by, filter_map}
 use Rattle.std.specs.List.{cons_option}
 use Rattle.qkd_base.specs.declared.lane.Lane.{Lane}
-use Rattle.disk_model.specs.declared.arm.Armings.{Armings}
 use Rattle.net_model.specs.Site.{Site, count_up}
 use Rattle.net_model.specs.World.{Network, World}
 use Rattle.net_model.specs.Action.{Action, Fault, Complete}
@@ -20,6 +19,7 @@ use Rattle.world_state.specs.Stands.{place_of}
 use Rattle.world_state.specs.Passed.{Post, entropy_of}
 use Rattle.world_state.specs.Tallied.{Counted, IsArmedBy, PostTallied, Tallied}
 use Rattle.world_state.specs.declared.state.State.{State}
+use Rattle.world_state.specs.Outside.{Outside}
 
 -- ---- a note counts as no failure
 
@@ -76,25 +76,25 @@ pub record FailAlike (site : Site) (xs ys : List Action) : Type 0 where
   pub devices : (link : ℕ) → device_faults link xs ≡ device_faults link ys
   pub armed : (v : ℕ) → armings v xs ≡ armings v ys
 
-module _ {K Q E X : Type 0} (disk_count : K → ℕ) (armed : K → Armings) (entropy_count : E → ℕ) (device_count : Q → ℕ) (wire_count : X → ℕ) where
+module _ {K Q E X : Type 0} (outside : Outside K Q E X) where
   abbrev All : State K Q E X → State K Q E X → Site → List Action → Type 0
-  All a b site actions = Tallied disk_count armed entropy_count device_count wire_count a b site actions
+  All a b site actions = Tallied outside a b site actions
 
   abbrev pub WiresCounted : (Lane → ℕ) → State K Q E X → State K Q E X → Type 0
   WiresCounted failures old new =
       (l : Lane) (p q : LaneForm X) → slice_get old.lanes.items (place_of l) ≡ Some p → slice_get new.lanes.items (place_of l) ≡ Some q →
-      Counted (failures l) (wire_count p.wire) (wire_count q.wire)
+      Counted (failures l) (outside.wire.faults p.wire) (outside.wire.faults q.wire)
 
   module _ (site : Site) (xs ys : List Action) (same : FailAlike site xs ys) where
-    post_same : (v : ℕ) (p q : Post K E) → PostTallied disk_count armed entropy_count site v ys p q → PostTallied disk_count armed entropy_count site v xs p q
+    post_same : (v : ℕ) (p q : Post K E) → PostTallied outside.disk outside.entropy site v ys p q → PostTallied outside.disk outside.entropy site v xs p q
     post_same v p q h = record {
       before = h.before;
       now = h.now;
       was = h.was;
       is = h.is;
-      failed = subst (λ (n : ℕ). Counted n (disk_count h.before) (disk_count h.now)) (sym (same.disks v)) h.failed;
-      armed_with = subst (λ (fs : List Fault). IsArmedBy fs (armed h.before) (armed h.now)) (sym (same.armed v)) h.armed_with;
-      refused = subst (λ (n : ℕ). Counted n (entropy_count (entropy_of p)) (entropy_count (entropy_of q))) (sym (same.entropies v)) h.refused;
+      failed = subst (λ (n : ℕ). Counted n (outside.disk.faults h.before) (outside.disk.faults h.now)) (sym (same.disks v)) h.failed;
+      armed_with = subst (λ (fs : List Fault). IsArmedBy fs (outside.disk.armings h.before) (outside.disk.armings h.now)) (sym (same.armed v)) h.armed_with;
+      refused = subst (λ (n : ℕ). Counted n (outside.entropy.faults (entropy_of p)) (outside.entropy.faults (entropy_of q))) (sym (same.entropies v)) h.refused;
     }
 
     -- each wire failed as often as it counted
@@ -105,7 +105,7 @@ module _ {K Q E X : Type 0} (disk_count : K → ℕ) (armed : K → Armings) (en
       posts = λ v p q was is. post_same v p q (h.posts v p q was (ap (λ (ps : List (Post K E)). slice_get ps v) (sym posts) ∙ is));
       links = ap length devices ∙ h.links;
       devices = λ link p q was is.
-          subst (λ (n : ℕ). Counted n (device_count p) (device_count q)) (sym (same.devices link)) (h.devices link p q was (ap (λ (qs : List Q). slice_get qs link) (sym devices) ∙ is));
+          subst (λ (n : ℕ). Counted n (outside.device.faults p) (outside.device.faults q)) (sym (same.devices link)) (h.devices link p q was (ap (λ (qs : List Q). slice_get qs link) (sym devices) ∙ is));
       sides = sides;
       wires = wires;
     }
@@ -114,7 +114,7 @@ module _ {K Q E X : Type 0} (disk_count : K → ℕ) (armed : K → Armings) (en
   pub noted_apart : (old new : State K Q E X) (net : Network) (xs : List Action) → All old new net.site (xs ++ completions net) → All old new net.site xs
   noted_apart old new net xs h =
       tallied_alike net.site xs (xs ++ completions net) (record { disks = disks_before net xs; entropies = entropies_before net xs; devices = devices_before net xs; armed = armed_before net xs })
-      old new new refl refl h.sides (λ l p q was is. subst (λ (n : ℕ). Counted n (wire_count p.wire) (wire_count q.wire)) (sym (wires_before net xs l)) (h.wires l p q was is)) h
+      old new new refl refl h.sides (λ l p q was is. subst (λ (n : ℕ). Counted n (outside.wire.faults p.wire) (outside.wire.faults q.wire)) (sym (wires_before net xs l)) (h.wires l p q was is)) h
 
   -- If the managers' turns of a block are counted, and each wire's failures are those in its lane's log, then the whole block is counted.
   pub block_tallied : (net : Network) (workers : ℕ) (w : World) (jobs : List Job) (histories : List (List Work)) (logs : Lane → List Deed) → IsLaneBlock net workers w jobs histories logs →
@@ -123,4 +123,4 @@ module _ {K Q E X : Type 0} (disk_count : K → ℕ) (armed : K → Armings) (en
   block_tallied net workers w jobs histories logs b old mid new posts devices sides wires h =
       tallied_alike net.site (block_run net (works_of net w histories logs)) (actions_in (flat histories))
       (record { disks = b.disks; entropies = b.entropies; devices = b.devices; armed = b.armed }) old mid new posts devices sides
-      (λ l p q was is. subst (λ (n : ℕ). Counted n (wire_count p.wire) (wire_count q.wire)) (sym (b.wires l)) (wires l p q was is)) h
+      (λ l p q was is. subst (λ (n : ℕ). Counted n (outside.wire.faults p.wire) (outside.wire.faults q.wire)) (sym (b.wires l)) (wires l p q was is)) h

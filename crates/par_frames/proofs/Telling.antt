@@ -1,5 +1,5 @@
 -- The records of frames say what is reported and noted of them.
-use Rattle.std.proofs.Common.{◌≡◌, ℕ, ◌+◌, ◌-◌, List, [], ◌∷◌, map, refl, sym, ◌∙◌, ap, Option, Some, Result, Ok, Err}
+use Rattle.std.proofs.Common.{◌≡◌, ℕ, ◌+◌, ◌-◌, List, [], ◌∷◌, map, refl, sym, ◌∙◌, ap, Some, Result, Ok, Err}
 use Rattle.std.specs.List.{flat_map, AllByRecursion}
 use Rattle.qkd_base.specs.declared.lane.Lane.{Lane}
 use Rattle.net_model.specs.Item.{need}
@@ -23,6 +23,7 @@ use Rattle.par_frames.proofs.Agreeing.{Agrees}
 use Rattle.par_frames.proofs.Found.{new_frame, old_frame, puts_by}
 use Rattle.par_frames.proofs.Good.{Good}
 use Rattle.par_frames.proofs.Stepping.{Leading}
+use Rattle.source_devices.specs.declared.wire.Wire as Wire
 
 -- the wire's answer
 
@@ -94,43 +95,43 @@ module _ (net : Network) (w : World) (l : Lane) where
         frame = sym room i;
       }
 
-  module _ {X : Type 0} (frames : X → Option (List (List ℕ))) (counted faults : X → ℕ) (cap : ℕ) (all : List LaneCall) where
+  module _ {X : Type 0} (wire_says : Wire.Ghosts X) (cap : ℕ) (all : List LaneCall) where
     abbrev Led : LaneForm X → List LaneCall → LaneForm X → Type 0
-    Led old log new = Leading frames counted faults cap l (octets_sent net w l) old log new
+    Led old log new = Leading wire_says cap l (octets_sent net w l) old log new
 
-    same_count : (old new : LaneForm X) (count : ℕ) → count ≡ counted old.wire → new.wire ≡ old.wire → count ≡ counted new.wire
-    same_count old new count is same = is ∙ ap counted (sym same)
+    same_count : (old new : LaneForm X) (count : ℕ) → count ≡ wire_says.counted old.wire → new.wire ≡ old.wire → count ≡ wire_says.counted new.wire
+    same_count old new count is same = is ∙ ap wire_says.counted (sym same)
 
     -- ---- all frames
 
-    pub all_reported : (log : List LaneCall) (old new : LaneForm X) → Led old log new → AllByRecursion (Good net w l all) log → (count : ℕ) → count ≡ counted old.wire →
+    pub all_reported : (log : List LaneCall) (old new : LaneForm X) → Led old log new → AllByRecursion (Good net w l all) log → (count : ℕ) → count ≡ wire_says.counted old.wire →
         map reported_as (kept_in log) ≡ reported_from w.durable.facts l count (flat_map (puts_by net w l all) log)
     all_reported [] old new h good count is = refl
     all_reported (ClaimsFor line o grant claimed ∷ log) old new h good count is =
         all_reported log h.0 new h.2 good.1 count (same_count old h.0 count is (ap (λ (s : LaneForm X). s.wire) h.1.after))
     all_reported (PutsFor claim o claimed out ∷ log) old new h good count is =
         let f = new_frame net w l all claim o claimed out.line in
-        let one = one_reported f out count good.0.agrees (is_next (answer_of out.sent) (counted old.wire) (counted h.0.wire) count h.1.number (sym is)) in
-        let rest = all_reported log h.0 new h.2 good.1 (count_after count (wire_answer (answer_of out.sent))) (counts (answer_of out.sent) (counted old.wire) (counted h.0.wire) count h.1.number is) in
+        let one = one_reported f out count good.0.agrees (is_next (answer_of out.sent) (wire_says.counted old.wire) (wire_says.counted h.0.wire) count h.1.number (sym is)) in
+        let rest = all_reported log h.0 new h.2 good.1 (count_after count (wire_answer (answer_of out.sent))) (counts (answer_of out.sent) (wire_says.counted old.wire) (wire_says.counted h.0.wire) count h.1.number is) in
         λ i. sym one i ∷ rest i
     all_reported (RepeatsFor r out ∷ log) old new h good count is =
         let f = old_frame net w l all r out.line in
-        let one = one_reported f out count good.0.agrees (is_next (answer_of out.sent) (counted old.wire) (counted h.0.wire) count h.1.number (sym is)) in
-        let rest = all_reported log h.0 new h.2 good.1 (count_after count (wire_answer (answer_of out.sent))) (counts (answer_of out.sent) (counted old.wire) (counted h.0.wire) count h.1.number is) in
+        let one = one_reported f out count good.0.agrees (is_next (answer_of out.sent) (wire_says.counted old.wire) (wire_says.counted h.0.wire) count h.1.number (sym is)) in
+        let rest = all_reported log h.0 new h.2 good.1 (count_after count (wire_answer (answer_of out.sent))) (counts (answer_of out.sent) (wire_says.counted old.wire) (wire_says.counted h.0.wire) count h.1.number is) in
         λ i. sym one i ∷ rest i
 
-    pub all_placed : (log : List LaneCall) (old new : LaneForm X) → Led old log new → AllByRecursion (Good net w l all) log → (count : ℕ) → count ≡ counted old.wire →
+    pub all_placed : (log : List LaneCall) (old new : LaneForm X) → Led old log new → AllByRecursion (Good net w l all) log → (count : ℕ) → count ≡ wire_says.counted old.wire →
         map placing_as (kept_in log) ≡ placings_from net w l count (flat_map (puts_by net w l all) log)
     all_placed [] old new h good count is = refl
     all_placed (ClaimsFor line o grant claimed ∷ log) old new h good count is =
         all_placed log h.0 new h.2 good.1 count (same_count old h.0 count is (ap (λ (s : LaneForm X). s.wire) h.1.after))
     all_placed (PutsFor claim o claimed out ∷ log) old new h good count is =
         let f = new_frame net w l all claim o claimed out.line in
-        let one = one_placed f out count good.0.agrees (is_next (answer_of out.sent) (counted old.wire) (counted h.0.wire) count h.1.number (sym is)) in
-        let rest = all_placed log h.0 new h.2 good.1 (count_after count (wire_answer (answer_of out.sent))) (counts (answer_of out.sent) (counted old.wire) (counted h.0.wire) count h.1.number is) in
+        let one = one_placed f out count good.0.agrees (is_next (answer_of out.sent) (wire_says.counted old.wire) (wire_says.counted h.0.wire) count h.1.number (sym is)) in
+        let rest = all_placed log h.0 new h.2 good.1 (count_after count (wire_answer (answer_of out.sent))) (counts (answer_of out.sent) (wire_says.counted old.wire) (wire_says.counted h.0.wire) count h.1.number is) in
         λ i. sym one i ∷ rest i
     all_placed (RepeatsFor r out ∷ log) old new h good count is =
         let f = old_frame net w l all r out.line in
-        let one = one_placed f out count good.0.agrees (is_next (answer_of out.sent) (counted old.wire) (counted h.0.wire) count h.1.number (sym is)) in
-        let rest = all_placed log h.0 new h.2 good.1 (count_after count (wire_answer (answer_of out.sent))) (counts (answer_of out.sent) (counted old.wire) (counted h.0.wire) count h.1.number is) in
+        let one = one_placed f out count good.0.agrees (is_next (answer_of out.sent) (wire_says.counted old.wire) (wire_says.counted h.0.wire) count h.1.number (sym is)) in
+        let rest = all_placed log h.0 new h.2 good.1 (count_after count (wire_answer (answer_of out.sent))) (counts (answer_of out.sent) (wire_says.counted old.wire) (wire_says.counted h.0.wire) count h.1.number is) in
         λ i. sym one i ∷ rest i

@@ -1,8 +1,6 @@
 -- What the workers did is a block of the network, which is noted and reported.
-use Rattle.std.proofs.Common.{◌≡◌, ℕ, Bool, true, List, [], map, refl, sym, ◌∙◌, ap, subst, Option, Vec, Global}
+use Rattle.std.proofs.Common.{◌≡◌, ℕ, true, List, [], map, refl, sym, ◌∙◌, ap, subst, Vec, Global}
 use Rattle.std.specs.List.{list_all, flat_map}
-use Rattle.disk_model.specs.declared.arm.Armings.{Armings}
-use Rattle.net_model.specs.OctetSequence.{OctetSequence}
 use Rattle.declared_site.specs.SiteOf.{site_of}
 use Rattle.net_model.specs.Site.{Site, count_up}
 use Rattle.net_model.specs.World.{Network, World}
@@ -41,18 +39,18 @@ use Rattle.par_frames.specs.NoteWorking.{HasWorked, CameFrom}
 use Rattle.par_frames.proofs.Nodes.{lanes_there, in_order, noted_by_nodes, all_reported}
 use Rattle.par_frames.proofs.NoteSizes.{all_sized}
 use Rattle.par_frames.proofs.Tallied.{noted_apart}
+use Rattle.world_state.specs.Outside.{Outside}
 
-module _ {K Q E X : Type 0} (is_honest : K → Bool) (moment : K → ℕ) (image : K → ℕ → List ℕ → Type 0) (left : E → Option OctetSequence) (told : Q → Option OctetSequence)
-    (frames : X → Option (List (List ℕ))) (counted : X → ℕ) (disk_count : K → ℕ) (armed : K → Armings) (entropy_count : E → ℕ) (device_count : Q → ℕ) (wire_count : X → ℕ) where
+module _ {K Q E X : Type 0} (outside : Outside K Q E X) where
   abbrev StandsHere : State K Q E X → Network → World → Type 0
-  StandsHere = Stands is_honest moment image left told frames counted
+  StandsHere = Stands outside
 
   abbrev RestsHere : State K Q E X → Network → World → Type 0
-  RestsHere = Rests is_honest moment image left told frames counted
+  RestsHere = Rests outside
 
   -- ---- frames are recorded and noted
 
-  module _ (s : State K Q E X) (net : Network) (w : World) (put : List Emitted) (may : MayNoteFrames is_honest moment image left told frames counted s net w put) where
+  module _ (s : State K Q E X) (net : Network) (w : World) (put : List Emitted) (may : MayNoteFrames outside s net w put) where
     pub site_lanes : list_all (λ (e : Emitted). is_lane (site_of s.site) e.lane) put ≡ true
     site_lanes = subst (λ (site : Site). list_all (λ (e : Emitted). is_lane site e.lane) put ≡ true) may.stands.sited may.lanes
 
@@ -63,7 +61,7 @@ module _ {K Q E X : Type 0} (is_honest : K → Bool) (moment : K → ℕ) (image
         subst (λ (site : Site). AreRecorded site put b) (sym may.stands.sited)
         (recorded is (subst (λ (m : ℕ). IsEmpty m a) (many ∙ ap (λ (site : Site). site.nodes) may.stands.sited) (empty (whole is))))
 
-    pub may_note_all : (log : Log) → AreRecorded net.site put log → MayNoteAll is_honest moment image left told frames counted s net w log.placings.items
+    pub may_note_all : (log : Log) → AreRecorded net.site put log → MayNoteAll outside s net w log.placings.items
     may_note_all log r = record {
       stands = may.stands;
       remains = may.remains;
@@ -72,22 +70,22 @@ module _ {K Q E X : Type 0} (is_honest : K → Bool) (moment : K → ℕ) (image
     }
 
     pub frames_noted : (new : State K Q E X) (log : Log) → AreRecorded net.site put log →
-        NotesAll is_honest moment image left told frames counted disk_count armed entropy_count device_count wire_count s new net w →
-        NotesFrames is_honest moment image left told frames counted disk_count armed entropy_count device_count wire_count s new net w put log.frames.items
+        NotesAll outside s new net w →
+        NotesFrames outside s new net w put log.frames.items
     frames_noted new log r k = record { reports = r.reports; stands = k.stands; tallied = k.tallied }
 
     -- memory ran out before any node noted its frames
-    pub frames_left : EndsNotes is_honest moment image left told frames counted disk_count armed entropy_count device_count wire_count s s net w
+    pub frames_left : EndsNotes outside s s net w
     frames_left = record {
-      rests = rests_over is_honest moment image left told frames counted net s (count_up net.site.nodes) w (all_note net w may.remains) may.stands;
-      tallied = notes_still disk_count armed entropy_count device_count wire_count net.site s (has_disks is_honest moment image left told frames counted s net w may.stands) (count_up net.site.nodes);
+      rests = rests_over outside net s (count_up net.site.nodes) w (all_note net w may.remains) may.stands;
+      tallied = notes_still outside net.site s (has_disks outside s net w may.stands) (count_up net.site.nodes);
     }
 
   -- ---- the block
 
   module _ (old mid : State K Q E X) (net : Network) (w : World) (workers : ℕ) (jobs : List Job) (worked : Worked)
-      (came : CameFrom is_honest moment image left told frames counted disk_count armed entropy_count device_count wire_count old mid net w workers jobs worked) where
-    abbrev h : HasWorked is_honest moment image left told frames counted disk_count armed entropy_count device_count wire_count old mid net w workers jobs worked
+      (came : CameFrom outside old mid net w workers jobs worked) where
+    abbrev h : HasWorked outside old mid net w workers jobs worked
     h = came.worked'
 
     b : IsLaneBlock net workers w jobs h.histories h.logs
@@ -106,7 +104,7 @@ module _ {K Q E X : Type 0} (is_honest : K → Bool) (moment : K → ℕ) (image
     none_remains : Remains net behind []
     none_remains = record { each = tt; unclaimed = λ l. refl; outgoing = λ l. refl }
 
-    noted_all : worked.is_whole ≡ true → MayNoteFrames is_honest moment image left told frames counted mid net behind worked.frames.items
+    noted_all : worked.is_whole ≡ true → MayNoteFrames outside mid net behind worked.frames.items
     noted_all is = record {
       stands = h.stands;
       remains = none_remains;
@@ -116,18 +114,18 @@ module _ {K Q E X : Type 0} (is_honest : K → Bool) (moment : K → ℕ) (image
       sized = all_sized net turned' h.logs h.stands.running b.lanes;
     }
 
-    pub may_note : worked.is_whole ≡ true → (put : List Emitted) → put ≡ worked.frames.items → MayNoteFrames is_honest moment image left told frames counted mid net behind put
-    may_note is put same = subst (MayNoteFrames is_honest moment image left told frames counted mid net behind) (sym same) (noted_all is)
+    pub may_note : worked.is_whole ≡ true → (put : List Emitted) → put ≡ worked.frames.items → MayNoteFrames outside mid net behind put
+    may_note is put same = subst (MayNoteFrames outside mid net behind) (sym same) (noted_all is)
 
-    counted_all : (new : State K Q E X) → Tallied disk_count armed entropy_count device_count wire_count mid new net.site (completions net) →
-        Tallied disk_count armed entropy_count device_count wire_count old new net.site all
+    counted_all : (new : State K Q E X) → Tallied outside mid new net.site (completions net) →
+        Tallied outside old new net.site all
     counted_all new k =
-        noted_apart disk_count armed entropy_count device_count wire_count old new net all
-        (tallied_more disk_count armed entropy_count device_count wire_count net.site old mid new all (completions net) h.tallied k)
+        noted_apart outside old new net all
+        (tallied_more outside net.site old mid new all (completions net) h.tallied k)
 
     pub block_done : worked.is_whole ≡ true → (put : List Emitted) → put ≡ worked.frames.items → (new : State K Q E X) (reported : Vec PutFrame Global) →
-        NotesFrames is_honest moment image left told frames counted disk_count armed entropy_count device_count wire_count mid new net behind put reported.items →
-        DoesTogether StandsHere (Tallied disk_count armed entropy_count device_count wire_count) old new net workers w jobs (record { turns = worked.turns; frames = reported })
+        NotesFrames outside mid new net behind put reported.items →
+        DoesTogether StandsHere (Tallied outside) old new net workers w jobs (record { turns = worked.turns; frames = reported })
     block_done is put same new reported k = record {
       works = works_of net w h.histories h.logs;
       are = b.are;
@@ -139,8 +137,8 @@ module _ {K Q E X : Type 0} (is_honest : K → Bool) (moment : K → ℕ) (image
     }
 
     -- memory ran out while the frames were recorded or noted
-    pub block_ends : (new : State K Q E X) → EndsNotes is_honest moment image left told frames counted disk_count armed entropy_count device_count wire_count mid new net behind →
-        EndsTogether RestsHere (Tallied disk_count armed entropy_count device_count wire_count) old new net workers w jobs
+    pub block_ends : (new : State K Q E X) → EndsNotes outside mid new net behind →
+        EndsTogether RestsHere (Tallied outside) old new net workers w jobs
     block_ends new k = record {
       works = works_of net w h.histories h.logs;
       are = b.are;
@@ -149,8 +147,8 @@ module _ {K Q E X : Type 0} (is_honest : K → Bool) (moment : K → ℕ) (image
     }
 
     -- memory ran out while the workers did their jobs
-    pub block_left : EndsTogether RestsHere (Tallied disk_count armed entropy_count device_count wire_count) old mid net workers w jobs
+    pub block_left : EndsTogether RestsHere (Tallied outside) old mid net workers w jobs
     block_left = block_ends mid (record {
-      rests = rests_over is_honest moment image left told frames counted net mid (count_up net.site.nodes) behind (all_note net behind none_remains) h.stands;
-      tallied = notes_still disk_count armed entropy_count device_count wire_count net.site mid (has_disks is_honest moment image left told frames counted mid net behind h.stands) (count_up net.site.nodes);
+      rests = rests_over outside net mid (count_up net.site.nodes) behind (all_note net behind none_remains) h.stands;
+      tallied = notes_still outside net.site mid (has_disks outside mid net behind h.stands) (count_up net.site.nodes);
     })

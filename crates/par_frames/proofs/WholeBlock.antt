@@ -1,5 +1,5 @@
 -- Each lane of a block that its workers did is left as its log says.
-use Rattle.std.proofs.Common.{◌≡◌, ℕ, ◌≤◌, true, List, map, sym, ap, subst, Option}
+use Rattle.std.proofs.Common.{◌≡◌, ℕ, ◌≤◌, true, List, map, sym, ap, subst}
 use Rattle.std.specs.List.{AllByRecursion}
 use Rattle.qkd_base.specs.declared.lane.Lane.{Lane}
 use Rattle.net_model.specs.World.{Network, World}
@@ -31,8 +31,9 @@ use Rattle.par_frames.specs.Leaving.{IsLeftBy}
 use Rattle.par_frames.proofs.Found.{AllOfLane}
 use Rattle.par_frames.proofs.LaneLeft.{left_by}
 use Rattle.par_frames.proofs.Stepping.{Leading}
+use Rattle.source_devices.specs.declared.wire.Wire as Wire
 
-module _ {X : Type 0} (frames : X → Option (List (List ℕ))) (counted faults : X → ℕ) (net : Network) (workers : ℕ) (w : World) (jobs : List Job) (histories : List (List Work))
+module _ {X : Type 0} (wire_says : Wire.Ghosts X) (net : Network) (workers : ℕ) (w : World) (jobs : List Job) (histories : List (List Work))
     (calls : Lane → List (List (ℕ × Deed))) (logs : Lane → List Deed) (some : 1 ≤ workers) (running : IsRunning net w) (quiet : IsQuiet w)
     (works : AreWorkersWorks net workers w jobs histories calls logs) where
   -- the world after the managers' turns
@@ -56,19 +57,19 @@ module _ {X : Type 0} (frames : X → Option (List (List ℕ))) (counted faults 
   }
 
   module _ (l : Lane) (declared : is_lane net.site l ≡ true) (cap : ℕ) (outs : List (List (Emission × Emitted))) (history : List (LaneAsk × LaneAnswer)) (old new : LaneForm X)
-      (stands : LaneStands frames counted net u l old) (leads : Leads (Turns frames counted faults cap) old history new) (d : HaveDone old outs history) (is : logs l ≡ map deed_of d.log) where
-    on_bytes : (lane : Lane) (bytes : List ℕ) → old.lane ≡ lane → old.bytes ≡ bytes → Leading frames counted faults cap lane bytes old d.log new × AllByRecursion (IsSound lane bytes d.log) (placed_from 0 d.log)
+      (stands : LaneStands wire_says net u l old) (leads : Leads (Turns wire_says cap) old history new) (d : HaveDone old outs history) (is : logs l ≡ map deed_of d.log) where
+    on_bytes : (lane : Lane) (bytes : List ℕ) → old.lane ≡ lane → old.bytes ≡ bytes → Leading wire_says cap lane bytes old d.log new × AllByRecursion (IsSound lane bytes d.log) (placed_from 0 d.log)
     on_bytes lane bytes e f =
-        subst (λ (b : List ℕ). Leading frames counted faults cap lane b old d.log new × AllByRecursion (IsSound lane b d.log) (placed_from 0 d.log)) f
-        (subst (λ (k : Lane). Leading frames counted faults cap k old.bytes old d.log new × AllByRecursion (IsSound k old.bytes d.log) (placed_from 0 d.log)) e
-        (subst (λ (es : List (LaneAsk × LaneAnswer)). Leads (Turns frames counted faults cap) old es new) (sym d.entries) leads, d.sound))
+        subst (λ (b : List ℕ). Leading wire_says cap lane b old d.log new × AllByRecursion (IsSound lane b d.log) (placed_from 0 d.log)) f
+        (subst (λ (k : Lane). Leading wire_says cap k old.bytes old d.log new × AllByRecursion (IsSound k old.bytes d.log) (placed_from 0 d.log)) e
+        (subst (λ (es : List (LaneAsk × LaneAnswer)). Leads (Turns wire_says cap) old es new) (sym d.entries) leads, d.sound))
 
     of_plans : AllOfLane net u l d.log
     of_plans =
         subst (λ (ds : List Deed). AllByRecursion (IsOfLane net u l) (done_for_plans ds)) is
         (all_of_lane net workers w jobs histories calls logs some running.network running.conserved quiet works l declared)
 
-    pub left : IsLeftBy frames counted faults net u by_number l d.log old new
+    pub left : IsLeftBy wire_says net u by_number l d.log old new
     left =
         let here = on_bytes l (octets_sent net u l) stands.lane stands.bytes in
-        left_by frames counted faults cap net u running_after l d.log by_number (ap numbered is) (block.lanes l) block.conserved of_plans old new stands here.0 here.1
+        left_by wire_says cap net u running_after l d.log by_number (ap numbered is) (block.lanes l) block.conserved of_plans old new stands here.0 here.1

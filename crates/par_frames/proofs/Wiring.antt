@@ -23,6 +23,7 @@ use Rattle.par_frames.proofs.Agreeing.{octets}
 use Rattle.par_frames.proofs.Found.{new_frame, old_frame, puts_by}
 use Rattle.par_frames.proofs.Good.{IsThere, Good}
 use Rattle.par_frames.proofs.Stepping.{Leading}
+use Rattle.source_devices.specs.declared.wire.Wire as Wire
 
 -- What is added follows what is there.
 added_behind : {A : Type 0} (answer : Result ℕ WireFailed) (xs : List A) (x : A) → added answer xs x ≡ xs ++ added answer [] x
@@ -36,27 +37,27 @@ by_number None new answer all n frame is at takes = takes
 by_number (Some xs) new answer all n frame is at takes =
     subst (TakesFrame (Some xs) new answer) (ap (λ (ys : List (List ℕ)). slice_index_or ys n []) is ∙ index_from all n frame [] at) takes
 
-module _ {X : Type 0} (frames : X → Option (List (List ℕ))) (counted : X → ℕ) where
+module _ {X : Type 0} (wire_says : Wire.Ghosts X) where
   -- A wire has exactly these frames, as far as it tells.
   pub record Has (wire : X) (all : List (List ℕ)) : Type 0 where
-    pub count : counted wire ≡ length all
-    pub tells : is_some (frames wire) ≡ true
-    pub told : IfSome (frames wire) (λ x. x ≡ all)
+    pub count : wire_says.counted wire ≡ length all
+    pub tells : is_some (wire_says.frames wire) ≡ true
+    pub told : IfSome (wire_says.frames wire) (λ x. x ≡ all)
 
   length_added : (answer : Result ℕ WireFailed) (old new : ℕ) (all : List (List ℕ)) (frame : List ℕ) → IsNumbered answer old new → old ≡ length all → new ≡ length (added answer all frame)
   length_added (Ok n) old new all frame h is = omega (arith, h.1, is, length-append all (frame ∷ []))
   length_added (Err e) old new all frame h is = h ∙ is
 
-  has_more : (old new : X) (answer : Result ℕ WireFailed) (all : List (List ℕ)) (frame : List ℕ) → Has old all → TakesFrame (frames old) (frames new) answer frame →
-      IsNumbered answer (counted old) (counted new) → Has new (all ++ added answer [] frame)
+  has_more : (old new : X) (answer : Result ℕ WireFailed) (all : List (List ℕ)) (frame : List ℕ) → Has old all → TakesFrame (wire_says.frames old) (wire_says.frames new) answer frame →
+      IsNumbered answer (wire_says.counted old) (wire_says.counted new) → Has new (all ++ added answer [] frame)
   has_more old new answer all frame h takes number =
       subst (Has new) (added_behind answer all frame) (record {
-        count = length_added answer (counted old) (counted new) all frame number h.count;
-        tells = tells_more (frames old) (frames new) answer frame h.tells takes;
-        told = told_more (frames old) (frames new) answer all frame h.told takes;
+        count = length_added answer (wire_says.counted old) (wire_says.counted new) all frame number h.count;
+        tells = tells_more (wire_says.frames old) (wire_says.frames new) answer frame h.tells takes;
+        told = told_more (wire_says.frames old) (wire_says.frames new) answer all frame h.told takes;
       })
 
-  module _ (faults : X → ℕ) (cap : ℕ) (net : Network) (w : World) (l : Lane) (all : List LaneCall) where
+  module _ (cap : ℕ) (net : Network) (w : World) (l : Lane) (all : List LaneCall) where
     abbrev base : List (List ℕ)
     base = octets_on_wire net w l
 
@@ -79,15 +80,15 @@ module _ {X : Type 0} (frames : X → Option (List (List ℕ))) (counted : X →
 
     -- A repeat is put by its number or by its octets.
     takes_old : (number : Option ℕ) (more : List (List ℕ)) (wire : X) (after : Option (List (List ℕ))) (answer : Result ℕ WireFailed) (frame own : List ℕ) → own ≡ frame →
-        IsThere net w l all number frame → Has wire (base ++ more) → TakesNumbered (counted wire) (frames wire) after answer number own → TakesFrame (frames wire) after answer frame
-    takes_old None more wire after answer frame own same there h takes = subst (TakesFrame (frames wire) after answer) same takes
+        IsThere net w l all number frame → Has wire (base ++ more) → TakesNumbered (wire_says.counted wire) (wire_says.frames wire) after answer number own → TakesFrame (wire_says.frames wire) after answer frame
+    takes_old None more wire after answer frame own same there h takes = subst (TakesFrame (wire_says.frames wire) after answer) same takes
     takes_old (Some n) more wire after answer frame own same there h takes =
         let at : slice_get (base ++ more) n ≡ Some frame = get_prefix base more n frame there in
-        let lt : n < counted wire = omega (arith, slice_get_within (base ++ more) n frame at, h.count) in
-        by_number (frames wire) after answer (base ++ more) n frame h.told at
-        (subst (λ (b : Bool). TakesEither b (frames wire) after answer n own) (lt-ltb n (counted wire) lt) takes)
+        let lt : n < wire_says.counted wire = omega (arith, slice_get_within (base ++ more) n frame at, h.count) in
+        by_number (wire_says.frames wire) after answer (base ++ more) n frame h.told at
+        (subst (λ (b : Bool). TakesEither b (wire_says.frames wire) after answer n own) (lt-ltb n (wire_says.counted wire) lt) takes)
 
-    pub wired : (log : List LaneCall) (old new : LaneForm X) → Leading frames counted faults cap l (octets_sent net w l) old log new → AllByRecursion (Good net w l all) log → (more : List (List ℕ)) →
+    pub wired : (log : List LaneCall) (old new : LaneForm X) → Leading wire_says cap l (octets_sent net w l) old log new → AllByRecursion (Good net w l all) log → (more : List (List ℕ)) →
         Has old.wire (base ++ more) → Has new.wire (base ++ (more ++ taken log))
     wired [] old new h good more has =
         subst (Has new.wire) (ap (λ (xs : List (List ℕ)). base ++ xs) (sym (append-nil more))) (subst (λ (s : LaneForm X). Has s.wire (base ++ more)) h has)
@@ -96,7 +97,7 @@ module _ {X : Type 0} (frames : X → Option (List (List ℕ))) (counted : X →
     wired (PutsFor claim o claimed out ∷ log) old new h good more has =
         let f = new_frame net w l all claim o claimed out.line in
         let answer = answer_of out.sent in
-        let takes = subst (TakesFrame (frames old.wire) (frames h.0.wire) answer) (take_at _ _ _ refl ∙ good.0.octets') h.1.taken in
+        let takes = subst (TakesFrame (wire_says.frames old.wire) (wire_says.frames h.0.wire) answer) (take_at _ _ _ refl ∙ good.0.octets') h.1.taken in
         let more' = more ++ added answer [] (octets net w l f) in
         subst (Has new.wire) (behind more f answer (flat_map (puts_by net w l all) log))
         (wired log h.0 new h.2 good.1 more'
@@ -104,7 +105,7 @@ module _ {X : Type 0} (frames : X → Option (List (List ℕ))) (counted : X →
     wired (RepeatsFor r out ∷ log) old new h good more has =
         let f = old_frame net w l all r out.line in
         let answer = answer_of out.sent in
-        let takes = takes_old r.number more old.wire (frames h.0.wire) answer (octets net w l f) (take r.length r.frame.octets) good.0.octets' good.0.there has h.1.taken in
+        let takes = takes_old r.number more old.wire (wire_says.frames h.0.wire) answer (octets net w l f) (take r.length r.frame.octets) good.0.octets' good.0.there has h.1.taken in
         let more' = more ++ added answer [] (octets net w l f) in
         subst (Has new.wire) (behind more f answer (flat_map (puts_by net w l all) log))
         (wired log h.0 new h.2 good.1 more'

@@ -1,5 +1,5 @@
 -- All lanes of a block that workers did.
-use Rattle.std.specs.Prelude.{◌≡◌, ℕ, true, List, [], length, map, slice_get, Option, Some}
+use Rattle.std.specs.Prelude.{◌≡◌, ℕ, true, List, [], length, map, slice_get, Some}
 use Rattle.std.specs.List.{list_all}
 use Rattle.std.specs.List.Sorted.{IsNonDecreasingBy}
 use Rattle.qkd_base.specs.declared.lane.Lane.{Lane}
@@ -32,6 +32,7 @@ use Rattle.par_lanes.specs.declared.emitted.Emitted.{Emitted}
 use Rattle.par_frames.specs.Sorting.{HasJust}
 use Rattle.par_frames.specs.Working.{wanted_for, kept, HaveCalled}
 use Rattle.par_frames.specs.Leaving.{reported_as, placing_as}
+use Rattle.source_devices.specs.declared.wire.Wire as Wire
 
 -- the managers' turns
 pub record AreTurns (net : Network) (workers : ℕ) (w : World) (jobs : List Job) (histories : List (List Work)) : Type 0 where
@@ -39,29 +40,29 @@ pub record AreTurns (net : Network) (workers : ℕ) (w : World) (jobs : List Job
   pub merged : (v : ℕ) (h : List Work) → slice_get histories v ≡ Some h → IsMerge (map (λ k. asked_by net.site workers k v 0 jobs) (count_up workers)) (map plain_work h)
   pub turns : IsRun net w (actions_in (flat histories))
 
-module _ {X : Type 0} (frames : X → Option (List (List ℕ))) (counted faults : X → ℕ) (net : Network) where
+module _ {X : Type 0} (wire_says : Wire.Ghosts X) (net : Network) where
   -- A lane stood for a world, and its history leads on from there. The history has the calls by which the workers sent frames, each worker those of
   -- its own plans.
   pub record LaneWorked (workers : ℕ) (w : World) (wanted : List (ℕ × Emission)) (l : Lane) : Type 0 where
     pub old : LaneForm X
     pub new : LaneForm X
-    pub stands : LaneStands frames counted net w l old
+    pub stands : LaneStands wire_says net w l old
     pub cap : ℕ
     pub outs : List (List (Emission × Emitted))
     pub calls : List (List (ℕ × (LaneAsk × LaneAnswer)))
     pub history : List (LaneAsk × LaneAnswer)
     pub called : HaveCalled old outs calls history
-    pub leads : Leads (Turns frames counted faults cap) old history new
+    pub leads : Leads (Turns wire_says cap) old history new
     pub callers : length outs ≡ workers
     pub own : (k : ℕ) (xs : List (Emission × Emitted)) → slice_get outs k ≡ Some xs → map wanted_for xs ≡ of_worker workers k (wanted_on l wanted)
 
   -- The lane stands for the world that the logs leave. The workers' records of its frames, in order of their places, say what is reported and noted
   -- of them. The faults of its wire are counted.
   pub record LaneLeft (workers : ℕ) (w : World) (wanted : List (ℕ × Emission)) (logs : Lane → List Deed) (l : Lane) (x : LaneWorked workers w wanted l) : Type 0 where
-    pub stands : LaneStands frames counted net (world_after net w logs) l x.new
+    pub stands : LaneStands wire_says net (world_after net w logs) l x.new
     pub reported : (sorted : List Emitted) → HasJust (together (map kept x.outs)) sorted → IsNonDecreasingBy (λ (e : Emitted). e.at) sorted → map reported_as sorted ≡ reported_on w l (logs l)
     pub placed : (sorted : List Emitted) → HasJust (together (map kept x.outs)) sorted → IsNonDecreasingBy (λ (e : Emitted). e.at) sorted → map placing_as sorted ≡ placings_on net w l (logs l)
-    pub faulty : Counted (wire_faults_in (logs l)) (faults x.old.wire) (faults x.new.wire)
+    pub faulty : Counted (wire_faults_in (logs l)) (wire_says.faults x.old.wire) (wire_says.faults x.new.wire)
 
   -- the lanes of a block, after the turns of its managers
   abbrev pub LanesWorked : (workers : ℕ) → World → List (List Work) → Type 0

@@ -1,5 +1,5 @@
 -- The state in which workers leave a lane.
-use Rattle.std.specs.Prelude.{◌≡◌, ℕ, List, map, Option}
+use Rattle.std.specs.Prelude.{◌≡◌, List, map}
 use Rattle.qkd_base.specs.declared.lane.Lane.{Lane}
 use Rattle.net_model.specs.declared.placing.Placing.{Placing}
 use Rattle.net_model.specs.World.{Network, World}
@@ -14,6 +14,7 @@ use Rattle.law_parallel.specs.Puts.{reported_on, placings_on}
 use Rattle.law_parallel.specs.LaneWorks.{world_after, wire_faults_in}
 use Rattle.par_lanes.specs.declared.emitted.Emitted.{Emitted}
 use Rattle.par_frames.specs.LaneCalls.{LaneCall, kept_in}
+use Rattle.source_devices.specs.declared.wire.Wire as Wire
 
 -- what is reported of a frame that was put
 abbrev pub reported_as : Emitted → PutDone
@@ -42,9 +43,9 @@ placing_as e =
 
 -- After the block, the lane stands for the world that its log leaves. The records of its frames, in order of its history, say what is reported and
 -- noted of them. The faults of its wire are counted.
-pub record IsLeftBy {X : Type 0} (frames : X → Option (List (List ℕ))) (counted faults : X → ℕ) (net : Network) (w : World) (logs : Lane → List Deed) (l : Lane)
+pub record IsLeftBy {X : Type 0} (wire_says : Wire.Ghosts X) (net : Network) (w : World) (logs : Lane → List Deed) (l : Lane)
     (log : List LaneCall) (old new : LaneForm X) : Type 0 where
-  pub stands : LaneStands frames counted net (world_after net w logs) l new
+  pub stands : LaneStands wire_says net (world_after net w logs) l new
   pub reported : map reported_as (kept_in log) ≡ reported_on w l (logs l)
   pub placed : map placing_as (kept_in log) ≡ placings_on net w l (logs l)
-  pub faulty : Counted (wire_faults_in (logs l)) (faults old.wire) (faults new.wire)
+  pub faulty : Counted (wire_faults_in (logs l)) (wire_says.faults old.wire) (wire_says.faults new.wire)

@@ -1,8 +1,6 @@
 -- Each node notes what became of the frames of a block.
-use Rattle.std.specs.Prelude.{◌≡◌, ℕ, Bool, true, List, [], map, Option}
+use Rattle.std.specs.Prelude.{◌≡◌, ℕ, true, List, [], map}
 use Rattle.std.specs.List.{list_all, flat_map}
-use Rattle.disk_model.specs.declared.arm.Armings.{Armings}
-use Rattle.net_model.specs.OctetSequence.{OctetSequence}
 use Rattle.net_model.specs.World.{Network, World}
 use Rattle.net_model.specs.Events.{is_lane}
 use Rattle.net_model.specs.Step.{run}
@@ -18,11 +16,11 @@ use Rattle.world_state.specs.Stands.{Stands}
 use Rattle.world_state.specs.declared.state.State.{State}
 use Rattle.world_state.specs.Tallied.{Tallied}
 use Rattle.par_frames.specs.Frames.{frame_done, frame_placing, from_node}
+use Rattle.world_state.specs.Outside.{Outside}
 
 -- No frame is on its way to a wire. The frames `put` are in order of lane, and they are exactly what the nodes have to note.
-pub record MayNoteFrames {K Q E X : Type 0} (is_honest : K → Bool) (moment : K → ℕ) (image : K → ℕ → List ℕ → Type 0) (left : E → Option OctetSequence)
-    (told : Q → Option OctetSequence) (frames : X → Option (List (List ℕ))) (counted : X → ℕ) (s : State K Q E X) (net : Network) (w : World) (put : List Emitted) : Type 0 where
-  pub stands : Stands is_honest moment image left told frames counted s net w
+pub record MayNoteFrames {K Q E X : Type 0} (outside : Outside K Q E X) (s : State K Q E X) (net : Network) (w : World) (put : List Emitted) : Type 0 where
+  pub stands : Stands outside s net w
   pub remains : Remains net w []
   pub lanes : list_all (λ (e : Emitted). is_lane net.site e.lane) put ≡ true
   pub order : is_by_lane (map (λ (e : Emitted). e.lane) put) ≡ true
@@ -30,10 +28,8 @@ pub record MayNoteFrames {K Q E X : Type 0} (is_honest : K → Bool) (moment : K
   pub sized : (v : ℕ) → are_sized (w.placings v) ≡ true
 
 -- every node has noted its frames, and the report lists them in the order of a block
-pub record NotesFrames {K Q E X : Type 0} (is_honest : K → Bool) (moment : K → ℕ) (image : K → ℕ → List ℕ → Type 0) (left : E → Option OctetSequence)
-    (told : Q → Option OctetSequence) (frames : X → Option (List (List ℕ))) (counted : X → ℕ)
-    (disk_count : K → ℕ) (armed : K → Armings) (entropy_count : E → ℕ) (device_count : Q → ℕ) (wire_count : X → ℕ)
+pub record NotesFrames {K Q E X : Type 0} (outside : Outside K Q E X)
     (old new : State K Q E X) (net : Network) (w : World) (put : List Emitted) (reported : List PutFrame) : Type 0 where
   pub reports : map frame_put reported ≡ map put_done (flat_map (puts_on (map frame_done put)) (all_lanes net.site))
-  pub stands : Stands is_honest moment image left told frames counted new net (run net w (completions net))
-  pub tallied : Tallied disk_count armed entropy_count device_count wire_count old new net.site (completions net)
+  pub stands : Stands outside new net (run net w (completions net))
+  pub tallied : Tallied outside old new net.site (completions net)

@@ -1,5 +1,5 @@
 -- The state of a network before and after its workers used the lanes.
-use Rattle.std.specs.Prelude.{◌≡◌, ℕ, true, List, length, slice_get, Option, Some}
+use Rattle.std.specs.Prelude.{◌≡◌, ℕ, true, List, length, slice_get, Some}
 use Rattle.qkd_base.specs.declared.lane.Lane.{Lane}
 use Rattle.net_model.specs.World.{Network, World}
 use Rattle.net_model.specs.Events.{is_lane}
@@ -7,10 +7,11 @@ use Rattle.run_model.specs.Works.{Work}
 use Rattle.world_state.specs.Stands.{place_of}
 use Rattle.world_state.specs.declared.state.State.{State}
 use Rattle.par_frames.specs.Blocks.{LanesWorked}
+use Rattle.source_devices.specs.declared.wire.Wire as Wire
 
 -- Each lane was in its place before, and is afterwards as its history left it. Everything else stays as it was.
-pub record HasLanes {K Q E X : Type 0} (frames : X → Option (List (List ℕ))) (counted faults : X → ℕ) (net : Network) (workers : ℕ) (w : World) (histories : List (List Work))
-    (lanes : LanesWorked frames counted faults net workers w histories) (old new : State K Q E X) : Type 0 where
+pub record HasLanes {K Q E X : Type 0} (wire_says : Wire.Ghosts X) (net : Network) (workers : ℕ) (w : World) (histories : List (List Work))
+    (lanes : LanesWorked wire_says net workers w histories) (old new : State K Q E X) : Type 0 where
   pub site : new.site ≡ old.site
   pub posts : new.posts.items ≡ old.posts.items
   pub devices : new.devices.items ≡ old.devices.items

@@ -1,5 +1,5 @@
 -- All frames of a block, sorted, as they are reported and noted.
-use Rattle.std.specs.Prelude.{◌≡◌, ℕ, ◌==◌, true, List, map, filter, Option}
+use Rattle.std.specs.Prelude.{◌≡◌, ℕ, ◌==◌, true, List, map, filter}
 use Rattle.std.specs.List.{AllByRecursion, flat_map}
 use Rattle.std.specs.List.Sorted.{IsPermutation}
 use Rattle.qkd_base.specs.Lane.{lane_place}
@@ -22,14 +22,15 @@ use Rattle.par_frames.specs.Sorting.{IsSortedByBoth}
 use Rattle.par_frames.specs.Working.{IsOfItsLine, kept}
 use Rattle.par_frames.specs.Leaving.{reported_as, placing_as}
 use Rattle.par_frames.specs.Blocks.{LanesWorked}
+use Rattle.source_devices.specs.declared.wire.Wire as Wire
 
 -- the records of a lane's frames
 abbrev pub on_lane : Lane → List Emitted → List Emitted
 on_lane l frames = filter (λ (e : Emitted). lane_place e.lane == lane_place l) frames
 
 -- These are the frames that each worker sent on all lanes. The workers' records of them are sorted by lane and place.
-pub record AreSorted {X : Type 0} (frames : X → Option (List (List ℕ))) (counted faults : X → ℕ) (net : Network) (workers : ℕ) (w : World) (histories : List (List Work))
-    (lanes : LanesWorked frames counted faults net workers w histories) (outs : List (List (Emission × Emitted))) (sorted : List Emitted) : Type 0 where
+pub record AreSorted {X : Type 0} (wire_says : Wire.Ghosts X) (net : Network) (workers : ℕ) (w : World) (histories : List (List Work))
+    (lanes : LanesWorked wire_says net workers w histories) (outs : List (List (Emission × Emitted))) (sorted : List Emitted) : Type 0 where
   pub lanes' : (l : Lane) (e : is_lane net.site l ≡ true) → (lanes l e).outs ≡ map (emitted_at (lane_place l)) outs
   pub told : AllByRecursion (AllByRecursion IsOfItsLine) outs
   pub same : IsPermutation (together (map kept outs)) sorted

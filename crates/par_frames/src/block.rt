@@ -10,6 +10,7 @@ ghost use Rattle.world_state.specs.Stands.{Stands};
 ghost use Rattle.world_state.specs.declared.state.State.{State as StateValue};
 ghost use Rattle.world_state.specs.Tallied.{Tallied};
 ghost use Rattle.par_frames.specs.NoteWorking.{CameFrom};
+ghost use Rattle.world_state.specs.Outside.{outside};
 
 use crate::Worked;
 use crate::frames::note_frames;
@@ -28,15 +29,15 @@ pub fn note_block<K: Disk + Drop, Q: Device + Drop, E: Entropy + Drop, X: Wire +
     worked: Worked,
 ) -> Result<DoneBlock, Memory>
     requires came { (opening : StateValue K Q E X) × (net : Network) × (w : World) × (workers : ℕ) × (jobs : List JobValue)
-        × CameFrom K.is_honest K.moment K.image E.left Q.told X.frames X.counted K.faults K.armings E.faults Q.faults X.faults opening state.old net w workers jobs worked }
+        × CameFrom (outside K.Disk Q.Device E.Entropy X.Wire) opening state.old net w workers jobs worked }
     ensures site { state.new.site ≡ state.old.site }
-    ensures armed { most_armed K.armings state.new.posts.items ≡ most_armed K.armings state.old.posts.items }
+    ensures armed { most_armed K.Disk state.new.posts.items ≡ most_armed K.Disk state.old.posts.items }
     ensures done { IfOk result (λ done. (opening : StateValue K Q E X) (net : Network) (w : World) (workers : ℕ) (jobs : List JobValue)
-        → CameFrom K.is_honest K.moment K.image E.left Q.told X.frames X.counted K.faults K.armings E.faults Q.faults X.faults opening state.old net w workers jobs worked
-        → DoesTogether (Stands K.is_honest K.moment K.image E.left Q.told X.frames X.counted) (Tallied K.faults K.armings E.faults Q.faults X.faults) opening state.new net workers w jobs done) }
+        → CameFrom (outside K.Disk Q.Device E.Entropy X.Wire) opening state.old net w workers jobs worked
+        → DoesTogether (Stands (outside K.Disk Q.Device E.Entropy X.Wire)) (Tallied (outside K.Disk Q.Device E.Entropy X.Wire)) opening state.new net workers w jobs done) }
     ensures left { OnErr result ((opening : StateValue K Q E X) (net : Network) (w : World) (workers : ℕ) (jobs : List JobValue)
-        → CameFrom K.is_honest K.moment K.image E.left Q.told X.frames X.counted K.faults K.armings E.faults Q.faults X.faults opening state.old net w workers jobs worked
-        → EndsTogether (Rests K.is_honest K.moment K.image E.left Q.told X.frames X.counted) (Tallied K.faults K.armings E.faults Q.faults X.faults) opening state.new net workers w jobs) }
+        → CameFrom (outside K.Disk Q.Device E.Entropy X.Wire) opening state.old net w workers jobs worked
+        → EndsTogether (Rests (outside K.Disk Q.Device E.Entropy X.Wire)) (Tallied (outside K.Disk Q.Device E.Entropy X.Wire)) opening state.new net workers w jobs) }
 {
     let Worked {
         turns,

@@ -4,6 +4,7 @@ ghost use Rattle.net_model.specs.World.{Network, World};
 ghost use Rattle.world_state.specs.Armed.{most_armed};
 ghost use Rattle.par_frames.specs.FrameNoting.{EndsNotes};
 ghost use Rattle.par_frames.specs.Noting.{MayNoteFrames, NotesFrames};
+ghost use Rattle.world_state.specs.Outside.{outside};
 
 use crate::frame_records::record_frames;
 use crate::{Log, note_all};
@@ -22,13 +23,13 @@ pub fn note_frames<K: Disk + Drop, Q: Device + Drop, E: Entropy + Drop, X: Wire 
     state: &mut State<K, Q, E, X>,
     frames: &[Emitted],
 ) -> Result<Vec<PutFrame>, Memory>
-    requires may { (net : Network) × (w : World) × MayNoteFrames K.is_honest K.moment K.image E.left Q.told X.frames X.counted state.old net w frames.now }
+    requires may { (net : Network) × (w : World) × MayNoteFrames (outside K.Disk Q.Device E.Entropy X.Wire) state.old net w frames.now }
     ensures site { state.new.site ≡ state.old.site }
-    ensures armed { most_armed K.armings state.new.posts.items ≡ most_armed K.armings state.old.posts.items }
-    ensures ok { IfOk result (λ reported. (net : Network) (w : World) → MayNoteFrames K.is_honest K.moment K.image E.left Q.told X.frames X.counted state.old net w frames.now
-        → NotesFrames K.is_honest K.moment K.image E.left Q.told X.frames X.counted K.faults K.armings E.faults Q.faults X.faults state.old state.new net w frames.now reported.items) }
-    ensures err { OnErr result ((net : Network) (w : World) → MayNoteFrames K.is_honest K.moment K.image E.left Q.told X.frames X.counted state.old net w frames.now
-        → EndsNotes K.is_honest K.moment K.image E.left Q.told X.frames X.counted K.faults K.armings E.faults Q.faults X.faults state.old state.new net w) }
+    ensures armed { most_armed K.Disk state.new.posts.items ≡ most_armed K.Disk state.old.posts.items }
+    ensures ok { IfOk result (λ reported. (net : Network) (w : World) → MayNoteFrames (outside K.Disk Q.Device E.Entropy X.Wire) state.old net w frames.now
+        → NotesFrames (outside K.Disk Q.Device E.Entropy X.Wire) state.old state.new net w frames.now reported.items) }
+    ensures err { OnErr result ((net : Network) (w : World) → MayNoteFrames (outside K.Disk Q.Device E.Entropy X.Wire) state.old net w frames.now
+        → EndsNotes (outside K.Disk Q.Device E.Entropy X.Wire) state.old state.new net w) }
 {
     let mut log = Log::new(alloc, state.posts.len());
     record_frames(&state.site, frames, &mut log);

@@ -22,6 +22,7 @@ ghost use Rattle.par_frames.specs.Leaving.{reported_as};
 ghost use Rattle.par_frames.specs.Telling.{on_lane, AreTold};
 ghost use Rattle.par_frames.specs.States.{HasLanes};
 ghost use Rattle.par_frames.specs.Ends.{WentOn};
+ghost use Rattle.world_state.specs.Outside.{outside};
 
 use disk_model::Disk;
 use source_devices::{Device, Entropy, Wire};
@@ -29,39 +30,39 @@ use source_devices::{Device, Entropy, Wire};
 /// A state stood for the world after the managers' turns. The same state, with each lane as its history left it, stands for
 /// the world that the block's logs leave.
 pub fn law_lanes_stand<K: Disk, Q: Device, E: Entropy, X: Wire>()
-    ensures { (net : Network) (workers : ℕ) (w : World) (jobs : List JobValue) (histories : List (List Work)) (lanes : LanesWorked X.frames X.counted X.faults net workers w histories)
-        (left : LanesLeft X.frames X.counted X.faults net workers w jobs histories lanes) (old new : State K Q E X) → HasLanes X.frames X.counted X.faults net workers w histories lanes old new →
-        Stands K.is_honest K.moment K.image E.left Q.told X.frames X.counted old net (turns_over net w histories) →
-        Stands K.is_honest K.moment K.image E.left Q.told X.frames X.counted new net (world_after net (turns_over net w histories) left.logs) }
+    ensures { (net : Network) (workers : ℕ) (w : World) (jobs : List JobValue) (histories : List (List Work)) (lanes : LanesWorked X.Wire net workers w histories)
+        (left : LanesLeft X.Wire net workers w jobs histories lanes) (old new : State K Q E X) → HasLanes X.Wire net workers w histories lanes old new →
+        Stands (outside K.Disk Q.Device E.Entropy X.Wire) old net (turns_over net w histories) →
+        Stands (outside K.Disk Q.Device E.Entropy X.Wire) new net (world_after net (turns_over net w histories) left.logs) }
 {}
 
 /// Suppose that the workers' records tell the frames of a block, and that each manager has noted what became of its frames.
 /// Then the block was done together: with these replies, this report of the frames, and these counts of faults.
 pub fn law_block_is_done<K: Disk, Q: Device, E: Entropy, X: Wire>()
-    ensures { (net : Network) (workers : ℕ) (w : World) (jobs : List JobValue) (histories : List (List Work)) (lanes : LanesWorked X.frames X.counted X.faults net workers w histories)
-        (left : LanesLeft X.frames X.counted X.faults net workers w jobs histories lanes) (first last : State K Q E X) →
-        WentOn K.faults K.armings E.faults Q.faults X.frames X.counted X.faults net workers w histories lanes first last → (sorted : List Emitted) (done : DoneBlock) →
+    ensures { (net : Network) (workers : ℕ) (w : World) (jobs : List JobValue) (histories : List (List Work)) (lanes : LanesWorked X.Wire net workers w histories)
+        (left : LanesLeft X.Wire net workers w jobs histories lanes) (first last : State K Q E X) →
+        WentOn (outside K.Disk Q.Device E.Entropy X.Wire) net workers w histories lanes first last → (sorted : List Emitted) (done : DoneBlock) →
         AreTold net w histories left.logs sorted →
-        Stands K.is_honest K.moment K.image E.left Q.told X.frames X.counted last net (run net (world_after net (turns_over net w histories) left.logs) (completions net)) →
+        Stands (outside K.Disk Q.Device E.Entropy X.Wire) last net (run net (world_after net (turns_over net w histories) left.logs) (completions net)) →
         map turned done.turns.items ≡ map turn_done (done_from net w (flat histories)) →
         map frame_put done.frames.items ≡ map put_done (flat_map (λ l. puts_on (map reported_as (on_lane l sorted)) l) (all_lanes net.site)) →
-        DoesTogether (Stands K.is_honest K.moment K.image E.left Q.told X.frames X.counted) (Tallied K.faults K.armings E.faults Q.faults X.faults) first last net workers w jobs done }
+        DoesTogether (Stands (outside K.Disk Q.Device E.Entropy X.Wire)) (Tallied (outside K.Disk Q.Device E.Entropy X.Wire)) first last net workers w jobs done }
 {}
 
 /// If the state after the managers' notes rests in its world, the block may end there.
 pub fn law_block_ends<K: Disk, Q: Device, E: Entropy, X: Wire>()
-    ensures { (net : Network) (workers : ℕ) (w : World) (jobs : List JobValue) (histories : List (List Work)) (lanes : LanesWorked X.frames X.counted X.faults net workers w histories)
-        (left : LanesLeft X.frames X.counted X.faults net workers w jobs histories lanes) (first last : State K Q E X) →
-        WentOn K.faults K.armings E.faults Q.faults X.frames X.counted X.faults net workers w histories lanes first last →
-        Rests K.is_honest K.moment K.image E.left Q.told X.frames X.counted last net (run net (world_after net (turns_over net w histories) left.logs) (completions net)) →
-        EndsTogether (Rests K.is_honest K.moment K.image E.left Q.told X.frames X.counted) (Tallied K.faults K.armings E.faults Q.faults X.faults) first last net workers w jobs }
+    ensures { (net : Network) (workers : ℕ) (w : World) (jobs : List JobValue) (histories : List (List Work)) (lanes : LanesWorked X.Wire net workers w histories)
+        (left : LanesLeft X.Wire net workers w jobs histories lanes) (first last : State K Q E X) →
+        WentOn (outside K.Disk Q.Device E.Entropy X.Wire) net workers w histories lanes first last →
+        Rests (outside K.Disk Q.Device E.Entropy X.Wire) last net (run net (world_after net (turns_over net w histories) left.logs) (completions net)) →
+        EndsTogether (Rests (outside K.Disk Q.Device E.Entropy X.Wire)) (Tallied (outside K.Disk Q.Device E.Entropy X.Wire)) first last net workers w jobs }
 {}
 
 /// The faults in the turns, on the lanes and in the managers' notes are counted as those of the whole block.
 pub fn law_blocks_are_tallied<K: Disk, Q: Device, E: Entropy, X: Wire>()
-    ensures { (net : Network) (workers : ℕ) (w : World) (jobs : List JobValue) (histories : List (List Work)) (lanes : LanesWorked X.frames X.counted X.faults net workers w histories)
-        (left : LanesLeft X.frames X.counted X.faults net workers w jobs histories lanes) (first old new last : State K Q E X) → HasLanes X.frames X.counted X.faults net workers w histories lanes old new →
-        Tallied K.faults K.armings E.faults Q.faults X.faults first old net.site (actions_in (flat histories)) → old.lanes.items ≡ first.lanes.items → length first.lanes.items ≡ 2 * net.site.links →
-        Tallied K.faults K.armings E.faults Q.faults X.faults new last net.site (completions net) →
-        Tallied K.faults K.armings E.faults Q.faults X.faults first last net.site (block_run net (works_of net w histories left.logs)) }
+    ensures { (net : Network) (workers : ℕ) (w : World) (jobs : List JobValue) (histories : List (List Work)) (lanes : LanesWorked X.Wire net workers w histories)
+        (left : LanesLeft X.Wire net workers w jobs histories lanes) (first old new last : State K Q E X) → HasLanes X.Wire net workers w histories lanes old new →
+        Tallied (outside K.Disk Q.Device E.Entropy X.Wire) first old net.site (actions_in (flat histories)) → old.lanes.items ≡ first.lanes.items → length first.lanes.items ≡ 2 * net.site.links →
+        Tallied (outside K.Disk Q.Device E.Entropy X.Wire) new last net.site (completions net) →
+        Tallied (outside K.Disk Q.Device E.Entropy X.Wire) first last net.site (block_run net (works_of net w histories left.logs)) }
 {}

@@ -63,9 +63,9 @@ pub fn law_lane_is_left<X: Wire>()
     ensures { (net : Network) (workers : ℕ) (w : World) (jobs : List JobValue) (histories : List (List Work)) (calls : LaneValue → List (List (ℕ × Deed)))
         (logs : LaneValue → List Deed) → 1 ≤ workers → IsRunning net w → IsQuiet w → AreWorkersWorks net workers w jobs histories calls logs →
         (l : LaneValue) → is_lane net.site l ≡ true → (cap : ℕ) (outs : List (List (Emission × Emitted))) (history : List (LaneAsk × LaneAnswer)) (old new : LaneForm X) →
-        LaneStands X.frames X.counted net (turns_over net w histories) l old → Leads (Turns X.frames X.counted X.faults cap) old history new →
+        LaneStands X.Wire net (turns_over net w histories) l old → Leads (Turns X.Wire cap) old history new →
         (d : HaveDone old outs history) → logs l ≡ map deed_of d.log →
-        IsLeftBy X.frames X.counted X.faults net (turns_over net w histories) (λ k. numbered (logs k)) l d.log old new }
+        IsLeftBy X.Wire net (turns_over net w histories) (λ k. numbered (logs k)) l d.log old new }
 {}
 
 /// All workers' records of a lane's frames, in order of their places in its history, are those that its log has.
@@ -78,16 +78,16 @@ pub fn law_kept_are_in_order<X>()
 /// their plans' frames there. Then the workers may do this block, and it leaves each lane as the lane's history does.
 pub fn law_lanes_are_left<X: Wire>()
     ensures { (net : Network) (workers : ℕ) (w : World) (jobs : List JobValue) (histories : List (List Work)) → 1 ≤ workers → IsRunning net w → IsQuiet w →
-        AreTurns net workers w jobs histories → (lanes : LanesWorked X.frames X.counted X.faults net workers w histories) →
-        LanesLeft X.frames X.counted X.faults net workers w jobs histories lanes }
+        AreTurns net workers w jobs histories → (lanes : LanesWorked X.Wire net workers w histories) →
+        LanesLeft X.Wire net workers w jobs histories lanes }
 {}
 
 /// All workers' records of a block's frames, sorted by lane and place, say what is reported of the frames and what each
 /// manager is to note, lane by lane.
 pub fn law_sorted_frames_are_told<X: Wire>()
-    ensures { (net : Network) (workers : ℕ) (w : World) (jobs : List JobValue) (histories : List (List Work)) (lanes : LanesWorked X.frames X.counted X.faults net workers w histories)
-        (left : LanesLeft X.frames X.counted X.faults net workers w jobs histories lanes) (outs : List (List (Emission × Emitted))) (sorted : List Emitted) →
-        AreSorted X.frames X.counted X.faults net workers w histories lanes outs sorted → AreTold net w histories left.logs sorted }
+    ensures { (net : Network) (workers : ℕ) (w : World) (jobs : List JobValue) (histories : List (List Work)) (lanes : LanesWorked X.Wire net workers w histories)
+        (left : LanesLeft X.Wire net workers w jobs histories lanes) (outs : List (List (Emission × Emitted))) (sorted : List Emitted) →
+        AreSorted X.Wire net workers w histories lanes outs sorted → AreTold net w histories left.logs sorted }
 {}
 
 /// Sorted frames are grouped by lane.

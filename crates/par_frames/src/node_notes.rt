@@ -4,6 +4,7 @@ ghost use Rattle.net_model.specs.World.{Network, World};
 ghost use Rattle.world_state.specs.Armed.{most_armed};
 ghost use Rattle.par_frames.specs.NodeFrames.{MayNoteAll};
 ghost use Rattle.par_frames.specs.FrameNoting.{MayNoteOne, NotesOne, StaysOne, NotesAll, EndsNotes};
+ghost use Rattle.world_state.specs.Outside.{outside};
 
 use disk_model::Disk;
 use net_model::Placings;
@@ -17,11 +18,11 @@ fn note<K: Disk + Drop, Q: Device + Drop, E: Entropy + Drop, X: Wire + Drop>(
     node: usize,
     placings: Placings,
 ) -> Result<(), Memory>
-    requires asked { (net : Network) × (w : World) × MayNoteOne K.is_honest K.moment K.image E.left Q.told X.frames X.counted state.old net w node placings }
+    requires asked { (net : Network) × (w : World) × MayNoteOne (outside K.Disk Q.Device E.Entropy X.Wire) state.old net w node placings }
     ensures site { state.new.site ≡ state.old.site }
-    ensures armed { most_armed K.armings state.new.posts.items ≡ most_armed K.armings state.old.posts.items }
-    ensures ok { OnOk result ((net : Network) (w : World) → MayNoteOne K.is_honest K.moment K.image E.left Q.told X.frames X.counted state.old net w node placings → NotesOne K.is_honest K.moment K.image E.left Q.told X.frames X.counted K.faults K.armings E.faults Q.faults X.faults state.old state.new net w node) }
-    ensures err { OnErr result ((net : Network) (w : World) → MayNoteOne K.is_honest K.moment K.image E.left Q.told X.frames X.counted state.old net w node placings → StaysOne K.is_honest K.moment K.image E.left Q.told X.frames X.counted K.faults K.armings E.faults Q.faults X.faults state.old state.new net w) }
+    ensures armed { most_armed K.Disk state.new.posts.items ≡ most_armed K.Disk state.old.posts.items }
+    ensures ok { OnOk result ((net : Network) (w : World) → MayNoteOne (outside K.Disk Q.Device E.Entropy X.Wire) state.old net w node placings → NotesOne (outside K.Disk Q.Device E.Entropy X.Wire) state.old state.new net w node) }
+    ensures err { OnErr result ((net : Network) (w : World) → MayNoteOne (outside K.Disk Q.Device E.Entropy X.Wire) state.old net w node placings → StaysOne (outside K.Disk Q.Device E.Entropy X.Wire) state.old state.new net w) }
 {
     let up = state.up;
     match state.posts.get_mut(node) {
@@ -39,11 +40,11 @@ pub fn note_all<K: Disk + Drop, Q: Device + Drop, E: Entropy + Drop, X: Wire + D
     state: &mut State<K, Q, E, X>,
     all: Vec<Placings>,
 ) -> Result<(), Memory>
-    requires asked { (net : Network) × (w : World) × MayNoteAll K.is_honest K.moment K.image E.left Q.told X.frames X.counted state.old net w all.items }
+    requires asked { (net : Network) × (w : World) × MayNoteAll (outside K.Disk Q.Device E.Entropy X.Wire) state.old net w all.items }
     ensures site { state.new.site ≡ state.old.site }
-    ensures armed { most_armed K.armings state.new.posts.items ≡ most_armed K.armings state.old.posts.items }
-    ensures ok { OnOk result ((net : Network) (w : World) → MayNoteAll K.is_honest K.moment K.image E.left Q.told X.frames X.counted state.old net w all.items → NotesAll K.is_honest K.moment K.image E.left Q.told X.frames X.counted K.faults K.armings E.faults Q.faults X.faults state.old state.new net w) }
-    ensures err { OnErr result ((net : Network) (w : World) → MayNoteAll K.is_honest K.moment K.image E.left Q.told X.frames X.counted state.old net w all.items → EndsNotes K.is_honest K.moment K.image E.left Q.told X.frames X.counted K.faults K.armings E.faults Q.faults X.faults state.old state.new net w) }
+    ensures armed { most_armed K.Disk state.new.posts.items ≡ most_armed K.Disk state.old.posts.items }
+    ensures ok { OnOk result ((net : Network) (w : World) → MayNoteAll (outside K.Disk Q.Device E.Entropy X.Wire) state.old net w all.items → NotesAll (outside K.Disk Q.Device E.Entropy X.Wire) state.old state.new net w) }
+    ensures err { OnErr result ((net : Network) (w : World) → MayNoteAll (outside K.Disk Q.Device E.Entropy X.Wire) state.old net w all.items → EndsNotes (outside K.Disk Q.Device E.Entropy X.Wire) state.old state.new net w) }
 {
     let mut node = 0;
     for placings in all {

@@ -1,5 +1,5 @@
 -- The claims of a history take consecutive ranges.
-use Rattle.std.proofs.Common.{◌≡◌, ℕ, ◌+◌, Bool, true, false, List, [], ◌∷◌, refl, ap, sym, ◌∙◌, subst, arith, Option, if◌then◌else◌}
+use Rattle.std.proofs.Common.{◌≡◌, ℕ, ◌+◌, Bool, true, false, List, [], ◌∷◌, refl, ap, sym, ◌∙◌, subst, arith, if◌then◌else◌}
 use Rattle.std.specs.Prelude.{nat_le}
 use Rattle.pad_ledger.specs.Ledger.{Ledger, Range}
 use Rattle.turnstile.specs.Turns.{Leads}
@@ -10,13 +10,14 @@ use Rattle.par_lanes.specs.declared.ask.LaneAnswer.{LaneAnswer}
 use Rattle.par_lanes.specs.declared.ask.LaneAnswer.TheVariants as answers
 use Rattle.par_lanes.specs.Turns.{Turns}
 use Rattle.par_lanes.specs.Following.{ClaimsFollow}
+use Rattle.source_devices.specs.declared.wire.Wire as Wire
 
 either_used : (b : Bool) (l : Ledger) (end : ℕ) → (if b then l else record l { end = end }).used ≡ l.used
 either_used true l end = refl
 either_used false l end = refl
 
-module _ {X : Type 0} (frames : X → Option (List (List ℕ))) (counted faults : X → ℕ) (cap : ℕ) where
-  pub follow : (s t : LaneForm X) (log : List (LaneAsk × LaneAnswer)) → Leads (Turns frames counted faults cap) s log t → ClaimsFollow cap s.ledger.used t.ledger.used log
+module _ {X : Type 0} (wire_says : Wire.Ghosts X) (cap : ℕ) where
+  pub follow : (s t : LaneForm X) (log : List (LaneAsk × LaneAnswer)) → Leads (Turns wire_says cap) s log t → ClaimsFollow cap s.ledger.used t.ledger.used log
   follow s t [] h = ap (λ (x : LaneForm X). x.ledger.used) (sym h)
   follow s t ((Claim need grant, answers.Claimed c) ∷ rest) h =
       let len : c.range.len ≡ need = ap (λ (r : Range). r.len) h.1.range in

@@ -28,7 +28,7 @@ pub trait Desk: Machine<Request = LaneAsk, Reply = LaneAnswer> {
 
     /// A turn of the desk is a turn of its lane.
     ghost leads: { (d : Self) (ask : Ask) (answer : Answer) (n : Self) → turn_of Self.charter Self.takes Self.turns d ask answer n →
-        turn_of (desk_charter side shares) MayAsk (DeskTurns Self.Line.frames Self.Line.counted Self.Line.faults side shares) d ask answer n };
+        turn_of (desk_charter side shares) MayAsk (DeskTurns Self.Line.Wire side shares) d ask answer n };
 }
 
 impl<X: Wire> Desk for LaneDesk<'_, X> {

@@ -17,12 +17,12 @@ use source_devices::Wire;
 /// the same at the end.
 pub fn law_desks_lead_their_lanes<D, X: Wire>()
     ensures turns { (side : D → LaneForm X) (shares : D → SharesValue) (first last : D) (log : List (Ask × Answer)) →
-        Leads (turn_of (desk_charter side shares) MayAsk (DeskTurns X.frames X.counted X.faults side shares)) first log last →
-        Leads (Turns X.frames X.counted X.faults (lane_cap (shares first))) (side first) log (side last) }
+        Leads (turn_of (desk_charter side shares) MayAsk (DeskTurns X.Wire side shares)) first log last →
+        Leads (Turns X.Wire (lane_cap (shares first))) (side first) log (side last) }
     ensures claims { (side : D → LaneForm X) (shares : D → SharesValue) (first last : D) (log : List (Ask × Answer)) →
-        Leads (turn_of (desk_charter side shares) MayAsk (DeskTurns X.frames X.counted X.faults side shares)) first log last →
+        Leads (turn_of (desk_charter side shares) MayAsk (DeskTurns X.Wire side shares)) first log last →
         ClaimsFollow (lane_cap (shares first)) (side first).ledger.used (side last).ledger.used log }
     ensures charter { (side : D → LaneForm X) (shares : D → SharesValue) (first last : D) (log : List (Ask × Answer)) →
-        Leads (turn_of (desk_charter side shares) MayAsk (DeskTurns X.frames X.counted X.faults side shares)) first log last →
+        Leads (turn_of (desk_charter side shares) MayAsk (DeskTurns X.Wire side shares)) first log last →
         desk_charter side shares last ≡ desk_charter side shares first }
 {}

@@ -40,7 +40,7 @@ impl<'a, X: Wire> Machine for LaneDesk<'a, X> {
 
     ghost takes = { MayAsk };
 
-    ghost turns = { DeskTurns X.frames X.counted X.faults (λ d. d.side) (λ d. d.shares.now) };
+    ghost turns = { DeskTurns X.Wire (λ d. d.side) (λ d. d.shares.now) };
 
     fn turn(&mut self, request: LaneAsk) -> LaneAnswer {
         match request {

@@ -1,9 +1,8 @@
 -- The issuers of a node's lanes at a block's start.
-use Rattle.std.proofs.Common.{◌≡◌, ℕ, zero, suc, ◌-◌, ◌<◌, ◌≤◌, Bool, true, List, [], ◌∷◌, length, refl, sym, ap, subst, ◌∙◌, arith, Option, Some}
+use Rattle.std.proofs.Common.{◌≡◌, ℕ, zero, suc, ◌-◌, ◌<◌, ◌≤◌, true, List, [], ◌∷◌, length, refl, sym, ap, subst, ◌∙◌, arith, Some}
 use Rattle.std.specs.Prelude.{slice_get}
 use Rattle.qkd_base.specs.Lane.{lane_place}
 use Rattle.qkd_base.specs.declared.lane.Lane.{Lane}
-use Rattle.net_model.specs.OctetSequence.{OctetSequence}
 use Rattle.net_model.specs.Site.{Site, sender}
 use Rattle.net_model.specs.World.{Network, World, received, needs}
 use Rattle.net_model.specs.Events.{is_lane}
@@ -25,6 +24,7 @@ use Rattle.par_managers.specs.Opening.{IsOpened}
 use Rattle.par_managers.specs.Posts.{is_on, planned_at, received_at}
 use Rattle.par_managers.proofs.Places.{same_place, lane_within}
 use Rattle.par_managers.proofs.Seen.{planned_seen, received_seen}
+use Rattle.world_state.specs.Outside.{Outside}
 
 record Has {A : Type 0} (xs : List A) (i : ℕ) : Type 0 where
   x : A
@@ -39,8 +39,7 @@ issuing_all : (lease used received : ℕ) (planned' : ℕ) (v : View) → planne
 issuing_all lease used received planned' v same is =
     subst (IsIssuing planned' lease) (sym is) (record { issues = refl; has = omega arith; behind = omega (arith, same); under = omega arith })
 
-module _ {K Q E X : Type 0} (is_honest : K → Bool) (moment : K → ℕ) (image : K → ℕ → List ℕ → Type 0) (left : E → Option OctetSequence) (told : Q → Option OctetSequence)
-    (frames : X → Option (List (List ℕ))) (counted : X → ℕ) (opening : State K Q E X) (net : Network) (w : World) (ready : IsReady (Stands is_honest moment image left told frames counted) opening net w)
+module _ {K Q E X : Type 0} (outside : Outside K Q E X) (opening : State K Q E X) (net : Network) (w : World) (ready : IsReady (Stands outside) opening net w)
     (v : ℕ) (post : Post K E) (there : slice_get opening.posts.items v ≡ Some post) (shares : List Shares) (issuers : List Share) (lanes : length shares ≡ length opening.lanes.items)
     (opened : (l : Lane) (side : LaneForm X) (d : Shares) → is_lane (site_of opening.site) l ≡ true → sender (site_of opening.site) l ≡ v → slice_get opening.lanes.items (lane_place l) ≡ Some side →
     slice_get shares (lane_place l) ≡ Some d → IsOpened post side d (grant_at (lane_place l) issuers)) where
@@ -54,7 +53,7 @@ module _ {K Q E X : Type 0} (is_honest : K → Bool) (moment : K → ℕ) (image
     d : Has shares (lane_place l)
     d = has shares (lane_place l) (let within = below in omega (arith, within, lanes))
 
-    lane : LaneStands frames counted net w l side.x
+    lane : LaneStands outside.wire net w l side.x
     lane = ready.stands.lanes l side.x at (ap (slice_get opening.lanes.items) (same_place l) ∙ side.at)
 
     here : (e : Shares) → slice_get shares (lane_place l) ≡ Some e → IsOpened post side.x e (grant_at (lane_place l) issuers)
@@ -63,7 +62,7 @@ module _ {K Q E X : Type 0} (is_honest : K → Bool) (moment : K → ℕ) (image
 
     used : planned_at post l ≡ side.x.ledger.used
     used =
-        let seen = planned_seen is_honest moment image left net w v ready.stands.running l at from post (ready.stands.posts v post there) on in
+        let seen = planned_seen outside.disk outside.entropy net w v ready.stands.running l at from post (ready.stands.posts v post there) on in
         let none = ap (needs w.durable.facts) (ready.quiet.claimed l) in
         let own = lane.used in
         omega (arith, seen, none, own)
@@ -76,7 +75,7 @@ module _ {K Q E X : Type 0} (is_honest : K → Bool) (moment : K → ℕ) (image
 
     capped : (e : Shares) → slice_get shares (lane_place l) ≡ Some e → received_at post l ≤ lane_cap e
     capped e is =
-        let seen = received_seen is_honest moment image left net w v ready.stands.running l at from post (ready.stands.posts v post there) on in
+        let seen = received_seen outside.disk outside.entropy net w v ready.stands.running l at from post (ready.stands.posts v post there) on in
         let got = lane.received in
         let cap = (here e is).cap in
         omega (arith, seen, got, cap)

@@ -1,10 +1,9 @@
 -- The call for a frame on its wire may come.
-use Rattle.std.proofs.Common.{◌≡◌, ℕ, ◌<◌, Bool, true, List, [], ◌∷◌, length, sym, ap, subst, ◌∙◌, Option, Some, None}
+use Rattle.std.proofs.Common.{◌≡◌, ℕ, ◌<◌, true, List, [], ◌∷◌, length, sym, ap, subst, ◌∙◌, Option, Some, None}
 use Rattle.std.specs.Prelude.{◌==◌, slice_get, MatchOption}
 use Rattle.std.proofs.lemmas.Option.{slice_get-get_or}
 use Rattle.qkd_base.specs.declared.lane.Lane.{Lane}
 use Rattle.declared_site.specs.SiteOf.{site_of}
-use Rattle.net_model.specs.OctetSequence.{OctetSequence}
 use Rattle.net_model.specs.Site.{Site, receiver}
 use Rattle.net_model.specs.World.{Network, World}
 use Rattle.net_model.specs.Events.{is_lane}
@@ -24,6 +23,7 @@ use Rattle.world_state.specs.declared.state.State.{State}
 use Rattle.world_state.proofs.Receivers.{post_below, same_receiver}
 use Rattle.par_managers.specs.Order.{HasOctets}
 use Rattle.par_managers.specs.Calls.{IsComing}
+use Rattle.world_state.specs.Outside.{Outside}
 
 -- The frame's octets are there.
 octets_there : (net : Network) (w : World) (l : Lane) (number : ℕ) (octets : Option (List ℕ)) → MatchOption octets (slice_get (w.wire l) number ≡ None) (IsOnWire net w l number) →
@@ -40,16 +40,15 @@ its_turn s l number v place is =
     let x : Work = record { place = place; action = Deliver l number Ok } in
     when_true (receiver s l == v) (x ∷ []) [] (ap (λ (n : ℕ). receiver s l == n) is ∙ eq_same (receiver s l))
 
-module _ {K Q E X : Type 0} (is_honest : K → Bool) (moment : K → ℕ) (image : K → ℕ → List ℕ → Type 0) (left : E → Option OctetSequence) (told : Q → Option OctetSequence)
-    (frames : X → Option (List (List ℕ))) (counted : X → ℕ) (old : State K Q E X) (l : Lane) (number : ℕ) (call : Call Turn) where
-  pub comes : is_lane (site_of old.site) l ≡ true → ((net : Network) × (w : World) × IsReady (Stands is_honest moment image left told frames counted) old net w) →
+module _ {K Q E X : Type 0} (outside : Outside K Q E X) (old : State K Q E X) (l : Lane) (number : ℕ) (call : Call Turn) where
+  pub comes : is_lane (site_of old.site) l ≡ true → ((net : Network) × (w : World) × IsReady (Stands outside) old net w) →
       call.machine ≡ receiver (site_of old.site) l → call.request.job.now ≡ Pass l number →
-      ((net : Network) (w : World) → Stands is_honest moment image left told frames counted old net w → MatchOption call.request.octets (slice_get (w.wire l) number ≡ None) (IsOnWire net w l number)) →
-      ((net : Network) (w : World) → IsReady (Stands is_honest moment image left told frames counted) old net w → IsThere w (Pass l number)) →
-      IsComing is_honest moment image left told frames counted old call
+      ((net : Network) (w : World) → Stands outside old net w → MatchOption call.request.octets (slice_get (w.wire l) number ≡ None) (IsOnWire net w l number)) →
+      ((net : Network) (w : World) → IsReady (Stands outside) old net w → IsThere w (Pass l number)) →
+      IsComing outside old call
   comes fit ready at is found there =
-      let below = post_below is_honest moment image left told frames counted old ready.0 ready.1 l ready.2 fit in
-      let same = same_receiver is_honest moment image left told frames counted old ready.0 ready.1 l ready.2 fit in
+      let below = post_below outside old ready.0 ready.1 l ready.2 fit in
+      let same = same_receiver outside old ready.0 ready.1 l ready.2 fit in
       record {
         node = subst (λ (n : ℕ). n < length old.posts.items) (sym (at ∙ same)) below;
         may = record {

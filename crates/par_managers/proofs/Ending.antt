@@ -1,13 +1,11 @@
 -- All turns for which the workers ask were taken.
-use Rattle.std.proofs.Common.{◌≡◌, ℕ, zero, suc, ◌+◌, Bool, true, List, [], ◌∷◌, ◌++◌, length, map, refl, sym, ap, subst, ◌∙◌, arith, append-nil, Option, Some}
+use Rattle.std.proofs.Common.{◌≡◌, ℕ, zero, suc, ◌+◌, true, List, [], ◌∷◌, ◌++◌, length, map, refl, sym, ap, subst, ◌∙◌, arith, append-nil, Option, Some}
 use Rattle.std.specs.Prelude.{slice_get}
 use Rattle.std.specs.List.{AllByRecursion}
 use Rattle.std.specs.Option.{option_map}
 use Rattle.std.proofs.lemmas.List.{length-map, map-append}
 use Rattle.std.proofs.lemmas.Option.{slice_get-map}
-use Rattle.disk_model.specs.declared.arm.Armings.{Armings}
 use Rattle.net_model.specs.declared.reply.Reply.{Reply}
-use Rattle.net_model.specs.OctetSequence.{OctetSequence}
 use Rattle.net_model.specs.Site.{Site, count_up}
 use Rattle.net_model.specs.World.{Network, World}
 use Rattle.net_model.specs.Action.{Action, Ok, Outcome, Replies}
@@ -38,6 +36,7 @@ use Rattle.par_managers.specs.Turns.{TookAllTurns}
 use Rattle.par_managers.proofs.Nodes.{Serves, AllServe, AllReplayed, replay_all}
 use Rattle.par_managers.proofs.Replaying.{Takes}
 use Rattle.par_managers.proofs.SoFar.{Far, far_none}
+use Rattle.world_state.specs.Outside.{Outside}
 
 some_is : {A : Type 0} {a b : A} → ◌≡◌ {A = Option A} (Some a) (Some b) → a ≡ b
 some_is h = cc
@@ -65,8 +64,7 @@ maps_as_one : {A B C : Type 0} (f : B → C) (g : A → B) (xs : List A) → map
 maps_as_one f g [] = refl
 maps_as_one {A} {B} {C} f g (x ∷ xs) = ap (λ (ys : List C). f (g x) ∷ ys) (maps_as_one f g xs)
 
-module _ {K Q E X : Type 0} (is_honest : K → Bool) (moment : K → ℕ) (image : K → ℕ → List ℕ → Type 0) (left : E → Option OctetSequence) (told : Q → Option OctetSequence)
-    (frames : X → Option (List (List ℕ))) (counted : X → ℕ) (disk_count : K → ℕ) (armed : K → Armings) (entropy_count : E → ℕ) (device_count : Q → ℕ) (wire_count : X → ℕ)
+module _ {K Q E X : Type 0} (outside : Outside K Q E X)
     (opening : State K Q E X) {D A B : Type 0} (up : D → ℕ) (post : D → Post K E) (place : A → ℕ) (job : A → Job) (octets : A → Option (List ℕ)) (reply : B → Reply) (all : List Job) where
   -- the turn that was asked for, and its reply
   abbrev pub work_of : A → Work
@@ -76,10 +74,10 @@ module _ {K Q E X : Type 0} (is_honest : K → Bool) (moment : K → ℕ) (image
   said_of e = (place e.0, Replies (reply e.1))
 
   abbrev ServesHere : (v : ℕ) → D → List (A × B) → D → Type 0
-  ServesHere v d log n = Serves is_honest moment image left told frames counted disk_count armed entropy_count device_count wire_count opening up post place job octets reply all v d log n
+  ServesHere v d log n = Serves outside opening up post place job octets reply all v d log n
 
   abbrev AllServeHere : (v : ℕ) → List D → List (List (A × B)) → List D → Type 0
-  AllServeHere v ds logs ns = AllServe is_honest moment image left told frames counted disk_count armed entropy_count device_count wire_count opening up post place job octets reply all v ds logs ns
+  AllServeHere v ds logs ns = AllServe outside opening up post place job octets reply all v ds logs ns
 
   abbrev works : List (A × B) → List Work
   works log = map (λ e. work_of e.0) log
@@ -134,7 +132,7 @@ module _ {K Q E X : Type 0} (is_honest : K → Bool) (moment : K → ℕ) (image
   abbrev IsOfHere : A × B → Type 0
   IsOfHere e = slice_get all (place e.0) ≡ Some (job e.0)
 
-  module _ (net : Network) (w : World) (ready : IsReady (Stands is_honest moment image left told frames counted) opening net w) where
+  module _ (net : Network) (w : World) (ready : IsReady (Stands outside) opening net w) where
     abbrev next_here : A × B → Next
     next_here e = record { place = place e.0; octets = octets e.0 }
 
@@ -142,7 +140,7 @@ module _ {K Q E X : Type 0} (is_honest : K → Bool) (moment : K → ℕ) (image
     turned_here e = record { place = place e.0; reply = reply e.1 }
 
     due_of : (v : ℕ) (d n : D) (log : List (A × B)) →
-        Leads (Takes is_honest moment image left told frames counted disk_count armed entropy_count device_count wire_count opening up post place job octets reply v) d log n → AllByRecursion IsOfHere log → AreDue net w all (map next_here log)
+        Leads (Takes outside opening up post place job octets reply v) d log n → AllByRecursion IsOfHere log → AreDue net w all (map next_here log)
     due_of v d n [] leads there = tt
     due_of v d n (e ∷ log) leads there =
         let one : IsDue net w all (next_here e) = record {
@@ -190,7 +188,7 @@ module _ {K Q E X : Type 0} (is_honest : K → Bool) (moment : K → ℕ) (image
       pub links : t.up ≡ s.up
 
     abbrev StandsHere : State K Q E X → World → Type 0
-    StandsHere s u = Stands is_honest moment image left told frames counted s net u
+    StandsHere s u = Stands outside s net u
 
     same_stands : (s t : State K Q E X) (u : World) → SameParts s t → StandsHere s u → StandsHere t u
     same_stands s t u same h = record {
@@ -206,7 +204,7 @@ module _ {K Q E X : Type 0} (is_honest : K → Bool) (moment : K → ℕ) (image
     }
 
     abbrev TalliedHere : State K Q E X → List Action → Type 0
-    TalliedHere s actions = Tallied disk_count armed entropy_count device_count wire_count opening s net.site actions
+    TalliedHere s actions = Tallied outside opening s net.site actions
 
     same_tallied : (s t : State K Q E X) (actions : List Action) → SameParts s t → TalliedHere s actions → TalliedHere t actions
     same_tallied s t actions same h = record {
@@ -225,25 +223,25 @@ module _ {K Q E X : Type 0} (is_honest : K → Bool) (moment : K → ℕ) (image
       abbrev order : List Work
       order = map (planned_work all) (map next_here (flat logs))
 
-      begun : Far is_honest moment image left told frames counted disk_count armed entropy_count device_count wire_count opening net w all order opening (map next_here (flat logs)) []
+      begun : Far outside opening net w all order opening (map next_here (flat logs)) []
       begun =
-          far_none is_honest moment image left told frames counted disk_count armed entropy_count device_count wire_count opening net w all order (map next_here (flat logs)) ready.stands ready.quiet.noted refl
+          far_none outside opening net w all order (map next_here (flat logs)) ready.stands ready.quiet.noted refl
           (due_all 0 ds logs ns serve)
 
-      ends_all : AllReplayed is_honest moment image left told frames counted disk_count armed entropy_count device_count wire_count opening up post place job octets reply all net w ready order opening [] ns (map turned_here (flat logs))
+      ends_all : AllReplayed outside opening up post place job octets reply all net w ready order opening [] ns (map turned_here (flat logs))
       ends_all =
-          replay_all is_honest moment image left told frames counted disk_count armed entropy_count device_count wire_count opening up post place job octets reply all net w ready order ds logs ns 0 opening [] [] serve (sym starts) refl refl begun
+          replay_all outside opening up post place job octets reply all net w ready order ds logs ns 0 opening [] [] serve (sym starts) refl refl begun
 
       -- The disks are armed as often as before.
-      pub armed_all : most_armed armed (map post ns) ≡ most_armed armed opening.posts.items
-      armed_all = ap (most_armed armed) (sym ends_all.posts) ∙ ends_all.armings
+      pub armed_all : most_armed outside.disk (map post ns) ≡ most_armed outside.disk opening.posts.items
+      armed_all = ap (most_armed outside.disk) (sym ends_all.posts) ∙ ends_all.armings
 
       all_plain : map plain_work ends_all.far.works ≡ flat (map works logs)
       all_plain =
           sym (append-nil (map plain_work ends_all.far.works)) ∙ ends_all.far.asked ∙ all_planned (flat logs) (there_all 0 ds logs ns serve) ∙ sym (flat_image (λ (e : A × B). work_of e.0) logs)
 
       pub took_all : (new : State K Q E X) → new.site ≡ opening.site → new.posts.items ≡ map post ns → new.lanes.items ≡ opening.lanes.items → new.devices.items ≡ opening.devices.items → new.up ≡ opening.up →
-          TookAllTurns is_honest moment image left told frames counted disk_count armed entropy_count device_count wire_count opening new net w workers all (map said_of (flat logs))
+          TookAllTurns outside opening new net w workers all (map said_of (flat logs))
       took_all new site posts lanes devices links =
           let e = ends_all in
           let far = e.far in
@@ -284,9 +282,9 @@ module _ {K Q E X : Type 0} (is_honest : K → Bool) (moment : K → ℕ) (image
   module _ (charter : D → State K Q E X × ℕ) (turn : D → A → B → D → Type 0) where
     -- a turn, as the desk's charter says
     pub record Turns (d : D) (q : A) (a : B) (n : D) : Type 0 where
-      pub come : MayCome is_honest moment image left told frames counted (charter d).0 (charter d).1 (place q) (job q) (octets q)
-      pub happens : (net : Network) (w : World) → MayTurnAt is_honest moment image left net w (charter d).1 (place q) (post d) (job q) (octets q) (up d) →
-          HappensAt is_honest moment image disk_count armed left entropy_count net w (charter d).1 (post d) (post n) (job q) (reply a)
+      pub come : MayCome outside (charter d).0 (charter d).1 (place q) (job q) (octets q)
+      pub happens : (net : Network) (w : World) → MayTurnAt outside.disk outside.entropy net w (charter d).1 (place q) (post d) (job q) (octets q) (up d) →
+          HappensAt outside.disk outside.entropy net w (charter d).1 (post d) (post n) (job q) (reply a)
       pub linked : up n ≡ up d
       pub kept : charter n ≡ charter d
 
@@ -295,13 +293,13 @@ module _ {K Q E X : Type 0} (is_honest : K → Bool) (moment : K → ℕ) (image
       Under v d = charter d ≡ (opening, v)
 
       abbrev TakesAt : (v : ℕ) → D → A → B → D → Type 0
-      TakesAt v d q a n = Takes is_honest moment image left told frames counted disk_count armed entropy_count device_count wire_count opening up post place job octets reply v d q a n
+      TakesAt v d q a n = Takes outside opening up post place job octets reply v d q a n
 
       takes_at : (v : ℕ) (d : D) (q : A) (a : B) (n : D) → Under v d → Turns d q a n → TakesAt v d q a n
       takes_at v d q a n is h = record {
-        come = subst (λ (c : State K Q E X × ℕ). MayCome is_honest moment image left told frames counted c.0 c.1 (place q) (job q) (octets q)) is h.come;
-        happens = subst (λ (c : State K Q E X × ℕ). (net : Network) (w : World) → MayTurnAt is_honest moment image left net w c.1 (place q) (post d) (job q) (octets q) (up d) →
-            HappensAt is_honest moment image disk_count armed left entropy_count net w c.1 (post d) (post n) (job q) (reply a)) is h.happens;
+        come = subst (λ (c : State K Q E X × ℕ). MayCome outside c.0 c.1 (place q) (job q) (octets q)) is h.come;
+        happens = subst (λ (c : State K Q E X × ℕ). (net : Network) (w : World) → MayTurnAt outside.disk outside.entropy net w c.1 (place q) (post d) (job q) (octets q) (up d) →
+            HappensAt outside.disk outside.entropy net w c.1 (post d) (post n) (job q) (reply a)) is h.happens;
         linked = h.linked;
       }
 

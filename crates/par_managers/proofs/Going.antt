@@ -1,12 +1,10 @@
 -- A manager takes a turn of its own on its way through a block.
-use Rattle.std.proofs.Common.{◌≡◌, ℕ, ◌≤◌, Bool, true, false, List, refl, sym, ap, subst, ◌∙◌, Option, Some, None}
+use Rattle.std.proofs.Common.{◌≡◌, ℕ, ◌≤◌, true, false, List, refl, sym, ap, subst, ◌∙◌, Option, Some, None}
 use Rattle.std.proofs.Math.Logic.{∥∥₁_elim, ∥∥₁_map}
 use native.Mathlib.Bridge.{le_prop}
 use Rattle.std.specs.Prelude.{slice_get}
 use Rattle.qkd_base.specs.declared.lane.Lane.{Lane}
-use Rattle.disk_model.specs.declared.arm.Armings.{Armings}
 use Rattle.net_model.specs.declared.reply.Reply.{Reply}
-use Rattle.net_model.specs.OctetSequence.{OctetSequence}
 use Rattle.net_model.specs.Site.{Site}
 use Rattle.net_model.specs.World.{Network, World}
 use Rattle.net_model.specs.Action.{Environment, Action}
@@ -29,6 +27,7 @@ use Rattle.par_managers.specs.Turning.{asked_with}
 use Rattle.par_managers.proofs.Turning.{wire_still, octets_still}
 use Rattle.par_managers.specs.Going.{IsOnItsWay}
 use Rattle.par_managers.specs.Taking.{MayCome, MayTurnAt, HappensAt, IsTurnAt}
+use Rattle.world_state.specs.Outside.{Outside}
 
 link_kept : (job : Job) (environment : Environment) (link : ℕ) → touches_link (asked_with job environment) link ≡ false
 link_kept jobs.Nothing environment link = refl
@@ -52,11 +51,10 @@ still_has net start now wires (jobs.Ask node event) octets fit h = tt
 still_has net start now wires (jobs.Pass lane number) None fit h = h
 still_has net start now wires (jobs.Pass lane number) (Some octets) fit h = wires lane number octets fit h
 
-module _ {K Q E X : Type 0} (is_honest : K → Bool) (moment : K → ℕ) (image : K → ℕ → List ℕ → Type 0) (left : E → Option OctetSequence) (told : Q → Option OctetSequence)
-    (frames : X → Option (List (List ℕ))) (counted : X → ℕ) (opening : State K Q E X) (v : ℕ) where
+module _ {K Q E X : Type 0} (outside : Outside K Q E X) (opening : State K Q E X) (v : ℕ) where
   -- At the block's start, the node's post in the state is on its way through the block.
-  pub begins : (net : Network) (w : World) (post : Post K E) → IsReady (Stands is_honest moment image left told frames counted) opening net w → slice_get opening.posts.items v ≡ Some post →
-      IsOnItsWay is_honest moment image left told frames counted opening v post opening.up
+  pub begins : (net : Network) (w : World) (post : Post K E) → IsReady (Stands outside) opening net w → slice_get opening.posts.items v ≡ Some post →
+      IsOnItsWay outside opening v post opening.up
   begins net w post ready there = record {
     net = net;
     start = w;
@@ -68,13 +66,13 @@ module _ {K Q E X : Type 0} (is_honest : K → Bool) (moment : K → ℕ) (image
     wires = λ l number octets at on. on;
   }
 
-  module _ (post : Post K E) (up place : ℕ) (job : Job) (octets : Option (List ℕ)) (way : IsOnItsWay is_honest moment image left told frames counted opening v post up)
-      (come : MayCome is_honest moment image left told frames counted opening v place job octets) where
+  module _ (post : Post K E) (up place : ℕ) (job : Job) (octets : Option (List ℕ)) (way : IsOnItsWay outside opening v post up)
+      (come : MayCome outside opening v place job octets) where
     fits : is_job way.net.site job ≡ true
     fits = subst (λ (s : Site). is_job s job ≡ true) (sym way.ready.stands.sited) come.fit
 
     -- A turn that may come may be taken now.
-    pub may_turn : MayTurnAt is_honest moment image left way.net way.now v place post job octets up
+    pub may_turn : MayTurnAt outside.disk outside.entropy way.net way.now v place post job octets up
     may_turn = record {
       running = way.running;
       stands = way.stands;
@@ -84,9 +82,9 @@ module _ {K Q E X : Type 0} (is_honest : K → Bool) (moment : K → ℕ) (image
       links = way.links;
     }
 
-    pub goes_on : (disk_count : K → ℕ) (armed : K → Armings) (entropy_count : E → ℕ) (q : Post K E) (reply : Reply) → HappensAt is_honest moment image disk_count armed left entropy_count way.net way.now v post q job reply →
-        IsOnItsWay is_honest moment image left told frames counted opening v q up
-    goes_on disk_count armed entropy_count q reply h =
+    pub goes_on : (q : Post K E) (reply : Reply) → HappensAt outside.disk outside.entropy way.net way.now v post q job reply →
+        IsOnItsWay outside opening v q up
+    goes_on q reply h =
         let a : Action = asked_with job h.environment in record {
           net = way.net;
           start = way.start;
@@ -101,16 +99,16 @@ module _ {K Q E X : Type 0} (is_honest : K → Bool) (moment : K → ℕ) (image
 
   -- the same facts, as a desk has them
 
-  pub few_links : (post : Post K E) (up : ℕ) → ∥ IsOnItsWay is_honest moment image left told frames counted opening v post up ∥₁ → (site_of opening.site).links ≤ 32
+  pub few_links : (post : Post K E) (up : ℕ) → ∥ IsOnItsWay outside opening v post up ∥₁ → (site_of opening.site).links ≤ 32
   few_links post up way = ∥∥₁_elim way le_prop (λ x. subst (λ (s : Site). s.links ≤ 32) x.ready.stands.sited x.running.network.site.links)
 
-  module _ (post : Post K E) (up place : ℕ) (job : Job) (octets : Option (List ℕ)) (way : ∥ IsOnItsWay is_honest moment image left told frames counted opening v post up ∥₁)
-      (come : MayCome is_honest moment image left told frames counted opening v place job octets) where
-    pub may_now : ∥ ((net : Network) × (w : World) × (u : ℕ) × (place : ℕ) × MayTurnAt is_honest moment image left net w u place post job octets up) ∥₁
+  module _ (post : Post K E) (up place : ℕ) (job : Job) (octets : Option (List ℕ)) (way : ∥ IsOnItsWay outside opening v post up ∥₁)
+      (come : MayCome outside opening v place job octets) where
+    pub may_now : ∥ ((net : Network) × (w : World) × (u : ℕ) × (place : ℕ) × MayTurnAt outside.disk outside.entropy net w u place post job octets up) ∥₁
     may_now = ∥∥₁_map way (λ x. (x.net, x.now, v, place, may_turn post up place job octets x come))
 
-    pub still_going : (disk_count : K → ℕ) (armed : K → Armings) (entropy_count : E → ℕ) (q : Post K E) (reply : Reply) →
-        ((net : Network) (w : World) (u place : ℕ) → MayTurnAt is_honest moment image left net w u place post job octets up → HappensAt is_honest moment image disk_count armed left entropy_count net w u post q job reply) →
-        ∥ IsOnItsWay is_honest moment image left told frames counted opening v q up ∥₁
-    still_going disk_count armed entropy_count q reply took =
-        ∥∥₁_map way (λ x. goes_on post up place job octets x come disk_count armed entropy_count q reply (took x.net x.now v place (may_turn post up place job octets x come)))
+    pub still_going : (q : Post K E) (reply : Reply) →
+        ((net : Network) (w : World) (u place : ℕ) → MayTurnAt outside.disk outside.entropy net w u place post job octets up → HappensAt outside.disk outside.entropy net w u post q job reply) →
+        ∥ IsOnItsWay outside opening v q up ∥₁
+    still_going q reply took =
+        ∥∥₁_map way (λ x. goes_on post up place job octets x come q reply (took x.net x.now v place (may_turn post up place job octets x come)))

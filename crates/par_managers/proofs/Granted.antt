@@ -1,10 +1,8 @@
 -- The turn of a manager at its desk, and the bytes that are granted after it.
-use Rattle.std.proofs.Common.{◌≡◌, ℕ, ◌+◌, ◌*◌, ◌≤◌, Bool, List, ◌++◌, length, take, drop, replicate, refl, sym, ap, subst, ◌∙◌, Option}
+use Rattle.std.proofs.Common.{◌≡◌, ℕ, ◌+◌, ◌*◌, ◌≤◌, List, ◌++◌, length, take, drop, replicate, refl, sym, ap, subst, ◌∙◌, Option}
 use Rattle.std.specs.List.{AllZip}
-use Rattle.disk_model.specs.declared.arm.Armings.{Armings}
 use Rattle.net_model.specs.declared.order.Order.{Order}
 use Rattle.net_model.specs.declared.reply.Reply.{Reply}
-use Rattle.net_model.specs.OctetSequence.{OctetSequence}
 use Rattle.net_model.specs.Site.{Site}
 use Rattle.net_model.specs.World.{Network, World}
 use Rattle.net_model.specs.Action.{Replies}
@@ -32,20 +30,20 @@ use Rattle.par_managers.specs.Wanted.{orders_replied}
 use Rattle.par_managers.proofs.Grants.{shares_of, written_back, leases_long, may_grant, issued_on, granted_on}
 use Rattle.par_managers.proofs.Lanes.{lanes_there}
 use Rattle.par_managers.proofs.Told.{Told, told_at}
+use Rattle.world_state.specs.Outside.{Outside}
 
-module _ {K Q E X : Type 0} (is_honest : K → Bool) (moment : K → ℕ) (image : K → ℕ → List ℕ → Type 0) (left : E → Option OctetSequence) (told : Q → Option OctetSequence)
-    (frames : X → Option (List (List ℕ))) (counted : X → ℕ) (disk_count : K → ℕ) (armed : K → Armings) (entropy_count : E → ℕ)
+module _ {K Q E X : Type 0} (outside : Outside K Q E X)
     (opening : State K Q E X) (v : ℕ) (old new : Post K E) (up place : ℕ) (job : Job) (octets : Option (List ℕ)) (reply : Reply)
-    (way : ∥ IsOnItsWay is_honest moment image left told frames counted opening v old up ∥₁) (come : MayCome is_honest moment image left told frames counted opening v place job octets)
-    (took : (net : Network) (w : World) (u place : ℕ) → MayTurnAt is_honest moment image left net w u place old job octets up → HappensAt is_honest moment image disk_count armed left entropy_count net w u old new job reply) where
+    (way : ∥ IsOnItsWay outside opening v old up ∥₁) (come : MayCome outside opening v place job octets)
+    (took : (net : Network) (w : World) (u place : ℕ) → MayTurnAt outside.disk outside.entropy net w u place old job octets up → HappensAt outside.disk outside.entropy net w u old new job reply) where
   abbrev site : Site
   site = site_of opening.site
 
   pub tells : Told site v old new job reply
-  tells = told_at is_honest moment image left told frames counted opening v old new up place job octets way come disk_count armed entropy_count reply took
+  tells = told_at outside opening v old new up place job octets way come reply took
 
   links : site.links ≤ 32
-  links = few_links is_honest moment image left told frames counted opening v old up way
+  links = few_links outside opening v old up way
 
   module _ (declared : Declared) (sited : declared ≡ opening.site) (shares : List Shares) (issuers : List Share) (many : length shares ≡ length opening.lanes.items) (shared : AreShares shares issuers)
       (issued : HasIssuers site v old shares issuers) (granted : List Share) (fits : AllZip Fits shares granted)
@@ -54,7 +52,7 @@ module _ {K Q E X : Type 0} (is_honest : K → Bool) (moment : K → ℕ) (image
     leases = take (length shares) ends
 
     lanes : length shares ≡ 2 * site.links
-    lanes = many ∙ lanes_there is_honest moment image left told frames counted opening v old up way
+    lanes = many ∙ lanes_there outside opening v old up way
 
     written : WroteAt site v (planner job reply) new (replicate 64 0) ends
     written = subst (λ (d : Declared). WroteAt (site_of d) v (planner job reply) new (replicate 64 0) ends) sited wrote

@@ -1,11 +1,9 @@
 -- A manager's turn is an action of the network.
-use Rattle.std.proofs.Common.{◌≡◌, ℕ, Bool, true, false, ◌&&◌, List, refl, Option, Some, None}
-use Rattle.std.specs.Prelude.{◌==◌, nat_lt, slice_get}
+use Rattle.std.proofs.Common.{◌≡◌, ℕ, true, false, ◌&&◌, List, refl, Some, None}
+use Rattle.std.specs.Prelude.{nat_lt, slice_get}
 use Rattle.qkd_base.specs.declared.lane.Lane.{Lane}
-use Rattle.disk_model.specs.declared.arm.Armings.{Armings}
 use Rattle.net_model.specs.declared.event.Event.{Event}
 use Rattle.net_model.specs.declared.reply.Reply.{Reply}
-use Rattle.net_model.specs.OctetSequence.{OctetSequence}
 use Rattle.net_model.specs.Site.{Site, receiver}
 use Rattle.net_model.specs.World.{Network, World}
 use Rattle.net_model.specs.Events.{is_valid_event}
@@ -26,6 +24,7 @@ use Rattle.world_state.proofs.PostTallies.{asked_tallied}
 use Rattle.world_state.proofs.Receivers.{elsewhere}
 use Rattle.par_managers.specs.TurnTaking.{MayTurn, TookTurn}
 use Rattle.par_managers.specs.Turning.{asks, passes}
+use Rattle.world_state.specs.Outside.{Outside}
 
 job_enabled : (net : Network) (w : World) (v : ℕ) (event : Event) → is_job net.site (asks v event) ≡ true → is_enabled net w (Ask v event Ok) ≡ true
 unfolding is_enabled
@@ -37,27 +36,26 @@ job_enabled net w v event fit =
 delivers_post : (s : Site) (l : Lane) (number : ℕ) (environment : Environment) → ChangesPost s (Deliver l number environment) (receiver s l)
 delivers_post s l number environment = record { nodes = λ u other. elsewhere (receiver s l) u other; lanes = λ k. refl; links = λ link. refl }
 
-module _ {K Q E X : Type 0} (is_honest : K → Bool) (moment : K → ℕ) (image : K → ℕ → List ℕ → Type 0) (left : E → Option OctetSequence) (told : Q → Option OctetSequence)
-    (frames : X → Option (List (List ℕ))) (counted : X → ℕ) (old : State K Q E X) (net : Network) (w : World) where
-  module _ (v : ℕ) (event : Event) (may : MayTurn is_honest moment image left told frames counted old net w (asks v event) None) (p : Post K E) (there : slice_get old.posts.items v ≡ Some p) where
-    pub may_ask : MayAsk is_honest moment image left net w v p event old.up
+module _ {K Q E X : Type 0} (outside : Outside K Q E X) (old : State K Q E X) (net : Network) (w : World) where
+  module _ (v : ℕ) (event : Event) (may : MayTurn outside old net w (asks v event) None) (p : Post K E) (there : slice_get old.posts.items v ≡ Some p) where
+    pub may_ask : MayAsk outside.disk outside.entropy net w v p event old.up
     may_ask = record { running = may.stands.running; stands = may.stands.posts v p there; enabled = job_enabled net w v event may.fit; links = may.stands.up }
 
-    pub asked_took : (disk_count : K → ℕ) (armed : K → Armings) (entropy_count : E → ℕ) (device_count : Q → ℕ) (wire_count : X → ℕ) (new : State K Q E X) (q : Post K E) (reply : Reply) → OnePost old new v p q →
-        Asked is_honest moment image disk_count armed left entropy_count net w v event p q reply →
-        TookTurn is_honest moment image left told frames counted disk_count armed entropy_count device_count wire_count old new net w (asks v event) reply
-    asked_took disk_count armed entropy_count device_count wire_count new q reply change h = record {
+    pub asked_took : (new : State K Q E X) (q : Post K E) (reply : Reply) → OnePost old new v p q →
+        Asked outside.disk outside.entropy net w v event p q reply →
+        TookTurn outside old new net w (asks v event) reply
+    asked_took new q reply change h = record {
       environment = h.environment;
       may = h.may;
       said = h.said;
-      stands = stands_after is_honest moment image left told frames counted old new net w v p q change may.stands (Ask v event h.environment) h.may (asks_post net.site v event h.environment) h.stands;
-      tallied = asked_tallied disk_count armed entropy_count device_count wire_count net.site old new v p q change
-          (has_disks is_honest moment image left told frames counted old net w may.stands) event h.environment h.counts;
+      stands = stands_after outside old new net w v p q change may.stands (Ask v event h.environment) h.may (asks_post net.site v event h.environment) h.stands;
+      tallied = asked_tallied outside net.site old new v p q change
+          (has_disks outside old net w may.stands) event h.environment h.counts;
     }
 
-  module _ (l : Lane) (number : ℕ) (octets : List ℕ) (may : MayTurn is_honest moment image left told frames counted old net w (passes l number) (Some octets)) (p : Post K E)
+  module _ (l : Lane) (number : ℕ) (octets : List ℕ) (may : MayTurn outside old net w (passes l number) (Some octets)) (p : Post K E)
       (there : slice_get old.posts.items (receiver net.site l) ≡ Some p) where
-    pub may_hear : MayHear is_honest moment image left net w l number p octets old.up
+    pub may_hear : MayHear outside.disk outside.entropy net w l number p octets old.up
     may_hear = record {
       running = may.stands.running;
       stands = may.stands.posts (receiver net.site l) p there;
@@ -68,16 +66,16 @@ module _ {K Q E X : Type 0} (is_honest : K → Bool) (moment : K → ℕ) (image
       links = may.stands.up;
     }
 
-    pub heard_took : (disk_count : K → ℕ) (armed : K → Armings) (entropy_count : E → ℕ) (device_count : Q → ℕ) (wire_count : X → ℕ) (new : State K Q E X) (q : Post K E) (reply : Reply) →
-        OnePost old new (receiver net.site l) p q → HasHeard is_honest moment image disk_count armed left entropy_count net w l number p q reply →
-        TookTurn is_honest moment image left told frames counted disk_count armed entropy_count device_count wire_count old new net w (passes l number) reply
-    heard_took disk_count armed entropy_count device_count wire_count new q reply change h = record {
+    pub heard_took : (new : State K Q E X) (q : Post K E) (reply : Reply) →
+        OnePost old new (receiver net.site l) p q → HasHeard outside.disk outside.entropy net w l number p q reply →
+        TookTurn outside old new net w (passes l number) reply
+    heard_took new q reply change h = record {
       environment = h.environment;
       may = h.may;
       said = h.said;
-      stands = stands_after is_honest moment image left told frames counted old new net w (receiver net.site l) p q change may.stands (Deliver l number h.environment) h.may
+      stands = stands_after outside old new net w (receiver net.site l) p q change may.stands (Deliver l number h.environment) h.may
           (delivers_post net.site l number h.environment) h.stands;
-      tallied = one_post_tallied disk_count armed entropy_count device_count wire_count net.site (Deliver l number h.environment) old new
-          (has_disks is_honest moment image left told frames counted old net w may.stands) (receiver net.site l) p q (is_io_fault h.environment) false change
+      tallied = one_post_tallied outside net.site (Deliver l number h.environment) old new
+          (has_disks outside old net w may.stands) (receiver net.site l) p q (is_io_fault h.environment) false change
           (delivers_counted net.site l number h.environment) (record { devices = λ link. refl; wires = λ k. refl }) h.counts;
     }

@@ -1,12 +1,11 @@
 -- The lanes of a state at the beginning of a block.
-use Rattle.std.proofs.Common.{◌≡◌, ℕ, zero, suc, ◌+◌, ◌*◌, ◌<◌, ◌≤◌, Bool, true, false, List, [], ◌∷◌, ◌++◌, length, take, refl, sym, ap, subst, ◌∙◌, arith, Option, Some}
+use Rattle.std.proofs.Common.{◌≡◌, ℕ, zero, suc, ◌+◌, ◌*◌, ◌<◌, ◌≤◌, true, false, List, [], ◌∷◌, ◌++◌, length, take, refl, sym, ap, subst, ◌∙◌, arith, Option, Some}
 use Rattle.std.specs.Prelude.{slice_get, get_or, if◌then◌else◌}
 use Rattle.std.proofs.lemmas.Bool.{ltb-true}
 use Rattle.std.proofs.lemmas.Option.{slice_get_read}
 use Rattle.qkd_base.specs.declared.lane.Lane.{Lane}
 use Rattle.qkd_base.specs.declared.lane.Way.{Way}
 use Rattle.qkd_base.specs.declared.lane.Way.TheVariants.{Up, Down}
-use Rattle.net_model.specs.OctetSequence.{OctetSequence}
 use Rattle.net_model.specs.Premises.{IsLink}
 use Rattle.net_model.specs.Site.{Site, sender, of_way}
 use Rattle.net_model.specs.World.{Network, World, received, needs}
@@ -25,6 +24,7 @@ use Rattle.par_managers.specs.Opening.{issued_by, issued_from, issued_in, AreOpe
 use Rattle.par_managers.specs.Posts.{is_on}
 use Rattle.par_managers.proofs.Places.{same_place, lane_at}
 use Rattle.par_managers.proofs.Seen.{lease_seen}
+use Rattle.world_state.specs.Outside.{Outside}
 
 module _ {K Q E X : Type 0} (s : State K Q E X) where
   -- The shares of one more lane are made.
@@ -70,8 +70,7 @@ module _ {K Q E X : Type 0} (s : State K Q E X) where
   opened_long (x ∷ sides) (y ∷ ds) [] us h = absurd h
   opened_long (x ∷ sides) (y ∷ ds) (q ∷ rs) [] h = absurd h
 
-module _ {K Q E X : Type 0} (is_honest : K → Bool) (moment : K → ℕ) (image : K → ℕ → List ℕ → Type 0) (left : E → Option OctetSequence) (told : Q → Option OctetSequence)
-    (frames : X → Option (List (List ℕ))) (counted : X → ℕ) (s : State K Q E X) (net : Network) (w : World) (ready : IsReady (Stands is_honest moment image left told frames counted) s net w)
+module _ {K Q E X : Type 0} (outside : Outside K Q E X) (s : State K Q E X) (net : Network) (w : World) (ready : IsReady (Stands outside) s net w)
     (i : ℕ) (side : LaneForm X) (below : i < length s.lanes.items) (is : side ≡ get_or s.lanes.items i side) where
   there : slice_get s.lanes.items i ≡ Some side
   there = slice_get_read s.lanes.items (length s.lanes.items) i side refl below is
@@ -83,7 +82,7 @@ module _ {K Q E X : Type 0} (is_honest : K → Bool) (moment : K → ℕ) (image
   record Found : Type 0 where
     l : Lane
     at : is_lane net.site l ≡ true
-    stands : LaneStands frames counted net w l side
+    stands : LaneStands outside.wire net w l side
 
   found : Found
   found =
@@ -124,7 +123,7 @@ module _ {K Q E X : Type 0} (is_honest : K → Bool) (moment : K → ℕ) (image
         let f = found.stands in
         let x = its_room in
         let lease : lease_at post side.lane ≡ w.durable.lease found.l =
-        ap (lease_at post) its_lane ∙ lease_seen is_honest moment image left net w (sender net.site found.l) ready.stands.running found.l found.at refl post
+        ap (lease_at post) its_lane ∙ lease_seen outside.disk outside.entropy net w (sender net.site found.l) ready.stands.running found.l found.at refl post
         (ready.stands.posts (sender net.site found.l) post (ap (slice_get s.posts.items) (sym its_sender) ∙ at)) on in
         (omega (arith, f.used, x.0, lease), omega (arith, f.received, x.1, lease))
 

@@ -1,10 +1,8 @@
 -- The turns that a node's manager took are consecutive turns of the run's state that has its post.
-use Rattle.std.proofs.Common.{◌≡◌, ℕ, zero, suc, Bool, List, [], ◌∷◌, ◌++◌, map, refl, sym, ap, subst, ◌∙◌, append_assoc, append-nil, Option, Some}
+use Rattle.std.proofs.Common.{◌≡◌, ℕ, zero, suc, List, [], ◌∷◌, ◌++◌, map, refl, sym, ap, subst, ◌∙◌, append_assoc, append-nil, Option, Some}
 use Rattle.std.specs.Prelude.{slice_get, slice_set}
 use Rattle.std.specs.List.{AllByRecursion}
-use Rattle.disk_model.specs.declared.arm.Armings.{Armings}
 use Rattle.net_model.specs.declared.reply.Reply.{Reply}
-use Rattle.net_model.specs.OctetSequence.{OctetSequence}
 use Rattle.net_model.specs.Site.{Site}
 use Rattle.net_model.specs.World.{Network, World}
 use Rattle.net_model.specs.Step.{run}
@@ -25,6 +23,7 @@ use Rattle.par_managers.proofs.TurnTakes.{may_take}
 use Rattle.par_managers.specs.Taking.{MayCome, MayTurnAt, HappensAt, IsTurnAt}
 use Rattle.par_managers.proofs.State.{may_turn_at, took_turn}
 use Rattle.par_managers.proofs.SoFar.{Far, far_more}
+use Rattle.world_state.specs.Outside.{Outside}
 
 get_set : {A : Type 0} (xs : List A) (i : ℕ) (x y : A) → slice_get xs i ≡ Some x → slice_get (slice_set xs i y) i ≡ Some y
 get_set [] i x y h = cc
@@ -41,14 +40,13 @@ set_same [] i x h = refl
 set_same {A} (z ∷ zs) zero x h = let is : z ≡ x = cc in ap (λ (w : A). w ∷ zs) (sym is)
 set_same {A} (z ∷ zs) (suc i) x h = ap (λ (ws : List A). z ∷ ws) (set_same zs i x h)
 
-module _ {K Q E X : Type 0} (is_honest : K → Bool) (moment : K → ℕ) (image : K → ℕ → List ℕ → Type 0) (left : E → Option OctetSequence) (told : Q → Option OctetSequence)
-    (frames : X → Option (List (List ℕ))) (counted : X → ℕ) (disk_count : K → ℕ) (armed : K → Armings) (entropy_count : E → ℕ) (device_count : Q → ℕ) (wire_count : X → ℕ)
+module _ {K Q E X : Type 0} (outside : Outside K Q E X)
     (opening : State K Q E X) {D A B : Type 0} (up : D → ℕ) (post : D → Post K E) (place : A → ℕ) (job : A → Job) (octets : A → Option (List ℕ)) (reply : B → Reply) where
   -- A manager at its desk took a turn that may come.
   pub record Takes (v : ℕ) (d : D) (q : A) (a : B) (n : D) : Type 0 where
-    pub come : MayCome is_honest moment image left told frames counted opening v (place q) (job q) (octets q)
-    pub happens : (net : Network) (w : World) → MayTurnAt is_honest moment image left net w v (place q) (post d) (job q) (octets q) (up d) →
-        HappensAt is_honest moment image disk_count armed left entropy_count net w v (post d) (post n) (job q) (reply a)
+    pub come : MayCome outside opening v (place q) (job q) (octets q)
+    pub happens : (net : Network) (w : World) → MayTurnAt outside.disk outside.entropy net w v (place q) (post d) (job q) (octets q) (up d) →
+        HappensAt outside.disk outside.entropy net w v (post d) (post n) (job q) (reply a)
     pub linked : up n ≡ up d
 
   -- the turn as one that is still to be taken, and its reply
@@ -62,9 +60,9 @@ module _ {K Q E X : Type 0} (is_honest : K → Bool) (moment : K → ℕ) (image
   abbrev pub IsOf : List Job → A × B → Type 0
   IsOf all e = slice_get all (place e.0) ≡ Some (job e.0)
 
-  module _ (net : Network) (w : World) (ready : IsReady (Stands is_honest moment image left told frames counted) opening net w) (all : List Job) (order : List Work) where
+  module _ (net : Network) (w : World) (ready : IsReady (Stands outside) opening net w) (all : List Job) (order : List Work) where
     abbrev FarHere : State K Q E X → List Next → List Turned → Type 0
-    FarHere s rest replies = Far is_honest moment image left told frames counted disk_count armed entropy_count device_count wire_count opening net w all order s rest replies
+    FarHere s rest replies = Far outside opening net w all order s rest replies
 
     -- ---- one turn
 
@@ -79,30 +77,30 @@ module _ {K Q E X : Type 0} (is_honest : K → Bool) (moment : K → ℕ) (image
       mine : IsTurnAt net.site v (place e.0) (job e.0)
       mine = subst (λ (x : Site). IsTurnAt x v (place e.0) (job e.0)) (sym ready.stands.sited) h.come.mine
 
-      may : MayTurn is_honest moment image left told frames counted s net here (job e.0) (octets e.0)
-      may = may_take is_honest moment image left told frames counted s net here so.stands all (next_of e) so.due.0 (job e.0) there
+      may : MayTurn outside s net here (job e.0) (octets e.0)
+      may = may_take outside s net here so.stands all (next_of e) so.due.0 (job e.0) there
 
-      may_at : MayTurnAt is_honest moment image left net here v (place e.0) (post d) (job e.0) (octets e.0) (up d)
-      may_at = subst (λ (n : ℕ). MayTurnAt is_honest moment image left net here v (place e.0) (post d) (job e.0) (octets e.0) n) ups
-          (may_turn_at is_honest moment image left told frames counted s net here (job e.0) (octets e.0) may v (place e.0) (post d) at mine)
+      may_at : MayTurnAt outside.disk outside.entropy net here v (place e.0) (post d) (job e.0) (octets e.0) (up d)
+      may_at = subst (λ (n : ℕ). MayTurnAt outside.disk outside.entropy net here v (place e.0) (post d) (job e.0) (octets e.0) n) ups
+          (may_turn_at outside s net here (job e.0) (octets e.0) may v (place e.0) (post d) at mine)
 
-      happens : HappensAt is_honest moment image disk_count armed left entropy_count net here v (post d) (post n) (job e.0) (reply e.1)
+      happens : HappensAt outside.disk outside.entropy net here v (post d) (post n) (job e.0) (reply e.1)
       happens = h.happens net here may_at
 
-      took : TookTurn is_honest moment image left told frames counted disk_count armed entropy_count device_count wire_count s goes net here (job e.0) (reply e.1)
-      took = took_turn is_honest moment image left told frames counted s net here disk_count armed entropy_count device_count wire_count goes (reply e.1) (job e.0) (octets e.0) may v (place e.0) (post d) (post n) mine
+      took : TookTurn outside s goes net here (job e.0) (reply e.1)
+      took = took_turn outside s net here goes (reply e.1) (job e.0) (octets e.0) may v (place e.0) (post d) (post n) mine
           (with_post s v v (post d) (post n) refl at) happens
 
       pub at_more : slice_get goes.posts.items v ≡ Some (post n)
       at_more = get_set s.posts.items v (post d) (post n) at
 
       pub one_far : FarHere goes rest (before ++ turned_of e ∷ [])
-      one_far = far_more is_honest moment image left told frames counted disk_count armed entropy_count device_count wire_count opening net w all order s (next_of e) rest before so goes (job e.0) (reply e.1) there took
+      one_far = far_more outside opening net w all order s (next_of e) rest before so goes (job e.0) (reply e.1) there took
 
-      pub one_armed : most_armed armed goes.posts.items ≡ most_armed armed s.posts.items
+      pub one_armed : most_armed outside.disk goes.posts.items ≡ most_armed outside.disk s.posts.items
       one_armed =
-          most_same armed s.posts.items v (post d) (post n) at
-          (times_same armed disk_count entropy_count _ _ (post d) (post n) happens.counts)
+          most_same outside.disk s.posts.items v (post d) (post n) at
+          (times_same outside.disk outside.entropy _ _ (post d) (post n) happens.counts)
 
     -- ---- all turns
 
@@ -113,7 +111,7 @@ module _ {K Q E X : Type 0} (is_honest : K → Bool) (moment : K → ℕ) (image
       pub lanes : now.lanes.items ≡ s.lanes.items
       pub devices : now.devices.items ≡ s.devices.items
       pub links : now.up ≡ s.up
-      pub armings : most_armed armed now.posts.items ≡ most_armed armed s.posts.items
+      pub armings : most_armed outside.disk now.posts.items ≡ most_armed outside.disk s.posts.items
       pub far : FarHere now rest replies
 
     pub replay : (log : List (A × B)) (v : ℕ) (s : State K Q E X) (d n : D) (rest : List Next) (before : List Turned) → Leads (Takes v) d log n → AllByRecursion (IsOf all) log →

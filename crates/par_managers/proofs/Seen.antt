@@ -1,9 +1,8 @@
 -- What a manager's view has of a lane that leaves its node is what the network has.
-use Rattle.std.proofs.Common.{◌≡◌, ℕ, Bool, true, List, sym, ap, subst, ◌∙◌, Option, Some}
+use Rattle.std.proofs.Common.{◌≡◌, ℕ, true, sym, ap, subst, ◌∙◌, Some}
 use Rattle.std.proofs.lemmas.Bool.{ltb-true}
 use Rattle.qkd_base.specs.LaneBytes.{lane_len}
 use Rattle.qkd_base.specs.declared.lane.Lane.{Lane}
-use Rattle.net_model.specs.OctetSequence.{OctetSequence}
 use Rattle.net_model.specs.Site.{is_incident, sender, outgoing_lane}
 use Rattle.net_model.specs.World.{Network, World, planned, received}
 use Rattle.net_model.specs.Needed.{view_of, port_at}
@@ -15,14 +14,16 @@ use Rattle.world_state.proofs.Passed.{own_lane, port_there}
 use Rattle.world_state.proofs.Leases.{incident_of}
 use Rattle.par_managers.specs.Leases.{lease_at}
 use Rattle.par_managers.specs.Posts.{is_on, planned_of, received_on, planned_at, received_at}
+use Rattle.disk_model.specs.declared.disk.Disk as Disk
+use Rattle.source_devices.specs.declared.entropy.Entropy as Entropy
 
-module _ {K E : Type 0} (is_honest : K → Bool) (moment : K → ℕ) (image : K → ℕ → List ℕ → Type 0) (left : E → Option OctetSequence) (net : Network) (w : World) (v : ℕ) where
+module _ {K E : Type 0} (disk_says : Disk.Ghosts K) (entropy_says : Entropy.Ghosts E) (net : Network) (w : World) (v : ℕ) where
   abbrev StandsHere : Post K E → Type 0
-  StandsHere post = PostStands is_honest moment image left net w v post
+  StandsHere post = PostStands disk_says entropy_says net w v post
 
   -- The program's manager is up exactly if the network's manager is up.
 
-  standing_up : (m : ManagerForm K E) (s : Standing K) → StandingStands is_honest moment image net w v m.site m.view s → is_up s ≡ w.up v
+  standing_up : (m : ManagerForm K E) (s : Standing K) → StandingStands disk_says net w v m.site m.view s → is_up s ≡ w.up v
   standing_up m (StandingUp journal) stands = sym stands.up
   standing_up m (StandingDown disk) stands = sym stands.down
   standing_up m StandingBetween stands = absurd stands
@@ -37,7 +38,7 @@ module _ {K E : Type 0} (is_honest : K → Bool) (moment : K → ℕ) (image : K
         port_there net w v l.link (subst (λ (u : ℕ). is_incident net.site u l.link ≡ true) from (incident_of net.site l)) (ltb-true l.link net.site.links at)
         ∙ ap (λ (k : Lane). Some (port_at net w k)) (ap (λ (u : ℕ). outgoing_lane net.site u l.link) (sym from) ∙ own_lane net.site r.network.site l at)
 
-    standing_port : (m : ManagerForm K E) (s : Standing K) → StandingStands is_honest moment image net w v m.site m.view s → is_up s ≡ true → port_of m.view l.link ≡ Some (port_at net w l)
+    standing_port : (m : ManagerForm K E) (s : Standing K) → StandingStands disk_says net w v m.site m.view s → is_up s ≡ true → port_of m.view l.link ≡ Some (port_at net w l)
     standing_port m (StandingUp journal) stands up = ap (λ (x : View). port_of x l.link) stands.sees ∙ seen_port
     standing_port m (StandingDown disk) stands up = cc
     standing_port m StandingBetween stands up = absurd stands

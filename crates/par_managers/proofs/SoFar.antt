@@ -1,10 +1,8 @@
 -- The turns that were taken so far, and those that are still to be taken.
-use Rattle.std.proofs.Common.{◌≡◌, ℕ, Bool, true, List, [], ◌∷◌, ◌++◌, map, refl, sym, ap, subst, ◌∙◌, append_assoc, Option}
+use Rattle.std.proofs.Common.{◌≡◌, ℕ, true, List, [], ◌∷◌, ◌++◌, map, refl, sym, ap, subst, ◌∙◌, append_assoc}
 use Rattle.std.specs.Prelude.{slice_get, Some}
 use Rattle.std.proofs.lemmas.List.{map-append}
-use Rattle.disk_model.specs.declared.arm.Armings.{Armings}
 use Rattle.net_model.specs.declared.reply.Reply.{Reply}
-use Rattle.net_model.specs.OctetSequence.{OctetSequence}
 use Rattle.net_model.specs.World.{Network, World}
 use Rattle.net_model.specs.Action.{Environment, Action, Ok, Outcome, is_shown, environment_of}
 use Rattle.net_model.specs.Step.{step, is_enabled, run, IsRun}
@@ -28,6 +26,7 @@ use Rattle.par_managers.specs.Turning.{asked_with, action_at, work_of}
 use Rattle.par_managers.proofs.Histories.{done-append}
 use Rattle.par_managers.proofs.Due.{due_still}
 use Rattle.par_managers.proofs.Turning.{noted_still}
+use Rattle.world_state.specs.Outside.{Outside}
 
 plain_asked : (job : Job) (environment : Environment) → plain (asked_with job environment) ≡ asked_with job Ok
 plain_asked jobs.Nothing environment = refl
@@ -42,11 +41,10 @@ done_one : (net : Network) (w : World) (x : Work) → done_from net w (x ∷ [])
 unfolding done_from
 done_one net w x = refl
 
-module _ {K Q E X : Type 0} (is_honest : K → Bool) (moment : K → ℕ) (image : K → ℕ → List ℕ → Type 0) (left : E → Option OctetSequence) (told : Q → Option OctetSequence)
-    (frames : X → Option (List (List ℕ))) (counted : X → ℕ) (disk_count : K → ℕ) (armed : K → Armings) (entropy_count : E → ℕ) (device_count : Q → ℕ) (wire_count : X → ℕ)
+module _ {K Q E X : Type 0} (outside : Outside K Q E X)
     (old : State K Q E X) (net : Network) (w : World) (all : List Job) (order : List Work) where
   abbrev StandsAt : State K Q E X → World → Type 0
-  StandsAt s u = Stands is_honest moment image left told frames counted s net u
+  StandsAt s u = Stands outside s net u
 
   -- From a quiet network on, these turns were taken, with these replies, and the rest is still to be taken. Together they are in the given order.
   pub record Far (now : State K Q E X) (rest : List Next) (done : List Turned) : Type 0 where
@@ -55,7 +53,7 @@ module _ {K Q E X : Type 0} (is_honest : K → Bool) (moment : K → ℕ) (image
     pub asked : map plain_work works ++ map (work_of all) rest ≡ order
     pub said : map turned done ≡ map turn_done (done_from net w works)
     pub stands : StandsAt now (run net w (actions_in works))
-    pub tallied : Tallied disk_count armed entropy_count device_count wire_count old now net.site (actions_in works)
+    pub tallied : Tallied outside old now net.site (actions_in works)
     pub due : AreDue net (run net w (actions_in works)) all rest
     pub noted : (v : ℕ) → (run net w (actions_in works)).placings v ≡ []
 
@@ -73,7 +71,7 @@ module _ {K Q E X : Type 0} (is_honest : K → Bool) (moment : K → ℕ) (image
         asked = asked;
         said = none_said;
         stands = subst (StandsAt old) same stands;
-        tallied = none_tallied disk_count armed entropy_count device_count wire_count net.site old (has_disks is_honest moment image left told frames counted old net w stands);
+        tallied = none_tallied outside net.site old (has_disks outside old net w stands);
         due = subst (λ (x : World). AreDue net x all rest) same due;
         noted = λ v. ap (λ (x : World). x.placings v) (sym same) ∙ noted v;
       }
@@ -81,7 +79,7 @@ module _ {K Q E X : Type 0} (is_honest : K → Bool) (moment : K → ℕ) (image
   -- One more turn is taken.
 
   module _ (mid : State K Q E X) (next : Next) (rest : List Next) (done : List Turned) (so : Far mid (next ∷ rest) done) (new : State K Q E X) (job : Job) (reply : Reply) (there : slice_get all next.place ≡ Some job)
-      (took : TookTurn is_honest moment image left told frames counted disk_count armed entropy_count device_count wire_count mid new net (run net w (actions_in so.works)) job reply) where
+      (took : TookTurn outside mid new net (run net w (actions_in so.works)) job reply) where
     abbrev here : World
     here = run net w (actions_in so.works)
 
@@ -139,8 +137,8 @@ module _ {K Q E X : Type 0} (is_honest : K → Bool) (moment : K → ℕ) (image
       asked = asked_more;
       said = said_more;
       stands = subst (StandsAt new) (sym over) took.stands;
-      tallied = subst (λ (xs : List Action). Tallied disk_count armed entropy_count device_count wire_count old new net.site xs) (sym actions_more)
-          (tallied_more disk_count armed entropy_count device_count wire_count net.site old mid new (actions_in so.works) (a ∷ []) so.tallied took.tallied);
+      tallied = subst (λ (xs : List Action). Tallied outside old new net.site xs) (sym actions_more)
+          (tallied_more outside net.site old mid new (actions_in so.works) (a ∷ []) so.tallied took.tallied);
       due = subst (λ (y : World). AreDue net y all rest) (sym over)
           (due_still net here so.stands.running.network so.stands.running.conserved job took.environment enabled all rest so.due.1);
       noted = λ v. ap (λ (y : World). y.placings v) over ∙ noted_still net here job took.environment v ∙ so.noted v;

@@ -1,16 +1,14 @@
 -- A manager's turn is an event that it handles, or a frame that it hears.
 use Rattle.std.proofs.Math.Logic.{∥∥₁_elim}
-use Rattle.std.proofs.Common.{◌≡◌, ℕ, Bool, true, false, ◌&&◌, List, [], ◌∷◌, refl, sym, ap, subst, ◌∙◌, Option, Some, None}
+use Rattle.std.proofs.Common.{◌≡◌, ℕ, Bool, true, false, ◌&&◌, List, [], ◌∷◌, refl, sym, subst, ◌∙◌, Option, Some, None}
 use Rattle.std.specs.Prelude.{◌==◌, nat_lt, if◌then◌else◌}
 use Rattle.qkd_base.specs.declared.lane.Lane.{Lane}
 use Rattle.std.specs.Coded.{coded_bool}
 use base.Stored.{Coded-set}
-use Rattle.disk_model.specs.declared.arm.Armings.{Armings}
 use Rattle.net_model.specs.declared.event.Event.{Event}
 use Rattle.net_model.specs.declared.event.Event.TheVariants.{Heard, Plan}
 use Rattle.net_model.specs.declared.reply.Reply.{Reply}
 use Rattle.net_model.specs.declared.reply.Reply.TheVariants.{Planned}
-use Rattle.net_model.specs.OctetSequence.{OctetSequence}
 use Rattle.net_model.specs.Site.{Site, receiver}
 use Rattle.net_model.specs.World.{Network, World}
 use Rattle.net_model.specs.Events.{is_valid_event}
@@ -27,6 +25,8 @@ use Rattle.law_base.proofs.Base.{and_left, and_right, and_both, eq_from}
 use Rattle.world_state.proofs.Passed.{may_handle as may_handle_asked, asked, may_handle_of_Delivered as may_handle_heard, heard, valid_there}
 use Rattle.par_managers.specs.Turning.{planner}
 use Rattle.par_managers.specs.Taking.{MayTurnAt, HappensAt, IsTurnAt}
+use Rattle.disk_model.specs.declared.disk.Disk as Disk
+use Rattle.source_devices.specs.declared.entropy.Entropy as Entropy
 
 is_there : {A : Type 0} (b : Bool) (x : A) → (if b then x ∷ [] else []) ≡ x ∷ [] → b ≡ true
 is_there true x h = refl
@@ -61,8 +61,8 @@ event_enabled net w v event fit =
     and_both (nat_lt v net.site.nodes && is_asked event) (is_valid_event net.site v event) (and_left (nat_lt v net.site.nodes && is_asked event) (is_block_event event) three)
     (and_right (nat_lt v net.site.nodes && is_asked event && is_block_event event) (is_valid_event net.site v event) fit)
 
-module _ {K E : Type 0} (is_honest : K → Bool) (moment : K → ℕ) (image : K → ℕ → List ℕ → Type 0) (left : E → Option OctetSequence) (net : Network) (w : World) (v place : ℕ) (post : Post K E) (job : Job)
-    (octets : Option (List ℕ)) (up : ℕ) (may : MayTurnAt is_honest moment image left net w v place post job octets up) where
+module _ {K E : Type 0} (disk_says : Disk.Ghosts K) (entropy_says : Entropy.Ghosts E) (net : Network) (w : World) (v place : ℕ) (post : Post K E) (job : Job)
+    (octets : Option (List ℕ)) (up : ℕ) (may : MayTurnAt disk_says entropy_says net w v place post job octets up) where
   pub nothing_asked : {A : Type 0} → job ≡ jobs.Nothing → A
   nothing_asked is = no_turn net.site v place (subst (IsTurnAt net.site v place) is may.mine)
 
@@ -73,31 +73,31 @@ module _ {K E : Type 0} (is_honest : K → Bool) (moment : K → ℕ) (image : K
     fits : is_job net.site (jobs.Ask v event) ≡ true
     fits = subst (λ (u : ℕ). is_job net.site (jobs.Ask u event) ≡ true) asks_here (subst (λ (j : Job). is_job net.site j ≡ true) is may.fit)
 
-    pub may_ask : MayAsk is_honest moment image left net w v post event up
+    pub may_ask : MayAsk disk_says entropy_says net w v post event up
     may_ask = record { running = may.running; stands = may.stands; enabled = event_enabled net w v event fits; links = may.links }
 
-    pub may_put_asked : MayHandle is_honest moment image left net w v post event up
-    may_put_asked = may_handle_asked is_honest moment image left net w v event up post may_ask
+    pub may_put_asked : MayHandle disk_says entropy_says net w v post event up
+    may_put_asked = may_handle_asked disk_says entropy_says net w v event up post may_ask
 
   module _ (l : Lane) (number : ℕ) (is : job ≡ jobs.Pass l number) where
     pub no_frame : {A : Type 0} → octets ≡ None → A
     no_frame none =
         absurd
-        ((subst (λ (o : Option (List ℕ)). MayTurnAt is_honest moment image left net w v place post (jobs.Pass l number) o up) none
-        (subst (λ (j : Job). MayTurnAt is_honest moment image left net w v place post j octets up) is may)).has)
+        ((subst (λ (o : Option (List ℕ)). MayTurnAt disk_says entropy_says net w v place post (jobs.Pass l number) o up) none
+        (subst (λ (j : Job). MayTurnAt disk_says entropy_says net w v place post j octets up) is may)).has)
 
     module _ (frame : List ℕ) (some : octets ≡ Some frame) where
-      turn : MayTurnAt is_honest moment image left net w v place post (jobs.Pass l number) (Some frame) up
-      turn = subst (λ (o : Option (List ℕ)). MayTurnAt is_honest moment image left net w v place post (jobs.Pass l number) o up) some
-          (subst (λ (j : Job). MayTurnAt is_honest moment image left net w v place post j octets up) is may)
+      turn : MayTurnAt disk_says entropy_says net w v place post (jobs.Pass l number) (Some frame) up
+      turn = subst (λ (o : Option (List ℕ)). MayTurnAt disk_says entropy_says net w v place post (jobs.Pass l number) o up) some
+          (subst (λ (j : Job). MayTurnAt disk_says entropy_says net w v place post j octets up) is may)
 
       pub comes_here : receiver net.site l ≡ v
       comes_here = hearing_node net.site v place l number turn.mine
 
-      pub may_hear : MayHear is_honest moment image left net w l number post frame up
+      pub may_hear : MayHear disk_says entropy_says net w l number post frame up
       may_hear = record {
         running = turn.running;
-        stands = subst (λ (u : ℕ). PostStands is_honest moment image left net w u post) (sym comes_here) turn.stands;
+        stands = subst (λ (u : ℕ). PostStands disk_says entropy_says net w u post) (sym comes_here) turn.stands;
         at = turn.fit;
         frame = turn.has.frame;
         there = turn.has.there;
@@ -105,53 +105,52 @@ module _ {K E : Type 0} (is_honest : K → Bool) (moment : K → ℕ) (image : K
         links = turn.links;
       }
 
-      pub may_put_heard : MayHandle is_honest moment image left net w (receiver net.site l) post (Heard l frame) up
-      may_put_heard = may_handle_heard is_honest moment image left net w l number post frame up may_hear
+      pub may_put_heard : MayHandle disk_says entropy_says net w (receiver net.site l) post (Heard l frame) up
+      may_put_heard = may_handle_heard disk_says entropy_says net w l number post frame up may_hear
 
 -- ---- what is given to the manager is valid for it
 
-module _ {K E : Type 0} (is_honest : K → Bool) (moment : K → ℕ) (image : K → ℕ → List ℕ → Type 0) (left : E → Option OctetSequence) (post : Post K E) (job : Job) (octets : Option (List ℕ)) (up : ℕ)
-    (may : ∥ ((net : Network) × (w : World) × (v : ℕ) × (place : ℕ) × MayTurnAt is_honest moment image left net w v place post job octets up) ∥₁) (m : ManagerForm K E) (on : post ≡ On m) (is_up_now : is_up m.standing ≡ true) where
+module _ {K E : Type 0} (disk_says : Disk.Ghosts K) (entropy_says : Entropy.Ghosts E) (post : Post K E) (job : Job) (octets : Option (List ℕ)) (up : ℕ)
+    (may : ∥ ((net : Network) × (w : World) × (v : ℕ) × (place : ℕ) × MayTurnAt disk_says entropy_says net w v place post job octets up) ∥₁) (m : ManagerForm K E) (on : post ≡ On m) (is_up_now : is_up m.standing ≡ true) where
   abbrev IsValid : Event → Type 0
   IsValid event = is_valid_event (site_of m.site) m.view.me event ≡ true
 
-  valid_in : (event : Event) (net : Network) (w : World) (v : ℕ) → MayHandle is_honest moment image left net w v post event up → IsValid event
-  valid_in event net w v h = valid_there is_honest moment image left net w v m is_up_now post on h.stands event h.valid
+  valid_in : (event : Event) (net : Network) (w : World) (v : ℕ) → MayHandle disk_says entropy_says net w v post event up → IsValid event
+  valid_in event net w v h = valid_there disk_says entropy_says net w v m is_up_now post on h.stands event h.valid
 
   pub asked_valid : (node : ℕ) (event : Event) → job ≡ jobs.Ask node event → IsValid event
   asked_valid node event is =
       ∥∥₁_elim may (Coded-set coded_bool _ _)
-      (λ a. valid_in event a.0 a.1 a.2 (may_put_asked is_honest moment image left a.0 a.1 a.2 a.3 post job octets up a.4 node event is))
+      (λ a. valid_in event a.0 a.1 a.2 (may_put_asked disk_says entropy_says a.0 a.1 a.2 a.3 post job octets up a.4 node event is))
 
   pub heard_valid : (l : Lane) (number : ℕ) (frame : List ℕ) → job ≡ jobs.Pass l number → octets ≡ Some frame → IsValid (Heard l frame)
   heard_valid l number frame is some =
       ∥∥₁_elim may (Coded-set coded_bool _ _)
-      (λ a. valid_in (Heard l frame) a.0 a.1 (receiver a.0.site l) (may_put_heard is_honest moment image left a.0 a.1 a.2 a.3 post job octets up a.4 l number is frame some))
+      (λ a. valid_in (Heard l frame) a.0 a.1 (receiver a.0.site l) (may_put_heard disk_says entropy_says a.0 a.1 a.2 a.3 post job octets up a.4 l number is frame some))
 
 -- ---- what the manager does is the turn
 
-module _ {K E : Type 0} (is_honest : K → Bool) (moment : K → ℕ) (image : K → ℕ → List ℕ → Type 0) (left : E → Option OctetSequence) (net : Network) (w : World) (v place : ℕ) (post : Post K E) (job : Job)
-    (octets : Option (List ℕ)) (up : ℕ) (may : MayTurnAt is_honest moment image left net w v place post job octets up)
-    (disk_count : K → ℕ) (armed : K → Armings) (entropy_count : E → ℕ) (q : Post K E) (reply : Reply) where
+module _ {K E : Type 0} (disk_says : Disk.Ghosts K) (entropy_says : Entropy.Ghosts E) (net : Network) (w : World) (v place : ℕ) (post : Post K E) (job : Job)
+    (octets : Option (List ℕ)) (up : ℕ) (may : MayTurnAt disk_says entropy_says net w v place post job octets up) (q : Post K E) (reply : Reply) where
   abbrev TookIt : Job → Type 0
-  TookIt j = HappensAt is_honest moment image disk_count armed left entropy_count net w v post q j reply
+  TookIt j = HappensAt disk_says entropy_says net w v post q j reply
 
   abbrev pub Put : ℕ → Event → Type 0
-  Put u event = Handled is_honest moment image disk_count armed left entropy_count net w u event post q reply
+  Put u event = Handled disk_says entropy_says net w u event post q reply
 
-  pub took_asked : (node : ℕ) (event : Event) → job ≡ jobs.Ask node event → (MayHandle is_honest moment image left net w v post event up → Put v event) → HappensAt is_honest moment image disk_count armed left entropy_count net w v post q job reply
+  pub took_asked : (node : ℕ) (event : Event) → job ≡ jobs.Ask node event → (MayHandle disk_says entropy_says net w v post event up → Put v event) → HappensAt disk_says entropy_says net w v post q job reply
   took_asked node event is puts =
-      let may_it = may_ask is_honest moment image left net w v place post job octets up may node event is in
-      let here = asks_here is_honest moment image left net w v place post job octets up may node event is in
-      let h : Asked is_honest moment image disk_count armed left entropy_count net w v event post q reply =
-      asked is_honest moment image left net w v event up disk_count armed entropy_count post q reply may_it (puts (may_put_asked is_honest moment image left net w v place post job octets up may node event is)) in
+      let may_it = may_ask disk_says entropy_says net w v place post job octets up may node event is in
+      let here = asks_here disk_says entropy_says net w v place post job octets up may node event is in
+      let h : Asked disk_says entropy_says net w v event post q reply =
+      asked disk_says entropy_says net w v event up post q reply may_it (puts (may_put_asked disk_says entropy_says net w v place post job octets up may node event is)) in
       subst TookIt (sym is) (subst (λ (u : ℕ). TookIt (jobs.Ask u event)) (sym here) h)
 
   pub took_heard : (l : Lane) (number : ℕ) (frame : List ℕ) → job ≡ jobs.Pass l number → octets ≡ Some frame →
-      (MayHandle is_honest moment image left net w (receiver net.site l) post (Heard l frame) up → Put (receiver net.site l) (Heard l frame)) → HappensAt is_honest moment image disk_count armed left entropy_count net w v post q job reply
+      (MayHandle disk_says entropy_says net w (receiver net.site l) post (Heard l frame) up → Put (receiver net.site l) (Heard l frame)) → HappensAt disk_says entropy_says net w v post q job reply
   took_heard l number frame is some puts =
-      let may_it = may_hear is_honest moment image left net w v place post job octets up may l number is frame some in
-      let here = comes_here is_honest moment image left net w v place post job octets up may l number is frame some in
-      let h : HasHeard is_honest moment image disk_count armed left entropy_count net w l number post q reply =
-      heard is_honest moment image left net w l number post frame up may_it disk_count armed entropy_count q reply (puts (may_put_heard is_honest moment image left net w v place post job octets up may l number is frame some)) in
-      subst TookIt (sym is) (subst (λ (u : ℕ). Happens is_honest moment image disk_count armed left entropy_count (λ environment. Deliver l number environment) net w u post q (Replies reply)) here h)
+      let may_it = may_hear disk_says entropy_says net w v place post job octets up may l number is frame some in
+      let here = comes_here disk_says entropy_says net w v place post job octets up may l number is frame some in
+      let h : HasHeard disk_says entropy_says net w l number post q reply =
+      heard disk_says entropy_says net w l number post frame up may_it q reply (puts (may_put_heard disk_says entropy_says net w v place post job octets up may l number is frame some)) in
+      subst TookIt (sym is) (subst (λ (u : ℕ). Happens disk_says entropy_says (λ environment. Deliver l number environment) net w u post q (Replies reply)) here h)

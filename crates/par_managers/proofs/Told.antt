@@ -1,16 +1,14 @@
 -- The lanes that leave a manager's node, after a turn at the manager's desk.
-use Rattle.std.proofs.Common.{◌≡◌, ℕ, zero, suc, ◌+◌, ◌^◌, ◌<◌, ◌≤◌, Bool, true, List, [], ◌∷◌, ◌++◌, map, sym, ap, subst, ◌∙◌, arith, Option, Some, None}
+use Rattle.std.proofs.Common.{◌≡◌, ℕ, zero, suc, ◌+◌, ◌^◌, ◌<◌, ◌≤◌, true, List, [], ◌∷◌, ◌++◌, map, sym, ap, subst, ◌∙◌, arith, Option, Some, None}
 use Rattle.std.specs.List.{AllByRecursion}
 use Rattle.std.specs.Coded.{le_prop, coded_bool, coded_ℕ, Coded-set}
 use Rattle.std.proofs.Math.Logic.{∥∥₁_elim}
 use Rattle.qkd_base.specs.Lane.{lane_place}
 use Rattle.qkd_base.specs.declared.lane.Lane.{Lane}
-use Rattle.disk_model.specs.declared.arm.Armings.{Armings}
 use Rattle.net_model.specs.declared.event.Event.{Event}
 use Rattle.net_model.specs.declared.order.Order.{Order}
 use Rattle.net_model.specs.declared.repeat.Repeat.{Repeat}
 use Rattle.net_model.specs.declared.reply.Reply.{Reply}
-use Rattle.net_model.specs.OctetSequence.{OctetSequence}
 use Rattle.net_model.specs.Ownership.{HasRoom}
 use Rattle.net_model.specs.Site.{Site, sender}
 use Rattle.net_model.specs.World.{Network, World, received}
@@ -42,6 +40,9 @@ use Rattle.par_managers.proofs.Replies.{repeats_replied, wanted_is, turn_can, tu
 use Rattle.par_managers.proofs.Seen.{on_is, lease_seen, planned_seen, received_seen}
 use Rattle.par_managers.proofs.Turns.{lane_keeps, plans_more}
 use Rattle.par_managers.proofs.Wants.{orders_take, plan_few, order_there}
+use Rattle.disk_model.specs.declared.disk.Disk as Disk
+use Rattle.source_devices.specs.declared.entropy.Entropy as Entropy
+use Rattle.world_state.specs.Outside.{Outside}
 
 -- A lane's lease is no lower, its new orders are planned after the earlier ones, and it receives no byte.
 pub record LaneTold {K E : Type 0} (l : Lane) (old new : Post K E) (bytes : ℕ) : Type 0 where
@@ -89,9 +90,8 @@ bytes_replied i reply = ap (bytes_at i) (wanted_is reply) ∙ orders_take i (rep
 
 -- ---- in a world in which the turn may be taken
 
-module _ {K E : Type 0} (is_honest : K → Bool) (moment : K → ℕ) (image : K → ℕ → List ℕ → Type 0) (left : E → Option OctetSequence) (net : Network) (w : World) (v place : ℕ) (old new : Post K E) (job : Job)
-    (octets : Option (List ℕ)) (up : ℕ) (may : MayTurnAt is_honest moment image left net w v place old job octets up)
-    (disk_count : K → ℕ) (armed : K → Armings) (entropy_count : E → ℕ) (reply : Reply) (h : HappensAt is_honest moment image disk_count armed left entropy_count net w v old new job reply) where
+module _ {K E : Type 0} (disk_says : Disk.Ghosts K) (entropy_says : Entropy.Ghosts E) (net : Network) (w : World) (v place : ℕ) (old new : Post K E) (job : Job)
+    (octets : Option (List ℕ)) (up : ℕ) (may : MayTurnAt disk_says entropy_says net w v place old job octets up) (reply : Reply) (h : HappensAt disk_says entropy_says net w v old new job reply) where
   abbrev after : World
   after = (step net w (asked_with job h.environment)).0
 
@@ -106,8 +106,8 @@ module _ {K E : Type 0} (is_honest : K → Bool) (moment : K → ℕ) (image : K
 
   on_before : is_on new ≡ true → is_on old ≡ true
   on_before on =
-      on_is is_honest moment image left net w v old may.stands
-      ∙ turn_up net w v job h.environment (sym (on_is is_honest moment image left net after v new h.stands) ∙ on)
+      on_is disk_says entropy_says net w v old may.stands
+      ∙ turn_up net w v job h.environment (sym (on_is disk_says entropy_says net after v new h.stands) ∙ on)
 
   mine : (node : ℕ) (event : Event) → job ≡ jobs.Ask node event → node ≡ v
   mine node event is = asked_node net.site v place node event (subst (IsTurnAt net.site v place) is may.mine)
@@ -122,12 +122,12 @@ module _ {K E : Type 0} (is_honest : K → Bool) (moment : K → ℕ) (image : K
         let was = on_before on in
         let kept = lane_keeps net w may.running job h.environment enabled l at in
         let more = plans_more net w may.running h.environment l at job reply may.fit enabled h.said in
-        let old_lease = lease_seen is_honest moment image left net w v may.running l at from old may.stands was in
-        let old_planned = planned_seen is_honest moment image left net w v may.running l at from old may.stands was in
-        let old_received = received_seen is_honest moment image left net w v may.running l at from old may.stands was in
-        let new_lease = lease_seen is_honest moment image left net after v running l at from new h.stands on in
-        let new_planned = planned_seen is_honest moment image left net after v running l at from new h.stands on in
-        let new_received = received_seen is_honest moment image left net after v running l at from new h.stands on in
+        let old_lease = lease_seen disk_says entropy_says net w v may.running l at from old may.stands was in
+        let old_planned = planned_seen disk_says entropy_says net w v may.running l at from old may.stands was in
+        let old_received = received_seen disk_says entropy_says net w v may.running l at from old may.stands was in
+        let new_lease = lease_seen disk_says entropy_says net after v running l at from new h.stands on in
+        let new_planned = planned_seen disk_says entropy_says net after v running l at from new h.stands on in
+        let new_received = received_seen disk_says entropy_says net after v running l at from new h.stands on in
         let under = room in
         record {
           lease = omega (arith, kept.lease, old_lease, new_lease);
@@ -168,7 +168,7 @@ module _ {K E : Type 0} (is_honest : K → Bool) (moment : K → ℕ) (image : K
 
   planned_on : (u : ℕ) → planner job reply ≡ Some u → is_on new ≡ true
   planned_on u is =
-      on_is is_honest moment image left net after v new h.stands
+      on_is disk_says entropy_says net after v new h.stands
       ∙ subst (λ (x : ℕ). after.up x ≡ true) (planned_node net.site v place u job reply may.mine is) (up_after net w may.running.network may.running.conserved u job h.environment reply is h.said)
 
   no_bytes : planner job reply ≡ None → (i : ℕ) → bytes_at i es ≡ 0
@@ -179,16 +179,14 @@ module _ {K E : Type 0} (is_honest : K → Bool) (moment : K → ℕ) (image : K
 
 -- ---- at a desk
 
-module _ {K Q E X : Type 0} (is_honest : K → Bool) (moment : K → ℕ) (image : K → ℕ → List ℕ → Type 0) (left : E → Option OctetSequence) (told : Q → Option OctetSequence)
-    (frames : X → Option (List (List ℕ))) (counted : X → ℕ) (opening : State K Q E X) (v : ℕ) (old new : Post K E) (up place : ℕ) (job : Job) (octets : Option (List ℕ))
-    (way : ∥ IsOnItsWay is_honest moment image left told frames counted opening v old up ∥₁) (come : MayCome is_honest moment image left told frames counted opening v place job octets)
-    (disk_count : K → ℕ) (armed : K → Armings) (entropy_count : E → ℕ) (reply : Reply)
-    (took : (net : Network) (w : World) (u place : ℕ) → MayTurnAt is_honest moment image left net w u place old job octets up → HappensAt is_honest moment image disk_count armed left entropy_count net w u old new job reply) where
-  told_in : IsOnItsWay is_honest moment image left told frames counted opening v old up → Told (site_of opening.site) v old new job reply
+module _ {K Q E X : Type 0} (outside : Outside K Q E X) (opening : State K Q E X) (v : ℕ) (old new : Post K E) (up place : ℕ) (job : Job) (octets : Option (List ℕ))
+    (way : ∥ IsOnItsWay outside opening v old up ∥₁) (come : MayCome outside opening v place job octets) (reply : Reply)
+    (took : (net : Network) (w : World) (u place : ℕ) → MayTurnAt outside.disk outside.entropy net w u place old job octets up → HappensAt outside.disk outside.entropy net w u old new job reply) where
+  told_in : IsOnItsWay outside opening v old up → Told (site_of opening.site) v old new job reply
   told_in x =
-      let may = may_turn is_honest moment image left told frames counted opening v old up place job octets x come in
+      let may = may_turn outside opening v old up place job octets x come in
       subst (λ (s : Site). Told s v old new job reply) x.ready.stands.sited
-      (told_there is_honest moment image left x.net x.now v place old new job octets up may disk_count armed entropy_count reply (took x.net x.now v place may))
+      (told_there outside.disk outside.entropy x.net x.now v place old new job octets up may reply (took x.net x.now v place may))
 
   pub told_at : Told (site_of opening.site) v old new job reply
   told_at = ∥∥₁_elim way (told_prop (site_of opening.site) v old new job reply) told_in

@@ -18,7 +18,6 @@ use Rattle.net_model.specs.Invariant.{Conserved}
 use Rattle.net_model.specs.Needed.{view_of}
 use Rattle.net_model.specs.Decision.{Effect}
 use Rattle.net_model.specs.Decide.{decide, random_need}
-use Rattle.net_model.specs.Plan.{plan}
 use Rattle.net_model.specs.Events.{is_lane, is_valid_event}
 use Rattle.net_model.specs.Action.{Environment, Ask, Outcome, Replies, is_no_memory, is_entropy_fault, is_io_fault}
 use Rattle.net_model.specs.Frames.{frame_octets, receive_item}

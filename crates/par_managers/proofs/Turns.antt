@@ -1,5 +1,5 @@
 -- What a manager's turn does to the lanes that leave its node.
-use Rattle.std.proofs.Common.{◌≡◌, ℕ, ◌+◌, ◌≤◌, Bool, true, false, ◌&&◌, List, [], ◌∷◌, ◌++◌, length, map, refl, sym, ap, subst, ◌∙◌, arith, Option, Some, None}
+use Rattle.std.proofs.Common.{◌≡◌, ℕ, ◌+◌, ◌≤◌, Bool, true, false, ◌&&◌, List, [], ◌∷◌, ◌++◌, length, map, refl, sym, ap, subst, ◌∙◌, arith, Some, None}
 use Rattle.std.specs.Prelude.{◌==◌, slice_get, count_by, filter}
 use Rattle.std.specs.List.{AllByRecursion}
 use Rattle.std.proofs.lemmas.List.{length-map}
@@ -42,6 +42,7 @@ use Rattle.par_managers.specs.Turning.{asked_with, planner}
 use Rattle.par_managers.proofs.Turning.{wants_none}
 use Rattle.par_lanes.specs.Wants.{bytes_at}
 use Rattle.par_managers.proofs.Wants.{IsSpelled, needs_more, bytes_needed}
+use Rattle.source_devices.specs.declared.wire.Wire as Wire
 
 grown_payload : (T T' : List Fact) → Grows T T' → (i : Item) (p : Payload) → payload T i ≡ Some p → payload T' i ≡ Some p
 grown_payload T T' grows (AckItem n) p h = h
@@ -68,13 +69,10 @@ module _ (net : Network) (w : World) (l : Lane) where
         wire = spelled_wire net w l;
       }
 
-  abbrev told_wire : List (List ℕ) → Option (List (List ℕ))
-  told_wire wire = Some wire
+  abbrev told_wire : Wire.Ghosts (List (List ℕ))
+  told_wire = record { frames = λ wire. Some wire; counted = length; faults = λ wire. 0 }
 
-  abbrev counted_wire : List (List ℕ) → ℕ
-  counted_wire wire = length wire
-
-  whole_stands : LaneStands told_wire counted_wire net w l whole
+  whole_stands : LaneStands told_wire net w l whole
   unfolding whole
   whole_stands = record {
     lane = refl;
@@ -108,7 +106,7 @@ module _ (net : Network) (w : World) (r : IsRunning net w) (job : Job) (environm
   pub lane_keeps : (l : Lane) → is_lane net.site l ≡ true → Keeps l w after
   unfolding whole
   lane_keeps l at =
-      let stands = lane_goes_on net w r l (told_wire net w l) (counted_wire net w l) (asked_with job environment) (whole net w l) at may (lane_kept net.site l environment job) (whole_stands net w l) in
+      let stands = lane_goes_on net w r l (told_wire net w l) (asked_with job environment) (whole net w l) at may (lane_kept net.site l environment job) (whole_stands net w l) in
       record { lease = stands.end; own = sym stands.used; received' = sym stands.received }
 
 -- ---- the orders

@@ -1,10 +1,9 @@
 -- The shifts of all workers, in order.
-use Rattle.std.proofs.Common.{◌≡◌, inl, inr, ℕ, zero, suc, ◌+◌, ◌<◌, ◌≤◌, ◌%◌, Bool, true, false, List, [], ◌∷◌, ◌++◌, length, map, drop, refl, sym, ap, subst, ◌∙◌, arith, length-append, Option, Some, None}
+use Rattle.std.proofs.Common.{◌≡◌, inl, inr, ℕ, zero, suc, ◌+◌, ◌<◌, ◌≤◌, ◌%◌, true, false, List, [], ◌∷◌, ◌++◌, length, map, drop, refl, sym, ap, subst, ◌∙◌, arith, length-append, Option, Some, None}
 use Rattle.std.specs.Prelude.{◌==◌, slice_get, get_or, IfSome}
 use Rattle.std.proofs.lemmas.Option.{slice_get-get_or}
 use Rattle.std.specs.List.{AllByRecursion}
 use Rattle.std.proofs.lemmas.List.{map-append}
-use Rattle.net_model.specs.OctetSequence.{OctetSequence}
 use Rattle.net_model.specs.Site.{count_up}
 use Rattle.block_run.specs.Jobs.{job_count, jobs_from}
 use Rattle.declared_site.specs.SiteOf.{site_of}
@@ -20,6 +19,7 @@ use Rattle.par_managers.specs.Calls.{work_of, IsOf, IsEntry, IsComing, AreComing
 use Rattle.par_managers.proofs.Asking.{drop_next, drop_all}
 use Rattle.par_managers.proofs.Counting.{count_none, count_in, count_out}
 use Rattle.par_managers.proofs.Requests.{Going, going_none, going_on, going_more, going_all}
+use Rattle.world_state.specs.Outside.{Outside}
 
 apart_test : (a b : ℕ) → (a ≡ b → ⊥) → (a == b) ≡ false
 apart_test a b apart = elim (a == b) as (λ t. (a == b) ≡ t → t ≡ false) [ true ↦ λ e. absurd (apart (eq_from a b e)) | false ↦ λ e. refl ] refl
@@ -36,20 +36,19 @@ long_jobs first step (suc n) = ap suc (long_jobs (first + step) step n)
 some_is : {A : Type 0} {a b : A} → ◌≡◌ {A = Option A} (Some a) (Some b) → a ≡ b
 some_is h = cc
 
-module _ {K Q E X : Type 0} (is_honest : K → Bool) (moment : K → ℕ) (image : K → ℕ → List ℕ → Type 0) (left : E → Option OctetSequence) (told : Q → Option OctetSequence)
-    (frames : X → Option (List (List ℕ))) (counted : X → ℕ) (opening : State K Q E X) (workers : ℕ) (jobs : List Job) where
+module _ {K Q E X : Type 0} (outside : Outside K Q E X) (opening : State K Q E X) (workers : ℕ) (jobs : List Job) where
   -- the shifts of the first n workers
   pub record SoManyShifts (n : ℕ) (shifts : List (List (Option (Call Turn)))) : Type 0 where
     pub many : length shifts ≡ n
     pub asked : (v : ℕ) → map (λ shift. map work_of (requests_on v shift)) shifts ≡ map (λ k. asked_by (site_of opening.site) workers k v 0 jobs) (count_up n)
-    pub coming : AllByRecursion (AreComing is_honest moment image left told frames counted opening jobs) shifts
+    pub coming : AllByRecursion (AreComing outside opening jobs) shifts
     pub entries : (k : ℕ) (shift : List (Option (Call Turn))) → slice_get shifts k ≡ Some shift → length shift ≡ job_count k workers (length jobs)
 
   pub no_shifts : SoManyShifts 0 []
   no_shifts = record { many = refl; asked = λ v. refl; coming = tt; entries = λ k shift at. cc }
 
   one_more : (n : ℕ) (shifts : List (List (Option (Call Turn)))) (shift : List (Option (Call Turn))) → SoManyShifts n shifts →
-      ((v : ℕ) → map work_of (requests_on v shift) ≡ asked_by (site_of opening.site) workers n v 0 jobs) → AreComing is_honest moment image left told frames counted opening jobs shift →
+      ((v : ℕ) → map work_of (requests_on v shift) ≡ asked_by (site_of opening.site) workers n v 0 jobs) → AreComing outside opening jobs shift →
       length shift ≡ job_count n workers (length jobs) → SoManyShifts (suc n) (shifts ++ shift ∷ [])
   one_more n shifts shift so asked coming entries = record {
     many = length-append shifts (shift ∷ []) ∙ ap (λ (m : ℕ). m + 1) so.many ∙ next n;
@@ -58,7 +57,7 @@ module _ {K Q E X : Type 0} (is_honest : K → Bool) (moment : K → ℕ) (image
         ∙ ap (λ (xss : List (List Work)). xss ++ map work_of (requests_on v shift) ∷ []) (so.asked v)
         ∙ ap (λ (xs : List Work). map (λ k. asked_by (site_of opening.site) workers k v 0 jobs) (count_up n) ++ xs ∷ []) (asked v)
         ∙ sym (map-append (λ k. asked_by (site_of opening.site) workers k v 0 jobs) (count_up n) (n ∷ []));
-    coming = all_more (AreComing is_honest moment image left told frames counted opening jobs) shifts shift so.coming coming;
+    coming = all_more (AreComing outside opening jobs) shifts shift so.coming coming;
     entries = λ k other at.
         elim (split k (length shifts)) as (λ s. length other ≡ job_count k workers (length jobs)) [
           | inl below ↦ so.entries k other (sym (slice_get-append_left shifts (shift ∷ []) k below) ∙ at)
@@ -79,7 +78,7 @@ module _ {K Q E X : Type 0} (is_honest : K → Bool) (moment : K → ℕ) (image
         absurd (cc here)
 
   pub one_shift : (n : ℕ) (shifts after : List (List (Option (Call Turn)))) (shift : List (Option (Call Turn))) → after ≡ shifts ++ shift ∷ [] → SoManyShifts n shifts →
-      ((v : ℕ) → map work_of (requests_on v shift) ≡ asked_by (site_of opening.site) workers n v 0 jobs) → AreComing is_honest moment image left told frames counted opening jobs shift →
+      ((v : ℕ) → map work_of (requests_on v shift) ≡ asked_by (site_of opening.site) workers n v 0 jobs) → AreComing outside opening jobs shift →
       length shift ≡ job_count n workers (length jobs) → SoManyShifts (n + 1) after
   one_shift n shifts after shift is so asked coming entries =
       subst (λ (xs : List (List (Option (Call Turn)))). SoManyShifts (n + 1) xs) (sym is)
@@ -93,7 +92,7 @@ module _ {K Q E X : Type 0} (is_honest : K → Bool) (moment : K → ℕ) (image
   module _ (worker : ℕ) where
     pub record Shifting (i : ℕ) (entries : List (Option (Call Turn))) : Type 0 where
       pub asked : (v : ℕ) → Going (site_of opening.site) workers worker v jobs i entries
-      pub coming : AreComing is_honest moment image left told frames counted opening jobs entries
+      pub coming : AreComing outside opening jobs entries
       pub many : length entries ≡ job_count worker workers i
 
     pub shifting_none : worker < workers → Shifting 0 []
@@ -103,17 +102,17 @@ module _ {K Q E X : Type 0} (is_honest : K → Bool) (moment : K → ℕ) (image
       rest : drop i jobs ≡ job ∷ drop (i + 1) jobs
       rest = drop_next jobs i job below is
 
-      comes : (entry : Option (Call Turn)) → IsEntry (site_of opening.site) i job entry → IfSome entry (IsComing is_honest moment image left told frames counted opening) →
-          IfSome entry (λ call. IsComing is_honest moment image left told frames counted opening call × IsOf jobs call.request)
+      comes : (entry : Option (Call Turn)) → IsEntry (site_of opening.site) i job entry → IfSome entry (IsComing outside opening) →
+          IfSome entry (λ call. IsComing outside opening call × IsOf jobs call.request)
       comes None h coming = coming
       comes (Some call) h coming =
           (coming, ap (slice_get jobs) h.at ∙ slice_get-get_or jobs i job below ∙ ap (λ (j : Job). Some j) (sym is) ∙ ap (λ (j : Job). Some j) (sym h.is))
 
-      pub shifting_in : i % workers ≡ worker → (entry : Option (Call Turn)) → IsEntry (site_of opening.site) i job entry → IfSome entry (IsComing is_honest moment image left told frames counted opening) →
+      pub shifting_in : i % workers ≡ worker → (entry : Option (Call Turn)) → IsEntry (site_of opening.site) i job entry → IfSome entry (IsComing outside opening) →
           after ≡ entries ++ entry ∷ [] → Shifting (i + 1) after
       shifting_in here entry h coming more = subst (Shifting (i + 1)) (sym more) (record {
         asked = λ v. going_more (site_of opening.site) workers worker v jobs i job entries rest (so.asked v) (ap (λ (n : ℕ). n == worker) here ∙ eq_same worker) entry h;
-        coming = all_more (λ entry. IfSome entry (λ call. IsComing is_honest moment image left told frames counted opening call × IsOf jobs call.request)) entries entry so.coming (comes entry h coming);
+        coming = all_more (λ entry. IfSome entry (λ call. IsComing outside opening call × IsOf jobs call.request)) entries entry so.coming (comes entry h coming);
         many = length-append entries (entry ∷ []) ∙ ap (λ (n : ℕ). n + 1) so.many ∙ sym (count_in worker workers mine i here);
       })
 
@@ -127,7 +126,7 @@ module _ {K Q E X : Type 0} (is_honest : K → Bool) (moment : K → ℕ) (image
     pub shifting_all : (i : ℕ) (entries : List (Option (Call Turn))) → length jobs ≤ i → Shifting i entries → (v : ℕ) → map work_of (requests_on v entries) ≡ asked_by (site_of opening.site) workers worker v 0 jobs
     shifting_all i entries above so v = going_all (site_of opening.site) workers worker v jobs i entries (drop_all jobs i above) (so.asked v)
 
-  pub are_shifts : (n : ℕ) (shifts : List (List (Option (Call Turn)))) → n ≡ workers → SoManyShifts n shifts → AreShifts is_honest moment image left told frames counted opening workers jobs shifts
+  pub are_shifts : (n : ℕ) (shifts : List (List (Option (Call Turn)))) → n ≡ workers → SoManyShifts n shifts → AreShifts outside opening workers jobs shifts
   are_shifts n shifts is so = record {
     asked = λ v. so.asked v ∙ ap (λ (m : ℕ). map (λ k. asked_by (site_of opening.site) workers k v 0 jobs) (count_up m)) is;
     coming = so.coming;

@@ -1,5 +1,5 @@
 -- Writing down the leases of lanes, place by place.
-use Rattle.std.proofs.Common.{◌≡◌, ℕ, ◌+◌, ◌*◌, ◌/◌, ◌%◌, ◌<◌, ◌≤◌, true, false, List, [], ◌∷◌, ◌++◌, length, refl, sym, ap, subst, ◌∙◌, arith, Option, Some, None}
+use Rattle.std.proofs.Common.{◌≡◌, ℕ, ◌+◌, ◌*◌, ◌/◌, ◌%◌, ◌<◌, ◌≤◌, true, false, List, length, refl, sym, ap, subst, ◌∙◌, arith, Option, Some, None}
 use Rattle.std.specs.Prelude.{◌==◌, slice_get, slice_set, is_some}
 use Rattle.qkd_base.specs.declared.lane.Lane.{Lane}
 use Rattle.qkd_base.specs.declared.lane.Way.{Way}
@@ -11,7 +11,6 @@ use Rattle.law_base.proofs.Base.{eq_same, eq_from, not_both}
 use Rattle.resend_window.proofs.Lists.{get_set_same, get_set_other}
 use Rattle.world_state.specs.Stands.{of_way, place_of}
 use Rattle.world_state.proofs.Others.{placed_length}
-use Rattle.par_managers.specs.Turning.{planner}
 use Rattle.par_managers.specs.Leases.{lease_at, EndsOf, EndsAt, WroteOf, WroteAt}
 
 -- ---- the lane at a place

@@ -1,9 +1,8 @@
 -- The calls of workers on managers.
-use Rattle.std.specs.Prelude.{◌≡◌, ℕ, ◌==◌, ◌<◌, Bool, List, [], ◌∷◌, map, length, slice_get, Option, Some, None, IfSome, if◌then◌else◌}
+use Rattle.std.specs.Prelude.{◌≡◌, ℕ, ◌==◌, ◌<◌, List, [], ◌∷◌, map, length, slice_get, Option, Some, None, IfSome, if◌then◌else◌}
 use Rattle.std.specs.List.{AllByRecursion}
 use Rattle.block_run.specs.Jobs.{job_count}
 use Rattle.declared_site.specs.SiteOf.{site_of}
-use Rattle.net_model.specs.OctetSequence.{OctetSequence}
 use Rattle.net_model.specs.Site.{Site, count_up}
 use Rattle.net_model.specs.Action.{Ok}
 use Rattle.run_model.specs.Works.{Work}
@@ -15,6 +14,7 @@ use Rattle.par_managers.specs.declared.turn.Turn.{Turn}
 use Rattle.par_managers.specs.Taking.{MayCome}
 use Rattle.world_state.specs.declared.state.State.{State}
 use Rattle.par_managers.specs.Turning.{asked_with}
+use Rattle.world_state.specs.Outside.{Outside}
 
 -- the work of a turn
 abbrev pub work_of : Turn → Work
@@ -36,20 +36,18 @@ IsEntry s place job None = (v : ℕ) → turn_for s v place (asked_for job) ≡ 
 IsEntry s place job (Some call) = IsCallFor s place job call
 
 -- The call may come at any time in a block.
-pub record IsComing {K Q E X : Type 0} (is_honest : K → Bool) (moment : K → ℕ) (image : K → ℕ → List ℕ → Type 0) (left : E → Option OctetSequence)
-    (told : Q → Option OctetSequence) (frames : X → Option (List (List ℕ))) (counted : X → ℕ) (opening : State K Q E X) (call : Call Turn) : Type 0 where
+pub record IsComing {K Q E X : Type 0} (outside : Outside K Q E X) (opening : State K Q E X) (call : Call Turn) : Type 0 where
   pub node : call.machine < length opening.posts.items
-  pub may : MayCome is_honest moment image left told frames counted opening call.machine call.request.place call.request.job.now call.request.octets
+  pub may : MayCome outside opening call.machine call.request.place call.request.job.now call.request.octets
 
 -- Each call of the shift may come at any time, and its turn is that of the job at its place.
-abbrev pub AreComing : {K Q E X : Type 0} → (K → Bool) → (K → ℕ) → (K → ℕ → List ℕ → Type 0) → (E → Option OctetSequence) → (Q → Option OctetSequence) → (X → Option (List (List ℕ))) → (X → ℕ) → State K Q E X →
+abbrev pub AreComing : {K Q E X : Type 0} → Outside K Q E X → State K Q E X →
     List Job → List (Option (Call Turn)) → Type 0
-AreComing is_honest moment image left told frames counted opening jobs entries =
-    AllByRecursion (λ entry. IfSome entry (λ call. IsComing is_honest moment image left told frames counted opening call × IsOf jobs call.request)) entries
+AreComing outside opening jobs entries =
+    AllByRecursion (λ entry. IfSome entry (λ call. IsComing outside opening call × IsOf jobs call.request)) entries
 
 -- The shifts of all workers: each asks for the turns of its jobs, in order. A worker has the jobs whose place modulo `workers` is its number.
-pub record AreShifts {K Q E X : Type 0} (is_honest : K → Bool) (moment : K → ℕ) (image : K → ℕ → List ℕ → Type 0) (left : E → Option OctetSequence)
-    (told : Q → Option OctetSequence) (frames : X → Option (List (List ℕ))) (counted : X → ℕ) (opening : State K Q E X) (workers : ℕ) (jobs : List Job) (shifts : List (List (Option (Call Turn)))) : Type 0 where
+pub record AreShifts {K Q E X : Type 0} (outside : Outside K Q E X) (opening : State K Q E X) (workers : ℕ) (jobs : List Job) (shifts : List (List (Option (Call Turn)))) : Type 0 where
   pub asked : (v : ℕ) → map (λ shift. map work_of (requests_on v shift)) shifts ≡ map (λ k. asked_by (site_of opening.site) workers k v 0 jobs) (count_up workers)
-  pub coming : AllByRecursion (AreComing is_honest moment image left told frames counted opening jobs) shifts
+  pub coming : AllByRecursion (AreComing outside opening jobs) shifts
   pub entries : (k : ℕ) (shift : List (Option (Call Turn))) → slice_get shifts k ≡ Some shift → length shift ≡ job_count k workers (length jobs)

@@ -1,8 +1,6 @@
 -- A manager takes its turns, one at a time.
-use Rattle.std.specs.Prelude.{◌≡◌, ℕ, Bool, true, List, [], ◌∷◌, Option}
-use Rattle.disk_model.specs.declared.arm.Armings.{Armings}
+use Rattle.std.specs.Prelude.{◌≡◌, ℕ, true, List, [], ◌∷◌, Option}
 use Rattle.net_model.specs.declared.reply.Reply.{Reply}
-use Rattle.net_model.specs.OctetSequence.{OctetSequence}
 use Rattle.net_model.specs.Site.{Site}
 use Rattle.net_model.specs.World.{Network, World}
 use Rattle.net_model.specs.Action.{Ok, Replies}
@@ -16,30 +14,32 @@ use Rattle.world_state.specs.Stands.{Stands}
 use Rattle.world_state.specs.declared.state.State.{State}
 use Rattle.par_managers.specs.Order.{HasOctets}
 use Rattle.par_managers.specs.Turning.{asked_with}
+use Rattle.disk_model.specs.declared.disk.Disk as Disk
+use Rattle.source_devices.specs.declared.entropy.Entropy as Entropy
+use Rattle.world_state.specs.Outside.{Outside}
 
 -- The job at this place asks this node's manager for one turn.
 abbrev pub IsTurnAt : Site → (v place : ℕ) → Job → Type 0
 IsTurnAt s v place job = turn_for s v place (asked_for job) ≡ record { place = place; action = asked_with job Ok } ∷ []
 
 -- The turn may come at any time in a block. If its job passes a frame, the frame was on its wire at the block's start.
-pub record MayCome {K Q E X : Type 0} (is_honest : K → Bool) (moment : K → ℕ) (image : K → ℕ → List ℕ → Type 0) (left : E → Option OctetSequence)
-    (told : Q → Option OctetSequence) (frames : X → Option (List (List ℕ))) (counted : X → ℕ) (opening : State K Q E X) (v place : ℕ) (job : Job) (octets : Option (List ℕ)) : Type 0 where
+pub record MayCome {K Q E X : Type 0} (outside : Outside K Q E X) (opening : State K Q E X) (v place : ℕ) (job : Job) (octets : Option (List ℕ)) : Type 0 where
   pub fit : is_job (site_of opening.site) job ≡ true
   pub mine : IsTurnAt (site_of opening.site) v place job
-  pub has : (net : Network) (w : World) → IsReady (Stands is_honest moment image left told frames counted) opening net w → HasOctets net w job octets
+  pub has : (net : Network) (w : World) → IsReady (Stands outside) opening net w → HasOctets net w job octets
 
 -- The node's manager may take the turn now, and these links are up.
-pub record MayTurnAt {K E : Type 0} (is_honest : K → Bool) (moment : K → ℕ) (image : K → ℕ → List ℕ → Type 0) (left : E → Option OctetSequence) (net : Network) (w : World)
+pub record MayTurnAt {K E : Type 0} (disk_says : Disk.Ghosts K) (entropy_says : Entropy.Ghosts E) (net : Network) (w : World)
     (v place : ℕ) (post : Post K E) (job : Job) (octets : Option (List ℕ)) (up : ℕ) : Type 0 where
   pub running : IsRunning net w
-  pub stands : PostStands is_honest moment image left net w v post
+  pub stands : PostStands disk_says entropy_says net w v post
   pub fit : is_job net.site job ≡ true
   pub mine : IsTurnAt net.site v place job
   pub has : HasOctets net w job octets
   pub links : AreUp up w.link_up
 
 -- The turn is the job's action with an answer of the environment, and the manager answers with the reply.
-abbrev pub HappensAt : {K E : Type 0} → (K → Bool) → (K → ℕ) → (K → ℕ → List ℕ → Type 0) → (K → ℕ) → (K → Armings) → (E → Option OctetSequence) → (E → ℕ) → Network → World → (v : ℕ) → (old new : Post K E) →
+abbrev pub HappensAt : {K E : Type 0} → Disk.Ghosts K → Entropy.Ghosts E → Network → World → (v : ℕ) → (old new : Post K E) →
     Job → Reply → Type 0
-HappensAt is_honest moment image disk_count armed left entropy_count net w v old new job reply =
-    Happens is_honest moment image disk_count armed left entropy_count (λ environment. asked_with job environment) net w v old new (Replies reply)
+HappensAt disk_says entropy_says net w v old new job reply =
+    Happens disk_says entropy_says (λ environment. asked_with job environment) net w v old new (Replies reply)

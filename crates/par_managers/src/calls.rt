@@ -9,6 +9,7 @@ ghost use Rattle.run_ops.specs.Jobs.{is_job, asked_by, IsThere};
 ghost use Rattle.shared_objects.specs.Asked.{requests_on};
 ghost use Rattle.par_managers.specs.Calls.{work_of, IsEntry, IsComing, AreComing, AreShifts};
 ghost use Rattle.world_state.specs.Stands.{Stands};
+ghost use Rattle.world_state.specs.Outside.{outside};
 
 use crate::Turn;
 use disk_model::Disk;
@@ -41,10 +42,10 @@ fn call_for<'a, K: Disk + Drop, Q: Device + Drop, E: Entropy + Drop, X: Wire + D
     job: &'a Job,
 ) -> Result<Option<Call<Turn<'a>>>, Memory>
     requires fit { is_job (site_of state.now.site) job.now ≡ true }
-    requires ready { (net : Network) × (w : World) × IsReady (Stands K.is_honest K.moment K.image E.left Q.told X.frames X.counted) state.now net w }
+    requires ready { (net : Network) × (w : World) × IsReady (Stands (outside K.Disk Q.Device E.Entropy X.Wire)) state.now net w }
     ensures entry { IfOk result (IsEntry (site_of state.now.site) place job.now) }
-    ensures coming { IfOk result (λ entry. ((net : Network) (w : World) → IsReady (Stands K.is_honest K.moment K.image E.left Q.told X.frames X.counted) state.now net w
-        → IsThere w job.now) → IfSome entry (IsComing K.is_honest K.moment K.image E.left Q.told X.frames X.counted state.now)) }
+    ensures coming { IfOk result (λ entry. ((net : Network) (w : World) → IsReady (Stands (outside K.Disk Q.Device E.Entropy X.Wire)) state.now net w
+        → IsThere w job.now) → IfSome entry (IsComing (outside K.Disk Q.Device E.Entropy X.Wire) state.now)) }
 {
     match job {
         Job::Nothing => Ok(None),
@@ -67,10 +68,10 @@ fn shift<'a, K: Disk + Drop, Q: Device + Drop, E: Entropy + Drop, X: Wire + Drop
 ) -> Result<Shift<Turn<'a>>, Memory>
     requires worker { worker < workers }
     requires jobs { list_all (is_job (site_of state.now.site)) jobs.now ≡ true }
-    requires there { (net : Network) (w : World) → IsReady (Stands K.is_honest K.moment K.image E.left Q.told X.frames X.counted) state.now net w → All (IsThere w) jobs.now }
-    requires ready { (net : Network) × (w : World) × IsReady (Stands K.is_honest K.moment K.image E.left Q.told X.frames X.counted) state.now net w }
+    requires there { (net : Network) (w : World) → IsReady (Stands (outside K.Disk Q.Device E.Entropy X.Wire)) state.now net w → All (IsThere w) jobs.now }
+    requires ready { (net : Network) × (w : World) × IsReady (Stands (outside K.Disk Q.Device E.Entropy X.Wire)) state.now net w }
     ensures asked { IfOk result (λ shift. (v : ℕ) → map work_of (requests_on v shift.items) ≡ asked_by (site_of state.now.site) workers worker v 0 jobs.now) }
-    ensures coming { IfOk result (λ shift. AreComing K.is_honest K.moment K.image E.left Q.told X.frames X.counted state.now jobs.now shift.items) }
+    ensures coming { IfOk result (λ shift. AreComing (outside K.Disk Q.Device E.Entropy X.Wire) state.now jobs.now shift.items) }
     ensures entries { IfOk result (λ shift. length shift.items ≡ job_count worker workers (length jobs.now)) }
 {
     let mut shift = VecDeque::new(alloc);
@@ -90,10 +91,10 @@ pub fn shifts<'a, K: Disk + Drop, Q: Device + Drop, E: Entropy + Drop, X: Wire +
     jobs: &'a [Job],
 ) -> Result<Vec<Shift<Turn<'a>>>, Memory>
     requires jobs { list_all (is_job (site_of state.now.site)) jobs.now ≡ true }
-    requires there { (net : Network) (w : World) → IsReady (Stands K.is_honest K.moment K.image E.left Q.told X.frames X.counted) state.now net w → All (IsThere w) jobs.now }
-    requires ready { (net : Network) × (w : World) × IsReady (Stands K.is_honest K.moment K.image E.left Q.told X.frames X.counted) state.now net w }
+    requires there { (net : Network) (w : World) → IsReady (Stands (outside K.Disk Q.Device E.Entropy X.Wire)) state.now net w → All (IsThere w) jobs.now }
+    requires ready { (net : Network) × (w : World) × IsReady (Stands (outside K.Disk Q.Device E.Entropy X.Wire)) state.now net w }
     ensures many { IfOk result (λ shifts. length shifts.items ≡ workers) }
-    ensures shifts { IfOk result (λ shifts. AreShifts K.is_honest K.moment K.image E.left Q.told X.frames X.counted state.now workers jobs.now (map (λ shift. shift.items) shifts.items)) }
+    ensures shifts { IfOk result (λ shifts. AreShifts (outside K.Disk Q.Device E.Entropy X.Wire) state.now workers jobs.now (map (λ shift. shift.items) shifts.items)) }
 {
     let mut shifts = Vec::new(alloc);
     for worker in 0..workers {

@@ -14,6 +14,7 @@ ghost use Rattle.par_managers.specs.Going.{IsOnItsWay};
 ghost use Rattle.par_managers.specs.Issuing.{AreShares, HasIssuers};
 ghost use Rattle.par_managers.specs.Opening.{IsOpened};
 ghost use Rattle.world_state.specs.Stands.{Stands};
+ghost use Rattle.world_state.specs.Outside.{outside};
 
 use declared_site::Site;
 use disk_model::Disk;
@@ -43,7 +44,7 @@ pub struct PlanDesk<'a, K: Disk + Drop, Q: Device + Drop, E: Entropy + Drop, X: 
     /// The run's state at the block's start.
     pub opening: Snapshot<State<K, Q, E, X>>,
     ghost sited: { site.now ≡ opening.value.site },
-    ghost way: { ∥ IsOnItsWay K.is_honest K.moment K.image E.left Q.told X.frames X.counted opening.value node post up ∥₁ },
+    ghost way: { ∥ IsOnItsWay (outside K.Disk Q.Device E.Entropy X.Wire) opening.value node post up ∥₁ },
     ghost lanes: { length shares.now ≡ length opening.value.lanes.items },
     ghost shared: { AreShares shares.now issuers.items },
     ghost issued: { HasIssuers (site_of opening.value.site) node post shares.now issuers.items },
@@ -70,7 +71,7 @@ impl<'a, K: Disk + Drop, Q: Device + Drop, E: Entropy + Drop, X: Wire + Drop> Pl
         requires sited { site.now ≡ opening.value.site }
         requires up { up ≡ opening.value.up }
         requires post { slice_get opening.value.posts.items node ≡ Some post }
-        requires ready { (net : Network) × (w : World) × IsReady (Stands K.is_honest K.moment K.image E.left Q.told X.frames X.counted) opening.value net w }
+        requires ready { (net : Network) × (w : World) × IsReady (Stands (outside K.Disk Q.Device E.Entropy X.Wire)) opening.value net w }
         requires lanes { length shares.now ≡ length opening.value.lanes.items }
         requires shared { AreShares shares.now issuers.items }
         requires opened { (l : LaneValue) (side : LaneForm X) (d : SharesValue) → is_lane (site_of opening.value.site) l ≡ true → sender (site_of opening.value.site) l ≡ node

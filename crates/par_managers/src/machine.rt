@@ -1,6 +1,7 @@
 // The desk as a machine that answers one request at a time.
 ghost use Rattle.declared_site.specs.SiteOf.{site_of};
 ghost use Rattle.par_managers.specs.PlanTaking.{MayCall, TookPlanTurn};
+ghost use Rattle.world_state.specs.Outside.{outside};
 
 use crate::ends::ends;
 use crate::replied::orders;
@@ -25,9 +26,9 @@ impl<'a, K: Disk + Drop, Q: Device + Drop, E: Entropy + Drop, X: Wire + Drop> Ma
 
     ghost charter = { λ d. (d.opening.value, d.node, d.shares.now) };
 
-    ghost takes = { λ c t. MayCall K.is_honest K.moment K.image E.left Q.told X.frames X.counted c.0 c.1 c.2 t.place t.job.now t.octets t.granted.items };
+    ghost takes = { λ c t. MayCall (outside K.Disk Q.Device E.Entropy X.Wire) c.0 c.1 c.2 t.place t.job.now t.octets t.granted.items };
 
-    ghost turns = { λ d t answer n. TookPlanTurn K.is_honest K.moment K.image K.faults K.armings E.left E.faults (site_of d.opening.value.site) d.node d.up d.post d.shares.now
+    ghost turns = { λ d t answer n. TookPlanTurn K.Disk E.Entropy (site_of d.opening.value.site) d.node d.up d.post d.shares.now
         t.place t.job.now t.octets t.granted.items answer.reply answer.granted.items n.up n.post };
 
     fn turn(&mut self, request: PlanAsk<'a>) -> PlanAnswer {

@@ -18,9 +18,9 @@ pub fn take_turn<K: Disk + Drop, E: Entropy>(
     octets: Option<Octets>,
     up: u32,
 ) -> Reply
-    requires may { ∥ ((net : Network) × (w : World) × (v : ℕ) × (place : ℕ) × MayTurnAt K.is_honest K.moment K.image E.left net w v place post.old job.now octets up) ∥₁ }
-    ensures { (net : Network) (w : World) (v place : ℕ) → MayTurnAt K.is_honest K.moment K.image E.left net w v place post.old job.now octets up
-        → HappensAt K.is_honest K.moment K.image K.faults K.armings E.left E.faults net w v post.old post.new job.now result }
+    requires may { ∥ ((net : Network) × (w : World) × (v : ℕ) × (place : ℕ) × MayTurnAt K.Disk E.Entropy net w v place post.old job.now octets up) ∥₁ }
+    ensures { (net : Network) (w : World) (v place : ℕ) → MayTurnAt K.Disk E.Entropy net w v place post.old job.now octets up
+        → HappensAt K.Disk E.Entropy net w v post.old post.new job.now result }
 {
     match job {
         Job::Nothing => Reply::Down,

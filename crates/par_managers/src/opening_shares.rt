@@ -4,6 +4,7 @@ ghost use Rattle.net_model.specs.World.{Network, World};
 ghost use Rattle.run_ops.specs.Acting.{IsReady};
 ghost use Rattle.world_state.specs.Stands.{Stands};
 ghost use Rattle.par_managers.specs.Opening.{issued_by, AreOpened, AllOpened};
+ghost use Rattle.world_state.specs.Outside.{outside};
 
 use disk_model::Disk;
 use kme_base::sender;
@@ -81,7 +82,7 @@ fn open_each<K: Disk + Drop, Q: Device + Drop, E: Entropy + Drop, X: Wire + Drop
     sides: &[LaneSide<X>],
 ) -> Result<Opened, Memory>
     requires all { sides.now ≡ state.now.lanes.items }
-    requires ready { (net : Network) × (w : World) × IsReady (Stands K.is_honest K.moment K.image E.left Q.told X.frames X.counted) state.now net w }
+    requires ready { (net : Network) × (w : World) × IsReady (Stands (outside K.Disk Q.Device E.Entropy X.Wire)) state.now net w }
     ensures { IfOk result (λ o. AllOpened state.now sides.now o.shares.items o.issuers.items o.used.items) }
 {
     let mut shares = Vec::new(alloc);
@@ -107,7 +108,7 @@ pub fn open_lanes<K: Disk + Drop, Q: Device + Drop, E: Entropy + Drop, X: Wire +
     alloc: Global,
     state: &State<K, Q, E, X>,
 ) -> Result<Opened, Memory>
-    requires ready { (net : Network) × (w : World) × IsReady (Stands K.is_honest K.moment K.image E.left Q.told X.frames X.counted) state.now net w }
+    requires ready { (net : Network) × (w : World) × IsReady (Stands (outside K.Disk Q.Device E.Entropy X.Wire)) state.now net w }
     ensures { IfOk result (λ o. AllOpened state.now state.now.lanes.items o.shares.items o.issuers.items o.used.items) }
 {
     open_each(alloc, state, &state.lanes)

@@ -18,7 +18,7 @@ use Rattle.qkd_network.specs.Forms.{Runs, asked_by}
 use Rattle.cli_answers.specs.Inputs.{ReadsWhole}
 use Rattle.cli_answers.specs.declared.exchange.Ended.{Ended}
 use Rattle.cli_answers.specs.declared.exchange.Ended.TheVariants as ends
-use Rattle.qkd_network.specs.Outcome.{HasScenario, HasRun, HasLoaded, HasCome, IsUnread, RunOutcome, ScenarioOutcome, outside}
+use Rattle.qkd_network.specs.Outcome.{HasScenario, HasRun, HasLoaded, HasCome, IsUnread, RunOutcome, ScenarioOutcome, beside}
 use Rattle.qkd_network.specs.declared.status.Status.{Status}
 use Rattle.qkd_network.specs.declared.status.Status.TheVariants.{Done, Usage, BadLine, ReadFault, WriteFault, ForgedMatch, Memory, ListenFault, BrokenRule}
 use Rattle.qkd_network.proofs.Inputs.{read_of}
@@ -106,14 +106,14 @@ module _ {S : Type 0} (left : S → Option (List ℕ)) (Came : Scenario → head
 
   -- the ports were not touched
   pub beside_ports : {W B P : Type 0} (status : Status) (before after : W) (given back : B) (ports : P) → ScenarioOutcome left Came status old new before after given back →
-      ScenarioOutcome left Came status old new before after (outside given ports) (outside back ports)
+      ScenarioOutcome left Came status old new before after (beside given ports) (beside back ports)
   beside_ports Done before after given back ports h = h
   beside_ports (Usage i) before after given back ports h = h
-  beside_ports (BadLine n) before after given back ports h = (h.0, h.1, h.2, ap (λ b. outside b ports) h.3)
-  beside_ports ReadFault before after given back ports h = (h.0, ap (λ b. outside b ports) h.1)
+  beside_ports (BadLine n) before after given back ports h = (h.0, h.1, h.2, ap (λ b. beside b ports) h.3)
+  beside_ports ReadFault before after given back ports h = (h.0, ap (λ b. beside b ports) h.1)
   beside_ports WriteFault before after given back ports h = h
   beside_ports (ForgedMatch n) before after given back ports h = h
-  beside_ports Memory before after given back ports (inl l) = inl (l.0, ap (λ b. outside b ports) l.1)
+  beside_ports Memory before after given back ports (inl l) = inl (l.0, ap (λ b. beside b ports) l.1)
   beside_ports Memory before after given back ports (inr h) = inr h
   beside_ports ListenFault before after given back ports h = h
   beside_ports BrokenRule before after given back ports h = h
@@ -124,13 +124,13 @@ left_or given back before after result R (inl l) = inl (l.wanting, l.sink, l.ben
 left_or given back before after result R (inr r) = inr r
 
 pub left_beside : {K Q E X W T P : Type 0} (given back : Bench K Q E X) (ports : P) (before after : W) (result : Result T Stop) (R : Type 0) → WasLeft given back before after result ⊎ R →
-    ((result ≡ Err stops.Memory) × (after ≡ before) × (outside back ports ≡ outside given ports)) ⊎ R
-left_beside given back ports before after result R (inl l) = inl (l.wanting, l.sink, ap (λ b. outside b ports) l.bench)
+    ((result ≡ Err stops.Memory) × (after ≡ before) × (beside back ports ≡ beside given ports)) ⊎ R
+left_beside given back ports before after result R (inl l) = inl (l.wanting, l.sink, ap (λ b. beside b ports) l.bench)
 left_beside given back ports before after result R (inr r) = inr r
 
 pub left_with : {B W T P : Type 0} (given back : B) (before after : W) (ports ports_back : P) (result : Result T ServeStop) (R : Type 0) → WasNotServed given back before after ports ports_back result ⊎ R →
-    ((result ≡ Err (serves.Stopped stops.Memory)) × (after ≡ before) × (outside back ports_back ≡ outside given ports)) ⊎ R
-left_with given back before after ports ports_back result R (inl l) = inl (l.wanting, l.sink, ap (λ b. outside b ports_back) l.bench ∙ ap (λ p. outside given p) l.ports)
+    ((result ≡ Err (serves.Stopped stops.Memory)) × (after ≡ before) × (beside back ports_back ≡ beside given ports)) ⊎ R
+left_with given back before after ports ports_back result R (inl l) = inl (l.wanting, l.sink, ap (λ b. beside b ports_back) l.bench ∙ ap (λ p. beside given p) l.ports)
 left_with given back before after ports ports_back result R (inr r) = inr r
 
 -- ---- the generated load

@@ -71,9 +71,9 @@ IsUnread ReadFault left rest = Unit {0}
 IsUnread Memory left rest = Unit {0}
 IsUnread _ left rest = ⊥
 
--- the outside of a run: a bench, and the ports at which its managers may be served
-abbrev pub outside : {B P : Type 0} → B → P → B × P
-outside bench ports = (bench, ports)
+-- a bench, and the ports at which its managers may be served
+abbrev pub beside : {B P : Type 0} → B → P → B × P
+beside bench ports = (bench, ports)
 
 -- The result of `run` and `load`, by the status. If nothing was run, sink and bench are as they were. If the words are no form, the source is too.
 abbrev pub RunOutcome : {S W B : Type 0} → (S → Option (List ℕ)) → (Words → Scenario → headline.Stop → Type 0) → Status → List (List ℕ) → (old new : S) → (before after : W) → (given back : B) → Type 0

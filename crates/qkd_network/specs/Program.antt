@@ -1,10 +1,11 @@
 -- The program's call: that of `network` over a bench of the program's own.
-use Rattle.std.specs.Prelude.{◌≡◌, ◌⊎◌, ℕ, List, length, Option, Some}
-use Rattle.disk_model.specs.MemForm.{MemForm, images_of}
+use Rattle.std.specs.Prelude.{◌≡◌, ◌⊎◌, ℕ, List, Option, Some}
+use Rattle.disk_model.specs.MemForm.{MemForm}
 use Rattle.source_devices.specs.Forms.{WireForm}
 use Rattle.source_devices.specs.KeyStream.{StreamForm, told_from, device_told, entropy_told}
 use Rattle.kme_serve.specs.Door.{Door}
 use Rattle.kme_serve.specs.Doors.{Queues}
+use Rattle.net_world.specs.New.{Outside}
 use Rattle.net_world.specs.declared.bench.Bench.{Bench}
 use Rattle.qkd_network.specs.Call.{IsCalled}
 use Rattle.qkd_network.specs.declared.status.Status.{Status}
@@ -23,12 +24,10 @@ pub record IsOwn (b : OwnBench) : Type 0 where
   pub wires : AreSilent 64 b.wires.items
 
 -- Either memory ran out before the bench was made, and nothing was touched; or the call was done over such a bench.
-abbrev pub IsProgram : {S W P D : Type 0} → (S → Option (List ℕ)) → (W → Option (List ℕ)) → (W → Option (List (List ℕ))) →
+abbrev pub IsProgram : {S W P D : Type 0} → (S → Option (List ℕ)) → (W → Option (List ℕ)) → (W → Option (List (List ℕ))) → Outside MemForm ℕ StreamForm WireForm →
     (tell : D → Door) → (failed : D → ℕ) → (asked : P → Option (List ℕ)) → (back : P → Option (List D)) → (queues : P → ℕ → Queues) →
     Status → (words : List (List ℕ)) → (old new : S) → (before after : W) → (ports ports' : P) → Type 0
-IsProgram left taken pieces tell failed asked back queues status words old new before after ports ports' =
+IsProgram left taken pieces outside tell failed asked back queues status words old new before after ports ports' =
     ((status ≡ Memory) × (new ≡ old) × (after ≡ before) × (ports' ≡ ports)) ⊎
     ((bench : OwnBench) × (bench' : OwnBench) × IsOwn bench ×
-    IsCalled left taken pieces (λ (d : MemForm). length d.used) images_of (λ s. Some (told_from s)) (λ link. Some (device_told link)) (λ (w : WireForm). Some w.frames)
-    (λ (d : MemForm). d.plan.faults) (λ (d : MemForm). d.armings) (λ s. 0) (λ link. 0) (λ (w : WireForm). w.faults) tell failed asked back queues
-    status words old new before after bench bench' ports ports')
+    IsCalled left taken pieces outside tell failed asked back queues status words old new before after bench bench' ports ports')

@@ -8,6 +8,7 @@ ghost use Rattle.net_world.specs.New.{IsNew};
 ghost use Rattle.qkd_network.specs.Call.{IsCalled};
 ghost use Rattle.qkd_network.specs.Outcome.{AsksServe};
 ghost use Rattle.qkd_network.specs.declared.status.Status.TheVariants.{ReadFault, WriteFault, ListenFault};
+ghost use Rattle.net_world.specs.New.{outside};
 
 use crate::form::connections_of;
 use crate::quiet::quiet;
@@ -88,10 +89,10 @@ where
     P::Door: Drop + Send + Sync,
     <P::Door as Listener>::In: Send,
     <P::Door as Listener>::Out: Send,
-    requires fresh { IsNew K.is_honest K.moment K.image E.left Q.told X.frames bench.old }
+    requires fresh { IsNew (outside K.Disk Q.Device E.Entropy X.Wire) bench.old }
     requires unarmed { All (λ k. (K.armings k).count ≡ 0) bench.old.disks.items }
     requires ports { AreFresh P.asked P.back ports.old }
-    ensures outcome { IsCalled (λ s. S.left s) (λ k. W.taken k) W.pieces K.moment K.image E.left Q.told X.frames K.faults K.armings E.faults Q.faults X.faults
+    ensures outcome { IsCalled (λ s. S.left s) (λ k. W.taken k) W.pieces (outside K.Disk Q.Device E.Entropy X.Wire)
         (telling P.Door.port P.Door.accepted P.Door.finished P.Door.waiting P.Door.done) P.Door.faults P.asked P.back P.queues
         result words.now source.old source.new sink.old sink.new bench.old bench.new ports.old ports.new }
     ensures ports { AsksServe words.now ⊎ (ports.new ≡ ports.old) }

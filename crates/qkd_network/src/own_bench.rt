@@ -1,7 +1,7 @@
 // The disks, wires, devices and entropies of the program's runs.
 ghost use Rattle.std.specs.Prelude.{◌≡◌, IfOk};
 ghost use Rattle.std.specs.List.{All};
-ghost use Rattle.net_world.specs.New.{IsNew};
+ghost use Rattle.net_world.specs.New.{IsNew, outside};
 ghost use Rattle.qkd_network.specs.Fresh.{AreBlank, AreNumbered, AreSilent};
 ghost use Rattle.qkd_network.specs.Program.{IsOwn};
 ghost use Rattle.source_devices.specs.KeyStream.{device_told, entropy_told};
@@ -17,7 +17,7 @@ pub type ProgramBench = Bench<MemDisk, GeneratedDevice, GeneratedEntropy, MemWir
 
 /// A new bench of the program's own.
 pub fn new_bench(alloc: Global) -> Result<ProgramBench, Memory>
-    ensures fresh { IfOk result (λ bench. IsNew ⟦<MemDisk as Disk>⟧.is_honest ⟦<MemDisk as Disk>⟧.moment ⟦<MemDisk as Disk>⟧.image ⟦<GeneratedEntropy as Entropy>⟧.left ⟦<GeneratedDevice as Device>⟧.told ⟦<MemWire as Wire>⟧.frames bench) }
+    ensures fresh { IfOk result (λ bench. IsNew (outside ⟦<MemDisk as Disk>⟧ ⟦<GeneratedDevice as Device>⟧ ⟦<GeneratedEntropy as Entropy>⟧ ⟦<MemWire as Wire>⟧) bench) }
     ensures unarmed { IfOk result (λ bench. All (λ k. (⟦<MemDisk as Disk>⟧.armings k).count ≡ 0) bench.disks.items) }
     ensures own { IfOk result IsOwn }
 {

@@ -2,14 +2,17 @@
 ghost use Rattle.std.specs.Prelude.{◌≡◌, ◌⊎◌};
 ghost use Rattle.qkd_base.specs.Faults.{Rose};
 ghost use Rattle.kme_serve.specs.Doors.{AreFresh, IsListenFault, ports_told, telling};
+ghost use Rattle.net_world.specs.New.{outside};
 ghost use Rattle.qkd_network.specs.Outcome.{AsksServe};
 ghost use Rattle.qkd_network.specs.declared.status.Status.TheVariants.{ReadFault, WriteFault, ListenFault};
 ghost use Rattle.qkd_network.specs.Program.{IsProgram};
 
 use crate::own_bench::new_bench;
 use crate::{Status, network};
+use disk_model::{Disk, MemDisk};
 use edge_io::{Gate, Listener, Ports, Sink, Source};
 use qkd_base::Texts;
+use source_devices::{Device, Entropy, GeneratedDevice, GeneratedEntropy, MemWire, Wire};
 use std::alloc::Global;
 use std::sync::Wait;
 use std::thread::Threads;
@@ -30,7 +33,7 @@ where
     <P::Door as Listener>::In: Send,
     <P::Door as Listener>::Out: Send,
     requires ports { AreFresh P.asked P.back ports.old }
-    ensures outcome { IsProgram (λ s. S.left s) (λ k. W.taken k) W.pieces
+    ensures outcome { IsProgram (λ s. S.left s) (λ k. W.taken k) W.pieces (outside ⟦<MemDisk as Disk>⟧ ⟦<GeneratedDevice as Device>⟧ ⟦<GeneratedEntropy as Entropy>⟧ ⟦<MemWire as Wire>⟧)
         (telling P.Door.port P.Door.accepted P.Door.finished P.Door.waiting P.Door.done) P.Door.faults P.asked P.back P.queues
         result words.now source.old source.new sink.old sink.new ports.old ports.new }
     ensures ports { AsksServe words.now ⊎ (ports.new ≡ ports.old) }

@@ -11,6 +11,7 @@ ghost use Rattle.net_world.specs.Running.{HasHeadlines, WasLeft, ended};
 ghost use Rattle.qkd_network.specs.Quiet.{given_lines, IsQuiet};
 ghost use Rattle.qkd_network.specs.Outcome.{ScenarioOutcome};
 ghost use Rattle.qkd_network.specs.declared.status.Status.TheVariants.{ReadFault, WriteFault, ListenFault};
+ghost use Rattle.net_world.specs.New.{outside};
 
 use crate::Status;
 use crate::source_scenario::scenario_in;
@@ -47,10 +48,10 @@ fn run_quietly<
 ) -> Result<(), Stop>
     requires runnable { IsRunnable scenario }
     requires workers { (1 ≤ workers) × (workers ≤ 32) }
-    requires fresh { IsNew K.is_honest K.moment K.image E.left Q.told X.frames bench.old }
+    requires fresh { IsNew (outside K.Disk Q.Device E.Entropy X.Wire) bench.old }
     requires unarmed { All (λ k. (K.armings k).count ≡ 0) bench.old.disks.items }
     ensures quiet { WasLeft bench.old bench.new sink.old sink.new result
-        ⊎ IsQuiet W.taken W.pieces (λ report stop. HasHeadlines K.moment K.image E.left Q.told X.frames K.faults K.armings E.faults Q.faults X.faults
+        ⊎ IsQuiet W.taken W.pieces (λ report stop. HasHeadlines (outside K.Disk Q.Device E.Entropy X.Wire)
         bench.old bench.new (Run workers) scenario (given_lines []) report stop) scenario.site.nodes sink.old sink.new (ended result) }
     ensures whole { IsWhole bench.new }
     ensures blame { IsBlamed (W.faults sink.old) (W.faults sink.new) result }
@@ -81,10 +82,10 @@ pub(crate) fn quiet<
     gate: &G,
 ) -> Status
     requires workers { (1 ≤ workers) × (workers ≤ 32) }
-    requires fresh { IsNew K.is_honest K.moment K.image E.left Q.told X.frames bench.old }
+    requires fresh { IsNew (outside K.Disk Q.Device E.Entropy X.Wire) bench.old }
     requires unarmed { All (λ k. (K.armings k).count ≡ 0) bench.old.disks.items }
     ensures outcome { ScenarioOutcome (λ s. S.left s) (λ scenario stop.
-        IsQuiet W.taken W.pieces (λ report stop. HasHeadlines K.moment K.image E.left Q.told X.frames K.faults K.armings E.faults Q.faults X.faults
+        IsQuiet W.taken W.pieces (λ report stop. HasHeadlines (outside K.Disk Q.Device E.Entropy X.Wire)
         bench.old bench.new (Run workers) scenario (given_lines []) report stop) scenario.site.nodes sink.old sink.new stop)
         result source.old source.new sink.old sink.new bench.old bench.new }
     ensures calm { result ≡ ListenFault → ⊥ }

@@ -10,8 +10,9 @@ ghost use Rattle.net_serve.specs.BenchServing.{HasServedHeadlines};
 ghost use Rattle.run_model.specs.Course.{Serve};
 ghost use Rattle.run_model.specs.Headline.{given_to};
 ghost use Rattle.qkd_network.specs.Lines.{WroteLines};
-ghost use Rattle.qkd_network.specs.Outcome.{ScenarioOutcome, outside};
+ghost use Rattle.qkd_network.specs.Outcome.{ScenarioOutcome, beside};
 ghost use Rattle.qkd_network.specs.declared.status.Status.TheVariants.{ReadFault, WriteFault, ListenFault};
+ghost use Rattle.net_world.specs.New.{outside};
 
 use crate::Status;
 use crate::source_scenario::scenario_in;
@@ -55,16 +56,16 @@ where
     requires workers { (1 ≤ workers) × (workers ≤ 32) }
     requires connections { connections ≤ endless }
     requires port { port ≤ 65520 }
-    requires fresh { IsNew K.is_honest K.moment K.image E.left Q.told X.frames bench.old }
+    requires fresh { IsNew (outside K.Disk Q.Device E.Entropy X.Wire) bench.old }
     requires unarmed { All (λ k. (K.armings k).count ≡ 0) bench.old.disks.items }
     requires ports { AreFresh P.asked P.back ports.old }
     ensures outcome { ScenarioOutcome (λ s. S.left s) (λ scenario stop.
-        HasServedHeadlines K.moment K.image E.left Q.told X.frames K.faults K.armings E.faults Q.faults X.faults
+        HasServedHeadlines (outside K.Disk Q.Device E.Entropy X.Wire)
         (telling P.Door.port P.Door.accepted P.Door.finished P.Door.waiting P.Door.done) P.Door.faults (IsSome (P.asked ports.old)) bench.old bench.new
         (ports_told P.asked P.back P.queues ports.old) (ports_told P.asked P.back P.queues ports.new)
         workers connections port scenario (given_to W.taken W.pieces sink.old) (given_to W.taken W.pieces sink.new) stop
         × WroteLines W.taken W.pieces (Serve workers connections port) scenario sink.old sink.new stop)
-        result source.old source.new sink.old sink.new (outside bench.old ports.old) (outside bench.new ports.new) }
+        result source.old source.new sink.old sink.new (beside bench.old ports.old) (beside bench.new ports.new) }
     ensures whole { IsWhole bench.new }
     ensures read_fault { result ≡ ReadFault → Rose (S.faults source.old) (S.faults source.new) }
     ensures source_calm { (result ≡ ReadFault) ⊎ (S.faults source.new ≡ S.faults source.old) }

@@ -8,6 +8,7 @@ ghost use Rattle.net_world.specs.New.{IsNew};
 ghost use Rattle.net_world.specs.Veiling.{HasVeiled};
 ghost use Rattle.qkd_network.specs.Outcome.{ScenarioOutcome};
 ghost use Rattle.qkd_network.specs.declared.status.Status.TheVariants.{ReadFault, WriteFault, ListenFault};
+ghost use Rattle.net_world.specs.New.{outside};
 
 use crate::Status;
 use crate::source_scenario::scenario_in;
@@ -37,10 +38,10 @@ pub(crate) fn veil<
     bench: &mut Bench<K, Q, E, X>,
     gate: &G,
 ) -> Status
-    requires fresh { IsNew K.is_honest K.moment K.image E.left Q.told X.frames bench.old }
+    requires fresh { IsNew (outside K.Disk Q.Device E.Entropy X.Wire) bench.old }
     requires unarmed { All (λ k. (K.armings k).count ≡ 0) bench.old.disks.items }
     ensures outcome { ScenarioOutcome (λ s. S.left s) (λ scenario stop.
-        HasVeiled K.moment K.image E.left Q.told X.frames K.faults K.armings E.faults Q.faults X.faults (λ k. given_to W.taken W.pieces k) bench.old bench.new scenario sink.old sink.new stop)
+        HasVeiled (outside K.Disk Q.Device E.Entropy X.Wire) (λ k. given_to W.taken W.pieces k) bench.old bench.new scenario sink.old sink.new stop)
         result source.old source.new sink.old sink.new bench.old bench.new }
     ensures calm { result ≡ ListenFault → ⊥ }
     ensures whole { IsWhole bench.new }

@@ -1,17 +1,15 @@
 -- Asking a node's manager to handle an event.
-use Rattle.std.proofs.Common.{◌≡◌, ℕ, ◌<◌, Bool, true, ◌&&◌, List, refl, sym, ap, subst, ◌∙◌, arith}
-use Rattle.std.specs.Prelude.{◌==◌, nat_lt, Option}
+use Rattle.std.proofs.Common.{◌≡◌, ℕ, ◌<◌, true, ◌&&◌, refl, sym, ap, subst, ◌∙◌, arith}
+use Rattle.std.specs.Prelude.{◌==◌, nat_lt}
 use Rattle.std.proofs.lemmas.Bool.Decides.{nat_tests}
 use Rattle.net_model.specs.declared.event.Event.{Event}
 use Rattle.net_model.specs.declared.reply.Reply.{Reply}
-use Rattle.net_model.specs.OctetSequence.{OctetSequence}
 use Rattle.net_model.specs.World.{Network, World}
 use Rattle.net_model.specs.Events.{is_valid_event}
 use Rattle.net_model.specs.Handle.{handle}
 use Rattle.net_model.specs.Action.{Environment, Ask, Outcome, is_shown, is_io_fault, is_entropy_fault, Ok as Fine}
 use Rattle.net_model.specs.Faults.{is_random_fault}
 use Rattle.net_model.specs.Step.{step, is_enabled, is_node, is_asked}
-use Rattle.disk_model.specs.declared.arm.Armings.{Armings}
 use Rattle.law_base.proofs.Base.{and_left, and_right, and_both, eq_same}
 use Rattle.law_recovery.proofs.Asked.{event_goes, event_fits}
 use Rattle.kme_store.specs.declared.post.Post.{Post}
@@ -19,6 +17,8 @@ use Rattle.world_nodes.specs.Stands.{PostStands}
 use Rattle.world_nodes.specs.Handled.{MayHandle, Handled}
 use Rattle.world_nodes.specs.Asking.{MayAsk, Asked}
 use Rattle.world_nodes.proofs.Counted.{here_too, spared}
+use Rattle.disk_model.specs.declared.disk.Disk as Disk
+use Rattle.source_devices.specs.declared.entropy.Entropy as Entropy
 
 module _ (net : Network) (w : World) (v : ℕ) (event : Event) where
   parts : is_enabled net w (Ask v event Fine) ≡ true → ((is_node net v && is_asked event) && is_valid_event net.site v event) ≡ true
@@ -33,9 +33,9 @@ module _ (net : Network) (w : World) (v : ℕ) (event : Event) where
   unfolding step
   asks_as environment = refl
 
-module _ {K E : Type 0} (is_honest : K → Bool) (moment : K → ℕ) (image : K → ℕ → List ℕ → Type 0) (told : E → Option OctetSequence) (net : Network) (w : World) (v : ℕ) (event : Event) (up : ℕ) where
+module _ {K E : Type 0} (disk_says : Disk.Ghosts K) (entropy_says : Entropy.Ghosts E) (net : Network) (w : World) (v : ℕ) (event : Event) (up : ℕ) where
   -- The event may be given to the manager.
-  pub may_handle : (post : Post K E) → MayAsk is_honest moment image told net w v post event up → MayHandle is_honest moment image told net w v post event up
+  pub may_handle : (post : Post K E) → MayAsk disk_says entropy_says net w v post event up → MayHandle disk_says entropy_says net w v post event up
   may_handle post m =
       let all = parts net w v event m.enabled in
       let both = and_left (is_node net v && is_asked event) (is_valid_event net.site v event) all in
@@ -52,9 +52,9 @@ module _ {K E : Type 0} (is_honest : K → Bool) (moment : K → ℕ) (image : K
       }
 
   -- Handling the event is an action of the network.
-  pub asked : (disk_faults : K → ℕ) (armings : K → Armings) (entropy_faults : E → ℕ) (old new : Post K E) (reply : Reply) → MayAsk is_honest moment image told net w v old event up →
-      Handled is_honest moment image disk_faults armings told entropy_faults net w v event old new reply → Asked is_honest moment image disk_faults armings told entropy_faults net w v event old new reply
-  asked disk_faults armings entropy_faults old new reply m h =
+  pub asked : (old new : Post K E) (reply : Reply) → MayAsk disk_says entropy_says net w v old event up →
+      Handled disk_says entropy_says net w v event old new reply → Asked disk_says entropy_says net w v event old new reply
+  asked old new reply m h =
       let same = asks_as net w v event h.environment in
       record {
         environment = h.environment;
@@ -62,7 +62,7 @@ module _ {K E : Type 0} (is_honest : K → Bool) (moment : K → ℕ) (image : K
             (may_ask net w v event m.enabled h.environment)
             (ap (λ (x : World × Outcome). is_shown h.environment x.1) same ∙ ap (is_shown h.environment) h.said ∙ h.shown);
         said = ap (λ (x : World × Outcome). x.1) same ∙ h.said;
-        stands = subst (λ (x : World × Outcome). PostStands is_honest moment image told net x.0 v new) (sym same) h.stands;
-        counts = spared disk_faults armings entropy_faults (is_io_fault h.environment) (is_entropy_fault h.environment) (is_random_fault v (Ask v event h.environment)) old new
+        stands = subst (λ (x : World × Outcome). PostStands disk_says entropy_says net x.0 v new) (sym same) h.stands;
+        counts = spared disk_says entropy_says (is_io_fault h.environment) (is_entropy_fault h.environment) (is_random_fault v (Ask v event h.environment)) old new
             (sym (here_too (v == v) (is_entropy_fault h.environment) (eq_same v))) h.counts;
       }

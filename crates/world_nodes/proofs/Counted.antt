@@ -3,14 +3,12 @@ use Rattle.std.proofs.Common.{◌≡◌, ℕ, ◌<◌, ◌≤◌, Bool, true, fa
 use Rattle.std.specs.Prelude.{Option, Some}
 use Rattle.qkd_base.specs.Faults.{Rose}
 use Rattle.qkd_base.specs.declared.lane.Lane.{Lane}
-use Rattle.net_model.specs.OctetSequence.{OctetSequence}
 use Rattle.net_model.specs.World.{Network, World}
 use Rattle.net_model.specs.View.{View}
 use Rattle.net_model.specs.Decide.{random_need}
 use Rattle.net_model.specs.declared.event.Event.TheVariants.{Block, Heard}
 use Rattle.net_model.specs.Action.{Environment, OutOfMemory, EntropyFault, IoFault, DeviceFault, is_entropy_fault, is_io_fault, Ok as Fine}
 use Rattle.declared_site.specs.declared.site.Site.{Site as Declared}
-use Rattle.disk_model.specs.declared.arm.Armings.{Armings}
 use Rattle.kme_store.specs.Manager.{ManagerForm, HasDisk}
 use Rattle.kme_store.specs.declared.manager_state.Standing.{Standing}
 use Rattle.kme_store.specs.declared.manager_state.Standing.TheVariants.{Up, Down, Between}
@@ -18,6 +16,8 @@ use Rattle.kme_store.specs.declared.post.Post.{Post}
 use Rattle.kme_store.specs.declared.post.Post.TheVariants.{On, Off}
 use Rattle.world_nodes.specs.Stands.{StandingStands, PostStands}
 use Rattle.world_nodes.specs.Counts.{disk_in, disk_of, entropy_of, IsCounted, Counts}
+use Rattle.disk_model.specs.declared.disk.Disk as Disk
+use Rattle.source_devices.specs.declared.entropy.Entropy as Entropy
 
 some_same : {A : Type 0} {a b : A} → ◌≡◌ {A = Option A} (Some a) (Some b) → a ≡ b
 some_same h = cc
@@ -39,15 +39,15 @@ disk_weaker P Q f (Up journal) h = f journal.disk h
 disk_weaker P Q f (Down disk) h = f disk h
 disk_weaker P Q f Between h = absurd h
 
-module _ {K : Type 0} (is_honest : K → Bool) (moment : K → ℕ) (image : K → ℕ → List ℕ → Type 0) (net : Network) (w : World) (v : ℕ) where
-  standing_disk : (site : Declared) (view : View) (s : Standing K) → StandingStands is_honest moment image net w v site view s → (disk : K) × (disk_in s ≡ Some disk)
+module _ {K : Type 0} (disk_says : Disk.Ghosts K) (net : Network) (w : World) (v : ℕ) where
+  standing_disk : (site : Declared) (view : View) (s : Standing K) → StandingStands disk_says net w v site view s → (disk : K) × (disk_in s ≡ Some disk)
   standing_disk site view (Up journal) h = (journal.disk, refl)
   standing_disk site view (Down disk) h = (disk, refl)
   standing_disk site view Between h = absurd h
 
-  pub post_disk : {E : Type 0} (told : E → Option OctetSequence) (post : Post K E) → PostStands is_honest moment image told net w v post → (disk : K) × (disk_of post ≡ Some disk)
-  post_disk told (On m) h = standing_disk m.site m.view m.standing h.standing
-  post_disk told (Off disk entropy) h = (disk, refl)
+  pub post_disk : {E : Type 0} (entropy_says : Entropy.Ghosts E) (post : Post K E) → PostStands disk_says entropy_says net w v post → (disk : K) × (disk_of post ≡ Some disk)
+  post_disk entropy_says (On m) h = standing_disk m.site m.view m.standing h.standing
+  post_disk entropy_says (Off disk entropy) h = (disk, refl)
 
 -- the kinds of answers of the environment
 
@@ -95,27 +95,27 @@ none_taken view link number octets = refl
 pub still : (n : ℕ) → IsCounted false n n
 still n = record { later = omega arith; rose = λ other. absurd (cc other); calm = λ none. refl }
 
-module _ {K E : Type 0} (disk_count : K → ℕ) (armed : K → Armings) (entropy_count : E → ℕ) where
+module _ {K E : Type 0} (disk_says : Disk.Ghosts K) (entropy_says : Entropy.Ghosts E) where
   -- Nothing changed.
-  pub unchanged : (post : Post K E) (disk : K) → disk_of post ≡ Some disk → Counts disk_count armed entropy_count false false post post
-  unchanged post disk is = record { before = disk; now = disk; was = is; is = is; disk = still (disk_count disk); arms = refl; entropy = still (entropy_count (entropy_of post)) }
+  pub unchanged : (post : Post K E) (disk : K) → disk_of post ≡ Some disk → Counts disk_says entropy_says false false post post
+  unchanged post disk is = record { before = disk; now = disk; was = is; is = is; disk = still (disk_says.faults disk); arms = refl; entropy = still (entropy_says.faults (entropy_of post)) }
 
   -- the same counts, where the entropy can't have failed
-  pub spared : (disk_fault entropy_fault other : Bool) (old new : Post K E) → entropy_fault ≡ other → Counts disk_count armed entropy_count disk_fault entropy_fault old new →
-      Counts disk_count armed entropy_count disk_fault other old new
-  spared disk_fault entropy_fault other old new same h = subst (λ (f : Bool). Counts disk_count armed entropy_count disk_fault f old new) same h
+  pub spared : (disk_fault entropy_fault other : Bool) (old new : Post K E) → entropy_fault ≡ other → Counts disk_says entropy_says disk_fault entropy_fault old new →
+      Counts disk_says entropy_says disk_fault other old new
+  spared disk_fault entropy_fault other old new same h = subst (λ (f : Bool). Counts disk_says entropy_says disk_fault f old new) same h
 
   -- a manager that handles an event
-  pub counted : (is_honest : K → Bool) (disk_fault entropy_fault : Bool) (old new : ManagerForm K E) →
-      HasDisk (λ before. HasDisk (λ disk. (is_honest disk ≡ is_honest before) × (armed disk ≡ armed before)) new.standing) old.standing →
-      HasDisk (λ before. HasDisk (λ disk. disk_count before ≤ disk_count disk) new.standing) old.standing → entropy_count old.entropy ≤ entropy_count new.entropy →
-      (disk_fault ≡ true → HasDisk (λ before. HasDisk (λ disk. Rose (disk_count before) (disk_count disk)) new.standing) old.standing) →
-      (disk_fault ≡ false → HasDisk (λ before. HasDisk (λ disk. disk_count disk ≡ disk_count before) new.standing) old.standing) →
-      (entropy_fault ≡ true → Rose (entropy_count old.entropy) (entropy_count new.entropy)) → (entropy_fault ≡ false → entropy_count new.entropy ≡ entropy_count old.entropy) →
-      Counts disk_count armed entropy_count disk_fault entropy_fault (On old) (On new)
-  counted is_honest disk_fault entropy_fault old new same later drawn fails calm refused spared =
-      let p = disk_there (λ before. HasDisk (λ disk. (is_honest disk ≡ is_honest before) × (armed disk ≡ armed before)) new.standing) old.standing same in
-      let q = disk_there (λ disk. (is_honest disk ≡ is_honest p.0) × (armed disk ≡ armed p.0)) new.standing p.2 in
+  pub counted : (disk_fault entropy_fault : Bool) (old new : ManagerForm K E) →
+      HasDisk (λ before. HasDisk (λ disk. (disk_says.is_honest disk ≡ disk_says.is_honest before) × (disk_says.armings disk ≡ disk_says.armings before)) new.standing) old.standing →
+      HasDisk (λ before. HasDisk (λ disk. disk_says.faults before ≤ disk_says.faults disk) new.standing) old.standing → entropy_says.faults old.entropy ≤ entropy_says.faults new.entropy →
+      (disk_fault ≡ true → HasDisk (λ before. HasDisk (λ disk. Rose (disk_says.faults before) (disk_says.faults disk)) new.standing) old.standing) →
+      (disk_fault ≡ false → HasDisk (λ before. HasDisk (λ disk. disk_says.faults disk ≡ disk_says.faults before) new.standing) old.standing) →
+      (entropy_fault ≡ true → Rose (entropy_says.faults old.entropy) (entropy_says.faults new.entropy)) → (entropy_fault ≡ false → entropy_says.faults new.entropy ≡ entropy_says.faults old.entropy) →
+      Counts disk_says entropy_says disk_fault entropy_fault (On old) (On new)
+  counted disk_fault entropy_fault old new same later drawn fails calm refused spared =
+      let p = disk_there (λ before. HasDisk (λ disk. (disk_says.is_honest disk ≡ disk_says.is_honest before) × (disk_says.armings disk ≡ disk_says.armings before)) new.standing) old.standing same in
+      let q = disk_there (λ disk. (disk_says.is_honest disk ≡ disk_says.is_honest p.0) × (disk_says.armings disk ≡ disk_says.armings p.0)) new.standing p.2 in
       let at : (R : K → K → Type 0) → HasDisk (λ before. HasDisk (λ disk. R before disk) new.standing) old.standing → R p.0 q.0 =
       λ R h. at_disk (λ disk. R p.0 disk) new.standing q.0 q.1 (at_disk (λ before. HasDisk (λ disk. R before disk) new.standing) old.standing p.0 p.1 h) in
       record {
@@ -124,9 +124,9 @@ module _ {K E : Type 0} (disk_count : K → ℕ) (armed : K → Armings) (entrop
         was = p.1;
         is = q.1;
         disk = record {
-          later = at (λ before disk. disk_count before ≤ disk_count disk) later;
-          rose = λ fault. at (λ before disk. Rose (disk_count before) (disk_count disk)) (fails fault);
-          calm = λ none. at (λ before disk. disk_count disk ≡ disk_count before) (calm none);
+          later = at (λ before disk. disk_says.faults before ≤ disk_says.faults disk) later;
+          rose = λ fault. at (λ before disk. Rose (disk_says.faults before) (disk_says.faults disk)) (fails fault);
+          calm = λ none. at (λ before disk. disk_says.faults disk ≡ disk_says.faults before) (calm none);
         };
         arms = q.2.1;
         entropy = record { later = drawn; rose = refused; calm = spared };

@@ -1,8 +1,7 @@
 -- The end of a node's life.
 use Rattle.std.proofs.Common.{◌≡◌, inl, ℕ, Bool, true, false, IsTrue, List, [], refl, sym, ap, subst, ◌∙◌}
-use Rattle.std.specs.Prelude.{Option, Some, if◌then◌else◌}
+use Rattle.std.specs.Prelude.{Some, if◌then◌else◌}
 use Rattle.qkd_base.specs.Family.{number_set}
-use Rattle.net_model.specs.OctetSequence.{OctetSequence}
 use Rattle.net_model.specs.World.{Network, World, InDoubt, no_volatile}
 use Rattle.net_model.specs.View.{View}
 use Rattle.net_model.specs.Needed.{view_of, masked, is_needed}
@@ -10,7 +9,6 @@ use Rattle.net_model.specs.Start.{may_resolve}
 use Rattle.net_model.specs.Action.{Crash, Outcome, Crashed, WasDown}
 use Rattle.net_model.specs.Step.{step, is_enabled}
 use Rattle.declared_site.specs.declared.site.Site.{Site as Declared}
-use Rattle.disk_model.specs.declared.arm.Armings.{Armings}
 use Rattle.range_journal.specs.Header.{is_blank as is_blank_disk}
 use Rattle.journal_snapshot.specs.Standing.{Holds, IsKept}
 use Rattle.journal_snapshot.specs.Snapshots.{SnapshotForm}
@@ -29,6 +27,8 @@ use Rattle.world_nodes.specs.Counts.{disk_in, IsCounted, Counts}
 use Rattle.world_nodes.proofs.Counted.{disk_there, post_disk, still, unchanged}
 use Rattle.world_nodes.proofs.Handles.{down_is}
 use Rattle.world_nodes.proofs.Stories.{life_told, read_without}
+use Rattle.disk_model.specs.declared.disk.Disk as Disk
+use Rattle.source_devices.specs.declared.entropy.Entropy as Entropy
 
 abbrev ended : World → ℕ → World
 ended w v = record w { up = number_set w.up v false; volatile = number_set w.volatile v no_volatile }
@@ -47,8 +47,8 @@ says_up net w v up = says net w v ∙ ap (λ (t : Bool). if t then (ended w v, C
 says_down : (net : Network) (w : World) (v : ℕ) → w.up v ≡ false → step net w (Crash v) ≡ (w, WasDown)
 says_down net w v down = says net w v ∙ ap (λ (t : Bool). if t then (ended w v, Crashed) else (w, WasDown)) down
 
-module _ {K : Type 0} (is_honest : K → Bool) (content : K → List ℕ) (moment : K → ℕ) (image : K → ℕ → List ℕ → Type 0) (net : Network) (w : World) (v : ℕ) (r : IsRunning net w) (site : Declared) (view : View) where
-  module _ (journal : SnapshotForm K) (u : UpStands is_honest net w v site view journal) where
+module _ {K : Type 0} (disk_says : Disk.Ghosts K) (net : Network) (w : World) (v : ℕ) (r : IsRunning net w) (site : Declared) (view : View) where
+  module _ (journal : SnapshotForm K) (u : UpStands disk_says net w v site view journal) where
     seen : HasStory net.site v journal.live.version journal.batches (view_of net (ended w v) v)
     seen = subst (λ (x : View). HasStory net.site v journal.live.version journal.batches x) (sym (ended_view net w v))
         (subst (λ (x : View). HasStory net.site v journal.live.version journal.batches (record x { volatile = no_volatile })) u.sees
@@ -70,9 +70,9 @@ module _ {K : Type 0} (is_honest : K → Bool) (content : K → List ℕ) (momen
     }
 
     -- The disk still has the node's journal.
-    left : (disk : K) → disk ≡ journal.disk → (IsTrue (is_honest disk) → IsKept journal.live journal.batches (content disk) (image disk (moment disk))) → DownStands is_honest moment image net (ended w v) v disk
+    left : (disk : K) → disk ≡ journal.disk → (IsTrue (disk_says.is_honest disk) → IsKept journal.live journal.batches (disk_says.content disk) (disk_says.image disk (disk_says.moment disk))) → DownStands disk_says net (ended w v) v disk
     left disk same kept =
-        let honest : IsTrue (is_honest disk) = subst (λ (d : K). IsTrue (is_honest d)) (sym same) u.honest in
+        let honest : IsTrue (disk_says.is_honest disk) = subst (λ (d : K). IsTrue (disk_says.is_honest d)) (sym same) u.honest in
         let k = kept honest in
         record {
           down = number_set_same w.up v false;
@@ -81,41 +81,41 @@ module _ {K : Type 0} (is_honest : K → Bool) (content : K → List ℕ) (momen
           images = λ i is. inl (holds i (subst (λ (c : List ℕ). is_blank_disk c ≡ false) (sym (k.settled.only i is)) k.plain) (subst (Holds journal.live journal.batches []) (sym (k.settled.only i is)) k.holds));
         }
 
-  pub ends : (s : Standing K) → is_up s ≡ true → StandingStands is_honest moment image net w v site view s → (disk : K) → HasDisk (λ d. disk ≡ d) s →
-      WhereUp (λ j. IsTrue (is_honest disk) → IsKept j.live j.batches (content disk) (image disk (moment disk))) s → (w.up v ≡ true) × DownStands is_honest moment image net (ended w v) v disk
+  pub ends : (s : Standing K) → is_up s ≡ true → StandingStands disk_says net w v site view s → (disk : K) → HasDisk (λ d. disk ≡ d) s →
+      WhereUp (λ j. IsTrue (disk_says.is_honest disk) → IsKept j.live j.batches (disk_says.content disk) (disk_says.image disk (disk_says.moment disk))) s → (w.up v ≡ true) × DownStands disk_says net (ended w v) v disk
   ends (Up journal) up u disk same kept = (u.up, left journal u disk same kept)
   ends (Down d) up u disk same kept = absurd (cc up)
   ends Between up u disk same kept = absurd u
 
-module _ {K E : Type 0} (is_honest : K → Bool) (content : K → List ℕ) (moment : K → ℕ) (image : K → ℕ → List ℕ → Type 0) (disk_faults : K → ℕ) (armings : K → Armings) (told : E → Option OctetSequence) (entropy_faults : E → ℕ)
-    (net : Network) (w : World) (v : ℕ) (old : Post K E) (m : MayCrash is_honest moment image told net w v old) where
+module _ {K E : Type 0} (disk_says : Disk.Ghosts K) (entropy_says : Entropy.Ghosts E)
+    (net : Network) (w : World) (v : ℕ) (old : Post K E) (m : MayCrash disk_says entropy_says net w v old) where
   abbrev Crashes : Post K E → Bool → Type 0
-  Crashes new was_up = HasCrashed is_honest moment image disk_faults armings told entropy_faults net w v old new was_up
+  Crashes new was_up = HasCrashed disk_says entropy_says net w v old new was_up
 
   abbrev SameCounts : Post K E → Post K E → Type 0
-  SameCounts p new = Counts disk_faults armings entropy_faults false false p new
+  SameCounts p new = Counts disk_says entropy_says false false p new
 
-  crashes : (new : Post K E) (was_up : Bool) (w' : World) → step net w (Crash v) ≡ (w', crashed was_up) → PostStands is_honest moment image told net w' v new → SameCounts old new → Crashes new was_up
+  crashes : (new : Post K E) (was_up : Bool) (w' : World) → step net w (Crash v) ≡ (w', crashed was_up) → PostStands disk_says entropy_says net w' v new → SameCounts old new → Crashes new was_up
   crashes new was_up w' is stands counts = record {
     may = and_both (is_enabled net w (Crash v)) true m.enabled refl;
     said = ap (λ (x : World × Outcome). x.1) is;
-    stands = subst (λ (x : World × Outcome). PostStands is_honest moment image told net x.0 v new) (sym is) stands;
+    stands = subst (λ (x : World × Outcome). PostStands disk_says entropy_says net x.0 v new) (sym is) stands;
     counts = counts;
   }
 
   -- A node that was down stays the same node.
-  stays : (new : Post K E) → old ≡ new → PostStands is_honest moment image told net w v new → w.up v ≡ false → Crashes new false
+  stays : (new : Post K E) → old ≡ new → PostStands disk_says entropy_says net w v new → w.up v ≡ false → Crashes new false
   stays new is stands down =
-      let d = post_disk is_honest moment image net w v told new stands in
+      let d = post_disk disk_says net w v entropy_says new stands in
       crashes new false w (says_down net w v down) stands
-      (subst (λ (p : Post K E). SameCounts p new) (sym is) (unchanged disk_faults armings entropy_faults new d.0 d.1))
+      (subst (λ (p : Post K E). SameCounts p new) (sym is) (unchanged disk_says entropy_says new d.0 d.1))
 
   pub crashed_up : (manager : ManagerForm K E) → old ≡ On manager → is_up manager.standing ≡ true → (disk : K) (entropy : E) → HasDisk (λ d. disk ≡ d) manager.standing → entropy ≡ manager.entropy →
-      WhereUp (λ j. IsTrue (is_honest disk) → IsKept j.live j.batches (content disk) (image disk (moment disk))) manager.standing → Crashes (Off disk entropy) true
+      WhereUp (λ j. IsTrue (disk_says.is_honest disk) → IsKept j.live j.batches (disk_says.content disk) (disk_says.image disk (disk_says.moment disk))) manager.standing → Crashes (Off disk entropy) true
   crashed_up manager is up disk entropy same drawn kept =
-      let h = subst (λ (p : Post K E). PostStands is_honest moment image told net w v p) is m.stands in
-      let e = ends is_honest content moment image net w v m.running manager.site manager.view manager.standing up h.standing disk same kept in
-      let left : EntropyStands told net w v entropy = subst (EntropyStands told net w v) (sym drawn) h.entropy in
+      let h = subst (λ (p : Post K E). PostStands disk_says entropy_says net w v p) is m.stands in
+      let e = ends disk_says net w v m.running manager.site manager.view manager.standing up h.standing disk same kept in
+      let left : EntropyStands entropy_says net w v entropy = subst (EntropyStands entropy_says net w v) (sym drawn) h.entropy in
       let d = disk_there (λ d. disk ≡ d) manager.standing same in
       let was : disk_in manager.standing ≡ Some disk = d.1 ∙ ap (λ (x : K). Some x) (sym d.2) in
       crashes (Off disk entropy) true (ended w v) (says_up net w v e.0) (record { rest = left.rest; tells = left.tells; left = left.left }, e.1)
@@ -125,17 +125,17 @@ module _ {K E : Type 0} (is_honest : K → Bool) (content : K → List ℕ) (mom
         now = disk;
         was = was;
         is = refl;
-        disk = still (disk_faults disk);
+        disk = still (disk_says.faults disk);
         arms = refl;
-        entropy = subst (λ (x : E). IsCounted false (entropy_faults manager.entropy) (entropy_faults x)) (sym drawn) (still (entropy_faults manager.entropy));
+        entropy = subst (λ (x : E). IsCounted false (entropy_says.faults manager.entropy) (entropy_says.faults x)) (sym drawn) (still (entropy_says.faults manager.entropy));
       }))
 
   pub crashed_down : (manager : ManagerForm K E) → old ≡ On manager → is_up manager.standing ≡ false → Crashes (On manager) false
   crashed_down manager is down =
-      let h = subst (λ (p : Post K E). PostStands is_honest moment image told net w v p) is m.stands in
-      stays (On manager) is h (down_is is_honest moment image net w v manager.site manager.view manager.standing down h.standing)
+      let h = subst (λ (p : Post K E). PostStands disk_says entropy_says net w v p) is m.stands in
+      stays (On manager) is h (down_is disk_says net w v manager.site manager.view manager.standing down h.standing)
 
   pub crashed_off : (disk : K) (entropy : E) → old ≡ Off disk entropy → Crashes (Off disk entropy) false
   crashed_off disk entropy is =
-      let h = subst (λ (p : Post K E). PostStands is_honest moment image told net w v p) is m.stands in
+      let h = subst (λ (p : Post K E). PostStands disk_says entropy_says net w v p) is m.stands in
       stays (Off disk entropy) is h h.1.down

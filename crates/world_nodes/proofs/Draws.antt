@@ -6,6 +6,7 @@ use Rattle.net_model.specs.World.{Network, World}
 use Rattle.source_devices.specs.Telling.{IsRest}
 use Rattle.kme_store.specs.Manager.{ComesNext, IsDrawn}
 use Rattle.world_nodes.specs.Stands.{EntropyStands}
+use Rattle.source_devices.specs.declared.entropy.Entropy as Entropy
 
 minus_twice : (end : Option ℕ) (n m : ℕ) → option_map (λ (e : ℕ). e - m) (option_map (λ (e : ℕ). e - n) end) ≡ option_map (λ (e : ℕ). e - (n + m)) end
 minus_twice None n m = refl
@@ -37,15 +38,15 @@ next_is : (told : Option OctetSequence) (rest next : OctetSequence) → told ≡
 next_is None rest next e h = absurd (cc e)
 next_is (Some t) rest next e h = let same : t ≡ rest = cc in sym same ∙ h
 
-module _ {E : Type 0} (told : E → Option OctetSequence) (net : Network) (w : World) (v : ℕ) (old : E) (h : EntropyStands told net w v old) where
+module _ {E : Type 0} (entropy_says : Entropy.Ghosts E) (net : Network) (w : World) (v : ℕ) (old : E) (h : EntropyStands entropy_says net w v old) where
   -- The octets that come next are the next ones of the node's entropy.
-  pub comes_next : (next : OctetSequence) → ComesNext (told old) next → IsRest (net.entropy v) (w.drawn v) next
-  comes_next next c = subst (λ (x : OctetSequence). IsRest (net.entropy v) (w.drawn v) x) (next_is (told old) h.rest next h.tells c) h.left
+  pub comes_next : (next : OctetSequence) → ComesNext (entropy_says.left old) next → IsRest (net.entropy v) (w.drawn v) next
+  comes_next next c = subst (λ (x : OctetSequence). IsRest (net.entropy v) (w.drawn v) x) (next_is (entropy_says.left old) h.rest next h.tells c) h.left
 
   -- This many octets were drawn.
-  pub drawn_on : (w' : World) (new : E) (octets : ℕ) → IsDrawn (told old) octets (told new) → w'.drawn v ≡ w.drawn v + octets → EntropyStands told net w' v new
+  pub drawn_on : (w' : World) (new : E) (octets : ℕ) → IsDrawn (entropy_says.left old) octets (entropy_says.left new) → w'.drawn v ≡ w.drawn v + octets → EntropyStands entropy_says net w' v new
   drawn_on w' new octets d same =
-      let l = left_of (told old) (told new) h.rest octets h.tells d in
+      let l = left_of (entropy_says.left old) (entropy_says.left new) h.rest octets h.tells d in
       record {
         rest = l.0;
         tells = l.1;

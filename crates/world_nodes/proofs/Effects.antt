@@ -1,47 +1,33 @@
 -- What an effect does to a post and to its node.
-use Rattle.std.proofs.Common.{◌≡◌, ◌⊎◌, inl, inr, ℕ, ◌+◌, ◌≤◌, Bool, true, false, not, IsTrue, List, [], ◌∷◌, ◌++◌, refl, sym, ap, subst, ◌∙◌, arith}
+use Rattle.std.proofs.Common.{◌≡◌, ◌⊎◌, inl, inr, ℕ, ◌+◌, Bool, true, false, not, IsTrue, List, [], ◌∷◌, ◌++◌, refl, sym, ap, subst, ◌∙◌, arith}
 use Rattle.std.specs.Prelude.{Option, Some, None}
-use Rattle.std.specs.List.{list_all}
-use Rattle.qkd_base.specs.Family.{number_set}
-use Rattle.net_model.specs.declared.event.Event.{Event}
 use Rattle.net_model.specs.declared.record.Record.{Record}
-use Rattle.net_model.specs.declared.reply.Reply.{Reply}
-use Rattle.net_model.specs.declared.reply.Reply.TheVariants as replies
-use Rattle.net_model.specs.OctetSequence.{OctetSequence}
 use Rattle.net_model.specs.World.{Network, World, Journal, InDoubt, no_volatile}
 use Rattle.net_model.specs.View.{View}
 use Rattle.net_model.specs.Needed.{view_of}
-use Rattle.net_model.specs.Journal.{added_len, is_blank, is_nil, extended}
-use Rattle.net_model.specs.Decision.{Does, Effect}
+use Rattle.net_model.specs.Journal.{added_len, is_blank, extended}
+use Rattle.net_model.specs.Decision.{Effect}
 use Rattle.net_model.specs.Fold.{view_after, view_batch}
-use Rattle.net_model.specs.Handle.{commit, stopped, handle}
+use Rattle.net_model.specs.Handle.{commit, stopped}
 use Rattle.net_model.specs.Start.{may_resolve, resolved_journal}
-use Rattle.net_model.specs.Action.{Environment, EntropyFault, IoFault, Outcome, Replies, Ok as Fine}
 use Rattle.declared_site.specs.SiteOf.{site_of}
 use Rattle.declared_site.specs.declared.site.Site.{Site as Declared}
-use Rattle.disk_model.specs.Images.{AtEachMoment}
 use Rattle.range_journal.specs.Header.{is_blank as is_blank_disk}
 use Rattle.journal_snapshot.specs.declared.live.Live.{Live}
 use Rattle.journal_snapshot.specs.Standing.{Holds}
-use Rattle.journal_snapshot.specs.Snapshots.{SnapshotForm, journal_of}
+use Rattle.journal_snapshot.specs.Snapshots.{SnapshotForm}
 use Rattle.law_base.proofs.Base.{number_set_same}
 use Rattle.law_recovery.specs.Fitting.{AllFit}
 use Rattle.law_recovery.proofs.Doubtful.{stopped_view, doubt_fits}
 use Rattle.kme_store.specs.Passed.{with_batch, batch_in_doubt, IsBody, IsSpelling}
 use Rattle.kme_store.proofs.Passed.{body_written, body_with, body_in_doubt}
-use Rattle.kme_store.specs.Course.{Course, Stays, Stops, Goes, course, in_world}
-use Rattle.kme_store.specs.Manager.{ManagerForm, IsUpWith, IsDownWith, HasDisk, Keeps, Writes, IsAdded, HasBodyIn, HasStayed, HasStopped, HasGone, IsAfter, Answers, Acts}
-use Rattle.kme_store.specs.declared.manager_state.Standing.{Standing}
-use Rattle.kme_store.specs.declared.manager_state.Standing.TheVariants.{Up, Down, Between}
-use Rattle.kme_store.specs.declared.post.Post.TheVariants.{On}
-use Rattle.kme_store.proofs.Courses.{asks}
+use Rattle.kme_store.specs.Manager.{Writes, IsAdded, HasBodyIn}
 use Rattle.law_recovery.specs.Starting.{resolved_view}
 use Rattle.world_nodes.specs.LaneStands.{IsRunning}
-use Rattle.world_nodes.specs.Stands.{EntropyStands, HasStory, UpStands, journal_with, IsBehind, HoldsJournal, HoldsNothing, DownStands, StandingStands, ManagerStands}
-use Rattle.world_nodes.proofs.Draws.{comes_next, drawn_on}
+use Rattle.world_nodes.specs.Stands.{HasStory, UpStands, journal_with, IsBehind, HoldsJournal, DownStands}
 use Rattle.world_nodes.proofs.Images.{journal_read}
 use Rattle.world_nodes.proofs.Stories.{effect_told, batch_told, life_told, journal_more, read_without, read_with}
-use Rattle.world_nodes.proofs.Takes.{goes_as_decided}
+use Rattle.disk_model.specs.declared.disk.Disk as Disk
 
 -- what an effect changes of a node
 
@@ -73,12 +59,12 @@ stopped_doubt : (w : World) (v octets : ℕ) (e : Effect) → (stopped w v octet
 unfolding stopped
 stopped_doubt w v octets e = number_set_same w.in_doubt v (record { batch = e.batch; checkpointed = None })
 
-module _ {K : Type 0} (is_honest : K → Bool) (moment : K → ℕ) (image : K → ℕ → List ℕ → Type 0) (net : Network) (w : World) (v : ℕ) (r : IsRunning net w) where
-  module _ (site : Declared) (view : View) (journal : SnapshotForm K) (u : UpStands is_honest net w v site view journal) where
+module _ {K : Type 0} (disk_says : Disk.Ghosts K) (net : Network) (w : World) (v : ℕ) (r : IsRunning net w) where
+  module _ (site : Declared) (view : View) (journal : SnapshotForm K) (u : UpStands disk_says net w v site view journal) where
     -- The manager stays up with the same journal.
 
-    pub kept_up : (site' : Declared) (view' : View) (j : SnapshotForm K) → site' ≡ site → view' ≡ view → j.live ≡ journal.live → j.batches ≡ journal.batches → is_honest j.disk ≡ is_honest journal.disk →
-        UpStands is_honest net w v site' view' j
+    pub kept_up : (site' : Declared) (view' : View) (j : SnapshotForm K) → site' ≡ site → view' ≡ view → j.live ≡ journal.live → j.batches ≡ journal.batches → disk_says.is_honest j.disk ≡ disk_says.is_honest journal.disk →
+        UpStands disk_says net w v site' view' j
     kept_up site' view' j same_site same_view live batches honest = record {
       up = u.up;
       sited = ap (λ (s : Declared). site_of s) same_site ∙ u.sited;
@@ -93,7 +79,7 @@ module _ {K : Type 0} (is_honest : K → Bool) (moment : K → ℕ) (image : K �
     -- The effect takes place.
 
     pub gone_up : (octets : ℕ) (e : Effect) (site' : Declared) (view' : View) (j : SnapshotForm K) → site' ≡ site → view' ≡ view_after view e → IsAdded journal e.batch j → HasBodyIn journal.live.version e.batch →
-        is_honest j.disk ≡ is_honest journal.disk → view_of net (commit net.site w v octets e) v ≡ view_after (view_of net w v) e → UpStands is_honest net (commit net.site w v octets e) v site' view' j
+        disk_says.is_honest j.disk ≡ disk_says.is_honest journal.disk → view_of net (commit net.site w v octets e) v ≡ view_after (view_of net w v) e → UpStands disk_says net (commit net.site w v octets e) v site' view' j
     gone_up octets e site' view' j same_site same_view a spelled honest goes = record {
       up = commit_up net w v octets e ∙ u.up;
       sited = ap (λ (s : Declared). site_of s) same_site ∙ u.sited;
@@ -198,13 +184,13 @@ module _ {K : Type 0} (is_honest : K → Bool) (moment : K → ℕ) (image : K �
       one_more None none i plain_disk holds = without [] (inl refl) i plain_disk (subst (λ (b : List Record). Holds journal.live (with_batch version journal.batches b) [] i) none holds)
       one_more (Some body) s i plain_disk holds = with' body s i plain_disk holds
 
-      pub stopped_down : (disk : K) → Writes is_honest moment image journal e.batch disk → HasBodyIn journal.live.version e.batch → is_honest disk ≡ is_honest journal.disk → AllFit net (view_of net w v) e.batch →
-          DownStands is_honest moment image net after v disk
+      pub stopped_down : (disk : K) → Writes disk_says journal e.batch disk → HasBodyIn journal.live.version e.batch → disk_says.is_honest disk ≡ disk_says.is_honest journal.disk → AllFit net (view_of net w v) e.batch →
+          DownStands disk_says net after v disk
       stopped_down disk writes spelled honest fits = record {
         fits = doubt_fits net w v octets e fits;
         down = stopped_up w v octets e;
         honest = subst (λ (b : Bool). IsTrue b) (sym honest) u.honest;
-        images = λ i is. let either = writes.each (moment disk) i writes.later (omega arith) is u.honest in
+        images = λ i is. let either = writes.each (disk_says.moment disk) i writes.later (omega arith) is u.honest in
             inl (elim either.1 [
               | inl was ↦ without (batch_in_doubt version e.batch) (behind spelled.0 spelled.1) i either.0 was
               | inr more ↦ one_more spelled.0 spelled.1 i either.0 more

@@ -37,8 +37,9 @@ use Rattle.world_nodes.specs.LaneStands.{LaneStands}
 use Rattle.world_nodes.specs.Emitting.{wire_answer, wire_outcome, offset_of, order_placing, with_placing, MayEmit, emission, Emitted}
 use Rattle.world_nodes.proofs.Puts.{two_steps, sent_offset, is_put, is_enabled_put, is_seen}
 use Rattle.world_nodes.proofs.Wires.{found_last, burnt-both, none_burnt, KeepsOctets, added, IsNumbered, numbered, IsNext, is_next, wire_more}
+use Rattle.source_devices.specs.declared.wire.Wire as Wire
 
-module _ {X : Type 0} (frames : X → Option (List (List ℕ))) (counted : X → ℕ) (net : Network) (w : World) (side : LaneForm X) (lease : ℕ) (order : Order) (m : MayEmit frames counted net w side lease order) where
+module _ {X : Type 0} (wire_says : Wire.Ghosts X) (net : Network) (w : World) (side : LaneForm X) (lease : ℕ) (order : Order) (m : MayEmit wire_says net w side lease order) where
   abbrev l : Lane
   l = order.lane
 
@@ -172,9 +173,9 @@ module _ {X : Type 0} (frames : X → Option (List (List ℕ))) (counted : X →
         ∙ slice_get-append_left (w.frames l) (a ∷ []) i ((m.running.conserved.wired l).wired n i there))
 
     module _ (new : LaneForm X) (lane : (new.lane ≡ side.lane) × (new.bytes ≡ side.bytes)) (ledger : new.ledger ≡ claimed (frame_need order.payload) (record (side.ledger) { end = lease }))
-        (takes : TakesFrame (frames side.wire) (frames new.wire) answer (next_frame side order.payload)) (number : IsNumbered answer (counted side.wire) (counted new.wire))
+        (takes : TakesFrame (wire_says.frames side.wire) (wire_says.frames new.wire) answer (next_frame side order.payload)) (number : IsNumbered answer (wire_says.counted side.wire) (wire_says.counted new.wire))
         (is : s ≡ sent_frame side.ledger.used (next_frame side order.payload) answer) where
-      stands_after : LaneStands frames counted net then' l new
+      stands_after : LaneStands wire_says net then' l new
       stands_after = record {
         lane = lane.0 ∙ m.stands.lane;
         bytes = lane.1 ∙ m.stands.bytes;
@@ -186,15 +187,15 @@ module _ {X : Type 0} (frames : X → Option (List (List ℕ))) (counted : X →
             ∙ omega (arith, burnt-both (w.durable.own l) spent, none_burnt (need w.durable.facts t.item) j)
             ∙ ap (count_by is_burnt) (sym (lane_set_same w.durable.own l (w.durable.own l ++ spent)));
         end = omega (arith, ap (λ (g : Ledger). g.end) ledger, m.leased);
-        wire = wire_more frames counted net w then' l side.wire new.wire m.stands.wire keeps answer j (next_frame side order.payload)
+        wire = wire_more wire_says net w then' l side.wire new.wire m.stands.wire keeps answer j (next_frame side order.payload)
             (ap (frame_octets net w l) stands_there ∙ framed) (lane_set_same w.wire l (added answer (w.wire l) j)) takes number;
       }
 
       -- The number that the wire gives is the next one.
       next : IsNext answer (length (w.wire l))
-      next = is_next answer (counted side.wire) (counted new.wire) (length (w.wire l)) number m.stands.wire.count
+      next = is_next answer (wire_says.counted side.wire) (wire_says.counted new.wire) (length (w.wire l)) number m.stands.wire.count
 
-      pub emitted_as : Emitted frames counted net w new order s
+      pub emitted_as : Emitted wire_says net w new order s
       emitted_as =
           let made = steps answer next in
           let p : Placing = placing_of net after l o (numbered answer (length (w.wire l))) in
@@ -202,7 +203,7 @@ module _ {X : Type 0} (frames : X → Option (List (List ℕ))) (counted : X →
           record {
             may = made.0;
             said = made.2 ∙ ap (λ (n : ℕ). Allocated n ∷ wire_outcome answer ∷ []) (sym (ap offset_of is ∙ sent_offset side.ledger.used (next_frame side order.payload) answer ∙ m.stands.used));
-            stands = subst (λ (x : World). LaneStands frames counted net x l new) (sym made.1) stands_after;
+            stands = subst (λ (x : World). LaneStands wire_says net x l new) (sym made.1) stands_after;
             placed = ap (λ (x : World). x.placings) made.1 ∙ ap (with_placing net w) placed;
           }
 
@@ -214,12 +215,12 @@ module _ {X : Type 0} (frames : X → Option (List (List ℕ))) (counted : X →
   reaches_raised r e = subst (λ (x : LaneForm X). x.ledger.used + frame_need order.payload ≤ x.ledger.end) (sym e) reaches
 
   pub emitted_raised : (r new : LaneForm X) (s : Sent) → r ≡ raised → (new.lane ≡ r.lane) × (new.bytes ≡ r.bytes) → new.ledger ≡ claimed (frame_need order.payload) r.ledger →
-      TakesFrame (frames r.wire) (frames new.wire) (answer_of s) (next_frame r order.payload) → IsNumbered (answer_of s) (counted r.wire) (counted new.wire) →
-      s ≡ sent_frame r.ledger.used (next_frame r order.payload) (answer_of s) → Emitted frames counted net w new order s
+      TakesFrame (wire_says.frames r.wire) (wire_says.frames new.wire) (answer_of s) (next_frame r order.payload) → IsNumbered (answer_of s) (wire_says.counted r.wire) (wire_says.counted new.wire) →
+      s ≡ sent_frame r.ledger.used (next_frame r order.payload) (answer_of s) → Emitted wire_says net w new order s
   emitted_raised r new s e lane ledger takes number is =
       emitted_as s new
       (lane.0 ∙ ap (λ (x : LaneForm X). x.lane) e, lane.1 ∙ ap (λ (x : LaneForm X). x.bytes) e)
       (ledger ∙ ap (λ (x : LaneForm X). claimed (frame_need order.payload) x.ledger) e)
-      (subst (λ (x : LaneForm X). TakesFrame (frames x.wire) (frames new.wire) (answer_of s) (next_frame x order.payload)) e takes)
-      (subst (λ (x : LaneForm X). IsNumbered (answer_of s) (counted x.wire) (counted new.wire)) e number)
+      (subst (λ (x : LaneForm X). TakesFrame (wire_says.frames x.wire) (wire_says.frames new.wire) (answer_of s) (next_frame x order.payload)) e takes)
+      (subst (λ (x : LaneForm X). IsNumbered (answer_of s) (wire_says.counted x.wire) (wire_says.counted new.wire)) e number)
       (is ∙ ap (λ (x : LaneForm X). sent_frame x.ledger.used (next_frame x order.payload) (answer_of s)) e)

@@ -1,20 +1,20 @@
 -- A disk is foreign only if a start was stopped before any start succeeded.
-use Rattle.std.proofs.Common.{◌≡◌, ◌≢◌, ◌⊎◌, ◌≤◌, ◌<◌, inl, inr, ℕ, ◌+◌, Bool, true, false, List, [], ◌∷◌, ◌++◌, length, take, drop, refl, sym, ap, subst, ◌∙◌, arith, Some, length-append}
+use Rattle.std.proofs.Common.{◌≡◌, ◌⊎◌, ◌<◌, inl, inr, ℕ, ◌+◌, true, false, List, [], ◌∷◌, ◌++◌, length, drop, refl, sym, ap, subst, ◌∙◌, arith, Some, length-append}
 use Rattle.std.specs.Prelude.{slice_index, slice_get}
-use Rattle.std.proofs.lemmas.Bool.{false≢true, cases_eq}
+use Rattle.std.proofs.lemmas.Bool.{false≢true}
 use Rattle.std.proofs.lemmas.List.{get_or_append_left}
 use Rattle.net_model.specs.World.{Network, World}
 use Rattle.net_model.specs.Journal.{is_blank}
-use Rattle.range_journal.specs.Batches.{spelled, Stands}
-use Rattle.range_journal.specs.Header.{magic, new_header, is_blank as is_blank_disk, IsHeaded, HasOtherHead}
-use Rattle.range_journal.specs.Reading.{IsForeign, IsForeignAt}
+use Rattle.range_journal.specs.Batches.{spelled}
+use Rattle.range_journal.specs.Header.{new_header, is_blank as is_blank_disk, HasOtherHead}
+use Rattle.range_journal.specs.Reading.{IsForeignAt}
 use Rattle.journal_snapshot.specs.declared.live.Live.{Live}
 use Rattle.journal_snapshot.specs.Standing.{HasBatches, new_live}
 use Rattle.journal_snapshot.specs.Opening.{IsOpened, IsRefusedAt}
 use Rattle.journal_snapshot.proofs.Once.{not_refused, holds_stands}
-use Rattle.journal_snapshot.proofs.Standings.{batches_of, new_closed, new_holds}
+use Rattle.journal_snapshot.proofs.Standings.{batches_of, new_closed}
 use Rattle.kme_store.specs.Passed.{IsUnreadable}
-use Rattle.world_nodes.specs.Stands.{HasStory, HoldsJournal, HoldsCheckpoint, IsUnused, HoldsNothing, MayFind}
+use Rattle.world_nodes.specs.Stands.{HasStory, IsUnused, HoldsNothing, MayFind}
 use Rattle.world_nodes.proofs.Found.{opened_is, is_readable}
 use Rattle.world_nodes.proofs.Halts.{new_opened, checkpoint_plain}
 

@@ -1,6 +1,6 @@
 -- What an opening finds on an image.
-use Rattle.std.proofs.Common.{◌≡◌, ◌≢◌, ◌⊎◌, ◌≤◌, ◌<◌, inl, inr, ℕ, zero, suc, ◌+◌, Bool, true, false, List, [], ◌∷◌, ◌++◌, length, take, drop, map, refl, sym, ap, subst, ◌∙◌, arith, Some, Ok, length-append, length-take}
-use Rattle.std.specs.Prelude.{slice_get, nat_le, not, ◌&&◌, Result}
+use Rattle.std.proofs.Common.{◌≡◌, ◌≤◌, ◌<◌, inl, inr, ℕ, zero, suc, Bool, true, false, List, [], ◌∷◌, ◌++◌, length, take, map, refl, sym, ap, subst, ◌∙◌, arith, Some, Ok, length-append}
+use Rattle.std.specs.Prelude.{slice_get, nat_le, not, ◌&&◌}
 use Rattle.std.specs.List.{All}
 use Rattle.std.proofs.lemmas.List.Elements.{All-tail}
 use Rattle.std.proofs.lemmas.Bool.{false≢true}
@@ -9,20 +9,18 @@ use Rattle.net_model.specs.declared.record.Record.{Record}
 use Rattle.net_model.specs.Site.{Site}
 use Rattle.net_model.specs.View.{View}
 use Rattle.net_model.specs.Fold.{view_restarted, recovered_view}
-use Rattle.range_journal.specs.Batches.{spelled, Stands, StandsBefore, length_of}
+use Rattle.range_journal.specs.Batches.{spelled, Stands}
 use Rattle.range_journal.specs.Header.{new_header, is_blank}
-use Rattle.journal_records.specs.Grammar.{IsBatch, body_octets}
+use Rattle.journal_records.specs.Grammar.{IsBatch}
 use Rattle.journal_records.specs.Layout.{batch_of}
-use Rattle.journal_records.specs.declared.record_refusal.RecordRefusal.{RecordRefusal}
 use Rattle.journal_records.proofs.Bodies.{batch_again}
-use Rattle.journal_snapshot.specs.declared.area.Area.{Area}
 use Rattle.journal_snapshot.specs.declared.live.Live.{Live}
-use Rattle.journal_snapshot.specs.Layout.{area_of, live_of, is_moved}
+use Rattle.journal_snapshot.specs.Layout.{live_of, is_moved}
 use Rattle.journal_snapshot.specs.Standing.{HasBatches, Holds, new_live}
-use Rattle.journal_snapshot.specs.Opening.{IsOpened, IsRefusedAt}
+use Rattle.journal_snapshot.specs.Opening.{IsOpened}
 use Rattle.journal_snapshot.specs.Snapshots.{SnapshotForm}
 use Rattle.journal_snapshot.proofs.Fronts.{start_floor}
-use Rattle.journal_snapshot.proofs.Once.{opened_again, not_refused, holds_stands}
+use Rattle.journal_snapshot.proofs.Once.{opened_again}
 use Rattle.journal_snapshot.proofs.Standings.{batches_of, stands_long, new_says}
 use Rattle.kme_store.specs.Passed.{body, version_named, IsReadAs, AreReadAs, GivesBack, IsUnreadable}
 use Rattle.world_nodes.specs.Stands.{HasStory}

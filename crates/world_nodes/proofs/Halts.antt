@@ -1,8 +1,8 @@
 -- What a stopped start leaves is something that a later start may find.
-use Rattle.std.proofs.Common.{◌≡◌, ◌⊎◌, inl, inr, ℕ, ◌+◌, Bool, true, false, List, [], ◌∷◌, ◌++◌, length, refl, sym, ap, subst, ◌∙◌, arith, Option, Some, Result, length-append}
+use Rattle.std.proofs.Common.{◌≡◌, ◌⊎◌, inl, inr, ℕ, ◌+◌, Bool, true, false, List, [], ◌∷◌, ◌++◌, length, refl, sym, ap, subst, ◌∙◌, arith, Some, Result, length-append}
 use Rattle.std.specs.Prelude.{if◌then◌else◌}
 use Rattle.std.proofs.lemmas.Bool.{false≢true}
-use Rattle.net_model.specs.World.{Network, World, Journal, InDoubt, no_doubt}
+use Rattle.net_model.specs.World.{Network, World, Journal, InDoubt}
 use Rattle.net_model.specs.View.{View}
 use Rattle.net_model.specs.Needed.{view_of}
 use Rattle.net_model.specs.Journal.{is_blank, new_journal, checkpoint_batches, checkpoint_need, checkpoint_place, checkpointed, is_checkpoint_due}
@@ -17,12 +17,12 @@ use Rattle.journal_snapshot.specs.declared.area.Area.TheVariants.{Header, Field,
 use Rattle.journal_snapshot.specs.declared.live.Live.{Live}
 use Rattle.journal_snapshot.specs.Layout.{next_area, is_moved}
 use Rattle.journal_snapshot.specs.Standing.{Holds, new_live}
-use Rattle.journal_snapshot.specs.Opening.{IsClosing, IsOpening, IsOpened}
+use Rattle.journal_snapshot.specs.Opening.{IsClosing, IsOpened}
 use Rattle.journal_snapshot.specs.Snapshots.{SnapshotForm, journal_of, moved_to}
 use Rattle.journal_snapshot.proofs.Areas.{need_is}
 use Rattle.journal_snapshot.proofs.Once.{opened_again}
 use Rattle.journal_snapshot.proofs.Standings.{batches_of, closing_holds, closing_plain, new_closing}
-use Rattle.kme_store.specs.Passed.{AreReadAs, checkpoint_bodies, GivesBack, HasCheckpoint, HasRead, IsAfter, Recovered, RecoverRefusal}
+use Rattle.kme_store.specs.Passed.{checkpoint_bodies, GivesBack, HasCheckpoint, HasRead, IsAfter, Recovered, RecoverRefusal}
 use Rattle.kme_store.proofs.Passed.{bodies_need}
 use Rattle.law_recovery.proofs.Restarting.{restarted_twice, recovered_restarts}
 use Rattle.law_recovery.proofs.Checkpoint.{checkpoint_given, same_need}

@@ -1,9 +1,9 @@
 -- A frame of a lane's wire comes to the lane's receiver.
-use Rattle.std.proofs.Common.{◌≡◌, ℕ, ◌+◌, ◌<◌, ◌≤◌, Bool, true, false, not, ◌||◌, List, refl, sym, ap, subst, ◌∙◌, arith}
-use Rattle.std.specs.Prelude.{◌==◌, nat_lt, slice_get, Option, Some, None, if◌then◌else◌}
+use Rattle.std.proofs.Common.{◌≡◌, ℕ, ◌+◌, ◌<◌, ◌≤◌, Bool, true, false, not, List, refl, sym, ap, subst, ◌∙◌, arith}
+use Rattle.std.specs.Prelude.{◌==◌, nat_lt, slice_get, Option, Some, if◌then◌else◌}
 use Rattle.std.specs.List.{list_all}
 use Rattle.std.proofs.lemmas.Bool.Decides.{nat_tests}
-use Rattle.qkd_base.specs.Lane.{reverse_lane, reverse_way}
+use Rattle.qkd_base.specs.Lane.{reverse_way}
 use Rattle.qkd_base.specs.LaneBytes.{lane_octets}
 use Rattle.qkd_base.specs.declared.lane.Way.{Way}
 use Rattle.qkd_base.specs.declared.lane.Way.TheVariants.{Up, Down}
@@ -21,7 +21,7 @@ use Rattle.net_model.specs.View.{View, port_of, incoming_octets}
 use Rattle.net_model.specs.Needed.{view_of}
 use Rattle.net_model.specs.Knowledge.{MayCarry}
 use Rattle.net_model.specs.Relay.{receive}
-use Rattle.net_model.specs.Decision.{Refuses, Does, Effect}
+use Rattle.net_model.specs.Decision.{Does, Effect}
 use Rattle.net_model.specs.Decide.{decide, random_need, received_frame}
 use Rattle.net_model.specs.Events.{is_lane}
 use Rattle.net_model.specs.Fold.{view_after}

@@ -1,5 +1,5 @@
 -- A lane in a world that goes on, with as many blocks or with one more.
-use Rattle.std.proofs.Common.{◌≡◌, ℕ, zero, suc, ◌+◌, ◌<◌, ◌≤◌, true, false, List, [], ◌∷◌, length, refl, sym, ◌∙◌, ap, subst, arith, Option, Some}
+use Rattle.std.proofs.Common.{◌≡◌, ℕ, zero, suc, ◌+◌, ◌<◌, ◌≤◌, true, false, List, [], ◌∷◌, length, refl, sym, ◌∙◌, ap, subst, arith, Some}
 use Rattle.std.specs.Prelude.{slice_get, count_by, if◌then◌else◌}
 use Rattle.std.specs.List.{list_any}
 use Rattle.qkd_base.specs.Lane.{lane_eq}
@@ -25,6 +25,7 @@ use Rattle.law_base.proofs.Lists.{lane_set_same}
 use Rattle.world_nodes.specs.LaneStands.{IsRunning, LaneStands}
 use Rattle.world_nodes.specs.Going.{GoesOn, IsReplayed, brings}
 use Rattle.world_nodes.proofs.Wires.{KeepsOctets, wire_kept}
+use Rattle.source_devices.specs.declared.wire.Wire as Wire
 
 pub get_within : {A : Type 0} (xs : List A) (i : ℕ) → i < length xs → (x : A) × (slice_get xs i ≡ Some x)
 get_within [] i h = absurd (omega arith)
@@ -60,16 +61,16 @@ module _ (net : Network) (w w' : World) (r : IsRunning net w) (l : Lane) (at : i
       ap (frame_octets net w' l) (frames i a.0 a.1) ∙ sym (of_blocks a.0) ∙ octets_stay net w r.network r.conserved grown outgrows l i a.0 at a.1
       ∙ ap (frame_octets net w l) (sym a.1)
 
-pub goes_on : {X : Type 0} (frames : X → Option (List (List ℕ))) (counted : X → ℕ) (net : Network) (w w' : World) (l : Lane) (side : LaneForm X) → IsRunning net w → is_lane net.site l ≡ true →
-    GoesOn w w' l → LaneStands frames counted net w l side → LaneStands frames counted net w' l side
-goes_on frames counted net w w' l side r at g s = record {
+pub goes_on : {X : Type 0} (wire_says : Wire.Ghosts X) (net : Network) (w w' : World) (l : Lane) (side : LaneForm X) → IsRunning net w → is_lane net.site l ≡ true →
+    GoesOn w w' l → LaneStands wire_says net w l side → LaneStands wire_says net w' l side
+goes_on wire_says net w w' l side r at g s = record {
   lane = s.lane;
   bytes = s.bytes ∙ ap (λ (n : ℕ). lane_octets l.way (first_blocks (net.device l.link) n)) (sym g.blocks);
   received = s.received ∙ ap (lane_len l.way) (sym g.blocks);
   used = s.used ∙ ap length (sym g.own);
   burnt = s.burnt ∙ ap (count_by is_burnt) (sym g.own);
   end = omega (arith, s.end, g.lease);
-  wire = wire_kept frames counted net w w' l side.wire side.wire s.wire (octets_kept net w w' r l at g.facts (omega (arith, g.blocks)) g.frames) g.wire refl;
+  wire = wire_kept wire_says net w w' l side.wire side.wire s.wire (octets_kept net w w' r l at g.facts (omega (arith, g.blocks)) g.frames) g.wire refl;
 }
 
 -- batches

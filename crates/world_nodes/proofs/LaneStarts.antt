@@ -21,6 +21,7 @@ use Rattle.law_base.proofs.Lists.{burnt_length}
 use Rattle.world_nodes.specs.LaneStands.{IsRunning, spelled_wire, LaneStands}
 use Rattle.world_nodes.specs.Going.{IsReplayed, made, MayRestart}
 use Rattle.world_nodes.proofs.Wires.{burnt-both, all_burnt}
+use Rattle.source_devices.specs.declared.wire.Wire as Wire
 
 -- the beginning
 
@@ -41,11 +42,11 @@ told_none : (told : Option (List (List ℕ))) (n : ℕ) → IfSome told (λ all.
 told_none None n counted nothing = tt
 told_none (Some all) n counted nothing = no_frames all (counted ∙ nothing)
 
-pub begins : {X : Type 0} (frames : X → Option (List (List ℕ))) (counted : X → ℕ) (net : Network) (lane : Lane) (wire : X) → IfSome (frames wire) (λ all. length all ≡ counted wire) → counted wire ≡ 0 → is_some (frames wire) ≡ true →
-    (side : LaneForm X) → side ≡ record { lane = lane; bytes = []; ledger = record { used = 0; end = 0; received = 0; burnt = 0 }; wire = wire } → LaneStands frames counted net first lane side
+pub begins : {X : Type 0} (wire_says : Wire.Ghosts X) (net : Network) (lane : Lane) (wire : X) → IfSome (wire_says.frames wire) (λ all. length all ≡ wire_says.counted wire) → wire_says.counted wire ≡ 0 → is_some (wire_says.frames wire) ≡ true →
+    (side : LaneForm X) → side ≡ record { lane = lane; bytes = []; ledger = record { used = 0; end = 0; received = 0; burnt = 0 }; wire = wire } → LaneStands wire_says net first lane side
 unfolding first first_blocks
-begins frames counted net lane wire all none tells side is =
-    subst (LaneStands frames counted net first lane) (sym is)
+begins wire_says net lane wire all none tells side is =
+    subst (LaneStands wire_says net first lane) (sym is)
     (record {
       lane = refl;
       bytes = sym (none_sent lane.way);
@@ -53,7 +54,7 @@ begins frames counted net lane wire all none tells side is =
       used = refl;
       burnt = refl;
       end = omega arith;
-      wire = record { count = none; tells = tells; told = told_none (frames wire) (counted wire) all none };
+      wire = record { count = none; tells = tells; told = told_none (wire_says.frames wire) (wire_says.counted wire) all none };
     })
 
 -- before a start
@@ -68,7 +69,7 @@ room_as : (net : Network) (w : World) (v : ℕ) (committed : Bool) → IsRunning
 room_as net w v true r l = (replay_keeps net.site w.durable w.frames w.unclaimed r.conserved.now v (w.in_doubt v).batch (r.conserved.doubts v)).room l
 room_as net w v false r l = r.conserved.now.room l
 
-module _ {X : Type 0} (frames : X → Option (List (List ℕ))) (counted : X → ℕ) (net : Network) (w : World) (committed : Bool) (side : LaneForm X) (lease : ℕ) (m : MayRestart frames counted net w committed side lease) where
+module _ {X : Type 0} (wire_says : Wire.Ghosts X) (net : Network) (w : World) (committed : Bool) (side : LaneForm X) (lease : ℕ) (m : MayRestart wire_says net w committed side lease) where
   abbrev l : Lane
   l = side.lane
 
@@ -98,10 +99,10 @@ module _ {X : Type 0} (frames : X → Option (List (List ℕ))) (counted : X →
   unfolding restarted
   same_octets l = refl
 
-  pub stands_again : (new : LaneForm X) → new ≡ record side { ledger = ledger_burnt_to lease side.ledger } → LaneStands frames counted net (restarted net here v) l new
+  pub stands_again : (new : LaneForm X) → new ≡ record side { ledger = ledger_burnt_to lease side.ledger } → LaneStands wire_says net (restarted net here v) l new
   unfolding restarted
   stands_again new is =
-      subst (LaneStands frames counted net (restarted net here v) l) (sym is)
+      subst (LaneStands wire_says net (restarted net here v) l) (sym is)
       (record {
         lane = m.stands.lane;
         bytes = m.stands.bytes;

@@ -1,12 +1,11 @@
 -- A node notes what became of its frames.
 use Rattle.std.proofs.Common.{◌≡◌, ℕ, ◌+◌, Bool, true, false, List, [], refl, sym, ap, subst, ◌∙◌}
-use Rattle.std.specs.Prelude.{nat_lt, Option, if◌then◌else◌}
+use Rattle.std.specs.Prelude.{nat_lt, if◌then◌else◌}
 use Rattle.qkd_base.specs.Family.{number_set}
 use Rattle.net_model.specs.declared.event.Event.TheVariants.{Note}
 use Rattle.net_model.specs.declared.placing.Placing.{Placing}
 use Rattle.net_model.specs.declared.reply.Reply.{Reply}
 use Rattle.net_model.specs.declared.reply.Reply.TheVariants as replies
-use Rattle.net_model.specs.OctetSequence.{OctetSequence}
 use Rattle.net_model.specs.World.{Network, World}
 use Rattle.net_model.specs.Needed.{view_of}
 use Rattle.net_model.specs.Journal.{journal_limit}
@@ -16,7 +15,6 @@ use Rattle.net_model.specs.Decide.{decide, random_need}
 use Rattle.net_model.specs.Handle.{commit, perform, handle}
 use Rattle.net_model.specs.Action.{Environment, OutOfMemory, EntropyFault, IoFault, DeviceFault, Outcome, Replies, Complete, is_entropy_fault, is_io_fault, is_shown, Ok as Fine}
 use Rattle.net_model.specs.Step.{step, is_enabled}
-use Rattle.disk_model.specs.declared.arm.Armings.{Armings}
 use Rattle.law_base.proofs.Base.{and_both}
 use Rattle.law_locality.specs.Touched.{ManagerStays}
 use Rattle.law_recovery.proofs.Asked.{note_goes}
@@ -28,6 +26,8 @@ use Rattle.world_nodes.specs.Noting.{MayNote, HasNoted, is_memory}
 use Rattle.world_nodes.specs.Counts.{Counts}
 use Rattle.world_nodes.proofs.Events.{down_says}
 use Rattle.world_nodes.proofs.Going.{post_on}
+use Rattle.disk_model.specs.declared.disk.Disk as Disk
+use Rattle.source_devices.specs.declared.entropy.Entropy as Entropy
 
 wants : Outcome → Bool
 wants (Replies reply) = is_memory reply
@@ -129,9 +129,9 @@ completes : (net : Network) (w : World) (v : ℕ) → step net w (Complete v) �
 unfolding step
 completes net w v = refl
 
-module _ {K E : Type 0} (is_honest : K → Bool) (moment : K → ℕ) (image : K → ℕ → List ℕ → Type 0) (told : E → Option OctetSequence)
-    (net : Network) (w : World) (v : ℕ) (old : Post K E) (placings : List Placing) (up : ℕ) (m : MayNote is_honest moment image told net w v old placings up) where
-  pub may_handle : MayHandle is_honest moment image told net w v old (Note placings) up
+module _ {K E : Type 0} (disk_says : Disk.Ghosts K) (entropy_says : Entropy.Ghosts E)
+    (net : Network) (w : World) (v : ℕ) (old : Post K E) (placings : List Placing) (up : ℕ) (m : MayNote disk_says entropy_says net w v old placings up) where
+  pub may_handle : MayHandle disk_says entropy_says net w v old (Note placings) up
   may_handle = record {
     running = m.running;
     stands = m.stands;
@@ -141,18 +141,18 @@ module _ {K E : Type 0} (is_honest : K → Bool) (moment : K → ℕ) (image : K
     links = m.links;
   }
 
-  module _ (disk_faults : K → ℕ) (armings : K → Armings) (entropy_faults : E → ℕ) (new : Post K E) (reply : Reply) (h : Handled is_honest moment image disk_faults armings told entropy_faults net w v (Note placings) old new reply) where
+  module _ (new : Post K E) (reply : Reply) (h : Handled disk_says entropy_says net w v (Note placings) old new reply) where
     abbrev Stands : World → Type 0
-    Stands x = PostStands is_honest moment image told net x v new
+    Stands x = PostStands disk_says entropy_says net x v new
 
     -- The note raises no count of faults, and leaves the disk armed as it was.
-    pub counts : Counts disk_faults armings entropy_faults false false old new
+    pub counts : Counts disk_says entropy_says false false old new
     counts =
         let none = no_fault net w v placings reply h.environment h.said h.shown in
-        subst (λ (f : Bool). Counts disk_faults armings entropy_faults f false old new) none.0
-        (subst (λ (f : Bool). Counts disk_faults armings entropy_faults (is_io_fault h.environment) f old new) none.1 h.counts)
+        subst (λ (f : Bool). Counts disk_says entropy_says f false old new) none.0
+        (subst (λ (f : Bool). Counts disk_says entropy_says (is_io_fault h.environment) f old new) none.1 h.counts)
 
-    pub has_noted : is_memory reply ≡ false → HasNoted is_honest moment image disk_faults armings told entropy_faults net w v old new reply
+    pub has_noted : is_memory reply ≡ false → HasNoted disk_says entropy_says net w v old new reply
     has_noted isnt =
         let here : handle net w v (Note placings) h.environment ≡ handle net w v (Note (w.placings v)) Fine =
         as_fine net w v placings reply h.environment h.said (w.up v) refl isnt ∙ ap (λ (ps : List Placing). handle net w v (Note ps) Fine) m.are in
@@ -162,7 +162,7 @@ module _ {K E : Type 0} (is_honest : K → Bool) (moment : K → ℕ) (image : K
           may = and_both (is_enabled net w (Complete v)) true m.enabled refl;
           said = ap (λ (x : World × Outcome). x.1) done ∙ ap (λ (x : World × Outcome). x.1) (sym here) ∙ h.said;
           stands = subst (λ (x : World × Outcome). Stands x.0) (sym done)
-              (post_on is_honest moment image told net out.0 (record (out.0) { placings = number_set w.placings v [] }) v (aside net v out.0 (number_set w.placings v [])) new
+              (post_on disk_says entropy_says net out.0 (record (out.0) { placings = number_set w.placings v [] }) v (aside net v out.0 (number_set w.placings v [])) new
               (subst (λ (x : World × Outcome). Stands x.0) here h.stands));
           counts = counts;
         }

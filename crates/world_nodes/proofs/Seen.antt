@@ -12,8 +12,9 @@ use Rattle.world_nodes.specs.LaneStands.{spelled_wire, LaneStands}
 use Rattle.world_nodes.specs.Seeing.{IsTold, IsSeen}
 use Rattle.world_nodes.proofs.Wires.{get-map, spent_or_burnt, octets_at}
 use Rattle.world_nodes.proofs.LaneGoing.{get_within}
+use Rattle.source_devices.specs.declared.wire.Wire as Wire
 
-module _ {X : Type 0} (frames : X → Option (List (List ℕ))) (counted : X → ℕ) (net : Network) (w : World) (l : Lane) (side : LaneForm X) (s : LaneStands frames counted net w l side) where
+module _ {X : Type 0} (wire_says : Wire.Ghosts X) (net : Network) (w : World) (l : Lane) (side : LaneForm X) (s : LaneStands wire_says net w l side) where
   spent : side.ledger.used - side.ledger.burnt ≡ count_by is_spent (w.durable.own l)
   spent = omega (arith, s.used, s.burnt, spent_or_burnt (w.durable.own l))
 
@@ -29,23 +30,23 @@ module _ {X : Type 0} (frames : X → Option (List (List ℕ))) (counted : X →
       sym is ∙ ap (λ (xs : List (List ℕ)). slice_get xs number) told ∙ get-map (octets_at net w l) (w.wire l) number frame at in
       cc
 
-  pub none_there : (number : ℕ) → counted side.wire ≤ number → slice_get (w.wire l) number ≡ None
+  pub none_there : (number : ℕ) → wire_says.counted side.wire ≤ number → slice_get (w.wire l) number ≡ None
   none_there number past = slice_get_past (w.wire l) number (omega (arith, past, s.wire.count))
 
-  pub is_seen : (number n : ℕ) (octets : List ℕ) → number < counted side.wire → IsFrame (frames side.wire) number n octets → IsSeen (frames side.wire) net w l number n octets
+  pub is_seen : (number n : ℕ) (octets : List ℕ) → number < wire_says.counted side.wire → IsFrame (wire_says.frames side.wire) number n octets → IsSeen (wire_says.frames side.wire) net w l number n octets
   is_seen number n octets below is =
       let r = get_within (w.wire l) number (omega (arith, below, s.wire.count)) in
-      record { frame = r.0; stands = r.1; told = told_as (frames side.wire) number n r.0 octets s.wire.told r.1 is }
+      record { frame = r.0; stands = r.1; told = told_as (wire_says.frames side.wire) number n r.0 octets s.wire.told r.1 is }
 
   abbrev Given : X → ℕ → FrameOctets → FrameOctets → Option ℕ → Type 0
   Given wire number before after r =
-      MatchOption r ((counted wire ≤ number) × (after ≡ before))
-      (λ n. (number < counted wire) × (n ≤ 600) × IsFrame (frames wire) number n after.octets × (drop n after.octets ≡ drop n before.octets))
+      MatchOption r ((wire_says.counted wire ≤ number) × (after ≡ before))
+      (λ n. (number < wire_says.counted wire) × (n ≤ 600) × IsFrame (wire_says.frames wire) number n after.octets × (drop n after.octets ≡ drop n before.octets))
 
   abbrev Seen : ℕ → FrameOctets → FrameOctets → Option ℕ → Type 0
   Seen number before after r =
       MatchOption r ((slice_get (w.wire l) number ≡ None) × (after ≡ before))
-      (λ n. (n ≤ 600) × IsSeen (frames side.wire) net w l number n after.octets × (drop n after.octets ≡ drop n before.octets))
+      (λ n. (n ≤ 600) × IsSeen (wire_says.frames side.wire) net w l number n after.octets × (drop n after.octets ≡ drop n before.octets))
 
   seen_as : (number : ℕ) (before after : FrameOctets) (r : Option ℕ) → Given side.wire number before after r → Seen number before after r
   seen_as number before after None h = (none_there number h.0, h.1)

@@ -1,5 +1,5 @@
 -- The story of a journal with one more batch.
-use Rattle.std.proofs.Common.{◌≡◌, ℕ, ◌+◌, Bool, true, false, List, [], ◌∷◌, ◌++◌, refl, sym, ap, subst, ◌∙◌, add-zero}
+use Rattle.std.proofs.Common.{◌≡◌, ℕ, ◌+◌, Bool, true, false, List, [], ◌∷◌, ◌++◌, sym, ap, subst, ◌∙◌, add-zero}
 use Rattle.std.specs.Prelude.{Option, Some, None, if◌then◌else◌}
 use Rattle.net_model.specs.declared.record.Record.{Record}
 use Rattle.net_model.specs.Site.{Site}
@@ -16,7 +16,7 @@ use Rattle.law_recovery.proofs.Restarting.{effect_given, reply_given, batch_give
 use Rattle.kme_store.specs.Passed.{with_batch, IsBody, IsSpelling, added, AreReadAs, with_octets}
 use Rattle.kme_store.proofs.Passed.{body_added, body_with, read_more}
 use Rattle.kme_store.specs.Manager.{HasBodyIn}
-use Rattle.world_nodes.specs.Stands.{IsStory, HasStory, journal_with}
+use Rattle.world_nodes.specs.Stands.{HasStory, journal_with}
 use Rattle.world_nodes.proofs.Images.{journal_read}
 
 module _ (site : Site) (v version : ℕ) (bodies : List (List ℕ)) (view : View) where

@@ -1,16 +1,16 @@
 -- A node takes the next block of a link's device.
 use Rattle.std.proofs.Common.{◌≡◌, ℕ, ◌+◌, ◌*◌, ◌<◌, Bool, true, false, not, ◌&&◌, List, [], ◌∷◌, length, refl, sym, ap, subst, ◌∙◌, arith}
-use Rattle.std.specs.Prelude.{◌==◌, nat_lt, Option, if◌then◌else◌}
+use Rattle.std.specs.Prelude.{◌==◌, nat_lt, if◌then◌else◌}
 use Rattle.std.proofs.lemmas.Bool.Decides.{nat_tests}
 use Rattle.net_model.specs.declared.event.Event.{Event}
 use Rattle.net_model.specs.declared.event.Event.TheVariants.{Block}
 use Rattle.net_model.specs.declared.record.Record.TheVariants.{Block as Block'}
 use Rattle.net_model.specs.declared.reply.Reply.{Reply}
 use Rattle.net_model.specs.declared.reply.Reply.TheVariants as replies
-use Rattle.net_model.specs.OctetSequence.{OctetSequence, has_octets, block_at}
+use Rattle.net_model.specs.OctetSequence.{has_octets, block_at}
 use Rattle.net_model.specs.Site.{is_incident}
 use Rattle.net_model.specs.World.{Network, World}
-use Rattle.net_model.specs.View.{View, port_of, blocks_of}
+use Rattle.net_model.specs.View.{port_of, blocks_of}
 use Rattle.net_model.specs.Needed.{view_of}
 use Rattle.net_model.specs.Decision.{Refuses, makes}
 use Rattle.net_model.specs.Decide.{decide, random_need}
@@ -18,8 +18,7 @@ use Rattle.net_model.specs.Events.{is_valid_event}
 use Rattle.net_model.specs.Handle.{blocks_at, perform, resolve, handle, take_block}
 use Rattle.net_model.specs.Action.{Environment, OutOfMemory, EntropyFault, IoFault, DeviceFault, Outcome, Replies, NoBlock, DeviceFailed, TakeBlock, is_entropy_fault, is_io_fault, is_device_fault, is_shown, Ok as Fine}
 use Rattle.net_model.specs.Step.{step, is_enabled, is_node, is_link}
-use Rattle.disk_model.specs.declared.arm.Armings.{Armings}
-use Rattle.law_base.proofs.Base.{and_left, and_right, and_both, eq_same}
+use Rattle.law_base.proofs.Base.{and_left, and_right, and_both}
 use Rattle.law_base.proofs.Octets.{length-octets_from}
 use Rattle.law_recovery.proofs.Arriving.{block_goes}
 use Rattle.law_recovery.proofs.Steps.{block_effect}
@@ -30,6 +29,8 @@ use Rattle.world_nodes.specs.Blocks.{MayTake, MayPut, IsTaken}
 use Rattle.world_nodes.specs.Counts.{Counts}
 use Rattle.world_nodes.proofs.Counted.{post_disk, unchanged, spared, not_asked, none_taken}
 use Rattle.world_nodes.proofs.Ports.{blocks_there}
+use Rattle.disk_model.specs.declared.disk.Disk as Disk
+use Rattle.source_devices.specs.declared.entropy.Entropy as Entropy
 
 module _ (net : Network) (w : World) (v link : ℕ) where
   abbrev number : ℕ
@@ -105,20 +106,20 @@ shows_device : (outcome : Outcome) → is_shown DeviceFault outcome ≡ true →
 shows_device DeviceFailed h = refl
 shows_device _ h = absurd (cc h)
 
-module _ {K E : Type 0} (is_honest : K → Bool) (moment : K → ℕ) (image : K → ℕ → List ℕ → Type 0) (told : E → Option OctetSequence) (net : Network) (w : World) (v : ℕ) (old : Post K E) (link up : ℕ)
-    (m : MayTake is_honest moment image told net w v old link up) (disk_faults : K → ℕ) (armings : K → Armings) (entropy_faults : E → ℕ) where
+module _ {K E : Type 0} (disk_says : Disk.Ghosts K) (entropy_says : Entropy.Ghosts E) (net : Network) (w : World) (v : ℕ) (old : Post K E) (link up : ℕ)
+    (m : MayTake disk_says entropy_says net w v old link up) where
   abbrev Taken : Post K E → Outcome → Type 0
-  Taken new outcome = IsTaken is_honest moment image disk_faults armings told entropy_faults net w v link old new outcome
+  Taken new outcome = IsTaken disk_says entropy_says net w v link old new outcome
 
   is_taken : (environment : Environment) (new : Post K E) (w' : World) (outcome : Outcome) → step net w (TakeBlock v link environment) ≡ (w', outcome) → is_shown environment outcome ≡ true →
       (outcome ≡ DeviceFailed → environment ≡ DeviceFault) →
-      PostStands is_honest moment image told net w' v new → Counts disk_faults armings entropy_faults (is_io_fault environment) false old new → Taken new outcome
+      PostStands disk_says entropy_says net w' v new → Counts disk_says entropy_says (is_io_fault environment) false old new → Taken new outcome
   is_taken environment new w' outcome is shown named stands counts = record {
     environment = environment;
     may = and_both (is_enabled net w (TakeBlock v link environment)) (is_shown environment (step net w (TakeBlock v link environment)).1) (enabled net w v link m.enabled environment)
         (ap (λ (x : World × Outcome). is_shown environment x.1) is ∙ shown);
     said = ap (λ (x : World × Outcome). x.1) is;
-    stands = subst (λ (x : World × Outcome). PostStands is_honest moment image told net x.0 v new) (sym is) stands;
+    stands = subst (λ (x : World × Outcome). PostStands disk_says entropy_says net x.0 v new) (sym is) stands;
     counts = counts;
     device = λ fault. shows_device outcome (ap (λ (e : Environment). is_shown e outcome) (sym fault) ∙ shown);
     no_device = named;
@@ -126,8 +127,8 @@ module _ {K E : Type 0} (is_honest : K → Bool) (moment : K → ℕ) (image : K
 
   -- Nothing changed and no part failed.
 
-  pub none_failed : Counts disk_faults armings entropy_faults false false old old
-  none_failed = let d = post_disk is_honest moment image net w v told old m.stands in unchanged disk_faults armings entropy_faults old d.0 d.1
+  pub none_failed : Counts disk_says entropy_says false false old old
+  none_failed = let d = post_disk disk_says net w v entropy_says old m.stands in unchanged disk_says entropy_says old d.0 d.1
 
   pub stays_fine : (outcome : Outcome) → step net w (TakeBlock v link Fine) ≡ (w, outcome) → (outcome ≡ DeviceFailed → ⊥) → Taken old outcome
   stays_fine outcome is other = is_taken Fine old w outcome is refl (λ failed. absurd (other failed)) m.stands none_failed
@@ -137,8 +138,8 @@ module _ {K E : Type 0} (is_honest : K → Bool) (moment : K → ℕ) (image : K
 
 -- the block that is given to the manager
 
-module _ {K E : Type 0} (is_honest : K → Bool) (moment : K → ℕ) (image : K → ℕ → List ℕ → Type 0) (told : E → Option OctetSequence) (net : Network) (w : World) (v : ℕ) (old : Post K E) (link number : ℕ) (block : List ℕ) (up : ℕ)
-    (p : MayPut is_honest moment image told net w v old link number block up) where
+module _ {K E : Type 0} (disk_says : Disk.Ghosts K) (entropy_says : Entropy.Ghosts E) (net : Network) (w : World) (v : ℕ) (old : Post K E) (link number : ℕ) (block : List ℕ) (up : ℕ)
+    (p : MayPut disk_says entropy_says net w v old link number block up) where
   abbrev now : ℕ
   now = blocks_at net w v link
 
@@ -162,7 +163,7 @@ module _ {K E : Type 0} (is_honest : K → Bool) (moment : K → ℕ) (image : K
       and_both (nat_lt link net.site.links && is_incident net.site v link) (length block == 1024) (and_both (nat_lt link net.site.links) (is_incident net.site v link) few joins)
       (ap (λ (n : ℕ). n == 1024) sized)
 
-  as_block : MayHandle is_honest moment image told net w v old (Block link number block) up
+  as_block : MayHandle disk_says entropy_says net w v old (Block link number block) up
   as_block = record {
     running = p.may.running;
     stands = p.may.stands;
@@ -173,22 +174,22 @@ module _ {K E : Type 0} (is_honest : K → Bool) (moment : K → ℕ) (image : K
   }
 
   -- The manager may be given a copy of the block.
-  pub may_handle : (copy : List ℕ) → copy ≡ block → MayHandle is_honest moment image told net w v old (Block link number copy) up
-  may_handle copy is = subst (λ (bs : List ℕ). MayHandle is_honest moment image told net w v old (Block link number bs) up) (sym is) as_block
+  pub may_handle : (copy : List ℕ) → copy ≡ block → MayHandle disk_says entropy_says net w v old (Block link number copy) up
+  may_handle copy is = subst (λ (bs : List ℕ). MayHandle disk_says entropy_says net w v old (Block link number bs) up) (sym is) as_block
 
-  pub put_handled : (disk_faults : K → ℕ) (armings : K → Armings) (entropy_faults : E → ℕ) (new : Post K E) (reply : Reply) (copy : List ℕ) → copy ≡ block →
-      Handled is_honest moment image disk_faults armings told entropy_faults net w v (Block link number copy) old new reply → IsTaken is_honest moment image disk_faults armings told entropy_faults net w v link old new (Replies reply)
-  put_handled disk_faults armings entropy_faults new reply copy copied h =
+  pub put_handled : (new : Post K E) (reply : Reply) (copy : List ℕ) → copy ≡ block →
+      Handled disk_says entropy_says net w v (Block link number copy) old new reply → IsTaken disk_says entropy_says net w v link old new (Replies reply)
+  put_handled new reply copy copied h =
       let is = says_handled net w v link h.environment (of_reply h.environment reply h.shown) p.is_up room there
       ∙ ap (λ (x : Event). handle net w v x h.environment) (sym same ∙ sym (ap (λ (bs : List ℕ). Block link number bs) copied)) in
       let out : World × Outcome = handle net w v (Block link number copy) h.environment in
-      is_taken is_honest moment image told net w v old link up p.may disk_faults armings entropy_faults h.environment new out.0 (Replies reply) (is ∙ λ i. (out.0, h.said i)) h.shown (λ failed. absurd (cc failed)) h.stands
-      (spared disk_faults armings entropy_faults (is_io_fault h.environment) (is_entropy_fault h.environment) false old new
+      is_taken disk_says entropy_says net w v old link up p.may h.environment new out.0 (Replies reply) (is ∙ λ i. (out.0, h.said i)) h.shown (λ failed. absurd (cc failed)) h.stands
+      (spared disk_says entropy_says (is_io_fault h.environment) (is_entropy_fault h.environment) false old new
       (not_asked h.environment (random_need (view_of net w v) (Block link number copy)) (none_taken (view_of net w v) link number copy) h.entropy_asked) h.counts)
 
-  pub put_wanting : (disk_faults : K → ℕ) (armings : K → Armings) (entropy_faults : E → ℕ) → IsTaken is_honest moment image disk_faults armings told entropy_faults net w v link old old (Replies replies.Memory)
-  put_wanting disk_faults armings entropy_faults =
+  pub put_wanting : IsTaken disk_says entropy_says net w v link old old (Replies replies.Memory)
+  put_wanting =
       let seen = blocks_there net w v link (incident net w v link p.may.enabled) (below net w v link p.may.enabled) in
-      is_taken is_honest moment image told net w v old link up p.may disk_faults armings entropy_faults OutOfMemory old w (Replies replies.Memory)
+      is_taken disk_says entropy_says net w v old link up p.may OutOfMemory old w (Replies replies.Memory)
       (says_handled net w v link OutOfMemory refl p.is_up room there ∙ refused net w v link p.is_up (ap (λ (n : ℕ). n == 1024) seen ∙ room)) refl (λ failed. absurd (cc failed)) p.may.stands
-      (none_failed is_honest moment image told net w v old link up p.may disk_faults armings entropy_faults)
+      (none_failed disk_says entropy_says net w v old link up p.may)

@@ -17,7 +17,7 @@ use Rattle.net_model.specs.Action.{Environment, is_no_memory, is_entropy_fault, 
 use Rattle.hop_frames.specs.Sealing.{hop_sealing}
 use Rattle.source_devices.specs.Telling.{IsRest}
 use Rattle.law_invariant.specs.May.{decided}
-use Rattle.kme_store.specs.Course.{Course, Stays, Stops, Goes, performed, resolved, course, decided as decided_over}
+use Rattle.kme_store.specs.Course.{Stays, Stops, Goes, performed, resolved, course, decided as decided_over}
 use Rattle.kme_store.proofs.Courses.{same_octets}
 
 -- the last of five ways: the effect takes place

@@ -1,5 +1,5 @@
 -- A lane after one more block of its link.
-use Rattle.std.proofs.Common.{◌≡◌, ℕ, zero, suc, ◌+◌, ◌%◌, ◌<◌, ◌≤◌, not, Bool, true, false, ◌&&◌, List, [], ◌∷◌, ◌++◌, length, replicate, refl, sym, ◌∙◌, ap, ap₂, subst, arith, Option, Some, Result, Ok, Err}
+use Rattle.std.proofs.Common.{◌≡◌, ℕ, zero, suc, ◌+◌, ◌%◌, ◌<◌, ◌≤◌, not, Bool, true, false, ◌&&◌, List, [], ◌∷◌, ◌++◌, length, replicate, refl, sym, ◌∙◌, ap, ap₂, subst, arith, Some, Result, Ok, Err}
 use Rattle.std.specs.Prelude.{OnOk, OnErr, ◌==◌, nat_lt, slice_get, count_by, if◌then◌else◌}
 use Rattle.std.specs.List.{flat_map}
 use Rattle.std.proofs.lemmas.Bool.Decides.{nat_tests}
@@ -30,6 +30,7 @@ use Rattle.world_nodes.specs.LaneStands.{WireStands, LaneStands}
 use Rattle.world_nodes.specs.Taking.{is_of_way, MayTake, TakesBlock}
 use Rattle.world_nodes.proofs.Wires.{wire_kept, KeepsOctets}
 use Rattle.world_nodes.proofs.LaneGoing.{octets_kept}
+use Rattle.source_devices.specs.declared.wire.Wire as Wire
 
 -- the even and the odd places of a list with one element more, at its front or at its end
 
@@ -155,7 +156,7 @@ keyed_same b c own e = ap (λ (n : ℕ). keyed_own b n own) e ∙ when_false (is
 lease_same : (b c lease : ℕ) → c ≡ b → keyed_lease b c lease ≡ lease
 lease_same b c lease e = ap (λ (n : ℕ). keyed_lease b n lease) e ∙ when_false (is_first b b) _ _ (first_same b)
 
-module _ {X : Type 0} (frames : X → Option (List (List ℕ))) (counted : X → ℕ) (net : Network) (w : World) (side : LaneForm X) (number : ℕ) (block : List ℕ) (m : MayTake frames counted net w side number block) where
+module _ {X : Type 0} (wire_says : Wire.Ghosts X) (net : Network) (w : World) (side : LaneForm X) (number : ℕ) (block : List ℕ) (m : MayTake wire_says net w side number block) where
   abbrev l : Lane
   l = side.lane
 
@@ -193,8 +194,8 @@ module _ {X : Type 0} (frames : X → Option (List (List ℕ))) (counted : X →
         (omega (arith, blocks))
         (subst (λ (fs : Lane → List Allocation). (j : ℕ) (a : Allocation) → slice_get (w.frames l) j ≡ Some a → slice_get (fs l) j ≡ Some a) (sym t.frames) (λ j a h. h))
 
-    pub wire_after : (wire : X) → wire ≡ side.wire → WireStands frames counted net w' l wire
-    wire_after wire is = wire_kept frames counted net w w' l side.wire wire m.stands.wire keeps (ap (λ (x : Lane → List ℕ). x l) t.wire) is
+    pub wire_after : (wire : X) → wire ≡ side.wire → WireStands wire_says net w' l wire
+    wire_after wire is = wire_kept wire_says net w w' l side.wire wire m.stands.wire keeps (ap (λ (x : Lane → List ℕ). x l) t.wire) is
 
     bytes_after : octets_sent net w' l ≡ joined (is_of_way l.way number) side.bytes block
     bytes_after =
@@ -208,7 +209,7 @@ module _ {X : Type 0} (frames : X → Option (List (List ℕ))) (counted : X →
     few = omega (arith, (m.running.conserved.now.room l).planned, (m.running.conserved.now.room l).leased)
 
     stands_as : (new : LaneForm X) → new.lane ≡ l → octets_sent net w' l ≡ new.bytes → Counts new.ledger (lane_len l.way (n + 1)) (w'.durable.own l) (w'.durable.lease l) → new.wire ≡ side.wire →
-        LaneStands frames counted net w' l new
+        LaneStands wire_says net w' l new
     stands_as new lane bytes c wire = record {
       lane = lane;
       bytes = sym bytes;
@@ -220,7 +221,7 @@ module _ {X : Type 0} (frames : X → Option (List (List ℕ))) (counted : X →
     }
 
     -- A block of the other way leaves the lane as it was.
-    pub other_way : is_of_way l.way number ≡ false → LaneStands frames counted net w' l side
+    pub other_way : is_of_way l.way number ≡ false → LaneStands wire_says net w' l side
     other_way e =
         let same = len_same l.way n (ap (is_of_way l.way) (sym m.next) ∙ e) in
         stands_as side refl (bytes_after ∙ ap (λ (b : Bool). joined b side.bytes block) e)
@@ -232,12 +233,12 @@ module _ {X : Type 0} (frames : X → Option (List (List ℕ))) (counted : X →
         }) refl
 
     -- A block of the lane's own way is added to it.
-    pub own_way : is_of_way l.way number ≡ true → (new : LaneForm X) → new ≡ record side { bytes = side.bytes ++ block; ledger = received_more side.ledger 1024 } → LaneStands frames counted net w' l new
+    pub own_way : is_of_way l.way number ≡ true → (new : LaneForm X) → new ≡ record side { bytes = side.bytes ++ block; ledger = received_more side.ledger 1024 } → LaneStands wire_says net w' l new
     own_way e new is =
         let more = len_more l.way n (ap (is_of_way l.way) (sym m.next) ∙ e) in
         let c = counts_more (lane_len l.way n) side.ledger (w.durable.own l) (w.durable.lease l) old few in
         let c₁ = subst (λ (k : ℕ). Counts (received_more side.ledger 1024) k (keyed_own (lane_len l.way n) k (w.durable.own l)) (keyed_lease (lane_len l.way n) k (w.durable.lease l))) (sym more) c in
-        subst (LaneStands frames counted net w' l) (sym is)
+        subst (LaneStands wire_says net w' l) (sym is)
         (stands_as (record side { bytes = side.bytes ++ block; ledger = received_more side.ledger 1024 }) refl (bytes_after ∙ ap (λ (b : Bool). joined b side.bytes block) e)
         (record {
           got = c₁.got;

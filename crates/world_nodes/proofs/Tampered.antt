@@ -5,18 +5,16 @@ use Rattle.qkd_base.specs.declared.lane.Lane.{Lane}
 use Rattle.net_model.specs.declared.event.Event.TheVariants.{Heard}
 use Rattle.net_model.specs.declared.reply.Reply.{Reply}
 use Rattle.net_model.specs.declared.reply.Reply.TheVariants as replies
-use Rattle.net_model.specs.OctetSequence.{OctetSequence}
 use Rattle.net_model.specs.Site.{receiver}
 use Rattle.net_model.specs.World.{Network, World}
 use Rattle.net_model.specs.View.{View, port_of, incoming_octets}
 use Rattle.net_model.specs.Needed.{view_of}
 use Rattle.net_model.specs.Decide.{random_need}
 use Rattle.net_model.specs.Events.{is_lane}
-use Rattle.net_model.specs.Frames.{frame_octets, octets_received, with_flipped, tampered, flip_octets, flip_number, flip}
-use Rattle.net_model.specs.Action.{Environment, Outcome, Replies, NoBit, Forge, Flip, is_shown, is_io_fault, is_entropy_fault, Ok as Fine}
+use Rattle.net_model.specs.Frames.{frame_octets, octets_received, with_flipped, tampered, flip_number, flip}
+use Rattle.net_model.specs.Action.{Environment, Outcome, NoBit, Forge, Flip, is_shown, is_io_fault, is_entropy_fault, Ok as Fine}
 use Rattle.net_model.specs.Step.{step, is_enabled}
 use Rattle.declared_site.specs.declared.site.Site.{Site as Declared}
-use Rattle.disk_model.specs.declared.arm.Armings.{Armings}
 use Rattle.hop_frames.specs.Opening.{open_of}
 use Rattle.law_base.proofs.Base.{and_both}
 use Rattle.kme_store.specs.Passed.{is_match}
@@ -25,7 +23,6 @@ use Rattle.kme_store.specs.declared.manager_state.Standing.{Standing}
 use Rattle.kme_store.specs.declared.manager_state.Standing.TheVariants.{Up, Down, Between}
 use Rattle.kme_store.specs.declared.post.Post.{Post}
 use Rattle.kme_store.specs.declared.post.Post.TheVariants.{On}
-use Rattle.world_nodes.specs.LaneStands.{IsRunning}
 use Rattle.world_nodes.specs.Stands.{StandingStands, PostStands}
 use Rattle.world_nodes.specs.Handled.{MayHandle, Handled}
 use Rattle.world_nodes.specs.Tampering.{put_as, would_match, ReceiverStands, MayTamper, tampered_outcome, HasTampered, MayForge, MayFlip, HasForged, HasFlipped}
@@ -33,11 +30,13 @@ use Rattle.world_nodes.proofs.Counted.{post_disk, unchanged, spared, not_asked, 
 use Rattle.world_nodes.proofs.Delivered.{hearing_valid}
 use Rattle.world_nodes.proofs.Hears.{received}
 use Rattle.world_nodes.proofs.Tampers.{IsHeard, put_heard, wrong_heard, match_found, tampered_down}
+use Rattle.disk_model.specs.declared.disk.Disk as Disk
+use Rattle.source_devices.specs.declared.entropy.Entropy as Entropy
 
-module _ {K E : Type 0} (is_honest : K → Bool) (moment : K → ℕ) (image : K → ℕ → List ℕ → Type 0) (told : E → Option OctetSequence) (net : Network) (w : World) (l : Lane) (post : Post K E)
-    (m : ReceiverStands is_honest moment image told net w l post) (octets : List ℕ) where
+module _ {K E : Type 0} (disk_says : Disk.Ghosts K) (entropy_says : Entropy.Ghosts E) (net : Network) (w : World) (l : Lane) (post : Post K E)
+    (m : ReceiverStands disk_says entropy_says net w l post) (octets : List ℕ) where
   -- the tag, as the manager checks it
-  match_by : (site : Declared) (view : View) (s : Standing K) → StandingStands is_honest moment image net w (receiver net.site l) site view s →
+  match_by : (site : Declared) (view : View) (s : Standing K) → StandingStands disk_says net w (receiver net.site l) site view s →
       (is_up s && is_match (open_of l (incoming_octets l (port_of view l.link)) octets)) ≡ would_match net w l octets
   match_by site view (Up journal) u =
       ap (λ (bytes : List ℕ). is_match (open_of l bytes octets)) (ap (λ (a : View). incoming_octets l (port_of a l.link)) u.sees ∙ received net w m.running l m.at)
@@ -48,7 +47,7 @@ module _ {K E : Type 0} (is_honest : K → Bool) (moment : K → ℕ) (image : K
   pub match_here : (manager : ManagerForm K E) → post ≡ On manager →
       (is_up manager.standing && is_match (open_of l (incoming_octets l (port_of manager.view l.link)) octets)) ≡ would_match net w l octets
   match_here manager is =
-      let h = subst (λ (p : Post K E). PostStands is_honest moment image told net w (receiver net.site l) p) is m.stands in match_by manager.site manager.view manager.standing h.standing
+      let h = subst (λ (p : Post K E). PostStands disk_says entropy_says net w (receiver net.site l) p) is m.stands in match_by manager.site manager.view manager.standing h.standing
 
   matched_by : {T : Type 0} (r : Result Bool T) (a : Bool) → a ≡ would_match net w l octets → IfOk r (λ d. d ≡ a) → IfOk r (λ d. d ≡ would_match net w l octets)
   matched_by (Ok d) a same h = h ∙ same
@@ -58,8 +57,8 @@ module _ {K E : Type 0} (is_honest : K → Bool) (moment : K → ℕ) (image : K
       IfOk r (λ d. d ≡ (is_up manager.standing && is_match (open_of l (incoming_octets l (port_of manager.view l.link)) octets))) → IfOk r (λ d. d ≡ would_match net w l octets)
   would_match_here r manager is h = matched_by r _ (match_here manager is) h
 
-module _ {K E : Type 0} (is_honest : K → Bool) (moment : K → ℕ) (image : K → ℕ → List ℕ → Type 0) (told : E → Option OctetSequence) (net : Network) (w : World) (l : Lane) (old : Post K E) (octets : List ℕ) (forged : Bool) (up : ℕ)
-    (m : MayTamper is_honest moment image told net w l old octets forged up) where
+module _ {K E : Type 0} (disk_says : Disk.Ghosts K) (entropy_says : Entropy.Ghosts E) (net : Network) (w : World) (l : Lane) (old : Post K E) (octets : List ℕ) (forged : Bool) (up : ℕ)
+    (m : MayTamper disk_says entropy_says net w l old octets forged up) where
   abbrev v : ℕ
   v = receiver net.site l
 
@@ -78,7 +77,7 @@ module _ {K E : Type 0} (is_honest : K → Bool) (moment : K → ℕ) (image : K
   pub is_heard : w.up v ≡ true → forged ≡ false → IsHeard net w m.there.running l m.there.at octets
   is_heard at h = is_heard_by on_wire right refl at refl (ap (λ (t : Bool). not on_wire && (t && right)) (sym at) ∙ sym m.is ∙ h)
 
-  pub may_handle : w.up v ≡ true → forged ≡ false → MayHandle is_honest moment image told net w v old (Heard l octets) up
+  pub may_handle : w.up v ≡ true → forged ≡ false → MayHandle disk_says entropy_says net w v old (Heard l octets) up
   may_handle at h = record {
     running = m.there.running;
     stands = m.there.stands;
@@ -88,17 +87,17 @@ module _ {K E : Type 0} (is_honest : K → Bool) (moment : K → ℕ) (image : K
     links = m.links;
   }
 
-  module _ (disk_faults : K → ℕ) (armings : K → Armings) (entropy_faults : E → ℕ) where
+  module _ where
     abbrev Tampered : Post K E → Option Reply → Type 0
-    Tampered new reply = HasTampered is_honest moment image disk_faults armings told entropy_faults net w l octets old new reply
+    Tampered new reply = HasTampered disk_says entropy_says net w l octets old new reply
 
     stays : (reply : Option Reply) → ((environment : Environment) → tampered net w l octets environment ≡ (w, tampered_outcome reply)) → Tampered old reply
     stays reply is = record {
       environment = Fine;
       shown = refl;
       said = ap (λ (x : World × Outcome). x.1) (is Fine);
-      stands = subst (λ (x : World × Outcome). PostStands is_honest moment image told net x.0 v old) (sym (is Fine)) m.there.stands;
-      counts = let d = post_disk is_honest moment image net w v told old m.there.stands in unchanged disk_faults armings entropy_faults old d.0 d.1;
+      stands = subst (λ (x : World × Outcome). PostStands disk_says entropy_says net x.0 v old) (sym (is Fine)) m.there.stands;
+      counts = let d = post_disk disk_says net w v entropy_says old m.there.stands in unchanged disk_says entropy_says old d.0 d.1;
     }
 
     pub says_down : w.up v ≡ false → Tampered old (Some replies.Down)
@@ -114,15 +113,15 @@ module _ {K E : Type 0} (is_honest : K → Bool) (moment : K → ℕ) (image : K
     says_match h = found_by on_wire (w.up v) right refl refl refl (sym m.is ∙ h)
 
     pub says_heard : w.up v ≡ true → forged ≡ false → (new : Post K E) (reply : Reply) →
-        Handled is_honest moment image disk_faults armings told entropy_faults net w v (Heard l octets) old new reply → Tampered new (Some reply)
+        Handled disk_says entropy_says net w v (Heard l octets) old new reply → Tampered new (Some reply)
     says_heard at none new reply h =
         let same = (is_heard at none).heard h.environment in
         record {
           environment = h.environment;
           shown = h.shown;
           said = ap (λ (x : World × Outcome). x.1) same ∙ h.said;
-          stands = subst (λ (x : World × Outcome). PostStands is_honest moment image told net x.0 v new) (sym same) h.stands;
-          counts = spared disk_faults armings entropy_faults (is_io_fault h.environment) (is_entropy_fault h.environment) false old new
+          stands = subst (λ (x : World × Outcome). PostStands disk_says entropy_says net x.0 v new) (sym same) h.stands;
+          counts = spared disk_says entropy_says (is_io_fault h.environment) (is_entropy_fault h.environment) false old new
               (not_asked h.environment (random_need (view_of net w v) (Heard l octets)) (none_heard (view_of net w v) l octets) h.entropy_asked) h.counts;
         }
 
@@ -150,9 +149,9 @@ module _ (net : Network) (w : World) (l : Lane) where
       ∙ ap (λ (t : Bool). if t then (w, NoBit (8 * length f)) else tampered net w l (with_flipped f bit) environment) has
       ∙ ap (λ (bs : List ℕ). tampered net w l bs environment) (sym are)
 
-module _ {K E : Type 0} (is_honest : K → Bool) (moment : K → ℕ) (image : K → ℕ → List ℕ → Type 0) (disk_faults : K → ℕ) (armings : K → Armings) (told : E → Option OctetSequence) (entropy_faults : E → ℕ) (net : Network) (w : World) (l : Lane) (old new : Post K E) (octets : List ℕ)
-    (forged : Bool) (up : ℕ) (reply : Option Reply) (h : HasTampered is_honest moment image disk_faults armings told entropy_faults net w l octets old new reply) where
-  pub has_forged : MayForge is_honest moment image told net w l old octets forged up → HasForged is_honest moment image disk_faults armings told entropy_faults net w l octets old new reply
+module _ {K E : Type 0} (disk_says : Disk.Ghosts K) (entropy_says : Entropy.Ghosts E) (net : Network) (w : World) (l : Lane) (old new : Post K E) (octets : List ℕ)
+    (forged : Bool) (up : ℕ) (reply : Option Reply) (h : HasTampered disk_says entropy_says net w l octets old new reply) where
+  pub has_forged : MayForge disk_says entropy_says net w l old octets forged up → HasForged disk_says entropy_says net w l octets old new reply
   has_forged m =
       let same = forges net w l octets h.environment in
       record {
@@ -160,11 +159,11 @@ module _ {K E : Type 0} (is_honest : K → Bool) (moment : K → ℕ) (image : K
         may = and_both (is_enabled net w (Forge l octets h.environment)) (is_shown h.environment (step net w (Forge l octets h.environment)).1) (forge_enabled net w l octets m.enabled h.environment)
             (ap (λ (x : World × Outcome). is_shown h.environment x.1) same ∙ ap (is_shown h.environment) h.said ∙ h.shown);
         said = ap (λ (x : World × Outcome). x.1) same ∙ h.said;
-        stands = subst (λ (x : World × Outcome). PostStands is_honest moment image told net x.0 (receiver net.site l) new) (sym same) h.stands;
+        stands = subst (λ (x : World × Outcome). PostStands disk_says entropy_says net x.0 (receiver net.site l) new) (sym same) h.stands;
         counts = h.counts;
       }
 
-  pub has_flipped : (number bit : ℕ) → MayFlip is_honest moment image told net w l number bit old octets forged up → HasFlipped is_honest moment image disk_faults armings told entropy_faults net w l number bit old new reply
+  pub has_flipped : (number bit : ℕ) → MayFlip disk_says entropy_says net w l number bit old octets forged up → HasFlipped disk_says entropy_says net w l number bit old new reply
   has_flipped number bit m =
       let same = flips net w l number bit m.frame octets m.there m.has m.are h.environment in
       record {
@@ -172,6 +171,6 @@ module _ {K E : Type 0} (is_honest : K → Bool) (moment : K → ℕ) (image : K
         may = and_both (is_enabled net w (Flip l number bit h.environment)) (is_shown h.environment (step net w (Flip l number bit h.environment)).1) (flip_enabled net w l number bit m.tampers.there.at h.environment)
             (ap (λ (x : World × Outcome). is_shown h.environment x.1) same ∙ ap (is_shown h.environment) h.said ∙ h.shown);
         said = ap (λ (x : World × Outcome). x.1) same ∙ h.said;
-        stands = subst (λ (x : World × Outcome). PostStands is_honest moment image told net x.0 (receiver net.site l) new) (sym same) h.stands;
+        stands = subst (λ (x : World × Outcome). PostStands disk_says entropy_says net x.0 (receiver net.site l) new) (sym same) h.stands;
         counts = h.counts;
       }

@@ -1,21 +1,21 @@
 -- Octets that anybody may have made or changed come to a lane's receiver.
-use Rattle.std.proofs.Common.{◌≡◌, ℕ, zero, suc, Bool, true, false, not, ◌&&◌, List, [], ◌∷◌, refl, sym, ap, subst, ◌∙◌}
+use Rattle.std.proofs.Common.{◌≡◌, ℕ, zero, suc, Bool, true, false, not, List, [], ◌∷◌, refl, sym, ap, ◌∙◌}
 use Rattle.std.specs.Prelude.{◌==◌, find, slice_get, is_some, Option, Some, None, Result, Ok, Err, if◌then◌else◌}
 use Rattle.qkd_base.specs.declared.lane.Lane.{Lane}
 use Rattle.net_model.specs.declared.event.Event.TheVariants.{Heard}
 use Rattle.net_model.specs.declared.reply.Reply.{Reply}
 use Rattle.net_model.specs.declared.reply.Reply.TheVariants as replies
-use Rattle.net_model.specs.Sealing.{Sealing, Opened, Opens, Rejected, Forged}
+use Rattle.net_model.specs.Sealing.{Sealing, Opened, Rejected}
 use Rattle.net_model.specs.Site.{receiver}
-use Rattle.net_model.specs.World.{Network, World, Allocation, received_there}
+use Rattle.net_model.specs.World.{Network, World, Allocation}
 use Rattle.net_model.specs.View.{port_of, incoming_octets}
 use Rattle.net_model.specs.Needed.{view_of}
-use Rattle.net_model.specs.Decision.{Refuses, Does, Effect}
+use Rattle.net_model.specs.Decision.{Refuses, Does}
 use Rattle.net_model.specs.Decide.{decide, random_need, received_frame}
 use Rattle.net_model.specs.Events.{is_lane}
 use Rattle.net_model.specs.Frames.{frame_octets, octets_eq, octets_received, deliver_frame, unmatched, tampered_or_put, tampered}
 use Rattle.net_model.specs.Handle.{resolve, handle}
-use Rattle.net_model.specs.Action.{Environment, Outcome, Replies, ForgedMatch}
+use Rattle.net_model.specs.Action.{Environment, Replies, ForgedMatch}
 use Rattle.hop_frames.specs.Opening.{open_of}
 use Rattle.hop_frames.specs.Sealing.{answer_of}
 use Rattle.hop_frames.specs.declared.opened.Opened.{Opened as OpenedFrame}

@@ -12,6 +12,7 @@ use Rattle.source_devices.specs.declared.wire.WireFailed.{WireFailed}
 use Rattle.source_devices.specs.Frames.{TakesFrame}
 use Rattle.law_base.proofs.Base.{eq_from, eq_same}
 use Rattle.world_nodes.specs.LaneStands.{spelled_wire, WireStands}
+use Rattle.source_devices.specs.declared.wire.Wire as Wire
 
 -- lists
 
@@ -112,8 +113,8 @@ octets_at net w l i = frame_octets net w l (slice_get (w.frames l) i)
 abbrev pub KeepsOctets : Network → World → World → Lane → Type 0
 KeepsOctets net w w' l = (n i : ℕ) → slice_get (w.wire l) n ≡ Some i → octets_at net w' l i ≡ octets_at net w l i
 
-module _ {X : Type 0} (frames : X → Option (List (List ℕ))) (counted : X → ℕ) (net : Network) (w w' : World) (l : Lane) (old new : X) (s : WireStands frames counted net w l old) (same : KeepsOctets net w w' l) where
-  counts : (r : Result ℕ WireFailed) (j : ℕ) → IsNumbered r (counted old) (counted new) → counted new ≡ length (added r (w.wire l) j)
+module _ {X : Type 0} (wire_says : Wire.Ghosts X) (net : Network) (w w' : World) (l : Lane) (old new : X) (s : WireStands wire_says net w l old) (same : KeepsOctets net w w' l) where
+  counts : (r : Result ℕ WireFailed) (j : ℕ) → IsNumbered r (wire_says.counted old) (wire_says.counted new) → wire_says.counted new ≡ length (added r (w.wire l) j)
   counts (Ok n) j h = omega (arith, h.1, s.count, length-append (w.wire l) (j ∷ []))
   counts (Err e) j h = h ∙ s.count
 
@@ -125,21 +126,21 @@ module _ {X : Type 0} (frames : X → Option (List (List ℕ))) (counted : X →
 
   -- A frame with these octets follows the others, or none does.
   pub wire_more : (answer : Result ℕ WireFailed) (j : ℕ) (frame : List ℕ) → octets_at net w' l j ≡ frame → w'.wire l ≡ added answer (w.wire l) j →
-      TakesFrame (frames old) (frames new) answer frame → IsNumbered answer (counted old) (counted new) → WireStands frames counted net w' l new
+      TakesFrame (wire_says.frames old) (wire_says.frames new) answer frame → IsNumbered answer (wire_says.counted old) (wire_says.counted new) → WireStands wire_says net w' l new
   wire_more answer j frame is wire takes number = record {
     count = counts answer j number ∙ ap length (sym wire);
-    tells = tells_more (frames old) (frames new) answer frame s.tells takes;
-    told = subst (λ (all : List (List ℕ)). IfSome (frames new) (λ x. x ≡ all)) (sym (spelled_more answer j frame is wire)) (told_more (frames old) (frames new) answer (spelled_wire net w l) frame s.told takes);
+    tells = tells_more (wire_says.frames old) (wire_says.frames new) answer frame s.tells takes;
+    told = subst (λ (all : List (List ℕ)). IfSome (wire_says.frames new) (λ x. x ≡ all)) (sym (spelled_more answer j frame is wire)) (told_more (wire_says.frames old) (wire_says.frames new) answer (spelled_wire net w l) frame s.told takes);
   }
 
   spelled_kept : w'.wire l ≡ w.wire l → spelled_wire net w' l ≡ spelled_wire net w l
   spelled_kept wire = ap (map (octets_at net w' l)) wire ∙ same_map (octets_at net w' l) (octets_at net w l) (w.wire l) same
 
   -- No frame is put on the wire.
-  pub wire_kept : w'.wire l ≡ w.wire l → new ≡ old → WireStands frames counted net w' l new
+  pub wire_kept : w'.wire l ≡ w.wire l → new ≡ old → WireStands wire_says net w' l new
   wire_kept wire is = record {
-    count = ap counted is ∙ s.count ∙ ap length (sym wire);
-    tells = ap (λ (x : X). is_some (frames x)) is ∙ s.tells;
-    told = subst (λ (x : X). IfSome (frames x) (λ all. all ≡ spelled_wire net w' l)) (sym is)
-        (subst (λ (all : List (List ℕ)). IfSome (frames old) (λ x. x ≡ all)) (sym (spelled_kept wire)) s.told);
+    count = ap wire_says.counted is ∙ s.count ∙ ap length (sym wire);
+    tells = ap (λ (x : X). is_some (wire_says.frames x)) is ∙ s.tells;
+    told = subst (λ (x : X). IfSome (wire_says.frames x) (λ all. all ≡ spelled_wire net w' l)) (sym is)
+        (subst (λ (all : List (List ℕ)). IfSome (wire_says.frames old) (λ x. x ≡ all)) (sym (spelled_kept wire)) s.told);
   }

@@ -6,6 +6,8 @@ use Rattle.kme_store.specs.declared.manager_state.Standing.{Standing}
 use Rattle.kme_store.specs.declared.manager_state.Standing.TheVariants.{Up, Down, Between}
 use Rattle.kme_store.specs.declared.post.Post.{Post}
 use Rattle.kme_store.specs.declared.post.Post.TheVariants.{On, Off}
+use Rattle.disk_model.specs.declared.disk.Disk as Disk
+use Rattle.source_devices.specs.declared.entropy.Entropy as Entropy
 
 -- the disk of a manager
 
@@ -29,15 +31,15 @@ pub record IsCounted (fault : Bool) (before now : ℕ) : Type 0 where
   pub calm : fault ≡ false → now ≡ before
 
 -- Between two posts, the disk was armed in this way, and exactly these parts failed.
-pub record CountsBy {K E : Type 0} (Arms : Armings → Armings → Type 0) (disk_count : K → ℕ) (armed : K → Armings) (entropy_count : E → ℕ) (disk_fault entropy_fault : Bool) (old new : Post K E) : Type 0 where
+pub record CountsBy {K E : Type 0} (Arms : Armings → Armings → Type 0) (disk_says : Disk.Ghosts K) (entropy_says : Entropy.Ghosts E) (disk_fault entropy_fault : Bool) (old new : Post K E) : Type 0 where
   pub before : K
   pub now : K
   pub was : disk_of old ≡ Some before
   pub is : disk_of new ≡ Some now
-  pub disk : IsCounted disk_fault (disk_count before) (disk_count now)
-  pub arms : Arms (armed before) (armed now)
-  pub entropy : IsCounted entropy_fault (entropy_count (entropy_of old)) (entropy_count (entropy_of new))
+  pub disk : IsCounted disk_fault (disk_says.faults before) (disk_says.faults now)
+  pub arms : Arms (disk_says.armings before) (disk_says.armings now)
+  pub entropy : IsCounted entropy_fault (entropy_says.faults (entropy_of old)) (entropy_says.faults (entropy_of new))
 
 -- Between two posts, exactly these parts failed, and the disk stayed armed as it was.
-abbrev pub Counts : {K E : Type 0} → (K → ℕ) → (K → Armings) → (E → ℕ) → Bool → Bool → Post K E → Post K E → Type 0
-Counts disk_count armed entropy_count disk_fault entropy_fault old new = CountsBy (λ before now. now ≡ before) disk_count armed entropy_count disk_fault entropy_fault old new
+abbrev pub Counts : {K E : Type 0} → Disk.Ghosts K → Entropy.Ghosts E → Bool → Bool → Post K E → Post K E → Type 0
+Counts disk_says entropy_says disk_fault entropy_fault old new = CountsBy (λ before now. now ≡ before) disk_says entropy_says disk_fault entropy_fault old new

@@ -1,5 +1,5 @@
 -- Putting frames on the wire of a lane, for the first time and again, as actions of the network.
-use Rattle.std.specs.Prelude.{◌≡◌, ℕ, ◌++◌, true, false, List, [], ◌∷◌, length, Option, Some, Result, Ok, Err}
+use Rattle.std.specs.Prelude.{◌≡◌, ℕ, ◌++◌, true, false, List, [], ◌∷◌, length, Some, Result, Ok, Err}
 use Rattle.qkd_base.specs.Family.{number_set}
 use Rattle.qkd_base.specs.declared.frame_octets.FrameOctets.{FrameOctets}
 use Rattle.net_model.specs.declared.order.Order.{Order}
@@ -22,6 +22,7 @@ use Rattle.lane_sender.specs.declared.sent.Sent.{Sent}
 use Rattle.lane_sender.specs.declared.sent.Sent.TheVariants.{Placed, Unsent as NotSent}
 use Rattle.lane_sender.specs.Sending.{answer_of, number_of}
 use Rattle.world_nodes.specs.LaneStands.{IsRunning, LaneStands}
+use Rattle.source_devices.specs.declared.wire.Wire as Wire
 
 -- the answer of a wire, as an answer of the environment
 abbrev pub wire_answer : Result ℕ WireFailed → Environment
@@ -79,9 +80,9 @@ abbrev pub with_placing : Network → World → Placing → ℕ → List Placing
 with_placing net w p = let v = sender net.site p.lane in number_set w.placings v (w.placings v ++ p ∷ [])
 
 -- The order is one of the network that isn't claimed yet. The payload is the one that the table has for it, and the lease is its lane's.
-pub record MayEmit {X : Type 0} (frames : X → Option (List (List ℕ))) (counted : X → ℕ) (net : Network) (w : World) (side : LaneForm X) (lease : ℕ) (order : Order) : Type 0 where
+pub record MayEmit {X : Type 0} (wire_says : Wire.Ghosts X) (net : Network) (w : World) (side : LaneForm X) (lease : ℕ) (order : Order) : Type 0 where
   pub running : IsRunning net w
-  pub stands : LaneStands frames counted net w order.lane side
+  pub stands : LaneStands wire_says net w order.lane side
   pub enabled : is_enabled net w (Allocate (ordered order)) ≡ true
   pub spelled : payload w.durable.facts (item_in order.payload) ≡ Some order.payload
   pub leased : lease ≡ w.durable.lease order.lane
@@ -90,16 +91,16 @@ pub record MayEmit {X : Type 0} (frames : X → Option (List (List ℕ))) (count
 abbrev pub emission : World → Order → Environment → List Action
 emission w o environment = Allocate (ordered o) ∷ Transmit o.lane (length (w.frames o.lane)) environment ∷ []
 
-pub record Emitted {X : Type 0} (frames : X → Option (List (List ℕ))) (counted : X → ℕ) (net : Network) (w : World) (side : LaneForm X) (order : Order) (s : Sent) : Type 0 where
+pub record Emitted {X : Type 0} (wire_says : Wire.Ghosts X) (net : Network) (w : World) (side : LaneForm X) (order : Order) (s : Sent) : Type 0 where
   pub may : IsRun net w (emission w order (wire_answer (answer_of s)))
   pub said : outcomes net w (emission w order (wire_answer (answer_of s))) ≡ Allocated (offset_of s) ∷ wire_outcome (answer_of s) ∷ []
-  pub stands : LaneStands frames counted net (run net w (emission w order (wire_answer (answer_of s)))) order.lane side
+  pub stands : LaneStands wire_says net (run net w (emission w order (wire_answer (answer_of s)))) order.lane side
   pub placed : (run net w (emission w order (wire_answer (answer_of s)))).placings ≡ with_placing net w (order_placing order s)
 
 -- The repeat is of an entry of the window, and its frame may be put.
-pub record MayRepeat {X : Type 0} (frames : X → Option (List (List ℕ))) (counted : X → ℕ) (net : Network) (w : World) (side : LaneForm X) (repeat : Repeat) : Type 0 where
+pub record MayRepeat {X : Type 0} (wire_says : Wire.Ghosts X) (net : Network) (w : World) (side : LaneForm X) (repeat : Repeat) : Type 0 where
   pub running : IsRunning net w
-  pub stands : LaneStands frames counted net w repeat.lane side
+  pub stands : LaneStands wire_says net w repeat.lane side
   pub entry : Entry
   pub is : repeat ≡ repeat_of entry
   pub sent : IsEntry net w (sender net.site repeat.lane) entry
@@ -109,8 +110,8 @@ pub record MayRepeat {X : Type 0} (frames : X → Option (List (List ℕ))) (cou
 abbrev pub repetition : World → Repeat → Environment → Action
 repetition w r environment = Transmit r.lane (frame_at (w.frames r.lane) r.offset) environment
 
-pub record Repeated {X : Type 0} (frames : X → Option (List (List ℕ))) (counted : X → ℕ) (net : Network) (w : World) (side : LaneForm X) (repeat : Repeat) (s : Sent) : Type 0 where
+pub record Repeated {X : Type 0} (wire_says : Wire.Ghosts X) (net : Network) (w : World) (side : LaneForm X) (repeat : Repeat) (s : Sent) : Type 0 where
   pub may : IsStep net w (repetition w repeat (wire_answer (answer_of s)))
   pub said : (step net w (repetition w repeat (wire_answer (answer_of s)))).1 ≡ wire_outcome (answer_of s)
-  pub stands : LaneStands frames counted net (step net w (repetition w repeat (wire_answer (answer_of s)))).0 repeat.lane side
+  pub stands : LaneStands wire_says net (step net w (repetition w repeat (wire_answer (answer_of s)))).0 repeat.lane side
   pub placed : (step net w (repetition w repeat (wire_answer (answer_of s)))).0.placings ≡ with_placing net w (repeat_placing repeat s)

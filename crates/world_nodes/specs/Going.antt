@@ -1,5 +1,5 @@
 -- Changes of the world after which a lane stands for the same lane as before.
-use Rattle.std.specs.Prelude.{◌≡◌, ℕ, ◌≤◌, Bool, false, List, [], slice_get, Option, Some, true, if◌then◌else◌}
+use Rattle.std.specs.Prelude.{◌≡◌, ℕ, ◌≤◌, Bool, false, List, [], slice_get, Some, true, if◌then◌else◌}
 use Rattle.qkd_base.specs.Name.{Name}
 use Rattle.qkd_base.specs.Lane.{lane_eq}
 use Rattle.qkd_base.specs.declared.lane.Lane.{Lane}
@@ -15,6 +15,7 @@ use Rattle.net_model.specs.Events.{is_lane}
 use Rattle.net_model.specs.Start.{resolved}
 use Rattle.lane_sender.specs.Lane.{LaneForm}
 use Rattle.world_nodes.specs.LaneStands.{IsRunning, LaneStands}
+use Rattle.source_devices.specs.declared.wire.Wire as Wire
 
 -- The lane keeps its blocks, owners and wire. Its lease is no lower, and its frames and all facts stay.
 pub record GoesOn (w w' : World) (l : Lane) : Type 0 where
@@ -43,8 +44,8 @@ made w v committed = if committed then (w.in_doubt v).batch else []
 
 -- A start resolves the batch in doubt: it is made durable or dropped. In the world after this, a lane that leaves the node stands as before the
 -- start, and goes on at this world's lease.
-pub record MayRestart {X : Type 0} (frames : X → Option (List (List ℕ))) (counted : X → ℕ) (net : Network) (w : World) (committed : Bool) (side : LaneForm X) (lease : ℕ) : Type 0 where
+pub record MayRestart {X : Type 0} (wire_says : Wire.Ghosts X) (net : Network) (w : World) (committed : Bool) (side : LaneForm X) (lease : ℕ) : Type 0 where
   pub running : IsRunning net w
   pub at : is_lane net.site side.lane ≡ true
-  pub stands : LaneStands frames counted net (resolved net.site w (sender net.site side.lane) committed) side.lane side
+  pub stands : LaneStands wire_says net (resolved net.site w (sender net.site side.lane) committed) side.lane side
   pub leased : lease ≡ (resolved net.site w (sender net.site side.lane) committed).durable.lease side.lane

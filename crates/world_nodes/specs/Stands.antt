@@ -1,5 +1,5 @@
 -- How a post of the program stands for a node of the network.
-use Rattle.std.specs.Prelude.{◌≡◌, ◌⊎◌, ℕ, Bool, true, false, IsTrue, List, [], ◌∷◌, ◌++◌, Option, Some, if◌then◌else◌}
+use Rattle.std.specs.Prelude.{◌≡◌, ◌⊎◌, ℕ, Bool, true, false, IsTrue, List, [], ◌∷◌, ◌++◌, Some}
 use Rattle.net_model.specs.declared.record.Record.{Record}
 use Rattle.net_model.specs.OctetSequence.{OctetSequence}
 use Rattle.net_model.specs.Site.{Site}
@@ -26,11 +26,13 @@ use Rattle.kme_store.specs.declared.manager_state.Standing.{Standing}
 use Rattle.kme_store.specs.declared.manager_state.Standing.TheVariants.{Up, Down, Between}
 use Rattle.kme_store.specs.declared.post.Post.{Post}
 use Rattle.kme_store.specs.declared.post.Post.TheVariants.{On, Off}
+use Rattle.disk_model.specs.declared.disk.Disk as Disk
+use Rattle.source_devices.specs.declared.entropy.Entropy as Entropy
 
 -- The entropy tells which octets are left of the node's octets.
-pub record EntropyStands {E : Type 0} (told : E → Option OctetSequence) (net : Network) (w : World) (v : ℕ) (entropy : E) : Type 0 where
+pub record EntropyStands {E : Type 0} (entropy_says : Entropy.Ghosts E) (net : Network) (w : World) (v : ℕ) (entropy : E) : Type 0 where
   pub rest : OctetSequence
-  pub tells : told entropy ≡ Some rest
+  pub tells : entropy_says.left entropy ≡ Some rest
   pub left : IsRest (net.entropy v) (w.drawn v) rest
 
 -- The bodies are batches in this version of the format, and these batches restore the view.
@@ -42,12 +44,12 @@ abbrev pub HasStory : Site → ℕ → ℕ → List (List ℕ) → View → Type
 HasStory site v version bodies view = (story : List (List Record)) × IsStory site v version bodies view story
 
 -- A manager that is up is the node's manager: it has the node's site, its view and its journal, and the journal restores the view.
-pub record UpStands {K : Type 0} (is_honest : K → Bool) (net : Network) (w : World) (v : ℕ) (site : Declared) (view : View) (journal : SnapshotForm K) : Type 0 where
+pub record UpStands {K : Type 0} (disk_says : Disk.Ghosts K) (net : Network) (w : World) (v : ℕ) (site : Declared) (view : View) (journal : SnapshotForm K) : Type 0 where
   pub up : w.up v ≡ true
   pub sited : site_of site ≡ net.site
   pub sees : view ≡ view_of net w v
   pub journaled : journal_of journal ≡ w.journal v
-  pub honest : IsTrue (is_honest journal.disk)
+  pub honest : IsTrue (disk_says.is_honest journal.disk)
   pub told : HasStory net.site v journal.live.version journal.batches view
 
 -- the journal of a disk with this live area and these batches
@@ -112,21 +114,21 @@ MayFind net w v image = HoldsJournal net w v image ⊎ (HoldsCheckpoint net w v 
 
 -- A manager that is down is a disk. Each image that a crash may leave of it is one that a start of the node may find. The batch in doubt fits the
 -- node's view.
-pub record DownStands {K : Type 0} (is_honest : K → Bool) (moment : K → ℕ) (image : K → ℕ → List ℕ → Type 0) (net : Network) (w : World) (v : ℕ) (disk : K) : Type 0 where
+pub record DownStands {K : Type 0} (disk_says : Disk.Ghosts K) (net : Network) (w : World) (v : ℕ) (disk : K) : Type 0 where
   pub down : w.up v ≡ false
-  pub honest : IsTrue (is_honest disk)
+  pub honest : IsTrue (disk_says.is_honest disk)
   pub fits : AllFit net (view_of net w v) (w.in_doubt v).batch
-  pub images : (i : List ℕ) → image disk (moment disk) i → MayFind net w v i
+  pub images : (i : List ℕ) → disk_says.image disk (disk_says.moment disk) i → MayFind net w v i
 
-abbrev pub StandingStands : {K : Type 0} → (K → Bool) → (K → ℕ) → (K → ℕ → List ℕ → Type 0) → Network → World → ℕ → Declared → View → Standing K → Type 0
-StandingStands is_honest moment image net w v site view (Up journal) = UpStands is_honest net w v site view journal
-StandingStands is_honest moment image net w v site view (Down disk) = DownStands is_honest moment image net w v disk
-StandingStands is_honest moment image net w v site view Between = ⊥
+abbrev pub StandingStands : {K : Type 0} → Disk.Ghosts K → Network → World → ℕ → Declared → View → Standing K → Type 0
+StandingStands disk_says net w v site view (Up journal) = UpStands disk_says net w v site view journal
+StandingStands disk_says net w v site view (Down disk) = DownStands disk_says net w v disk
+StandingStands disk_says net w v site view Between = ⊥
 
-pub record ManagerStands {K E : Type 0} (is_honest : K → Bool) (moment : K → ℕ) (image : K → ℕ → List ℕ → Type 0) (told : E → Option OctetSequence) (net : Network) (w : World) (v : ℕ) (m : ManagerForm K E) : Type 0 where
-  pub entropy : EntropyStands told net w v m.entropy
-  pub standing : StandingStands is_honest moment image net w v m.site m.view m.standing
+pub record ManagerStands {K E : Type 0} (disk_says : Disk.Ghosts K) (entropy_says : Entropy.Ghosts E) (net : Network) (w : World) (v : ℕ) (m : ManagerForm K E) : Type 0 where
+  pub entropy : EntropyStands entropy_says net w v m.entropy
+  pub standing : StandingStands disk_says net w v m.site m.view m.standing
 
-abbrev pub PostStands : {K E : Type 0} → (K → Bool) → (K → ℕ) → (K → ℕ → List ℕ → Type 0) → (E → Option OctetSequence) → Network → World → ℕ → Post K E → Type 0
-PostStands is_honest moment image told net w v (On m) = ManagerStands is_honest moment image told net w v m
-PostStands is_honest moment image told net w v (Off disk entropy) = EntropyStands told net w v entropy × DownStands is_honest moment image net w v disk
+abbrev pub PostStands : {K E : Type 0} → Disk.Ghosts K → Entropy.Ghosts E → Network → World → ℕ → Post K E → Type 0
+PostStands disk_says entropy_says net w v (On m) = ManagerStands disk_says entropy_says net w v m
+PostStands disk_says entropy_says net w v (Off disk entropy) = EntropyStands entropy_says net w v entropy × DownStands disk_says net w v disk

@@ -1,5 +1,5 @@
 -- A lane takes the blocks of its way.
-use Rattle.std.specs.Prelude.{◌≡◌, ℕ, ◌<◌, ◌%◌, ◌==◌, Bool, true, List, [], ◌∷◌, Option}
+use Rattle.std.specs.Prelude.{◌≡◌, ℕ, ◌<◌, ◌%◌, ◌==◌, Bool, true, List, [], ◌∷◌}
 use Rattle.qkd_base.specs.declared.lane.Way.{Way}
 use Rattle.qkd_base.specs.declared.lane.Way.TheVariants.{Up, Down}
 use Rattle.qkd_base.specs.declared.lane.Lane.{Lane}
@@ -14,6 +14,7 @@ use Rattle.net_model.specs.Events.{is_lane}
 use Rattle.lane_sender.specs.Lane.{LaneForm}
 use Rattle.world_nodes.specs.LaneStands.{IsRunning, LaneStands}
 use Rattle.world_nodes.specs.Going.{IsReplayed}
+use Rattle.source_devices.specs.declared.wire.Wire as Wire
 
 -- The lane up takes a link's blocks with even numbers, the lane down those with odd numbers.
 abbrev pub is_of_way : Way → ℕ → Bool
@@ -21,9 +22,9 @@ is_of_way Up number = number % 2 == 0
 is_of_way Down number = number % 2 == 1
 
 -- The block is the next one that the lane's sender takes from the device.
-pub record MayTake {X : Type 0} (frames : X → Option (List (List ℕ))) (counted : X → ℕ) (net : Network) (w : World) (side : LaneForm X) (number : ℕ) (block : List ℕ) : Type 0 where
+pub record MayTake {X : Type 0} (wire_says : Wire.Ghosts X) (net : Network) (w : World) (side : LaneForm X) (number : ℕ) (block : List ℕ) : Type 0 where
   pub running : IsRunning net w
-  pub stands : LaneStands frames counted net w side.lane side
+  pub stands : LaneStands wire_says net w side.lane side
   pub at : is_lane net.site side.lane ≡ true
   pub next : number ≡ w.durable.blocks side.lane
   pub few : number < 1024

@@ -20,7 +20,7 @@ use std::alloc::Global;
 
 // The number of the link's block that a node takes next, if its manager is up.
 fn next_number<K: Disk + Drop, E: Entropy>(post: &Post<K, E>, link: LinkNo) -> Option<u32>
-    ensures { (net : Network) (w : World) (v up : ℕ) → MayTake K.is_honest K.moment K.image E.left net w v post.now link up → IsNext net w v link result }
+    ensures { (net : Network) (w : World) (v up : ℕ) → MayTake K.Disk E.Entropy net w v post.now link up → IsNext net w v link result }
 {
     match post {
         Post::On(manager) => {
@@ -43,9 +43,9 @@ fn put_block<K: Disk + Drop, E: Entropy>(
     block: &[u8],
     up: u32,
 ) -> Reply
-    requires asked { (net : Network) × (w : World) × (v : ℕ) × MayPut K.is_honest K.moment K.image E.left net w v post.old link number block.now up }
-    ensures { (net : Network) (w : World) (v : ℕ) → MayPut K.is_honest K.moment K.image E.left net w v post.old link number block.now up
-        → IsTaken K.is_honest K.moment K.image K.faults K.armings E.left E.faults net w v link post.old post.new (Replies result) }
+    requires asked { (net : Network) × (w : World) × (v : ℕ) × MayPut K.Disk E.Entropy net w v post.old link number block.now up }
+    ensures { (net : Network) (w : World) (v : ℕ) → MayPut K.Disk E.Entropy net w v post.old link number block.now up
+        → IsTaken K.Disk E.Entropy net w v link post.old post.new (Replies result) }
 {
     match Octets::from_slice(alloc, block) {
         Err(_) => Reply::Memory,
@@ -72,10 +72,10 @@ pub fn take_block<K: Disk + Drop, E: Entropy, Q: Device>(
     up: u32,
     into: &mut [u8; 1024],
 ) -> BlockTake
-    requires asked { (net : Network) × (w : World) × (v : ℕ) × (Q.told device.old ≡ Some (net.device link)) × MayTake K.is_honest K.moment K.image E.left net w v post.old link up }
-    ensures taken { (net : Network) (w : World) (v : ℕ) → Q.told device.old ≡ Some (net.device link) → MayTake K.is_honest K.moment K.image E.left net w v post.old link up
-        → IsTaken K.is_honest K.moment K.image K.faults K.armings E.left E.faults net w v link post.old post.new (taken result) }
-    ensures block { (net : Network) (w : World) (v number : ℕ) → Q.told device.old ≡ Some (net.device link) → MayTake K.is_honest K.moment K.image E.left net w v post.old link up
+    requires asked { (net : Network) × (w : World) × (v : ℕ) × (Q.told device.old ≡ Some (net.device link)) × MayTake K.Disk E.Entropy net w v post.old link up }
+    ensures taken { (net : Network) (w : World) (v : ℕ) → Q.told device.old ≡ Some (net.device link) → MayTake K.Disk E.Entropy net w v post.old link up
+        → IsTaken K.Disk E.Entropy net w v link post.old post.new (taken result) }
+    ensures block { (net : Network) (w : World) (v number : ℕ) → Q.told device.old ≡ Some (net.device link) → MayTake K.Disk E.Entropy net w v post.old link up
         → taken result ≡ Replies (Took number) → into.new ≡ block_at (net.device link) (blocks_at net w v link) }
     ensures cause { taken result ≡ DeviceFailed → Rose (Q.faults device.old) (Q.faults device.new) }
     ensures told { Q.told device.new ≡ Q.told device.old }

@@ -15,8 +15,8 @@ use source_devices::Entropy;
 /// node has no manager that is up, it answers `Down`.
 pub fn ask_if_up<K: Disk + Drop, E: Entropy>(post: &mut Post<K, E>, event: &Event, up: u32) -> Reply
     requires valid { (m : ManagerForm K E) → post.old ≡ Post.On m → is_up m.standing ≡ true → is_valid_event (site_of m.site) m.view.me event.now ≡ true }
-    ensures { (net : Network) (w : World) (v : ℕ) → MayHandle K.is_honest K.moment K.image E.left net w v post.old event.now up
-        → Handled K.is_honest K.moment K.image K.faults K.armings E.left E.faults net w v event.now post.old post.new result }
+    ensures { (net : Network) (w : World) (v : ℕ) → MayHandle K.Disk E.Entropy net w v post.old event.now up
+        → Handled K.Disk E.Entropy net w v event.now post.old post.new result }
 {
     match post {
         Post::On(manager) => {
@@ -36,9 +36,9 @@ pub(crate) fn handle<K: Disk + Drop, E: Entropy>(
     event: &Event,
     up: u32,
 ) -> Reply
-    requires asked { (net : Network) × (w : World) × (v : ℕ) × MayHandle K.is_honest K.moment K.image E.left net w v post.old event.now up }
-    ensures { (net : Network) (w : World) (v : ℕ) → MayHandle K.is_honest K.moment K.image E.left net w v post.old event.now up
-        → Handled K.is_honest K.moment K.image K.faults K.armings E.left E.faults net w v event.now post.old post.new result }
+    requires asked { (net : Network) × (w : World) × (v : ℕ) × MayHandle K.Disk E.Entropy net w v post.old event.now up }
+    ensures { (net : Network) (w : World) (v : ℕ) → MayHandle K.Disk E.Entropy net w v post.old event.now up
+        → Handled K.Disk E.Entropy net w v event.now post.old post.new result }
 {
     ask_if_up(post, event, up)
 }

@@ -13,8 +13,8 @@ use source_devices::Wire;
 /// Claims bytes under the lane's lease for an order, seals the frame and puts it on the wire. In the network, the order is
 /// claimed, and then its frame is put or refused.
 pub fn emit<X: Wire>(side: &mut LaneSide<X>, lease: u64, order: &Order) -> Sent
-    requires asked { (net : Network) × (w : World) × MayEmit X.frames X.counted net w side.old lease order.now }
-    ensures emitted { (net : Network) (w : World) → MayEmit X.frames X.counted net w side.old lease order.now → Emitted X.frames X.counted net w side.new order.now result }
+    requires asked { (net : Network) × (w : World) × MayEmit X.Wire net w side.old lease order.now }
+    ensures emitted { (net : Network) (w : World) → MayEmit X.Wire net w side.old lease order.now → Emitted X.Wire net w side.new order.now result }
     ensures cause { IsErrOf (answer_of result) Fault → Rose (X.faults side.old.wire) (X.faults side.new.wire) }
     ensures later { X.faults side.old.wire ≤ X.faults side.new.wire }
     ensures calm { (IsErrOf (answer_of result) Fault → ⊥) → X.faults side.new.wire ≡ X.faults side.old.wire }
@@ -25,8 +25,8 @@ pub fn emit<X: Wire>(side: &mut LaneSide<X>, lease: u64, order: &Order) -> Sent
 
 /// Puts the frame of a repeat on the wire again. In the network, it is put or refused.
 pub fn again<X: Wire>(side: &mut LaneSide<X>, repeat: &Repeat) -> Sent
-    requires asked { (net : Network) × (w : World) × MayRepeat X.frames X.counted net w side.old repeat.now }
-    ensures repeated { (net : Network) (w : World) → MayRepeat X.frames X.counted net w side.old repeat.now → Repeated X.frames X.counted net w side.new repeat.now result }
+    requires asked { (net : Network) × (w : World) × MayRepeat X.Wire net w side.old repeat.now }
+    ensures repeated { (net : Network) (w : World) → MayRepeat X.Wire net w side.old repeat.now → Repeated X.Wire net w side.new repeat.now result }
     ensures cause { IsErrOf (answer_of result) Fault → Rose (X.faults side.old.wire) (X.faults side.new.wire) }
     ensures later { X.faults side.old.wire ≤ X.faults side.new.wire }
     ensures calm { (IsErrOf (answer_of result) Fault → ⊥) → X.faults side.new.wire ≡ X.faults side.old.wire }

@@ -18,9 +18,9 @@ pub fn hear<K: Disk + Drop, E: Entropy>(
     frame: Octets,
     up: u32,
 ) -> Reply
-    requires asked { (net : Network) × (w : World) × (number : ℕ) × MayHear K.is_honest K.moment K.image E.left net w lane number post.old frame up }
-    ensures { (net : Network) (w : World) (number : ℕ) → MayHear K.is_honest K.moment K.image E.left net w lane number post.old frame up
-        → HasHeard K.is_honest K.moment K.image K.faults K.armings E.left E.faults net w lane number post.old post.new result }
+    requires asked { (net : Network) × (w : World) × (number : ℕ) × MayHear K.Disk E.Entropy net w lane number post.old frame up }
+    ensures { (net : Network) (w : World) (number : ℕ) → MayHear K.Disk E.Entropy net w lane number post.old frame up
+        → HasHeard K.Disk E.Entropy net w lane number post.old post.new result }
 {
     handle(post, &Event::Heard { lane, bytes: frame }, up)
 }

@@ -21,13 +21,13 @@ fn is_of_lane(lane: Lane, number: u32) -> bool
 /// Takes the next block of the lane's link, if its number belongs to the lane's way. In the network, the lane's sender has
 /// just made this block durable. An `Err` changes nothing.
 pub fn take<X: Wire>(side: &mut LaneSide<X>, number: u32, block: &[u8; 1024]) -> Result<(), Memory>
-    requires asked { (net : Network) × (w : World) × MayTake X.frames X.counted net w side.old number block.now }
-    ensures ok { OnOk result ((net : Network) (w w' : World) → MayTake X.frames X.counted net w side.old number block.now → TakesBlock net w w' side.old.lane number block.now
-        → LaneStands X.frames X.counted net w' side.old.lane side.new) }
+    requires asked { (net : Network) × (w : World) × MayTake X.Wire net w side.old number block.now }
+    ensures ok { OnOk result ((net : Network) (w w' : World) → MayTake X.Wire net w side.old number block.now → TakesBlock net w w' side.old.lane number block.now
+        → LaneStands X.Wire net w' side.old.lane side.new) }
     ensures err { OnErr result (side.new ≡ side.old) }
     ensures kept { side.new.wire ≡ side.old.wire }
-    ensures wire { (net : Network) (w w' : World) → MayTake X.frames X.counted net w side.old number block.now → TakesBlock net w w' side.old.lane number block.now
-        → WireStands X.frames X.counted net w' side.old.lane side.new.wire }
+    ensures wire { (net : Network) (w w' : World) → MayTake X.Wire net w side.old number block.now → TakesBlock net w w' side.old.lane number block.now
+        → WireStands X.Wire net w' side.old.lane side.new.wire }
 {
     if is_of_lane(side.lane(), number) {
         side.take(block)

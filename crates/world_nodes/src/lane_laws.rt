@@ -21,7 +21,7 @@ use source_devices::Wire;
 /// If a lane of the network goes on unchanged, the lane of the program stands for it as before.
 pub fn law_lane_goes_on<X: Wire>()
     ensures { (net : Network) (w w' : World) (l : LaneValue) (side : LaneForm X) → IsRunning net w → is_lane net.site l ≡ true → GoesOn w w' l →
-        LaneStands X.frames X.counted net w l side → LaneStands X.frames X.counted net w' l side }
+        LaneStands X.Wire net w l side → LaneStands X.Wire net w' l side }
 {}
 
 /// A lane goes on unchanged in an action that keeps the lane's blocks, owners and wire, and doesn't lower its lease.

@@ -15,16 +15,16 @@ use std::alloc::Global;
 pub fn begin<X: Wire>(alloc: Global, lane: Lane, wire: X) -> LaneSide<X>
     requires empty { X.counted wire ≡ 0 }
     requires tells { is_some (X.frames wire) ≡ true }
-    ensures { (net : Network) → LaneStands X.frames X.counted net first lane result }
+    ensures { (net : Network) → LaneStands X.Wire net first lane result }
 {
     LaneSide::new(alloc, lane, wire)
 }
 
 /// The lane's sender starts again at the lease: bytes below the lease that have no owner are burnt.
 pub fn restart<X: Wire>(side: &mut LaneSide<X>, lease: u64)
-    requires asked { (net : Network) × (w : World) × (committed : Bool) × MayRestart X.frames X.counted net w committed side.old lease }
-    ensures restarted { (net : Network) (w : World) (committed : Bool) → MayRestart X.frames X.counted net w committed side.old lease
-        → LaneStands X.frames X.counted net (restarted net (resolved net.site w (sender net.site side.old.lane) committed) (sender net.site side.old.lane)) side.old.lane side.new }
+    requires asked { (net : Network) × (w : World) × (committed : Bool) × MayRestart X.Wire net w committed side.old lease }
+    ensures restarted { (net : Network) (w : World) (committed : Bool) → MayRestart X.Wire net w committed side.old lease
+        → LaneStands X.Wire net (restarted net (resolved net.site w (sender net.site side.old.lane) committed) (sender net.site side.old.lane)) side.old.lane side.new }
 {
     side.restart(lease);
 }

@@ -17,7 +17,7 @@ use source_devices::Entropy;
 /// If a manager of the network stays as it was, the post stands for it as before.
 pub fn law_post_goes_on<K: Disk, E: Entropy>()
     ensures { (net : Network) (w w' : World) (v : ℕ) (post : PostValue K E) → ManagerStays net v w w' →
-        PostStands K.is_honest K.moment K.image E.left net w v post → PostStands K.is_honest K.moment K.image E.left net w' v post }
+        PostStands K.Disk E.Entropy net w v post → PostStands K.Disk E.Entropy net w' v post }
 {}
 
 /// The program's manager answers an event, and makes its changes durable first. Then the network handles the event, with some
@@ -26,9 +26,9 @@ pub fn law_post_goes_on<K: Disk, E: Entropy>()
 /// before, and no count of faults falls.
 pub fn law_answered_is_handled<K: Disk, E: Entropy>()
     ensures { (net : Network) (w : World) (v : ℕ) (event : EventValue) (old new : ManagerForm K E) (reply : ReplyValue) → IsRunning net w → ViewGoesOn net w v event → BatchFits net w v event →
-        Acts K.is_honest K.moment K.image K.faults E.left E.faults w.link_up event old old.standing new reply → new.site ≡ old.site →
+        Acts K.Disk E.Entropy w.link_up event old old.standing new reply → new.site ≡ old.site →
         HasDisk (λ before. HasDisk (λ disk. (K.is_honest disk ≡ K.is_honest before) × (K.armings disk ≡ K.armings before)) new.standing) old.standing →
         HasDisk (λ before. HasDisk (λ disk. K.faults before ≤ K.faults disk) new.standing) old.standing → E.faults old.entropy ≤ E.faults new.entropy →
-        PostStands K.is_honest K.moment K.image E.left net w v (Post.On old) →
-        Handled K.is_honest K.moment K.image K.faults K.armings E.left E.faults net w v event (Post.On old) (Post.On new) reply }
+        PostStands K.Disk E.Entropy net w v (Post.On old) →
+        Handled K.Disk E.Entropy net w v event (Post.On old) (Post.On new) reply }
 {}

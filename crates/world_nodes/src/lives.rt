@@ -11,8 +11,8 @@ use source_devices::Entropy;
 
 /// Ends the life of a node's manager, and returns whether it was up. The disk keeps its content.
 pub fn crash<K: Disk + Drop, E: Entropy>(post: Post<K, E>) -> (Post<K, E>, bool)
-    ensures { (net : Network) (w : World) (v : ℕ) → MayCrash K.is_honest K.moment K.image E.left net w v post
-        → HasCrashed K.is_honest K.moment K.image K.faults K.armings E.left E.faults net w v post result.0 result.1 }
+    ensures { (net : Network) (w : World) (v : ℕ) → MayCrash K.Disk E.Entropy net w v post
+        → HasCrashed K.Disk E.Entropy net w v post result.0 result.1 }
 {
     match post {
         Post::On(manager) => {
@@ -30,9 +30,9 @@ pub fn crash<K: Disk + Drop, E: Entropy>(post: Post<K, E>) -> (Post<K, E>, bool)
 /// Arms a node's disk with a fault, which replaces an earlier one. Nothing else changes.
 pub fn arm<K: Disk + Drop, E: Entropy>(post: &mut Post<K, E>, arm: Arm)
     requires count { OnDisk (λ disk. (K.armings disk).count < 2 ^ 32) post.old }
-    ensures armed { IsArmedWith K.faults K.armings E.faults arm post.old post.new }
-    ensures action { (net : Network) (w : World) (v : ℕ) (fault : Fault) → MayArm K.is_honest K.moment K.image E.left net w v fault post.old
-        → HasArmed K.is_honest K.moment K.image E.left net w v fault post.new }
+    ensures armed { IsArmedWith K.Disk E.Entropy arm post.old post.new }
+    ensures action { (net : Network) (w : World) (v : ℕ) (fault : Fault) → MayArm K.Disk E.Entropy net w v fault post.old
+        → HasArmed K.Disk E.Entropy net w v fault post.new }
 {
     match post {
         Post::On(manager) => manager.arm(arm),

@@ -12,9 +12,9 @@ use source_devices::Entropy;
 /// Asks a node's manager to handle an event. Bit l of `up` says that link l is up. If the node has no manager that is up, it
 /// answers `Down`.
 pub fn ask<K: Disk + Drop, E: Entropy>(post: &mut Post<K, E>, event: &Event, up: u32) -> Reply
-    requires asked { (net : Network) × (w : World) × (v : ℕ) × MayAsk K.is_honest K.moment K.image E.left net w v post.old event.now up }
-    ensures { (net : Network) (w : World) (v : ℕ) → MayAsk K.is_honest K.moment K.image E.left net w v post.old event.now up
-        → Asked K.is_honest K.moment K.image K.faults K.armings E.left E.faults net w v event.now post.old post.new result }
+    requires asked { (net : Network) × (w : World) × (v : ℕ) × MayAsk K.Disk E.Entropy net w v post.old event.now up }
+    ensures { (net : Network) (w : World) (v : ℕ) → MayAsk K.Disk E.Entropy net w v post.old event.now up
+        → Asked K.Disk E.Entropy net w v event.now post.old post.new result }
 {
     handle(post, event, up)
 }

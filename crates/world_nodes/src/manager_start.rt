@@ -1,5 +1,5 @@
 // Starting a node's manager.
-ghost use Rattle.std.specs.Prelude.{◌≡◌, ℕ};
+ghost use Rattle.std.specs.Prelude.{◌≡◌};
 ghost use Rattle.declared_site.specs.SiteOf.{IsDeclared};
 ghost use Rattle.net_model.specs.World.{Network, World};
 ghost use Rattle.world_nodes.specs.Starting.{MayStart, HasStarted, result_of};
@@ -32,8 +32,8 @@ fn begin<K: Disk + Drop, E: Entropy>(
     me: NodeNo,
 ) -> (Post<K, E>, StartResult)
     requires { IsDeclared site.now }
-    ensures { (net : Network) (w : World) → MayStart K.is_honest K.moment K.image E.left net w me site.now (Post.Off disk entropy)
-        → HasStarted K.is_honest K.moment K.image K.faults K.armings E.left E.faults net w me (Post.Off disk entropy) result.0 result.1 }
+    ensures { (net : Network) (w : World) → MayStart K.Disk E.Entropy net w me site.now (Post.Off disk entropy)
+        → HasStarted K.Disk E.Entropy net w me (Post.Off disk entropy) result.0 result.1 }
 {
     match disk.room(17) {
         Err(_) => (Post::Off(disk, entropy), StartResult::Memory),
@@ -52,8 +52,8 @@ pub fn start<K: Disk + Drop, E: Entropy>(
     me: NodeNo,
 ) -> (Post<K, E>, StartResult)
     requires { IsDeclared site.now }
-    ensures { (net : Network) (w : World) → MayStart K.is_honest K.moment K.image E.left net w me site.now post
-        → HasStarted K.is_honest K.moment K.image K.faults K.armings E.left E.faults net w me post result.0 result.1 }
+    ensures { (net : Network) (w : World) → MayStart K.Disk E.Entropy net w me site.now post
+        → HasStarted K.Disk E.Entropy net w me post result.0 result.1 }
 {
     match post {
         Post::On(manager) => {

@@ -28,13 +28,13 @@ pub fn note<K: Disk + Drop, E: Entropy>(
     placings: Placings,
     up: u32,
 ) -> Result<Reply, Memory>
-    requires asked { (net : Network) × (w : World) × (v : ℕ) × MayNote K.is_honest K.moment K.image E.left net w v post.old placings up }
-    ensures ok { (net : Network) (w : World) (v : ℕ) → MayNote K.is_honest K.moment K.image E.left net w v post.old placings up
-        → IfOk result (HasNoted K.is_honest K.moment K.image K.faults K.armings E.left E.faults net w v post.old post.new) }
-    ensures err { (net : Network) (w : World) (v : ℕ) → MayNote K.is_honest K.moment K.image E.left net w v post.old placings up
-        → OnErr result (PostStands K.is_honest K.moment K.image E.left net w v post.new) }
-    ensures counts { (net : Network) (w : World) (v : ℕ) → MayNote K.is_honest K.moment K.image E.left net w v post.old placings up
-        → OnErr result (Counts K.faults K.armings E.faults false false post.old post.new) }
+    requires asked { (net : Network) × (w : World) × (v : ℕ) × MayNote K.Disk E.Entropy net w v post.old placings up }
+    ensures ok { (net : Network) (w : World) (v : ℕ) → MayNote K.Disk E.Entropy net w v post.old placings up
+        → IfOk result (HasNoted K.Disk E.Entropy net w v post.old post.new) }
+    ensures err { (net : Network) (w : World) (v : ℕ) → MayNote K.Disk E.Entropy net w v post.old placings up
+        → OnErr result (PostStands K.Disk E.Entropy net w v post.new) }
+    ensures counts { (net : Network) (w : World) (v : ℕ) → MayNote K.Disk E.Entropy net w v post.old placings up
+        → OnErr result (Counts K.Disk E.Entropy false false post.old post.new) }
 {
     let reply = handle(post, &Event::Note { placings }, up);
     if is_memory(&reply) {

@@ -15,7 +15,7 @@ use source_devices::Entropy;
 
 // Whether the receiver has a manager that is up.
 fn is_up<K: Disk + Drop, E: Entropy>(post: &Post<K, E>) -> bool
-    ensures { (net : Network) (w : World) (lane : LaneValue) → ReceiverStands K.is_honest K.moment K.image E.left net w lane post.now → w.up (receiver net.site lane) ≡ result }
+    ensures { (net : Network) (w : World) (lane : LaneValue) → ReceiverStands K.Disk E.Entropy net w lane post.now → w.up (receiver net.site lane) ≡ result }
 {
     match post {
         Post::On(manager) => manager.is_up(),
@@ -29,7 +29,7 @@ pub fn would_match<K: Disk + Drop, E: Entropy>(
     lane: Lane,
     octets: &[u8],
 ) -> Result<bool, Memory>
-    ensures { (net : Network) (w : World) → ReceiverStands K.is_honest K.moment K.image E.left net w lane post.now → IfOk result (λ does. does ≡ matches net w lane octets.now) }
+    ensures { (net : Network) (w : World) → ReceiverStands K.Disk E.Entropy net w lane post.now → IfOk result (λ does. does ≡ matches net w lane octets.now) }
 {
     match post {
         Post::On(manager) => manager.would_match(lane, octets),
@@ -44,9 +44,9 @@ fn heard<K: Disk + Drop, E: Entropy>(
     octets: Octets,
     up: u32,
 ) -> Reply
-    requires asked { (net : Network) × (w : World) × MayHandle K.is_honest K.moment K.image E.left net w (receiver net.site lane) post.old (Event.Heard lane octets) up }
-    ensures { (net : Network) (w : World) → MayHandle K.is_honest K.moment K.image E.left net w (receiver net.site lane) post.old (Event.Heard lane octets) up
-        → Handled K.is_honest K.moment K.image K.faults K.armings E.left E.faults net w (receiver net.site lane) (Event.Heard lane octets) post.old post.new result }
+    requires asked { (net : Network) × (w : World) × MayHandle K.Disk E.Entropy net w (receiver net.site lane) post.old (Event.Heard lane octets) up }
+    ensures { (net : Network) (w : World) → MayHandle K.Disk E.Entropy net w (receiver net.site lane) post.old (Event.Heard lane octets) up
+        → Handled K.Disk E.Entropy net w (receiver net.site lane) (Event.Heard lane octets) post.old post.new result }
 {
     let bytes = octets;
     handle(post, &Event::Heard { lane, bytes }, up)
@@ -60,9 +60,9 @@ fn tamper<K: Disk + Drop, E: Entropy>(
     forged: bool,
     up: u32,
 ) -> Option<Reply>
-    requires asked { (net : Network) × (w : World) × MayTamper K.is_honest K.moment K.image E.left net w lane post.old octets forged up }
-    ensures { (net : Network) (w : World) → MayTamper K.is_honest K.moment K.image E.left net w lane post.old octets forged up
-        → HasTampered K.is_honest K.moment K.image K.faults K.armings E.left E.faults net w lane octets post.old post.new result }
+    requires asked { (net : Network) × (w : World) × MayTamper K.Disk E.Entropy net w lane post.old octets forged up }
+    ensures { (net : Network) (w : World) → MayTamper K.Disk E.Entropy net w lane post.old octets forged up
+        → HasTampered K.Disk E.Entropy net w lane octets post.old post.new result }
 {
     if !is_up(post) {
         return Some(Reply::Down);
@@ -82,9 +82,9 @@ pub fn forge<K: Disk + Drop, E: Entropy>(
     forged: bool,
     up: u32,
 ) -> Option<Reply>
-    requires asked { (net : Network) × (w : World) × MayForge K.is_honest K.moment K.image E.left net w lane post.old octets forged up }
-    ensures { (net : Network) (w : World) → MayForge K.is_honest K.moment K.image E.left net w lane post.old octets forged up
-        → HasForged K.is_honest K.moment K.image K.faults K.armings E.left E.faults net w lane octets post.old post.new result }
+    requires asked { (net : Network) × (w : World) × MayForge K.Disk E.Entropy net w lane post.old octets forged up }
+    ensures { (net : Network) (w : World) → MayForge K.Disk E.Entropy net w lane post.old octets forged up
+        → HasForged K.Disk E.Entropy net w lane octets post.old post.new result }
 {
     tamper(post, lane, octets, forged, up)
 }
@@ -98,9 +98,9 @@ pub fn flip<K: Disk + Drop, E: Entropy>(
     forged: bool,
     up: u32,
 ) -> Option<Reply>
-    requires asked { (net : Network) × (w : World) × (number : ℕ) × (bit : ℕ) × MayFlip K.is_honest K.moment K.image E.left net w lane number bit post.old octets forged up }
-    ensures { (net : Network) (w : World) (number bit : ℕ) → MayFlip K.is_honest K.moment K.image E.left net w lane number bit post.old octets forged up
-        → HasFlipped K.is_honest K.moment K.image K.faults K.armings E.left E.faults net w lane number bit post.old post.new result }
+    requires asked { (net : Network) × (w : World) × (number : ℕ) × (bit : ℕ) × MayFlip K.Disk E.Entropy net w lane number bit post.old octets forged up }
+    ensures { (net : Network) (w : World) (number bit : ℕ) → MayFlip K.Disk E.Entropy net w lane number bit post.old octets forged up
+        → HasFlipped K.Disk E.Entropy net w lane number bit post.old post.new result }
 {
     tamper(post, lane, octets, forged, up)
 }

@@ -1,7 +1,6 @@
 -- Handling an event changes only the manager that handles it.
-use Rattle.std.proofs.Common.{◌≡◌, ℕ, Bool, true, false, ◌&&◌, not, List, refl, sym, ap, subst, ◌∙◌, Option, Some}
+use Rattle.std.proofs.Common.{◌≡◌, ℕ, Bool, true, false, ◌&&◌, not, refl, sym, ap, subst, ◌∙◌, Some}
 use Rattle.std.specs.Prelude.{◌==◌, nat_lt, slice_get}
-use Rattle.disk_model.specs.declared.arm.Armings.{Armings}
 use Rattle.net_model.specs.declared.event.Event.{Event}
 use Rattle.net_model.specs.declared.event.Event.TheVariants.{Plan}
 use Rattle.net_model.specs.Site.{Site, sender}
@@ -10,7 +9,6 @@ use Rattle.net_model.specs.Events.{is_valid_event}
 use Rattle.net_model.specs.Faults.{is_random_fault}
 use Rattle.net_model.specs.Action.{Environment, Ask, Ok, Replies, is_io_fault, is_entropy_fault}
 use Rattle.net_model.specs.declared.reply.Reply.{Reply}
-use Rattle.net_model.specs.OctetSequence.{OctetSequence}
 use Rattle.declared_site.specs.SiteOf.{site_of}
 use Rattle.world_nodes.specs.Passed.{Post}
 use Rattle.run_ops.specs.Acting.{IsReady, Does}
@@ -27,6 +25,7 @@ use Rattle.run_ops.specs.Fitting as fitting
 use Rattle.world_state.proofs.Changes.{OnePost}
 use Rattle.world_state.proofs.OnePost.{ChangesPost, ChangesOne, happened}
 use Rattle.world_state.proofs.OneTallied.{CountsOne, CountsNoOther}
+use Rattle.world_state.specs.Outside.{Outside}
 
 no_part : (b : Bool) → (b && false) ≡ false
 no_part true = refl
@@ -75,19 +74,18 @@ asks_counted s v event environment = record {
 pub asks_no_other : (v : ℕ) (event : Event) (environment : Environment) → CountsNoOther (Ask v event environment)
 asks_no_other v event environment = record { devices = λ link. refl; wires = λ l. refl }
 
-module _ {K Q E X : Type 0} (is_honest : K → Bool) (moment : K → ℕ) (image : K → ℕ → List ℕ → Type 0) (left : E → Option OctetSequence) (told : Q → Option OctetSequence)
-    (frames : X → Option (List (List ℕ))) (counted : X → ℕ) (old : State K Q E X) (net : Network) (w : World) (v : ℕ) (event : Event)
-    (ready : IsReady (Stands is_honest moment image left told frames counted) old net w) (fit : is_fit (site_of old.site) (Ask v event Ok) ≡ true) (p : Post K E)
+module _ {K Q E X : Type 0} (outside : Outside K Q E X) (old : State K Q E X) (net : Network) (w : World) (v : ℕ) (event : Event)
+    (ready : IsReady (Stands outside) old net w) (fit : is_fit (site_of old.site) (Ask v event Ok) ≡ true) (p : Post K E)
     (there : slice_get old.posts.items v ≡ Some p) where
   here : is_fit net.site (Ask v event Ok) ≡ true
   here = subst (λ (s : Site). is_fit s (Ask v event Ok) ≡ true) (sym ready.stands.sited) fit
 
-  pub may_ask : MayAsk is_honest moment image left net w v p event old.up
+  pub may_ask : MayAsk outside.disk outside.entropy net w v p event old.up
   may_ask = record { running = ready.stands.running; stands = ready.stands.posts v p there; enabled = fit_enabled net w v event here; links = ready.stands.up }
 
-  pub asked_done : (disk_count : K → ℕ) (armed : K → Armings) (entropy_count : E → ℕ) (device_count : Q → ℕ) (wire_count : X → ℕ) (new : State K Q E X) (q : Post K E) (reply : Reply) → OnePost old new v p q →
-      Asked is_honest moment image disk_count armed left entropy_count net w v event p q reply →
-      Does (Stands is_honest moment image left told frames counted) (Tallied disk_count armed entropy_count device_count wire_count) old new net w (Ask v event Ok) (Replies reply)
-  asked_done disk_count armed entropy_count device_count wire_count new q reply change asked =
-      happened is_honest moment image left told frames counted disk_count armed entropy_count device_count wire_count old new net w v p q change ready (λ (environment : Environment). Ask v event environment)
+  pub asked_done : (new : State K Q E X) (q : Post K E) (reply : Reply) → OnePost old new v p q →
+      Asked outside.disk outside.entropy net w v event p q reply →
+      Does (Stands outside) (Tallied outside) old new net w (Ask v event Ok) (Replies reply)
+  asked_done new q reply change asked =
+      happened outside old new net w v p q change ready (λ (environment : Environment). Ask v event environment)
       (Ask v event Ok) (Replies reply) (λ environment. asks_one net.site v event environment (fit_no_plan net.site v event here)) (asks_counted net.site v event) (asks_no_other v event) (λ environment. refl) asked

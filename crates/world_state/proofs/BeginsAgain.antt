@@ -1,13 +1,11 @@
 -- Starting a node's manager changes its post, and then the lanes that leave the node.
-use Rattle.std.proofs.Common.{◌≡◌, ℕ, ◌+◌, ◌*◌, ◌/◌, ◌%◌, ◌<◌, Bool, true, false, ◌&&◌, List, [], ◌∷◌, length, refl, sym, ap, subst, ◌∙◌, arith, Option, Some}
+use Rattle.std.proofs.Common.{◌≡◌, ℕ, ◌+◌, ◌*◌, ◌/◌, ◌%◌, ◌<◌, Bool, true, false, ◌&&◌, List, [], ◌∷◌, length, refl, sym, ap, subst, ◌∙◌, arith, Some}
 use Rattle.std.specs.Prelude.{◌==◌, slice_get, if◌then◌else◌}
 use Rattle.std.proofs.lemmas.Bool.{ltb-true, lt-ltb}
 use Rattle.std.proofs.lemmas.Bool.Decides.{nat_tests}
 use Rattle.std.proofs.lemmas.Option.{slice_get_within}
 use Rattle.qkd_base.specs.declared.lane.Way.TheVariants.{Up, Down}
 use Rattle.qkd_base.specs.declared.lane.Lane.{Lane}
-use Rattle.disk_model.specs.declared.arm.Armings.{Armings}
-use Rattle.net_model.specs.OctetSequence.{OctetSequence}
 use Rattle.net_model.specs.Site.{Site, sender}
 use Rattle.net_model.specs.World.{Network, World}
 use Rattle.net_model.specs.Events.{is_lane}
@@ -51,6 +49,7 @@ use Rattle.world_state.proofs.Resting.{post_rests, rests_after}
 use Rattle.world_state.proofs.Resumed.{IsAgain, started_as, manager_octets, may_go_on, goes_on_there}
 use Rattle.world_state.proofs.StateGoesOn.{running_on, enabled_of, manager_on}
 use Rattle.world_state.proofs.Takes.{goes_same}
+use Rattle.world_state.specs.Outside.{Outside}
 
 elsewhere : (v u : ℕ) → (u ≡ v → ⊥) → (v == u) ≡ false
 elsewhere v u other = not_false (v == u) (λ e. other (sym (eq_from v u e)))
@@ -106,17 +105,16 @@ place_at p = elim (p % 2 == 0) as (λ t. (p % 2 == 0) ≡ t → 2 * (p / 2) + of
 is_there : (s : Site) (p n : ℕ) → p < n → n ≡ 2 * s.links → is_lane s (lane_at p) ≡ true
 is_there s p n below size = lt-ltb (p / 2) s.links (omega (arith, below, size))
 
-module _ {K Q E X : Type 0} (is_honest : K → Bool) (moment : K → ℕ) (image : K → ℕ → List ℕ → Type 0) (left : E → Option OctetSequence) (told : Q → Option OctetSequence)
-    (frames : X → Option (List (List ℕ))) (counted : X → ℕ) (old : State K Q E X) (net : Network) (w : World) (v : ℕ)
-    (ready : IsReady (Stands is_honest moment image left told frames counted) old net w) where
-  abbrev HasDone : State K Q E X → StartResult → (K → ℕ) → (K → Armings) → (E → ℕ) → (Q → ℕ) → (X → ℕ) → Type 0
-  HasDone new r disk_count armed entropy_count device_count wire_count =
-      Does (Stands is_honest moment image left told frames counted) (Tallied disk_count armed entropy_count device_count wire_count) old new net w (Start v (Recovers false)) (started r)
+module _ {K Q E X : Type 0} (outside : Outside K Q E X) (old : State K Q E X) (net : Network) (w : World) (v : ℕ)
+    (ready : IsReady (Stands outside) old net w) where
+  abbrev HasDone : State K Q E X → StartResult → Type 0
+  HasDone new r =
+      Does (Stands outside) (Tallied outside) old new net w (Start v (Recovers false)) (started r)
 
   -- ---- the post
 
   module _ (fit : is_fit (site_of old.site) (Start v (Recovers false)) ≡ true) (p : Post K E) (there : slice_get old.posts.items v ≡ Some p) where
-    pub may_start : MayStart is_honest moment image left net w v old.site p
+    pub may_start : MayStart outside.disk outside.entropy net w v old.site p
     may_start = record {
       running = ready.stands.running;
       stands = ready.stands.posts v p there;
@@ -125,10 +123,10 @@ module _ {K Q E X : Type 0} (is_honest : K → Bool) (moment : K → ℕ) (image
       sited = sym ready.stands.sited;
     }
 
-  module _ (disk_count : K → ℕ) (armed : K → Armings) (entropy_count : E → ℕ) (device_count : Q → ℕ) (wire_count : X → ℕ) where
+  module _ where
     pub begun : (p : Post K E) (new : State K Q E X) (q : Post K E) (one : OnePost old new v p q) (r : StartResult) →
-        HasStarted is_honest moment image disk_count armed left entropy_count net w v p q r →
-        HasBegun is_honest moment image left disk_count armed entropy_count device_count wire_count old new net w v r
+        HasStarted outside.disk outside.entropy net w v p q r →
+        HasBegun outside old new net w v r
     begun p new q one r h =
         let a = Start v h.recovery in
         record {
@@ -137,20 +135,20 @@ module _ {K Q E X : Type 0} (is_honest : K → Bool) (moment : K → ℕ) (image
           said = h.said;
           site = one.site;
           nodes = posts_same old new v p q one;
-          posts = each_post old new v p q one (λ u x. PostStands is_honest moment image left net (step net w a).0 u x) h.stands
+          posts = each_post old new v p q one (λ u x. PostStands outside.disk outside.entropy net (step net w a).0 u x) h.stands
               (λ u x other stood.
-              post_on is_honest moment image left net w (step net w a).0 u (manager_on net w a u ready.stands.running (enabled_of net w a h.may) (elsewhere v u other)) x (ready.stands.posts u x stood));
+              post_on outside.disk outside.entropy net w (step net w a).0 u (manager_on net w a u ready.stands.running (enabled_of net w a h.may) (elsewhere v u other)) x (ready.stands.posts u x stood));
           lanes = one.lanes;
           devices = one.devices;
           up = one.up;
-          tallied = one_post_tallied disk_count armed entropy_count device_count wire_count net.site a old new
-              (has_disks is_honest moment image left told frames counted old net w ready.stands) v p q (is_interrupted h.recovery) false one (start_counted net.site v h.recovery)
+          tallied = one_post_tallied outside net.site a old new
+              (has_disks outside old net w ready.stands) v p q (is_interrupted h.recovery) false one (start_counted net.site v h.recovery)
               (record { devices = λ link. refl; wires = λ l. refl }) h.counts;
         }
 
     -- ---- the lanes
 
-    module _ (mid : State K Q E X) (r : StartResult) (h : HasBegun is_honest moment image left disk_count armed entropy_count device_count wire_count old mid net w v r) where
+    module _ (mid : State K Q E X) (r : StartResult) (h : HasBegun outside old mid net w v r) where
       abbrev a : Action
       a = Start v h.recovery
 
@@ -158,20 +156,20 @@ module _ {K Q E X : Type 0} (is_honest : K → Bool) (moment : K → ℕ) (image
       after = (step net w a).0
 
       abbrev Done : State K Q E X → Type 0
-      Done new = HasDone new r disk_count armed entropy_count device_count wire_count
+      Done new = HasDone new r
 
       runs_on : IsRunning net after
       runs_on = running_on net w a ready.stands.running h.may
 
-      stood : (k : Lane) (side : LaneForm X) → is_lane net.site k ≡ true → slice_get mid.lanes.items (place_of k) ≡ Some side → LaneStands frames counted net w k side
+      stood : (k : Lane) (side : LaneForm X) → is_lane net.site k ≡ true → slice_get mid.lanes.items (place_of k) ≡ Some side → LaneStands outside.wire net w k side
       stood k side at there = ready.stands.lanes k side at (ap (λ (xs : List (LaneForm X)). slice_get xs (place_of k)) (sym h.lanes) ∙ there)
 
       sides_mid : length mid.lanes.items ≡ 2 * net.site.links
       sides_mid = ap length h.lanes ∙ ready.stands.sides
 
       done : (new : State K Q E X) → new.site ≡ mid.site → new.posts.items ≡ mid.posts.items → new.devices.items ≡ mid.devices.items → new.up ≡ mid.up → length new.lanes.items ≡ length mid.lanes.items →
-          ((k : Lane) (side : LaneForm X) → is_lane net.site k ≡ true → slice_get new.lanes.items (place_of k) ≡ Some side → LaneStands frames counted net after k side) →
-          Tallied disk_count armed entropy_count device_count wire_count old new net.site (a ∷ []) → Done new
+          ((k : Lane) (side : LaneForm X) → is_lane net.site k ≡ true → slice_get new.lanes.items (place_of k) ≡ Some side → LaneStands outside.wire net after k side) →
+          Tallied outside old new net.site (a ∷ []) → Done new
       done new site posts devices up sides lanes tallied = record {
         action = a;
         is = refl;
@@ -196,7 +194,7 @@ module _ {K Q E X : Type 0} (is_honest : K → Bool) (moment : K → ℕ) (image
 
       pub begun_below : is_fit (site_of old.site) (Start v (Recovers false)) ≡ true → v < length mid.posts.items
       begun_below fit =
-          let below = node_below is_honest moment image left told frames counted old net w v ready fit in
+          let below = node_below outside old net w v ready fit in
           let nodes = h.nodes in
           omega (arith, below, nodes)
 
@@ -205,7 +203,7 @@ module _ {K Q E X : Type 0} (is_honest : K → Bool) (moment : K → ℕ) (image
       otherwise_done none =
           let same = (started_as net w v h.recovery).1 (λ well. not_started r none (sym h.said ∙ well)) in
           done mid refl refl refl refl refl
-          (λ k side at there. goes_on frames counted net w after k side ready.stands.running at (goes_same w after k same.durable same.frames same.wire) (stood k side at there)) h.tallied
+          (λ k side at there. goes_on outside.wire net w after k side ready.stands.running at (goes_same w after k same.durable same.frames same.wire) (stood k side at there)) h.tallied
 
       -- The start brought the manager up.
 
@@ -217,31 +215,31 @@ module _ {K Q E X : Type 0} (is_honest : K → Bool) (moment : K → ℕ) (image
         not_off disk entropy there = absurd (not_both (after.up v) again.up (h.posts v (Off disk entropy) there).1.down)
 
         module _ (m : ManagerForm K E) (there : slice_get mid.posts.items v ≡ Some (On m)) where
-          stands_here : PostStands is_honest moment image left net after v (On m)
+          stands_here : PostStands outside.disk outside.entropy net after v (On m)
           stands_here = h.posts v (On m) there
 
-          module _ (l : Lane) (side : LaneForm X) (at : is_lane net.site l ≡ true) (s : LaneStands frames counted net w l side) where
+          module _ (l : Lane) (side : LaneForm X) (at : is_lane net.site l ≡ true) (s : LaneStands outside.wire net w l side) where
             octets : sender net.site l ≡ v → octets_in m.view l ≡ octets_sent net after l
-            octets from = manager_octets is_honest moment image left net after v l runs_on again.up at from m stands_here
+            octets from = manager_octets outside.disk outside.entropy net after v l runs_on again.up at from m stands_here
 
             lease : sender net.site l ≡ v → lease_in m.view l ≡ after.durable.lease l
-            lease from = manager_lease is_honest moment image left net after v l runs_on again.up at from m stands_here
+            lease from = manager_lease outside.disk outside.entropy net after v l runs_on again.up at from m stands_here
 
-          module _ (side : LaneForm X) (at : is_lane net.site side.lane ≡ true) (s : LaneStands frames counted net w side.lane side) (from : sender net.site side.lane ≡ v) where
+          module _ (side : LaneForm X) (at : is_lane net.site side.lane ≡ true) (s : LaneStands outside.wire net w side.lane side) (from : sender net.site side.lane ≡ v) where
             abbrev began : IsAgain net w (sender net.site side.lane) after
             began = subst (λ (u : ℕ). IsAgain net w u after) (sym from) again
 
             may_side : MayGoOn (octets_in m.view side.lane) (lease_in m.view side.lane) side
-            may_side = may_go_on frames counted net w side ready.stands.running at s after began runs_on (octets_in m.view side.lane) (lease_in m.view side.lane)
+            may_side = may_go_on outside.wire net w side ready.stands.running at s after began runs_on (octets_in m.view side.lane) (lease_in m.view side.lane)
                 (octets side.lane side at s from) (lease side.lane side at s from)
 
-            side_went : LaneStands frames counted net after side.lane (gone_on (octets_in m.view side.lane) (lease_in m.view side.lane) side)
-            side_went = goes_on_there frames counted net w side ready.stands.running at s after began runs_on (octets_in m.view side.lane) (lease_in m.view side.lane)
+            side_went : LaneStands outside.wire net after side.lane (gone_on (octets_in m.view side.lane) (lease_in m.view side.lane) side)
+            side_went = goes_on_there outside.wire net w side ready.stands.running at s after began runs_on (octets_in m.view side.lane) (lease_in m.view side.lane)
                 (octets side.lane side at s from) (lease side.lane side at s from)
 
           -- A side that stands for a lane stands for the lane that it names.
-          itself : (l : Lane) (side : LaneForm X) → is_lane net.site l ≡ true → LaneStands frames counted net w l side → (is_lane net.site side.lane ≡ true) × LaneStands frames counted net w side.lane side
-          itself l side at s = (ap (is_lane net.site) s.lane ∙ at, subst (λ (k : Lane). LaneStands frames counted net w k side) (sym s.lane) s)
+          itself : (l : Lane) (side : LaneForm X) → is_lane net.site l ≡ true → LaneStands outside.wire net w l side → (is_lane net.site side.lane ≡ true) × LaneStands outside.wire net w side.lane side
+          itself l side at s = (ap (is_lane net.site) s.lane ∙ at, subst (λ (k : Lane). LaneStands outside.wire net w k side) (sym s.lane) s)
 
           pub may_all : (site : Declared) → site ≡ mid.site → MayAllGoOn (site_of site) v m.view mid.lanes.items
           may_all site as_is place side there from =
@@ -251,22 +249,22 @@ module _ {K Q E X : Type 0} (is_honest : K → Bool) (moment : K → ℕ) (image
               may_side side own.0 own.1 (ap (λ (x : Site). sender x side.lane) (ready.stands.sited ∙ sym (ap site_of (as_is ∙ h.site))) ∙ from)
 
           -- A lane went on or stayed as it was.
-          lane_after : (l : Lane) (side : LaneForm X) → is_lane net.site l ≡ true → LaneStands frames counted net w l side → LaneStands frames counted net after l (gone_with net.site v m.view side)
+          lane_after : (l : Lane) (side : LaneForm X) → is_lane net.site l ≡ true → LaneStands outside.wire net w l side → LaneStands outside.wire net after l (gone_with net.site v m.view side)
           lane_after l side at s =
               let own = itself l side at s in
               elim (sender net.site side.lane == v) as (λ t. (sender net.site side.lane == v) ≡ t →
-              LaneStands frames counted net after l (if t then gone_on (octets_in m.view side.lane) (lease_in m.view side.lane) side else side)) [
+              LaneStands outside.wire net after l (if t then gone_on (octets_in m.view side.lane) (lease_in m.view side.lane) side else side)) [
                 | true ↦ λ e.
-                    subst (λ (k : Lane). LaneStands frames counted net after k (gone_on (octets_in m.view side.lane) (lease_in m.view side.lane) side)) s.lane
+                    subst (λ (k : Lane). LaneStands outside.wire net after k (gone_on (octets_in m.view side.lane) (lease_in m.view side.lane) side)) s.lane
                     (side_went side own.0 own.1 (eq_from (sender net.site side.lane) v e))
                 | false ↦ λ e.
-                    lane_goes_on net w ready.stands.running l frames counted a side at (enabled_of net w a h.may)
+                    lane_goes_on net w ready.stands.running l outside.wire a side at (enabled_of net w a h.may)
                     (ap (λ (b : Bool). b && true) (ap (λ (k : Lane). sender net.site k == v) (sym s.lane) ∙ e)) s
               ] refl
 
           module _ (new : State K Q E X) (site : new.site ≡ mid.site) (posts : new.posts.items ≡ mid.posts.items) (devices : new.devices.items ≡ mid.devices.items) (up : new.up ≡ mid.up)
               (kept : WiresKept mid.lanes.items new.lanes.items) where
-            tallied : Tallied disk_count armed entropy_count device_count wire_count old new net.site (a ∷ [])
+            tallied : Tallied outside old new net.site (a ∷ [])
             tallied = record {
               nodes = ap length posts ∙ h.tallied.nodes;
               posts = λ u x y was now. h.tallied.posts u x y was (ap (λ (xs : List (Post K E)). slice_get xs u) (sym posts) ∙ now);
@@ -275,7 +273,7 @@ module _ {K Q E X : Type 0} (is_honest : K → Bool) (moment : K → ℕ) (image
               sides = kept.sides ∙ h.tallied.sides;
               wires = λ k x y was now.
                   let before = kept.each (place_of k) y now in
-                  subst (λ (z : X). Counted (wire_faults k (a ∷ [])) (wire_count x.wire) (wire_count z)) (sym before.2) (h.tallied.wires k x before.0 was before.1);
+                  subst (λ (z : X). Counted (wire_faults k (a ∷ [])) (outside.wire.faults x.wire) (outside.wire.faults z)) (sym before.2) (h.tallied.wires k x before.0 was before.1);
             }
 
             pub all_done : AllWentOn (site_of mid.site) v m.view mid.lanes.items new.lanes.items → Done new
@@ -284,22 +282,22 @@ module _ {K Q E X : Type 0} (is_honest : K → Bool) (moment : K → ℕ) (image
                 (λ k side at now.
                 let before = went.each (place_of k) side now in
                 let sited : site_of mid.site ≡ net.site = ap site_of h.site ∙ sym ready.stands.sited in
-                subst (λ (x : LaneForm X). LaneStands frames counted net after k x) (sym (before.2 ∙ ap (λ (s : Site). gone_with s v m.view before.0) sited))
+                subst (λ (x : LaneForm X). LaneStands outside.wire net after k x) (sym (before.2 ∙ ap (λ (s : Site). gone_with s v m.view before.0) sited))
                 (lane_after k before.0 at (stood k before.0 at before.1)))
                 tallied
 
-            pub some_left : Begins (Rests is_honest moment image left told frames counted) (Tallied disk_count armed entropy_count device_count wire_count) old new net w (asks (Start v (Recovers false)) (λ o. []))
+            pub some_left : Begins (Rests outside) (Tallied outside) old new net w (asks (Start v (Recovers false)) (λ o. []))
             some_left =
-                rests_after (Rests is_honest moment image left told frames counted) (Tallied disk_count armed entropy_count device_count wire_count) old new net w (Start v (Recovers false)) a refl h.may
+                rests_after (Rests outside) (Tallied outside) old new net w (Start v (Recovers false)) a refl h.may
                 (ap is_forged h.said ∙ no_forgery r) (record {
                   running = runs_on;
                   sited = ready.stands.sited ∙ sym (ap site_of (site ∙ h.site));
                   nodes = ap length posts ∙ h.nodes ∙ ready.stands.nodes;
-                  posts = λ u p at. post_rests net u after runs_on is_honest moment image left p (h.posts u p (ap (λ (xs : List (Post K E)). slice_get xs u) (sym posts) ∙ at));
+                  posts = λ u p at. post_rests net u after runs_on outside.disk outside.entropy p (h.posts u p (ap (λ (xs : List (Post K E)). slice_get xs u) (sym posts) ∙ at));
                   sides = kept.sides ∙ sides_mid;
                   wires = λ k x at now.
                       let before = kept.each (place_of k) x now in
-                      subst (λ (z : X). WireStands frames counted net after k z) (gone_wire net.site v m.view mid.lanes.items before.0 ∙ sym before.2) (lane_after k before.0 at (stood k before.0 at before.1)).wire;
+                      subst (λ (z : X). WireStands outside.wire net after k z) (gone_wire net.site v m.view mid.lanes.items before.0 ∙ sym before.2) (lane_after k before.0 at (stood k before.0 at before.1)).wire;
                   links = ap length devices ∙ ap length h.devices ∙ ready.stands.links;
                   devices = λ k q at. ready.stands.devices k q (ap (λ (xs : List Q). slice_get xs k) (sym (devices ∙ h.devices)) ∙ at);
                 }) tallied

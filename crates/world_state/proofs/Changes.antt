@@ -1,5 +1,5 @@
 -- A state in which one post changed.
-use Rattle.std.proofs.Common.{◌≡◌, ℕ, List, length, refl, ap, Option, Some}
+use Rattle.std.proofs.Common.{◌≡◌, ℕ, length, refl, ap, Some}
 use Rattle.std.specs.Prelude.{slice_get, slice_set}
 use Rattle.std.specs.Vec.{with_item}
 use Rattle.world_nodes.specs.Passed.{Post}

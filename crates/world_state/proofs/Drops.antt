@@ -1,11 +1,11 @@
 -- The rest of a list from a place on, and what a plan puts on a lane.
-use Rattle.std.proofs.Common.{◌≡◌, ℕ, zero, suc, ◌+◌, ◌<◌, ◌≤◌, Bool, true, false, List, [], ◌∷◌, ◌++◌, length, drop, map, refl, sym, ap, subst, ◌∙◌, arith, append_assoc}
+use Rattle.std.proofs.Common.{◌≡◌, ℕ, zero, suc, ◌+◌, ◌<◌, ◌≤◌, true, false, List, [], ◌∷◌, ◌++◌, length, drop, map, refl, sym, ap, ◌∙◌, arith, append_assoc}
 use Rattle.std.specs.Prelude.{get_or, filter}
 use Rattle.qkd_base.specs.Lane.{lane_eq}
 use Rattle.qkd_base.specs.declared.lane.Lane.{Lane}
 use Rattle.net_model.specs.declared.order.Order.{Order}
 use Rattle.net_model.specs.declared.repeat.Repeat.{Repeat}
-use Rattle.net_model.specs.Tick.{Emission, Again, New, tick_order}
+use Rattle.net_model.specs.Tick.{Again, New, tick_order}
 use Rattle.law_base.proofs.Base.{when_true, when_false}
 use Rattle.world_state.specs.Sending.{repeats_on, orders_on}
 

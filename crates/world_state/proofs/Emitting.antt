@@ -1,28 +1,25 @@
 -- The next order of a plan is put: the actions in the network, and their part of the script.
-use Rattle.std.proofs.Common.{◌≡◌, ℕ, ◌+◌, ◌-◌, ◌≤◌, Bool, true, false, ◌&&◌, List, [], ◌∷◌, ◌++◌, length, length-append, refl, sym, ap, subst, ◌∙◌, arith, Option, Some, Result, Ok, Err}
+use Rattle.std.proofs.Common.{◌≡◌, ℕ, ◌-◌, true, false, ◌&&◌, List, [], ◌∷◌, ◌++◌, length, length-append, refl, sym, ap, subst, ◌∙◌, arith, Some, Result, Ok, Err}
 use Rattle.std.specs.Prelude.{slice_get, IsErrOf}
 use Rattle.qkd_base.specs.Faults.{Rose}
 use Rattle.qkd_base.specs.Family.{number_set}
 use Rattle.qkd_base.specs.declared.lane.Lane.{Lane}
-use Rattle.disk_model.specs.declared.arm.Armings.{Armings}
-use Rattle.net_model.specs.OctetSequence.{OctetSequence}
 use Rattle.net_model.specs.Facts.{payload_len}
 use Rattle.net_model.specs.declared.order.Order.{Order}
 use Rattle.net_model.specs.declared.placing.Placing.{Placing}
 use Rattle.net_model.specs.World.{Network, World, Allocation}
 use Rattle.net_model.specs.Site.{sender}
-use Rattle.net_model.specs.Events.{is_lane, is_frame_size}
+use Rattle.net_model.specs.Events.{is_frame_size}
 use Rattle.net_model.specs.Frames.{allocate}
 use Rattle.net_model.specs.Tick.{Emission, New, item_in, ordered}
 use Rattle.net_model.specs.Action.{Environment, Action, Allocate, Transmit, Outcome, Allocated, Ok as Fine}
-use Rattle.net_model.specs.Step.{step, is_enabled, is_step, IsStep, run, is_run, outcomes}
+use Rattle.net_model.specs.Step.{step, is_step, IsStep, run, is_run, outcomes}
 use Rattle.run_types.specs.declared.item.Item.{Item}
 use Rattle.source_devices.specs.declared.wire.WireFailed.{WireFailed}
 use Rattle.source_devices.specs.declared.wire.WireFailed.TheVariants.{Fault, Memory}
 use Rattle.lane_sender.specs.Lane.{LaneForm}
 use Rattle.lane_sender.specs.declared.sent.Sent.{Sent}
 use Rattle.lane_sender.specs.Sending.{answer_of}
-use Rattle.world_nodes.specs.Passed.{Post}
 use Rattle.law_base.proofs.Base.{and_left, and_right, number_set_same}
 use Rattle.law_base.proofs.Lists.{lane_set_same}
 use Rattle.law_locality.proofs.ManagerSteps.{claim_unseen, transmit_unseen}
@@ -33,20 +30,19 @@ use Rattle.run_model.specs.Script.{Script, Reports, Looks, Asks}
 use Rattle.run_model.specs.Play.{numbered, reporting, play, IsPlay, is_forged}
 use Rattle.run_model.specs.Lines.{offset_in, emitted}
 use Rattle.world_nodes.specs.LaneStands.{LaneStands}
-use Rattle.world_nodes.specs.Emitting.{wire_answer, wire_outcome, offset_of, order_placing, with_placing, MayEmit, emission, Emitted}
+use Rattle.world_nodes.specs.Emitting.{wire_answer, wire_outcome, offset_of, order_placing, MayEmit, Emitted}
 use Rattle.world_state.specs.Stands.{Stands, place_of}
-use Rattle.world_state.specs.Tallied.{Tallied}
-use Rattle.world_nodes.specs.Counts.{disk_of}
 use Rattle.world_state.specs.Sending.{Sending, Puts, PutsOn, Breaks}
 use Rattle.world_state.specs.declared.state.State.{State}
 use Rattle.world_state.proofs.OneSide.{OneSide}
 use Rattle.world_state.proofs.OtherLanes.{others_of, others_claimed, others_put, stands_with}
 use Rattle.world_state.proofs.Plays.{asks_is, asks_said}
 use Rattle.world_state.proofs.Sized.{put_sized, all_sized}
-use Rattle.world_state.proofs.StateGoesOn.{running_on, enabled_of}
+use Rattle.world_state.proofs.StateGoesOn.{enabled_of}
 use Rattle.world_state.proofs.Tallying.{emitted_tallied}
 use Rattle.world_state.proofs.Disks.{has_disks}
 use Rattle.world_state.proofs.Sendings.{puts_ends}
+use Rattle.world_state.specs.Outside.{Outside}
 
 -- The answer of a wire is never a forged match.
 pub open_answer : (answer : Result ℕ WireFailed) → is_forged (wire_outcome answer) ≡ false
@@ -63,16 +59,15 @@ second_same h = cc
 one_less : (xs : List Allocation) (a : Allocation) → length (xs ++ a ∷ []) - 1 ≡ length xs
 one_less xs a = omega (arith, length-append xs (a ∷ []))
 
-module _ {K Q E X : Type 0} (is_honest : K → Bool) (moment : K → ℕ) (image : K → ℕ → List ℕ → Type 0) (left : E → Option OctetSequence) (told : Q → Option OctetSequence)
-    (frames : X → Option (List (List ℕ))) (counted : X → ℕ) (net : Network) (w : World) (v : ℕ) (order : Order) (es : List Emission) (old : State K Q E X) (placings : List Placing)
-    (sending : Sending is_honest moment image left told frames counted old net w v (New order ∷ es) placings) where
+module _ {K Q E X : Type 0} (outside : Outside K Q E X) (net : Network) (w : World) (v : ℕ) (order : Order) (es : List Emission) (old : State K Q E X) (placings : List Placing)
+    (sending : Sending outside old net w v (New order ∷ es) placings) where
   abbrev l : Lane
   l = order.lane
 
   pub next : IsNew net w v order
   next = sending.sends.each.0
 
-  pub may_emit : (side : LaneForm X) → slice_get old.lanes.items (place_of l) ≡ Some side → (lease : ℕ) → lease ≡ w.durable.lease l → MayEmit frames counted net w side lease order
+  pub may_emit : (side : LaneForm X) → slice_get old.lanes.items (place_of l) ≡ Some side → (lease : ℕ) → lease ≡ w.durable.lease l → MayEmit outside.wire net w side lease order
   may_emit side there lease leased = record {
     running = sending.stands.running;
     stands = sending.stands.lanes l side next.site there;
@@ -81,9 +76,9 @@ module _ {K Q E X : Type 0} (is_honest : K → Bool) (moment : K → ℕ) (image
     leased = leased;
   }
 
-  module _ (disk_count : K → ℕ) (armed : K → Armings) (entropy_count : E → ℕ) (device_count : Q → ℕ) (wire_count : X → ℕ)
-      (new : State K Q E X) (before now : LaneForm X) (one : OneSide old new l before now) (s : Sent) (e : Emitted frames counted net w now order s)
-      (cause : IsErrOf (answer_of s) Fault → Rose (wire_count before.wire) (wire_count now.wire)) (calm : (IsErrOf (answer_of s) Fault → ⊥) → wire_count now.wire ≡ wire_count before.wire) where
+  module _
+      (new : State K Q E X) (before now : LaneForm X) (one : OneSide old new l before now) (s : Sent) (e : Emitted outside.wire net w now order s)
+      (cause : IsErrOf (answer_of s) Fault → Rose (outside.wire.faults before.wire) (outside.wire.faults now.wire)) (calm : (IsErrOf (answer_of s) Fault → ⊥) → outside.wire.faults now.wire ≡ outside.wire.faults before.wire) where
     abbrev environment : Environment
     environment = wire_answer (answer_of s)
 
@@ -121,13 +116,13 @@ module _ {K Q E X : Type 0} (is_honest : K → Bool) (moment : K → ℕ) (image
     said_second : (step net w₁ second).1 ≡ wire_outcome (answer_of s)
     said_second = second_same both_said
 
-    stands_after : Stands is_honest moment image left told frames counted new net w₂
+    stands_after : Stands outside new net w₂
     stands_after =
-        stands_with is_honest moment image left told frames counted old net l w w₂ new before now one sending.stands
-        (others_put is_honest moment image left told frames counted old net l w₁ (length (w.frames l)) environment may_second
-        (others_claimed is_honest moment image left told frames counted old net l w (ordered order) refl may_first
-        (others_of is_honest moment image left told frames counted old net l w sending.stands)))
-        (subst (λ (x : World). LaneStands frames counted net x l now) run_is e.stands)
+        stands_with outside old net l w w₂ new before now one sending.stands
+        (others_put outside old net l w₁ (length (w.frames l)) environment may_second
+        (others_claimed outside old net l w (ordered order) refl may_first
+        (others_of outside old net l w sending.stands)))
+        (subst (λ (x : World). LaneStands outside.wire net x l now) run_is e.stands)
 
     abbrev p : Placing
     p = order_placing order s
@@ -148,7 +143,7 @@ module _ {K Q E X : Type 0} (is_honest : K → Bool) (moment : K → ℕ) (image
         (sending.placed ∙ ap (λ (u : ℕ). w.placings u) (sym next.lane) ∙ ap (λ (f : ℕ → List Placing). f (sender net.site l)) (sym claimed_placings))
         (ap w₂.placings next.lane ∙ placed_after)
 
-    sending_after : Sending is_honest moment image left told frames counted new net w₂ v es (placings ++ p ∷ [])
+    sending_after : Sending outside new net w₂ v es (placings ++ p ∷ [])
     sending_after = record {
       stands = stands_after;
       sends = subst (λ (x : World). Sends net x v es) run_is (order_goes net w v order es sending.sends environment sending.stands.running.network sending.stands.running.conserved);
@@ -191,15 +186,15 @@ module _ {K Q E X : Type 0} (is_honest : K → Bool) (moment : K → ℕ) (image
         ∙ ap (λ (xs : List Item). reporting (numbered number xs) (play net number w₂ (emitted v es) rest)) items_said
 
     pub order_puts : (item : Item) → item ∷ [] ≡ put_items l (offset_of s) (payload_len order.payload) (wire_outcome (answer_of s)) →
-        Puts is_honest moment image left told frames counted disk_count armed entropy_count device_count wire_count old new net w v (New order ∷ es) es (item ∷ []) (placings ++ p ∷ [])
+        Puts outside old new net w v (New order ∷ es) es (item ∷ []) (placings ++ p ∷ [])
     order_puts item is = record {
       actions = first ∷ second ∷ [];
       after = w₂;
       is = played;
       said = λ number rest. played_as number rest ∙ ap (λ (xs : List Item). reporting (numbered number xs) (play net number w₂ (emitted v es) rest)) (sym is);
       sending = sending_after;
-      tallied = emitted_tallied disk_count armed entropy_count device_count wire_count net.site old new l before now one
-          (has_disks is_honest moment image left told frames counted old net w sending.stands) (length (w.frames l)) (answer_of s) cause calm (ordered order);
+      tallied = emitted_tallied outside net.site old new l before now one
+          (has_disks outside old net w sending.stands) (length (w.frames l)) (answer_of s) cause calm (ordered order);
     }
 
     module _ (item : Item) (offset size : ℕ) (out : Outcome) (is : item ∷ [] ≡ put_items l offset size out) (from : offset ≡ offset_of s) (long : size ≡ payload_len order.payload)
@@ -208,15 +203,15 @@ module _ {K Q E X : Type 0} (is_honest : K → Bool) (moment : K → ℕ) (image
       reported_is = is ∙ λ i. put_items l (from i) (long i) (said i)
 
       pub order_puts_on : (placing : Placing) → placing ≡ p → (items items' : List Item) (placings' : List Placing) → items' ≡ items ++ item ∷ [] → placings' ≡ placings ++ placing ∷ [] →
-          PutsOn is_honest moment image left told frames counted disk_count armed entropy_count device_count wire_count old new net w v (New order ∷ es) es items items' placings'
+          PutsOn outside old new net w v (New order ∷ es) es items items' placings'
       order_puts_on placing same items items' placings' more noted = record {
         reported = item ∷ [];
         items = more;
-        puts = subst (λ (ps : List Placing). Puts is_honest moment image left told frames counted disk_count armed entropy_count device_count wire_count old new net w v (New order ∷ es) es (item ∷ []) ps)
+        puts = subst (λ (ps : List Placing). Puts outside old new net w v (New order ∷ es) es (item ∷ []) ps)
             (sym (noted ∙ ap (λ (x : Placing). placings ++ x ∷ []) same)) (order_puts item reported_is);
       }
 
-      pub order_breaks : Breaks is_honest moment image left told frames counted disk_count armed entropy_count device_count wire_count old new net w v (New order ∷ es)
+      pub order_breaks : Breaks outside old new net w v (New order ∷ es)
       order_breaks =
-          puts_ends is_honest moment image left told frames counted disk_count armed entropy_count device_count wire_count old new new net w v (New order ∷ es) es (item ∷ []) (placings ++ p ∷ [])
+          puts_ends outside old new new net w v (New order ∷ es) es (item ∷ []) (placings ++ p ∷ [])
           (order_puts item reported_is)

@@ -1,20 +1,18 @@
 -- The progress of a plan's frames.
-use Rattle.std.proofs.Common.{◌≡◌, ℕ, Bool, List, [], ◌∷◌, ◌++◌, refl, sym, ap, subst, ◌∙◌, append-nil, append_assoc, Option}
-use Rattle.disk_model.specs.declared.arm.Armings.{Armings}
+use Rattle.std.proofs.Common.{◌≡◌, ℕ, List, [], ◌++◌, sym, subst, ◌∙◌, append-nil, append_assoc}
 use Rattle.net_model.specs.declared.placing.Placing.{Placing}
-use Rattle.net_model.specs.OctetSequence.{OctetSequence}
 use Rattle.net_model.specs.World.{Network, World}
 use Rattle.net_model.specs.Tick.{Emission}
 use Rattle.world_state.specs.Sending.{Sending, PutsOn, Breaks}
 use Rattle.world_state.specs.declared.progress.Progress.{Progress}
 use Rattle.world_state.specs.declared.state.State.{State}
 use Rattle.world_state.proofs.Sendings.{puts_on_none, puts_on_more, puts_broken}
+use Rattle.world_state.specs.Outside.{Outside}
 
-module _ {K Q E X : Type 0} (is_honest : K → Bool) (moment : K → ℕ) (image : K → ℕ → List ℕ → Type 0) (left : E → Option OctetSequence) (told : Q → Option OctetSequence)
-    (frames : X → Option (List (List ℕ))) (counted : X → ℕ) (disk_count : K → ℕ) (armed : K → Armings) (entropy_count : E → ℕ) (device_count : Q → ℕ) (wire_count : X → ℕ) where
+module _ {K Q E X : Type 0} (outside : Outside K Q E X) where
   -- These frames are still to be put, and others after them.
   abbrev pub Before : State K Q E X → Network → World → ℕ → List Emission → Progress → Type 0
-  Before s net w v es p = Sending is_honest moment image left told frames counted s net w v es p.placings
+  Before s net w v es p = Sending outside s net w v es p.placings
 
   abbrev pub MayGo : State K Q E X → ℕ → List Emission → Progress → Type 0
   MayGo s v head p = (net : Network) × (w : World) × (es : List Emission) × Before s net w v (head ++ es) p
@@ -22,22 +20,22 @@ module _ {K Q E X : Type 0} (is_honest : K → Bool) (moment : K → ℕ) (image
   abbrev pub Went : State K Q E X → State K Q E X → ℕ → List Emission → List Emission → Progress → Progress → Type 0
   Went old now v all rest p q =
       (net : Network) (w : World) (es : List Emission) → Before old net w v (all ++ es) p →
-      PutsOn is_honest moment image left told frames counted disk_count armed entropy_count device_count wire_count old now net w v (all ++ es) (rest ++ es) p.items q.items q.placings
+      PutsOn outside old now net w v (all ++ es) (rest ++ es) p.items q.items q.placings
 
   abbrev pub Broke : State K Q E X → State K Q E X → ℕ → List Emission → Progress → Type 0
   Broke old now v all p =
       (net : Network) (w : World) (es : List Emission) → Before old net w v (all ++ es) p →
-      Breaks is_honest moment image left told frames counted disk_count armed entropy_count device_count wire_count old now net w v (all ++ es)
+      Breaks outside old now net w v (all ++ es)
 
   pub went_none : (s : State K Q E X) (v : ℕ) (all : List Emission) (p : Progress) → Went s s v all all p p
   went_none s v all p net w es h =
-      puts_on_none is_honest moment image left told frames counted disk_count armed entropy_count device_count wire_count s net w v (all ++ es) p.items p.placings h
+      puts_on_none outside s net w v (all ++ es) p.items p.placings h
 
   module _ (old mid : State K Q E X) (v : ℕ) (all head rest : List Emission) (p q : Progress) (far : Went old mid v all (head ++ rest) p q) where
     so_far : (net : Network) (w : World) (es : List Emission) → Before old net w v (all ++ es) p →
-        PutsOn is_honest moment image left told frames counted disk_count armed entropy_count device_count wire_count old mid net w v (all ++ es) (head ++ (rest ++ es)) p.items q.items q.placings
+        PutsOn outside old mid net w v (all ++ es) (head ++ (rest ++ es)) p.items q.items q.placings
     so_far net w es h =
-        subst (λ (to : List Emission). PutsOn is_honest moment image left told frames counted disk_count armed entropy_count device_count wire_count old mid net w v (all ++ es) to p.items q.items q.placings)
+        subst (λ (to : List Emission). PutsOn outside old mid net w v (all ++ es) to p.items q.items q.placings)
         (append_assoc head rest es) (far net w es h)
 
     pub may_go : MayGo old v all p → MayGo mid v head q
@@ -46,13 +44,13 @@ module _ {K Q E X : Type 0} (is_honest : K → Bool) (moment : K → ℕ) (image
     pub went_more : (new : State K Q E X) (r : Progress) → Went mid new v head [] q r → Went old new v all rest p r
     went_more new r next net w es h =
         let a = so_far net w es h in
-        puts_on_more is_honest moment image left told frames counted disk_count armed entropy_count device_count wire_count old mid new net w v (all ++ es) (head ++ (rest ++ es)) (rest ++ es)
+        puts_on_more outside old mid new net w v (all ++ es) (head ++ (rest ++ es)) (rest ++ es)
         p.items q.items r.items q.placings r.placings a (next net a.puts.after (rest ++ es) a.puts.sending)
 
     pub broke_there : (new : State K Q E X) → Broke mid new v head q → Broke old new v all p
     broke_there new next net w es h =
         let a = so_far net w es h in
-        puts_broken is_honest moment image left told frames counted disk_count armed entropy_count device_count wire_count old mid new net w v (all ++ es) (head ++ (rest ++ es)) a.reported q.placings a.puts
+        puts_broken outside old mid new net w v (all ++ es) (head ++ (rest ++ es)) a.reported q.placings a.puts
         (next net a.puts.after (rest ++ es) a.puts.sending)
 
   -- The same progress, with an equal list of frames still to be put.
@@ -69,21 +67,21 @@ module _ {K Q E X : Type 0} (is_honest : K → Bool) (moment : K → ℕ) (image
     whole : es ++ [] ≡ all
     whole = append-nil es ∙ same
 
-    begun : (net : Network) (w : World) → Sending is_honest moment image left told frames counted old net w v all [] → Before old net w v (es ++ []) p
+    begun : (net : Network) (w : World) → Sending outside old net w v all [] → Before old net w v (es ++ []) p
     begun net w h =
-        subst (λ (xs : List Emission). Sending is_honest moment image left told frames counted old net w v xs p.placings) (sym whole)
-        (subst (λ (ps : List Placing). Sending is_honest moment image left told frames counted old net w v all ps) (sym none) h)
+        subst (λ (xs : List Emission). Sending outside old net w v xs p.placings) (sym whole)
+        (subst (λ (ps : List Placing). Sending outside old net w v all ps) (sym none) h)
 
-    pub may_all : (net : Network) (w : World) → Sending is_honest moment image left told frames counted old net w v all [] → MayGo old v es p
+    pub may_all : (net : Network) (w : World) → Sending outside old net w v all [] → MayGo old v es p
     may_all net w h = (net, w, [], begun net w h)
 
-    pub went_all : Went old mid v es [] p q → (net : Network) (w : World) → Sending is_honest moment image left told frames counted old net w v all [] →
-        PutsOn is_honest moment image left told frames counted disk_count armed entropy_count device_count wire_count old mid net w v all [] p.items q.items q.placings
+    pub went_all : Went old mid v es [] p q → (net : Network) (w : World) → Sending outside old net w v all [] →
+        PutsOn outside old mid net w v all [] p.items q.items q.placings
     went_all far net w h =
-        subst (λ (xs : List Emission). PutsOn is_honest moment image left told frames counted disk_count armed entropy_count device_count wire_count old mid net w v xs [] p.items q.items q.placings) whole
+        subst (λ (xs : List Emission). PutsOn outside old mid net w v xs [] p.items q.items q.placings) whole
         (far net w [] (begun net w h))
 
-    pub broke_all : Broke old mid v es p → (net : Network) (w : World) → Sending is_honest moment image left told frames counted old net w v all [] →
-        Breaks is_honest moment image left told frames counted disk_count armed entropy_count device_count wire_count old mid net w v all
+    pub broke_all : Broke old mid v es p → (net : Network) (w : World) → Sending outside old net w v all [] →
+        Breaks outside old mid net w v all
     broke_all far net w h =
-        subst (λ (xs : List Emission). Breaks is_honest moment image left told frames counted disk_count armed entropy_count device_count wire_count old mid net w v xs) whole (far net w [] (begun net w h))
+        subst (λ (xs : List Emission). Breaks outside old mid net w v xs) whole (far net w [] (begun net w h))

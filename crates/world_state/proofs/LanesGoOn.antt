@@ -1,24 +1,22 @@
 -- If an action doesn't change a lane, the program's lane stands for it as before.
-use Rattle.std.proofs.Common.{◌≡◌, ℕ, ◌≤◌, Bool, true, false, ◌&&◌, ◌||◌, List, [], ◌∷◌, ◌++◌, refl, sym, ap, subst, arith, Option}
+use Rattle.std.proofs.Common.{◌≡◌, ℕ, ◌≤◌, Bool, true, false, ◌&&◌, ◌||◌, List, [], ◌∷◌, ◌++◌, refl, sym, subst, arith}
 use Rattle.std.specs.Prelude.{nat_lt, if◌then◌else◌}
 use Rattle.std.specs.List.{flat_map, list_any}
 use Rattle.qkd_base.specs.declared.lane.Lane.{Lane}
 use Rattle.net_model.specs.declared.event.Event.{Event}
 use Rattle.net_model.specs.declared.event.Event.TheVariants.{Plan}
-use Rattle.net_model.specs.declared.record.Record.{Record}
 use Rattle.net_model.specs.declared.record.Record.TheVariants.{Lease as Lease'}
 use Rattle.net_model.specs.Site.{Site}
 use Rattle.net_model.specs.World.{Network, World}
 use Rattle.net_model.specs.View.{View, Port, received_of}
 use Rattle.net_model.specs.Needed.{view_of}
 use Rattle.net_model.specs.Plan.{end_on, raise, leases_on, plan}
-use Rattle.net_model.specs.Decision.{Does, Effect}
+use Rattle.net_model.specs.Decision.{Effect}
 use Rattle.net_model.specs.Decide.{decide, random_need}
 use Rattle.net_model.specs.Events.{is_lane}
 use Rattle.net_model.specs.Action.{Environment, Action, Start, Crash, Arm, SetLink, TakeBlock, Ask, Allocate, Transmit, Complete, Deliver, Flip, Forge}
 use Rattle.net_model.specs.Handle.{commit, stopped, perform, handle}
 use Rattle.net_model.specs.Step.{step, is_enabled}
-use Rattle.law_base.proofs.Base.{or_first, or_second, and_left}
 use Rattle.law_base.proofs.Walks.{perform_walk, handle_walk}
 use Rattle.law_invariant.specs.May.{is_plan}
 use Rattle.law_invariant.proofs.Decisions.{plan_is}
@@ -28,9 +26,10 @@ use Rattle.law_locality.specs.Touched.{touches_lane, changes_part, PartStays, Bl
 use Rattle.law_locality.proofs.LaneParts.{step_part}
 use Rattle.lane_sender.specs.Lane.{LaneForm}
 use Rattle.world_nodes.specs.LaneStands.{IsRunning, LaneStands}
-use Rattle.world_nodes.specs.Going.{IsReplayed, brings}
+use Rattle.world_nodes.specs.Going.{brings}
 use Rattle.world_nodes.proofs.LaneGoing.{goes_on, batch_goes_on}
 use Rattle.world_state.specs.Changed.{changes_lane}
+use Rattle.source_devices.specs.declared.wire.Wire as Wire
 
 -- An action that doesn't change a lane changes no part of it.
 each_part : (touched part others : Bool) → (touched && (part || others)) ≡ false → (touched && part) ≡ false
@@ -112,16 +111,16 @@ module _ (net : Network) (w : World) (r : IsRunning net w) (l : Lane) where
   later (Flip k number bit environment) may none = unchanged (Flip k number bit environment) may refl
   later (Forge k octets environment) may none = unchanged (Forge k octets environment) may refl
 
-  pub lane_goes_on : {X : Type 0} (frames : X → Option (List (List ℕ))) (counted : X → ℕ) (a : Action) (side : LaneForm X) → is_lane net.site l ≡ true →
-      is_enabled net w a ≡ true → changes_lane net.site a l ≡ false → LaneStands frames counted net w l side → LaneStands frames counted net (step net w a).0 l side
-  lane_goes_on frames counted a side at may none stands =
+  pub lane_goes_on : {X : Type 0} (wire_says : Wire.Ghosts X) (a : Action) (side : LaneForm X) → is_lane net.site l ≡ true →
+      is_enabled net w a ≡ true → changes_lane net.site a l ≡ false → LaneStands wire_says net w l side → LaneStands wire_says net (step net w a).0 l side
+  lane_goes_on wire_says a side at may none stands =
       let touched = touches_lane net.site a l in
       let blocks = changes_part Blocks a in
       let own = changes_part Own a in
       let wire = changes_part Wire a in
       let part = step_part net w l r.network r.conserved in
       let m = step_more net w a in
-      goes_on frames counted net w (step net w a).0 l side r at (record {
+      goes_on wire_says net w (step net w a).0 l side r at (record {
         facts = m.facts;
         blocks = part Blocks a may (each_part touched blocks own (each_part touched (blocks || own) wire none));
         own = part Own a may (next_part touched blocks own (each_part touched (blocks || own) wire none));

@@ -1,5 +1,5 @@
 -- A manager's life ends, or a disk is armed: one post changes.
-use Rattle.std.proofs.Common.{◌≡◌, ℕ, zero, suc, ◌+◌, ◌<◌, ◌≤◌, Bool, true, false, ◌&&◌, List, [], ◌∷◌, ◌++◌, length, refl, sym, ap, subst, ◌∙◌, arith, Option, Some, None}
+use Rattle.std.proofs.Common.{◌≡◌, ℕ, zero, suc, ◌+◌, ◌<◌, ◌≤◌, Bool, true, false, ◌&&◌, List, [], ◌∷◌, length, refl, sym, ap, subst, ◌∙◌, arith, Option, Some, None}
 use Rattle.std.specs.Prelude.{◌==◌, nat_lt, slice_get, slice_set, if◌then◌else◌}
 use Rattle.std.specs.List.{list_all, filter_map, cons_option, insert, remove}
 use Rattle.std.specs.Option.{option_map}
@@ -9,20 +9,18 @@ use Rattle.disk_model.specs.declared.arm.Arm.{Arm as DiskArm}
 use Rattle.disk_model.specs.declared.arm.Armings.{Armings}
 use Rattle.net_model.specs.Journal.{is_nil}
 use Rattle.net_model.specs.Site.{Site, outgoing_lanes}
-use Rattle.net_model.specs.OctetSequence.{OctetSequence}
 use Rattle.net_model.specs.World.{Network, World}
-use Rattle.net_model.specs.Action.{Action, Outcome, Fault, Crash, Arm, Armed}
+use Rattle.net_model.specs.Action.{Fault, Crash, Arm, Armed}
 use Rattle.net_model.specs.Faults.{disk_faults, entropy_faults, armings, fault_armed}
-use Rattle.net_model.specs.Step.{step, is_node, is_sent, is_quiet, is_enabled}
+use Rattle.net_model.specs.Step.{is_node, is_sent, is_quiet, is_enabled}
 use Rattle.declared_site.specs.SiteOf.{site_of}
 use Rattle.world_nodes.specs.Passed.{HasDisk, Standing, Up, Down, Between, Post, On, Off}
 use Rattle.law_base.proofs.Base.{and_both, eq_same, eq_from, not_false, when_true}
 use Rattle.run_ops.specs.Reported.{crashed}
-use Rattle.run_model.specs.Bench.{last_of_both}
 use Rattle.run_ops.specs.Fitting.{is_fit}
 use Rattle.run_ops.specs.Quiet.{IsQuiet}
 use Rattle.run_ops.specs.Acting.{IsReady, Does, fault_of}
-use Rattle.world_nodes.specs.Counts.{disk_in, disk_of, entropy_of, CountsBy}
+use Rattle.world_nodes.specs.Counts.{disk_in, disk_of, entropy_of}
 use Rattle.world_nodes.specs.Handled.{OnDisk}
 use Rattle.world_nodes.specs.Lives.{MayCrash, HasCrashed, MayArm, HasArmed, IsArmedWith}
 use Rattle.world_nodes.proofs.Counted.{post_disk}
@@ -34,7 +32,10 @@ use Rattle.world_state.proofs.Armed.{most_more, below_most}
 use Rattle.world_state.proofs.Changes.{OnePost, posts_same}
 use Rattle.world_state.proofs.Disks.{has_disks}
 use Rattle.world_state.proofs.OnePost.{ChangesOne, done, done_counted}
-use Rattle.world_state.proofs.OneTallied.{CountsOne, CountsNoOther, counted_once, all_tallied, posts_one, devices_still, wires_still}
+use Rattle.world_state.proofs.OneTallied.{CountsOne, counted_once, all_tallied, posts_one, devices_still, wires_still}
+use Rattle.disk_model.specs.declared.disk.Disk as Disk
+use Rattle.source_devices.specs.declared.entropy.Entropy as Entropy
+use Rattle.world_state.specs.Outside.{Outside}
 
 some_is : {A : Type 0} {a b : A} → ◌≡◌ {A = Option A} (Some a) (Some b) → a ≡ b
 some_is h = cc
@@ -73,29 +74,27 @@ crash_one s v = record { nodes = λ u other. elsewhere v u other; lanes = λ l. 
 crash_counted : (s : Site) (v : ℕ) → CountsOne s (Crash v) v false false
 crash_counted s v = record { disk = refl; entropy = refl; armed = λ u. refl; disks = λ u other. refl; entropies = λ u other. refl }
 
-pub node_below : {K Q E X : Type 0} (is_honest : K → Bool) (moment : K → ℕ) (image : K → ℕ → List ℕ → Type 0) (left : E → Option OctetSequence) (told : Q → Option OctetSequence)
-    (frames : X → Option (List (List ℕ))) (counted : X → ℕ) (old : State K Q E X) (net : Network) (w : World) (v : ℕ) → IsReady (Stands is_honest moment image left told frames counted) old net w →
+pub node_below : {K Q E X : Type 0} (outside : Outside K Q E X) (old : State K Q E X) (net : Network) (w : World) (v : ℕ) → IsReady (Stands outside) old net w →
     nat_lt v (site_of old.site).nodes ≡ true → v < length old.posts.items
-node_below is_honest moment image left told frames counted old net w v ready fit =
+node_below outside old net w v ready fit =
     let below = ltb-true v (site_of old.site).nodes fit in
     let nodes = ready.stands.nodes ∙ ap (λ (s : Site). s.nodes) ready.stands.sited in
     omega (arith, below, nodes)
 
-module _ {K Q E X : Type 0} (is_honest : K → Bool) (moment : K → ℕ) (image : K → ℕ → List ℕ → Type 0) (left : E → Option OctetSequence) (told : Q → Option OctetSequence)
-    (frames : X → Option (List (List ℕ))) (counted : X → ℕ) (old : State K Q E X) (net : Network) (w : World) (v : ℕ)
-    (ready : IsReady (Stands is_honest moment image left told frames counted) old net w) (p : Post K E) (there : slice_get old.posts.items v ≡ Some p) where
-  pub may_crash : is_fit (site_of old.site) (Crash v) ≡ true → MayCrash is_honest moment image left net w v p
+module _ {K Q E X : Type 0} (outside : Outside K Q E X) (old : State K Q E X) (net : Network) (w : World) (v : ℕ)
+    (ready : IsReady (Stands outside) old net w) (p : Post K E) (there : slice_get old.posts.items v ≡ Some p) where
+  pub may_crash : is_fit (site_of old.site) (Crash v) ≡ true → MayCrash outside.disk outside.entropy net w v p
   may_crash fit = record {
     running = ready.stands.running;
     stands = ready.stands.posts v p there;
     enabled = may_end net w v (subst (λ (s : Site). is_fit s (Crash v) ≡ true) (sym ready.stands.sited) fit) (node_quiet net w v ready.quiet);
   }
 
-  module _ (disk_count : K → ℕ) (armed : K → Armings) (entropy_count : E → ℕ) (device_count : Q → ℕ) (wire_count : X → ℕ) (new : State K Q E X) (q : Post K E) (change : OnePost old new v p q) where
-    pub crash_done : (was_up : Bool) → HasCrashed is_honest moment image disk_count armed left entropy_count net w v p q was_up →
-        Does (Stands is_honest moment image left told frames counted) (Tallied disk_count armed entropy_count device_count wire_count) old new net w (Crash v) (crashed was_up)
+  module _ (new : State K Q E X) (q : Post K E) (change : OnePost old new v p q) where
+    pub crash_done : (was_up : Bool) → HasCrashed outside.disk outside.entropy net w v p q was_up →
+        Does (Stands outside) (Tallied outside) old new net w (Crash v) (crashed was_up)
     crash_done was_up h =
-        done_counted is_honest moment image left told frames counted disk_count armed entropy_count device_count wire_count old new net w v p q change ready
+        done_counted outside old new net w v p q change ready
         (Crash v) h.may (crash_one net.site v) h.stands (Crash v) (crashed was_up) refl h.said false false (crash_counted net.site v) (record { devices = λ link. refl; wires = λ l. refl }) h.counts
 
 -- ---- arming a disk
@@ -125,49 +124,48 @@ on_disk : {K E : Type 0} (P : K → Type 0) (p : Post K E) (k : K) → disk_of p
 on_disk P (On m) k is h = on_standing P m.standing k is h
 on_disk P (Off disk entropy) k is h = subst P (sym (some_is is)) h
 
-module _ {K E : Type 0} (disk_count : K → ℕ) (armed : K → Armings) (entropy_count : E → ℕ) (arm : DiskArm) (p q : Post K E) (h : IsArmedWith disk_count armed entropy_count arm p q) where
-  pub post_armed : (s : Site) (v : ℕ) → PostTallied disk_count armed entropy_count s v (Arm v (fault_of arm) ∷ []) p q
+module _ {K E : Type 0} (disk_says : Disk.Ghosts K) (entropy_says : Entropy.Ghosts E) (arm : DiskArm) (p q : Post K E) (h : IsArmedWith disk_says entropy_says arm p q) where
+  pub post_armed : (s : Site) (v : ℕ) → PostTallied disk_says entropy_says s v (Arm v (fault_of arm) ∷ []) p q
   unfolding disk_faults entropy_faults armings
   post_armed s v = record {
     before = h.before;
     now = h.now;
     was = h.was;
     is = h.is;
-    failed = counted_once false (disk_count h.before) (disk_count h.now) h.disk;
-    armed_with = subst (λ (fs : List Fault). IsArmedBy fs (armed h.before) (armed h.now)) (sym (armed_here v (fault_of arm))) (is_armed arm (armed h.before) (armed h.now) h.arms);
-    refused = counted_once false (entropy_count (entropy_of p)) (entropy_count (entropy_of q)) h.entropy;
+    failed = counted_once false (disk_says.faults h.before) (disk_says.faults h.now) h.disk;
+    armed_with = subst (λ (fs : List Fault). IsArmedBy fs (disk_says.armings h.before) (disk_says.armings h.now)) (sym (armed_here v (fault_of arm))) (is_armed arm (disk_says.armings h.before) (disk_says.armings h.now) h.arms);
+    refused = counted_once false (entropy_says.faults (entropy_of p)) (entropy_says.faults (entropy_of q)) h.entropy;
   }
 
-  once_more : times_of armed (disk_of q) ≡ times_of armed (disk_of p) + 1
-  once_more = ap (times_of armed) h.is ∙ ap (λ (a : Armings). a.count) h.arms ∙ sym (ap (λ (n : ℕ). n + 1) (ap (times_of armed) h.was))
+  once_more : times_of disk_says (disk_of q) ≡ times_of disk_says (disk_of p) + 1
+  once_more = ap (times_of disk_says) h.is ∙ ap (λ (a : Armings). a.count) h.arms ∙ sym (ap (λ (n : ℕ). n + 1) (ap (times_of disk_says) h.was))
 
-  pub most_after : (ps : List (Post K E)) (v : ℕ) → slice_get ps v ≡ Some p → most_armed armed (slice_set ps v q) ≤ most_armed armed ps + 1
-  most_after ps v at = most_more armed ps v p q at once_more
+  pub most_after : (ps : List (Post K E)) (v : ℕ) → slice_get ps v ≡ Some p → most_armed disk_says (slice_set ps v q) ≤ most_armed disk_says ps + 1
+  most_after ps v at = most_more disk_says ps v p q at once_more
 
-module _ {K Q E X : Type 0} (is_honest : K → Bool) (moment : K → ℕ) (image : K → ℕ → List ℕ → Type 0) (left : E → Option OctetSequence) (told : Q → Option OctetSequence)
-    (frames : X → Option (List (List ℕ))) (counted : X → ℕ) (armed : K → Armings) (old : State K Q E X) (net : Network) (w : World) (v : ℕ)
-    (ready : IsReady (Stands is_honest moment image left told frames counted) old net w) (p : Post K E) (there : slice_get old.posts.items v ≡ Some p) where
-  pub few_before : (top : ℕ) → most_armed armed old.posts.items < top → OnDisk (λ disk. (armed disk).count < top) p
+module _ {K Q E X : Type 0} (outside : Outside K Q E X) (old : State K Q E X) (net : Network) (w : World) (v : ℕ)
+    (ready : IsReady (Stands outside) old net w) (p : Post K E) (there : slice_get old.posts.items v ≡ Some p) where
+  pub few_before : (top : ℕ) → most_armed outside.disk old.posts.items < top → OnDisk (λ disk. (outside.disk.armings disk).count < top) p
   few_before top few =
-      let disk = post_disk is_honest moment image net w v left p (ready.stands.posts v p there) in
-      on_disk (λ k. (armed k).count < top) p disk.0 disk.1
-      (subst (λ (o : Option K). times_of armed o < top) disk.1 (below_most armed old.posts.items v p top there few))
+      let disk = post_disk outside.disk net w v outside.entropy p (ready.stands.posts v p there) in
+      on_disk (λ k. (outside.disk.armings k).count < top) p disk.0 disk.1
+      (subst (λ (o : Option K). times_of outside.disk o < top) disk.1 (below_most outside.disk old.posts.items v p top there few))
 
-  pub may_arm : (fault : Fault) → is_fit (site_of old.site) (Arm v fault) ≡ true → MayArm is_honest moment image left net w v fault p
+  pub may_arm : (fault : Fault) → is_fit (site_of old.site) (Arm v fault) ≡ true → MayArm outside.disk outside.entropy net w v fault p
   may_arm fault fit = record {
     stands = ready.stands.posts v p there;
     enabled = may_arm_node net w v fault (subst (λ (s : Site). is_fit s (Arm v fault) ≡ true) (sym ready.stands.sited) fit);
   }
 
-  pub arm_done : (disk_count : K → ℕ) (entropy_count : E → ℕ) (device_count : Q → ℕ) (wire_count : X → ℕ) (new : State K Q E X) (q : Post K E) (change : OnePost old new v p q) (arm : DiskArm) →
-      IsArmedWith disk_count armed entropy_count arm p q → HasArmed is_honest moment image left net w v (fault_of arm) q →
-      Does (Stands is_honest moment image left told frames counted) (Tallied disk_count armed entropy_count device_count wire_count) old new net w (Arm v (fault_of arm)) Armed
-  arm_done disk_count entropy_count device_count wire_count new q change arm counts h =
+  pub arm_done : (new : State K Q E X) (q : Post K E) (change : OnePost old new v p q) (arm : DiskArm) →
+      IsArmedWith outside.disk outside.entropy arm p q → HasArmed outside.disk outside.entropy net w v (fault_of arm) q →
+      Does (Stands outside) (Tallied outside) old new net w (Arm v (fault_of arm)) Armed
+  arm_done new q change arm counts h =
       let a = Arm v (fault_of arm) in
-      done is_honest moment image left told frames counted disk_count armed entropy_count device_count wire_count old new net w v p q change ready
+      done outside old new net w v p q change ready
       a h.may (arm_one net.site v (fault_of arm)) h.stands a Armed refl h.said
-      (all_tallied disk_count armed entropy_count device_count wire_count net.site a old new (posts_same old new v p q change) (ap length change.devices) (ap length change.lanes)
-      (posts_one disk_count armed entropy_count device_count wire_count net.site a old new (has_disks is_honest moment image left told frames counted old net w ready.stands) v p q change.there change.posts
-      (post_armed disk_count armed entropy_count arm p q counts net.site v) (λ u other. (refl, refl, armed_elsewhere v u (fault_of arm) other)))
-      (devices_still disk_count armed entropy_count device_count wire_count net.site a old new change.devices (λ link. refl))
-      (wires_still disk_count armed entropy_count device_count wire_count net.site a old new change.lanes (λ l. refl)))
+      (all_tallied outside net.site a old new (posts_same old new v p q change) (ap length change.devices) (ap length change.lanes)
+      (posts_one outside net.site a old new (has_disks outside old net w ready.stands) v p q change.there change.posts
+      (post_armed outside.disk outside.entropy arm p q counts net.site v) (λ u other. (refl, refl, armed_elsewhere v u (fault_of arm) other)))
+      (devices_still outside net.site a old new change.devices (λ link. refl))
+      (wires_still outside net.site a old new change.lanes (λ l. refl)))

@@ -1,10 +1,8 @@
 -- Actions that change only one manager.
-use Rattle.std.proofs.Common.{◌≡◌, ◌⊎◌, inl, inr, ℕ, Bool, false, List, [], ◌∷◌, length, sym, ap, ◌∙◌, Option, Some}
+use Rattle.std.proofs.Common.{◌≡◌, ◌⊎◌, inl, inr, ℕ, Bool, false, List, [], ◌∷◌, length, sym, ap, ◌∙◌, Some}
 use Rattle.std.specs.Prelude.{slice_get}
 use Rattle.qkd_base.specs.declared.lane.Lane.{Lane}
-use Rattle.disk_model.specs.declared.arm.Armings.{Armings}
 use Rattle.net_model.specs.Site.{Site}
-use Rattle.net_model.specs.OctetSequence.{OctetSequence}
 use Rattle.net_model.specs.World.{Network, World}
 use Rattle.net_model.specs.Action.{Environment, Action, Outcome, is_io_fault}
 use Rattle.net_model.specs.Faults.{is_random_fault}
@@ -30,6 +28,7 @@ use Rattle.world_state.proofs.Disks.{has_disks}
 use Rattle.world_state.proofs.OneTallied.{CountsOne, CountsNoOther, one_post_tallied}
 use Rattle.world_state.proofs.QuietStays.{quiet_stays}
 use Rattle.world_state.proofs.StateGoesOn.{state_goes_on, enabled_of}
+use Rattle.world_state.specs.Outside.{Outside}
 
 -- The action changes only this manager, and no lane and no link.
 pub record ChangesPost (site : Site) (a : Action) (v : ℕ) : Type 0 where
@@ -47,15 +46,14 @@ pub record ChangesOne (site : Site) (a : Action) (v : ℕ) : Type 0 where
 post_changed : (site : Site) (a : Action) (v : ℕ) → ChangesOne site a v → ChangesPost site a v
 post_changed site a v one = record { nodes = one.nodes; lanes = one.lanes; links = one.links }
 
-module _ {K Q E X : Type 0} (is_honest : K → Bool) (moment : K → ℕ) (image : K → ℕ → List ℕ → Type 0) (left : E → Option OctetSequence) (told : Q → Option OctetSequence)
-    (frames : X → Option (List (List ℕ))) (counted : X → ℕ) (old new : State K Q E X) (net : Network) (w : World) (v : ℕ) (p q : Post K E) (change : OnePost old new v p q)
-    (stands : Stands is_honest moment image left told frames counted old net w) where
-  module _ (a : Action) (may : IsStep net w a) (one : ChangesPost net.site a v) (there : PostStands is_honest moment image left net (step net w a).0 v q) where
-    moves : Moves is_honest moment image left told frames counted old new net w a
+module _ {K Q E X : Type 0} (outside : Outside K Q E X) (old new : State K Q E X) (net : Network) (w : World) (v : ℕ) (p q : Post K E) (change : OnePost old new v p q)
+    (stands : Stands outside old net w) where
+  module _ (a : Action) (may : IsStep net w a) (one : ChangesPost net.site a v) (there : PostStands outside.disk outside.entropy net (step net w a).0 v q) where
+    moves : Moves outside old new net w a
     moves = record {
       site = change.site;
       nodes = posts_same old new v p q change;
-      posts = each_post old new v p q change (λ u x. PostStands is_honest moment image left net (step net w a).0 u x ⊎ ((changes_node net.site a u ≡ false) × (slice_get old.posts.items u ≡ Some x)))
+      posts = each_post old new v p q change (λ u x. PostStands outside.disk outside.entropy net (step net w a).0 u x ⊎ ((changes_node net.site a u ≡ false) × (slice_get old.posts.items u ≡ Some x)))
           (inl there) (λ u x other at. inr (one.nodes u other, at));
       sides = ap length change.lanes;
       lanes = λ l side at was. inr (one.lanes l, ap (λ (xs : List (LaneForm X)). slice_get xs (place_of l)) (sym change.lanes) ∙ was);
@@ -64,16 +62,16 @@ module _ {K Q E X : Type 0} (is_honest : K → Bool) (moment : K → ℕ) (image
       up = λ link below. step_link net w a link (one.links link) ∙ stands.up link below ∙ ap (λ (n : ℕ). bit_is_set n link) (sym change.up);
     }
 
-    pub stands_after : Stands is_honest moment image left told frames counted new net (step net w a).0
-    stands_after = state_goes_on is_honest moment image left told frames counted old new net w a may stands moves
+    pub stands_after : Stands outside new net (step net w a).0
+    stands_after = state_goes_on outside old new net w a may stands moves
 
   -- If nothing happened, the state with the other post stands for the same world.
-  pub stands_still : PostStands is_honest moment image left net w v q → Stands is_honest moment image left told frames counted new net w
+  pub stands_still : PostStands outside.disk outside.entropy net w v q → Stands outside new net w
   stands_still there = record {
     running = stands.running;
     sited = stands.sited ∙ sym (ap site_of change.site);
     nodes = posts_same old new v p q change ∙ stands.nodes;
-    posts = each_post old new v p q change (λ u x. PostStands is_honest moment image left net w u x) there (λ u x other at. stands.posts u x at);
+    posts = each_post old new v p q change (λ u x. PostStands outside.disk outside.entropy net w u x) there (λ u x other at. stands.posts u x at);
     sides = ap length change.lanes ∙ stands.sides;
     lanes = λ l side at was. stands.lanes l side at (ap (λ (xs : List (LaneForm X)). slice_get xs (place_of l)) (sym change.lanes) ∙ was);
     links = ap length change.devices ∙ stands.links;
@@ -81,34 +79,33 @@ module _ {K Q E X : Type 0} (is_honest : K → Bool) (moment : K → ℕ) (image
     up = λ link below. stands.up link below ∙ ap (λ (n : ℕ). bit_is_set n link) (sym change.up);
   }
 
-module _ {K Q E X : Type 0} (is_honest : K → Bool) (moment : K → ℕ) (image : K → ℕ → List ℕ → Type 0) (left : E → Option OctetSequence) (told : Q → Option OctetSequence)
-    (frames : X → Option (List (List ℕ))) (counted : X → ℕ) (disk_count : K → ℕ) (armed : K → Armings) (entropy_count : E → ℕ) (device_count : Q → ℕ) (wire_count : X → ℕ)
+module _ {K Q E X : Type 0} (outside : Outside K Q E X)
     (old new : State K Q E X) (net : Network) (w : World) (v : ℕ) (p q : Post K E) (change : OnePost old new v p q)
-    (ready : IsReady (Stands is_honest moment image left told frames counted) old net w) where
+    (ready : IsReady (Stands outside) old net w) where
   abbrev Done : Action → Outcome → Type 0
-  Done asked outcome = Does (Stands is_honest moment image left told frames counted) (Tallied disk_count armed entropy_count device_count wire_count) old new net w asked outcome
+  Done asked outcome = Does (Stands outside) (Tallied outside) old new net w asked outcome
 
-  module _ (a : Action) (may : IsStep net w a) (one : ChangesOne net.site a v) (stands : PostStands is_honest moment image left net (step net w a).0 v q) where
-    pub ready_after : IsReady (Stands is_honest moment image left told frames counted) new net (step net w a).0
+  module _ (a : Action) (may : IsStep net w a) (one : ChangesOne net.site a v) (stands : PostStands outside.disk outside.entropy net (step net w a).0 v q) where
+    pub ready_after : IsReady (Stands outside) new net (step net w a).0
     ready_after = record {
-      stands = stands_after is_honest moment image left told frames counted old new net w v p q change ready.stands a may (post_changed net.site a v one) stands;
+      stands = stands_after outside old new net w v p q change ready.stands a may (post_changed net.site a v one) stands;
       quiet = quiet_stays net w a ready.stands.running (enabled_of net w a may) one.sends ready.quiet;
     }
 
-    pub done : (asked : Action) (outcome : Outcome) → plain a ≡ asked → (step net w a).1 ≡ outcome → Tallied disk_count armed entropy_count device_count wire_count old new net.site (a ∷ []) → Done asked outcome
+    pub done : (asked : Action) (outcome : Outcome) → plain a ≡ asked → (step net w a).1 ≡ outcome → Tallied outside old new net.site (a ∷ []) → Done asked outcome
     done asked outcome is said tallied = record { action = a; is = is; may = may; said = said; ready = ready_after; tallied = tallied }
 
     pub done_counted : (asked : Action) (outcome : Outcome) → plain a ≡ asked → (step net w a).1 ≡ outcome → (disk_fault entropy_fault : Bool) → CountsOne net.site a v disk_fault entropy_fault → CountsNoOther a →
-        Counts disk_count armed entropy_count disk_fault entropy_fault p q → Done asked outcome
+        Counts outside.disk outside.entropy disk_fault entropy_fault p q → Done asked outcome
     done_counted asked outcome is said disk_fault entropy_fault counts rest c =
         done asked outcome is said
-        (one_post_tallied disk_count armed entropy_count device_count wire_count net.site a old new
-        (has_disks is_honest moment image left told frames counted old net w ready.stands) v p q disk_fault entropy_fault change counts rest c)
+        (one_post_tallied outside net.site a old new
+        (has_disks outside old net w ready.stands) v p q disk_fault entropy_fault change counts rest c)
 
   -- The action happened at the post, with an answer of the environment.
   pub happened : (action : Environment → Action) (asked : Action) (outcome : Outcome) → ((environment : Environment) → ChangesOne net.site (action environment) v) →
       ((environment : Environment) → CountsOne net.site (action environment) v (is_io_fault environment) (is_random_fault v (action environment))) → ((environment : Environment) → CountsNoOther (action environment)) →
       ((environment : Environment) → plain (action environment) ≡ asked) →
-      Happens is_honest moment image disk_count armed left entropy_count action net w v p q outcome → Done asked outcome
+      Happens outside.disk outside.entropy action net w v p q outcome → Done asked outcome
   happened action asked outcome one counts rest is h =
       done_counted (action h.environment) h.may (one h.environment) h.stands asked outcome (is h.environment) h.said (is_io_fault h.environment) (is_random_fault v (action h.environment)) (counts h.environment) (rest h.environment) h.counts

@@ -1,5 +1,5 @@
 -- A state in which the side of one lane changed.
-use Rattle.std.proofs.Common.{◌≡◌, ℕ, zero, suc, ◌+◌, ◌*◌, ◌<◌, Bool, true, false, ◌&&◌, List, [], ◌∷◌, length, refl, sym, ap, subst, ◌∙◌, arith, Option, Some}
+use Rattle.std.proofs.Common.{◌≡◌, ℕ, zero, suc, ◌+◌, ◌*◌, ◌<◌, true, false, ◌&&◌, List, [], ◌∷◌, length, refl, sym, ap, subst, ◌∙◌, arith, Option, Some}
 use Rattle.std.specs.Prelude.{◌==◌, slice_get, slice_set, get_or}
 use Rattle.std.specs.Vec.{with_item}
 use Rattle.std.proofs.lemmas.Bool.{ltb-true}
@@ -9,7 +9,7 @@ use Rattle.qkd_base.specs.declared.lane.Way.TheVariants.{Up, Down}
 use Rattle.qkd_base.specs.declared.lane.Lane.{Lane}
 use Rattle.net_model.specs.Site.{Site}
 use Rattle.net_model.specs.Events.{is_lane}
-use Rattle.law_base.proofs.Base.{and_true, eq_same, lane_eq_from, lane_same, not_both}
+use Rattle.law_base.proofs.Base.{and_true, eq_same, lane_eq_from, not_both}
 use Rattle.lane_sender.specs.Lane.{LaneForm}
 use Rattle.world_state.specs.Stands.{of_way, place_of}
 use Rattle.world_state.specs.declared.state.State.{State}

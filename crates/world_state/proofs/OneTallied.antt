@@ -1,6 +1,6 @@
 -- The counts of one action that changes at most one post.
-use Rattle.std.proofs.Common.{◌≡◌, ℕ, ◌+◌, ◌-◌, ◌^◌, ◌≤◌, Bool, true, false, List, [], ◌∷◌, length, refl, sym, ap, subst, ◌∙◌, arith, Option, Some, None}
-use Rattle.std.specs.Prelude.{min, slice_get, slice_set, cond}
+use Rattle.std.proofs.Common.{◌≡◌, ℕ, ◌+◌, Bool, true, false, List, [], ◌∷◌, length, refl, sym, ap, subst, ◌∙◌, arith, Option, Some, None}
+use Rattle.std.specs.Prelude.{slice_get, slice_set, cond}
 use Rattle.std.specs.List.{filter_map, cons_option}
 use Rattle.qkd_base.specs.declared.lane.Lane.{Lane}
 use Rattle.disk_model.specs.declared.arm.Armings.{Armings}
@@ -9,7 +9,7 @@ use Rattle.net_model.specs.Action.{Action, Fault}
 use Rattle.net_model.specs.Faults.{disk_faults, entropy_faults, device_faults, wire_faults, armings, is_disk_fault, is_random_fault, is_block_fault, is_wire_fault, fault_armed}
 use Rattle.world_nodes.specs.Passed.{Post}
 use Rattle.lane_sender.specs.Lane.{LaneForm}
-use Rattle.world_nodes.specs.Counts.{disk_of, entropy_of, IsCounted, CountsBy, Counts}
+use Rattle.world_nodes.specs.Counts.{disk_of, entropy_of, IsCounted, Counts}
 use Rattle.world_nodes.proofs.Counted.{unchanged}
 use Rattle.world_state.specs.Stands.{place_of}
 use Rattle.world_state.specs.Tallied.{Counted, IsArmedBy, PostTallied, Tallied}
@@ -17,6 +17,7 @@ use Rattle.world_state.specs.declared.state.State.{State}
 use Rattle.world_state.proofs.Changes.{OnePost, posts_same}
 use Rattle.world_state.proofs.Others.{each_placed}
 use Rattle.world_state.proofs.Tallies.{none_counted}
+use Rattle.world_state.specs.Outside.{Outside}
 
 some_is : {A : Type 0} {a b : A} → ◌≡◌ {A = Option A} (Some a) (Some b) → a ≡ b
 some_is h = cc
@@ -54,73 +55,73 @@ pub record CountsNoOther (a : Action) : Type 0 where
   pub devices : (link : ℕ) → is_block_fault link a ≡ false
   pub wires : (l : Lane) → is_wire_fault l a ≡ false
 
-module _ {K Q E X : Type 0} (disk_count : K → ℕ) (armed : K → Armings) (entropy_count : E → ℕ) (device_count : Q → ℕ) (wire_count : X → ℕ) (site : Site) (a : Action) where
+module _ {K Q E X : Type 0} (outside : Outside K Q E X) (site : Site) (a : Action) where
   -- the counts at the post of the action
   pub post_once : (v : ℕ) (disk_fault entropy_fault : Bool) (p q : Post K E) → is_disk_fault site v a ≡ disk_fault → is_random_fault v a ≡ entropy_fault →
-      fault_armed v a ≡ None → Counts disk_count armed entropy_count disk_fault entropy_fault p q → PostTallied disk_count armed entropy_count site v (a ∷ []) p q
+      fault_armed v a ≡ None → Counts outside.disk outside.entropy disk_fault entropy_fault p q → PostTallied outside.disk outside.entropy site v (a ∷ []) p q
   unfolding disk_faults entropy_faults armings
   post_once v disk_fault entropy_fault p q disk entropy none c = record {
     before = c.before;
     now = c.now;
     was = c.was;
     is = c.is;
-    failed = counted_once (is_disk_fault site v a) (disk_count c.before) (disk_count c.now) (subst (λ (f : Bool). IsCounted f (disk_count c.before) (disk_count c.now)) (sym disk) c.disk);
-    armed_with = not_armed (fault_armed v) a (armed c.before) (armed c.now) none c.arms;
-    refused = counted_once (is_random_fault v a) (entropy_count (entropy_of p)) (entropy_count (entropy_of q))
-        (subst (λ (f : Bool). IsCounted f (entropy_count (entropy_of p)) (entropy_count (entropy_of q))) (sym entropy) c.entropy);
+    failed = counted_once (is_disk_fault site v a) (outside.disk.faults c.before) (outside.disk.faults c.now) (subst (λ (f : Bool). IsCounted f (outside.disk.faults c.before) (outside.disk.faults c.now)) (sym disk) c.disk);
+    armed_with = not_armed (fault_armed v) a (outside.disk.armings c.before) (outside.disk.armings c.now) none c.arms;
+    refused = counted_once (is_random_fault v a) (outside.entropy.faults (entropy_of p)) (outside.entropy.faults (entropy_of q))
+        (subst (λ (f : Bool). IsCounted f (outside.entropy.faults (entropy_of p)) (outside.entropy.faults (entropy_of q))) (sym entropy) c.entropy);
   }
 
   -- the counts at a post that doesn't change
   pub post_still : (v : ℕ) (p : Post K E) → (k : K) × (disk_of p ≡ Some k) → is_disk_fault site v a ≡ false → is_random_fault v a ≡ false → fault_armed v a ≡ None →
-      PostTallied disk_count armed entropy_count site v (a ∷ []) p p
-  post_still v p k disk entropy none = post_once v false false p p disk entropy none (unchanged disk_count armed entropy_count p k.0 k.1)
+      PostTallied outside.disk outside.entropy site v (a ∷ []) p p
+  post_still v p k disk entropy none = post_once v false false p p disk entropy none (unchanged outside.disk outside.entropy p k.0 k.1)
 
   abbrev HasDisks : State K Q E X → Type 0
   HasDisks s = (v : ℕ) (p : Post K E) → slice_get s.posts.items v ≡ Some p → (k : K) × (disk_of p ≡ Some k)
 
   module _ (old new : State K Q E X) where
     abbrev Devices : Type 0
-    Devices = (link : ℕ) (p q : Q) → slice_get old.devices.items link ≡ Some p → slice_get new.devices.items link ≡ Some q → Counted (once (is_block_fault link a)) (device_count p) (device_count q)
+    Devices = (link : ℕ) (p q : Q) → slice_get old.devices.items link ≡ Some p → slice_get new.devices.items link ≡ Some q → Counted (once (is_block_fault link a)) (outside.device.faults p) (outside.device.faults q)
 
     abbrev Wires : Type 0
-    Wires = (l : Lane) (p q : LaneForm X) → slice_get old.lanes.items (place_of l) ≡ Some p → slice_get new.lanes.items (place_of l) ≡ Some q → Counted (once (is_wire_fault l a)) (wire_count p.wire) (wire_count q.wire)
+    Wires = (l : Lane) (p q : LaneForm X) → slice_get old.lanes.items (place_of l) ≡ Some p → slice_get new.lanes.items (place_of l) ≡ Some q → Counted (once (is_wire_fault l a)) (outside.wire.faults p.wire) (outside.wire.faults q.wire)
 
     abbrev Posts : Type 0
-    Posts = (v : ℕ) (p q : Post K E) → slice_get old.posts.items v ≡ Some p → slice_get new.posts.items v ≡ Some q → PostTallied disk_count armed entropy_count site v (a ∷ []) p q
+    Posts = (v : ℕ) (p q : Post K E) → slice_get old.posts.items v ≡ Some p → slice_get new.posts.items v ≡ Some q → PostTallied outside.disk outside.entropy site v (a ∷ []) p q
 
     pub devices_still : new.devices.items ≡ old.devices.items → ((link : ℕ) → is_block_fault link a ≡ false) → Devices
     devices_still same none link p q was is =
         let one : p ≡ q = some_is (sym was ∙ ap (λ (xs : List Q). slice_get xs link) (sym same) ∙ is) in
-        subst (λ (x : Q). Counted (once (is_block_fault link a)) (device_count p) (device_count x)) one (still_counted (is_block_fault link a) (device_count p) (none link))
+        subst (λ (x : Q). Counted (once (is_block_fault link a)) (outside.device.faults p) (outside.device.faults x)) one (still_counted (is_block_fault link a) (outside.device.faults p) (none link))
 
     pub wires_still : new.lanes.items ≡ old.lanes.items → ((l : Lane) → is_wire_fault l a ≡ false) → Wires
     wires_still same none l p q was is =
         let one : p ≡ q = some_is (sym was ∙ ap (λ (xs : List (LaneForm X)). slice_get xs (place_of l)) (sym same) ∙ is) in
-        subst (λ (x : LaneForm X). Counted (once (is_wire_fault l a)) (wire_count p.wire) (wire_count x.wire)) one (still_counted (is_wire_fault l a) (wire_count p.wire) (none l))
+        subst (λ (x : LaneForm X). Counted (once (is_wire_fault l a)) (outside.wire.faults p.wire) (outside.wire.faults x.wire)) one (still_counted (is_wire_fault l a) (outside.wire.faults p.wire) (none l))
 
     pub posts_still : HasDisks old → new.posts.items ≡ old.posts.items → ((v : ℕ) → (is_disk_fault site v a ≡ false) × (is_random_fault v a ≡ false) × (fault_armed v a ≡ None)) → Posts
     posts_still disks same none v p q was is =
         let one : p ≡ q = some_is (sym was ∙ ap (λ (xs : List (Post K E)). slice_get xs v) (sym same) ∙ is) in
-        subst (λ (x : Post K E). PostTallied disk_count armed entropy_count site v (a ∷ []) p x) one (post_still v p (disks v p was) (none v).0 (none v).1 (none v).2)
+        subst (λ (x : Post K E). PostTallied outside.disk outside.entropy site v (a ∷ []) p x) one (post_still v p (disks v p was) (none v).0 (none v).1 (none v).2)
 
-    pub posts_one : HasDisks old → (v : ℕ) (p q : Post K E) → slice_get old.posts.items v ≡ Some p → new.posts.items ≡ slice_set old.posts.items v q → PostTallied disk_count armed entropy_count site v (a ∷ []) p q →
+    pub posts_one : HasDisks old → (v : ℕ) (p q : Post K E) → slice_get old.posts.items v ≡ Some p → new.posts.items ≡ slice_set old.posts.items v q → PostTallied outside.disk outside.entropy site v (a ∷ []) p q →
         ((u : ℕ) → (u ≡ v → ⊥) → (is_disk_fault site u a ≡ false) × (is_random_fault u a ≡ false) × (fault_armed u a ≡ None)) → Posts
     posts_one disks v p q there set here others u x y was is =
-        each_placed old.posts.items new.posts.items v q set (λ n z. (t : Post K E) → slice_get old.posts.items n ≡ Some t → PostTallied disk_count armed entropy_count site n (a ∷ []) t z)
-        (λ t at. let same : p ≡ t = some_is (sym there ∙ at) in subst (λ (s : Post K E). PostTallied disk_count armed entropy_count site v (a ∷ []) s q) same here)
+        each_placed old.posts.items new.posts.items v q set (λ n z. (t : Post K E) → slice_get old.posts.items n ≡ Some t → PostTallied outside.disk outside.entropy site n (a ∷ []) t z)
+        (λ t at. let same : p ≡ t = some_is (sym there ∙ at) in subst (λ (s : Post K E). PostTallied outside.disk outside.entropy site v (a ∷ []) s q) same here)
         (λ n z other at t stood.
         let same : z ≡ t = some_is (sym at ∙ stood) in
-        subst (λ (s : Post K E). PostTallied disk_count armed entropy_count site n (a ∷ []) s z) same (post_still n z (disks n z at) (others n other).0 (others n other).1 (others n other).2))
+        subst (λ (s : Post K E). PostTallied outside.disk outside.entropy site n (a ∷ []) s z) same (post_still n z (disks n z at) (others n other).0 (others n other).1 (others n other).2))
         u y is x was
 
     pub all_tallied : length new.posts.items ≡ length old.posts.items → length new.devices.items ≡ length old.devices.items → length new.lanes.items ≡ length old.lanes.items →
-        Posts → Devices → Wires → Tallied disk_count armed entropy_count device_count wire_count old new site (a ∷ [])
+        Posts → Devices → Wires → Tallied outside old new site (a ∷ [])
     unfolding device_faults wire_faults
     all_tallied nodes links sides posts devices wires = record { nodes = nodes; posts = posts; links = links; devices = devices; sides = sides; wires = wires }
 
     -- If only one post changed, its counts give the counts of the whole state.
     pub one_post_tallied : HasDisks old → (v : ℕ) (p q : Post K E) (disk_fault entropy_fault : Bool) → OnePost old new v p q → CountsOne site a v disk_fault entropy_fault → CountsNoOther a →
-        Counts disk_count armed entropy_count disk_fault entropy_fault p q → Tallied disk_count armed entropy_count device_count wire_count old new site (a ∷ [])
+        Counts outside.disk outside.entropy disk_fault entropy_fault p q → Tallied outside old new site (a ∷ [])
     one_post_tallied disks v p q disk_fault entropy_fault one counts rest c =
         all_tallied (posts_same old new v p q one) (ap length one.devices) (ap length one.lanes)
         (posts_one disks v p q one.there one.posts (post_once v disk_fault entropy_fault p q counts.disk counts.entropy (counts.armed v) c) (λ u other. (counts.disks u other, counts.entropies u other, counts.armed u)))

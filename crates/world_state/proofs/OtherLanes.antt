@@ -1,12 +1,11 @@
 -- Putting a frame on one lane changes no manager and no other lane.
-use Rattle.std.proofs.Common.{◌≡◌, ℕ, ◌+◌, ◌*◌, ◌≤◌, Bool, true, false, ◌&&◌, ◌||◌, List, [], ◌∷◌, length, refl, sym, ap, subst, ◌∙◌, Option, Some, None}
+use Rattle.std.proofs.Common.{◌≡◌, ℕ, Bool, true, false, ◌&&◌, ◌||◌, List, length, refl, sym, ap, ◌∙◌, Option, Some, None}
 use Rattle.std.specs.Prelude.{slice_get}
 use Rattle.qkd_base.specs.Lane.{lane_eq}
 use Rattle.qkd_base.specs.declared.lane.Lane.{Lane}
-use Rattle.net_model.specs.OctetSequence.{OctetSequence}
 use Rattle.net_model.specs.World.{Network, World, Transmission, Outgoing}
 use Rattle.net_model.specs.Events.{is_lane}
-use Rattle.net_model.specs.Frames.{allocate, outgoing_of, put, transmit_one, transmit}
+use Rattle.net_model.specs.Frames.{allocate, outgoing_of, transmit_one, transmit}
 use Rattle.net_model.specs.Action.{Environment, Action, Allocate, Transmit, Outcome, is_no_memory, is_io_fault}
 use Rattle.net_model.specs.Step.{step, IsStep}
 use Rattle.declared_site.specs.SiteOf.{site_of}
@@ -15,7 +14,7 @@ use Rattle.kme_base.specs.Up.{AreUp}
 use Rattle.world_nodes.specs.Passed.{Post}
 use Rattle.lane_sender.specs.Lane.{LaneForm}
 use Rattle.law_base.proofs.Base.{by_test}
-use Rattle.law_locality.specs.Touched.{ManagerStays, changes_part, Blocks, Own, Wire}
+use Rattle.law_locality.specs.Touched.{ManagerStays}
 use Rattle.law_locality.proofs.ManagerSteps.{claim_unseen, transmit_unseen}
 use Rattle.world_nodes.specs.LaneStands.{IsRunning, LaneStands}
 use Rattle.world_nodes.specs.Stands.{PostStands}
@@ -26,6 +25,7 @@ use Rattle.world_state.specs.declared.state.State.{State}
 use Rattle.world_state.proofs.LanesGoOn.{lane_goes_on}
 use Rattle.world_state.proofs.StateGoesOn.{running_on, enabled_of}
 use Rattle.world_state.proofs.OneSide.{OneSide, sides_same, each_side}
+use Rattle.world_state.specs.Outside.{Outside}
 
 -- Links stay up or down.
 
@@ -41,24 +41,23 @@ put_links : (net : Network) (w : World) (l : Lane) (j : ℕ) (environment : Envi
 unfolding step transmit
 put_links net w l j environment = one_links net w l environment (outgoing_of j (w.outgoing l))
 
-module _ {K Q E X : Type 0} (is_honest : K → Bool) (moment : K → ℕ) (image : K → ℕ → List ℕ → Type 0) (left : E → Option OctetSequence) (told : Q → Option OctetSequence)
-    (frames : X → Option (List (List ℕ))) (counted : X → ℕ) (old : State K Q E X) (net : Network) (l : Lane) where
+module _ {K Q E X : Type 0} (outside : Outside K Q E X) (old : State K Q E X) (net : Network) (l : Lane) where
   -- All parts of the state but one lane stand for the world.
   pub record Others (w : World) : Type 0 where
     pub running : IsRunning net w
-    pub posts : (v : ℕ) (p : Post K E) → slice_get old.posts.items v ≡ Some p → PostStands is_honest moment image left net w v p
-    pub lanes : (k : Lane) (side : LaneForm X) → lane_eq k l ≡ false → is_lane net.site k ≡ true → slice_get old.lanes.items (place_of k) ≡ Some side → LaneStands frames counted net w k side
+    pub posts : (v : ℕ) (p : Post K E) → slice_get old.posts.items v ≡ Some p → PostStands outside.disk outside.entropy net w v p
+    pub lanes : (k : Lane) (side : LaneForm X) → lane_eq k l ≡ false → is_lane net.site k ≡ true → slice_get old.lanes.items (place_of k) ≡ Some side → LaneStands outside.wire net w k side
     pub up : AreUp old.up w.link_up
 
-  pub others_of : (w : World) → Stands is_honest moment image left told frames counted old net w → Others w
+  pub others_of : (w : World) → Stands outside old net w → Others w
   others_of w s = record { running = s.running; posts = s.posts; lanes = λ k side apart. s.lanes k side; up = s.up }
 
   others_on : (w : World) (a : Action) → IsStep net w a → ((v : ℕ) → ManagerStays net v w (step net w a).0) → ((k : Lane) → lane_eq k l ≡ false → changes_lane net.site a k ≡ false) →
       (step net w a).0.link_up ≡ w.link_up → Others w → Others (step net w a).0
   others_on w a may managers apart links s = record {
     running = running_on net w a s.running may;
-    posts = λ v p at. post_on is_honest moment image left net w (step net w a).0 v (managers v) p (s.posts v p at);
-    lanes = λ k side e at there. lane_goes_on net w s.running k frames counted a side at (enabled_of net w a may) (apart k e) (s.lanes k side e at there);
+    posts = λ v p at. post_on outside.disk outside.entropy net w (step net w a).0 v (managers v) p (s.posts v p at);
+    lanes = λ k side e at there. lane_goes_on net w s.running k outside.wire a side at (enabled_of net w a may) (apart k e) (s.lanes k side e at there);
     up = λ link few. ap (λ (f : ℕ → Bool). f link) links ∙ s.up link few;
   }
 
@@ -72,8 +71,8 @@ module _ {K Q E X : Type 0} (is_honest : K → Bool) (moment : K → ℕ) (image
       others_on w (Transmit l j environment) may (λ v. transmit_unseen net w v l j environment) (λ k e. ap (λ (b : Bool). b && true) e) (put_links net w l j environment) s
 
   -- If the changed lane stands for the world too, so does the whole new state.
-  pub stands_with : (w w' : World) (new : State K Q E X) (before now : LaneForm X) → OneSide old new l before now → Stands is_honest moment image left told frames counted old net w → Others w' →
-      LaneStands frames counted net w' l now → Stands is_honest moment image left told frames counted new net w'
+  pub stands_with : (w w' : World) (new : State K Q E X) (before now : LaneForm X) → OneSide old new l before now → Stands outside old net w → Others w' →
+      LaneStands outside.wire net w' l now → Stands outside new net w'
   stands_with w w' new before now one s others lane = record {
     running = others.running;
     sited = s.sited ∙ sym (ap site_of one.site);
@@ -81,7 +80,7 @@ module _ {K Q E X : Type 0} (is_honest : K → Bool) (moment : K → ℕ) (image
     posts = λ v p at. others.posts v p (ap (λ (ps : List (Post K E)). slice_get ps v) (sym one.posts) ∙ at);
     sides = sides_same old new l before now one ∙ s.sides;
     lanes = λ k side at there.
-        each_side old new l before now one (λ m x. is_lane net.site m ≡ true → LaneStands frames counted net w' m x) (λ at. lane) (λ m x apart was at. others.lanes m x apart at was) k side there at;
+        each_side old new l before now one (λ m x. is_lane net.site m ≡ true → LaneStands outside.wire net w' m x) (λ at. lane) (λ m x apart was at. others.lanes m x apart at was) k side there at;
     links = ap length one.devices ∙ s.links;
     devices = λ link q at. s.devices link q (ap (λ (qs : List Q). slice_get qs link) (sym one.devices) ∙ at);
     up = λ link few. others.up link few ∙ ap (λ (n : ℕ). bit_is_set n link) (sym one.up);

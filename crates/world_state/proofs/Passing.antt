@@ -2,10 +2,8 @@
 use Rattle.std.proofs.Common.{◌≡◌, ℕ, ◌≤◌, Bool, true, false, ◌&&◌, List, length, take, length-take, refl, sym, ap, subst, ◌∙◌, arith, Option, Some, None}
 use Rattle.std.specs.Prelude.{◌==◌, slice_get, is_some}
 use Rattle.qkd_base.specs.declared.lane.Lane.{Lane}
-use Rattle.disk_model.specs.declared.arm.Armings.{Armings}
 use Rattle.net_model.specs.declared.reply.Reply.{Reply}
 use Rattle.net_model.specs.Site.{Site, receiver}
-use Rattle.net_model.specs.OctetSequence.{OctetSequence}
 use Rattle.net_model.specs.World.{Network, World}
 use Rattle.net_model.specs.Events.{is_lane}
 use Rattle.net_model.specs.Frames.{deliver, deliver_number}
@@ -29,6 +27,8 @@ use Rattle.world_state.proofs.OnePost.{ChangesOne, happened}
 use Rattle.world_state.proofs.OneTallied.{CountsOne}
 use Rattle.world_state.proofs.Receivers.{elsewhere, no_part, lane_at}
 use Rattle.world_state.proofs.Staying.{stays_done}
+use Rattle.source_devices.specs.declared.wire.Wire as Wire
+use Rattle.world_state.specs.Outside.{Outside}
 
 may_deliver : (net : Network) (w : World) (l : Lane) (number : ℕ) → is_lane net.site l ≡ true → is_enabled net w (Deliver l number Fine) ≡ true
 unfolding is_enabled
@@ -52,15 +52,14 @@ delivers_counted s l number environment = record {
 
 -- a lane of a state
 
-module _ {K Q E X : Type 0} (is_honest : K → Bool) (moment : K → ℕ) (image : K → ℕ → List ℕ → Type 0) (left : E → Option OctetSequence) (told : Q → Option OctetSequence)
-    (frames : X → Option (List (List ℕ))) (counted : X → ℕ) (s : State K Q E X) (net : Network) (w : World) (l : Lane) (stands : Stands is_honest moment image left told frames counted s net w) where
-  pub side_stands : (place : ℕ) (side : LaneForm X) → is_lane (site_of s.site) l ≡ true → place ≡ place_of l → slice_get s.lanes.items place ≡ Some side → LaneStands frames counted net w l side
+module _ {K Q E X : Type 0} (outside : Outside K Q E X) (s : State K Q E X) (net : Network) (w : World) (l : Lane) (stands : Stands outside s net w) where
+  pub side_stands : (place : ℕ) (side : LaneForm X) → is_lane (site_of s.site) l ≡ true → place ≡ place_of l → slice_get s.lanes.items place ≡ Some side → LaneStands outside.wire net w l side
   side_stands place side fit at there =
       stands.lanes l side (subst (λ (x : Site). is_lane x l ≡ true) (sym stands.sited) fit) (ap (slice_get s.lanes.items) (sym at) ∙ there)
 
-pub itself : {X : Type 0} (frames : X → Option (List (List ℕ))) (counted : X → ℕ) (net : Network) (w : World) (l : Lane) (side : LaneForm X) →
-    LaneStands frames counted net w l side → LaneStands frames counted net w side.lane side
-itself frames counted net w l side s = subst (λ (k : Lane). LaneStands frames counted net w k side) (sym s.lane) s
+pub itself : {X : Type 0} (wire_says : Wire.Ghosts X) (net : Network) (w : World) (l : Lane) (side : LaneForm X) →
+    LaneStands wire_says net w l side → LaneStands wire_says net w side.lane side
+itself wire_says net w l side s = subst (λ (k : Lane). LaneStands wire_says net w k side) (sym s.lane) s
 
 -- the octets that a wire gave
 
@@ -71,39 +70,38 @@ told_is : (known : Option (List (List ℕ))) (given frame : List ℕ) → is_som
 told_is None given frame tells told = cc
 told_is (Some all) given frame tells told = told
 
-module _ {X : Type 0} (frames : X → Option (List (List ℕ))) (counted : X → ℕ) (net : Network) (w : World) (l : Lane) (side : LaneForm X) (s : LaneStands frames counted net w l side) where
-  pub on_wire_as : (number n : ℕ) (octets given : List ℕ) → IsSeen (frames side.wire) net w side.lane number n octets → given ≡ take n octets → IsOnWire net w l number given
+module _ {X : Type 0} (wire_says : Wire.Ghosts X) (net : Network) (w : World) (l : Lane) (side : LaneForm X) (s : LaneStands wire_says net w l side) where
+  pub on_wire_as : (number n : ℕ) (octets given : List ℕ) → IsSeen (wire_says.frames side.wire) net w side.lane number n octets → given ≡ take n octets → IsOnWire net w l number given
   on_wire_as number n octets given seen is =
       subst (λ (k : Lane). IsOnWire net w k number given) s.lane
-      (record { frame = seen.frame; there = seen.stands; are = is ∙ told_is (frames side.wire) (take n octets) _ s.wire.tells seen.told })
+      (record { frame = seen.frame; there = seen.stands; are = is ∙ told_is (wire_says.frames side.wire) (take n octets) _ s.wire.tells seen.told })
 
   pub none_as : (number : ℕ) → slice_get (w.wire side.lane) number ≡ None → slice_get (w.wire l) number ≡ None
   none_as number none = ap (λ (k : Lane). slice_get (w.wire k) number) (sym s.lane) ∙ none
 
-module _ {K Q E X : Type 0} (is_honest : K → Bool) (moment : K → ℕ) (image : K → ℕ → List ℕ → Type 0) (left : E → Option OctetSequence) (told : Q → Option OctetSequence)
-    (frames : X → Option (List (List ℕ))) (counted : X → ℕ) (old : State K Q E X) (net : Network) (w : World) (l : Lane) (number : ℕ)
-    (ready : IsReady (Stands is_honest moment image left told frames counted) old net w) (fit : is_lane (site_of old.site) l ≡ true) where
+module _ {K Q E X : Type 0} (outside : Outside K Q E X) (old : State K Q E X) (net : Network) (w : World) (l : Lane) (number : ℕ)
+    (ready : IsReady (Stands outside) old net w) (fit : is_lane (site_of old.site) l ≡ true) where
   at : is_lane net.site l ≡ true
-  at = lane_at is_honest moment image left told frames counted old net w l ready fit
+  at = lane_at outside old net w l ready fit
 
   abbrev v : ℕ
   v = receiver net.site l
 
-  module _ (disk_count : K → ℕ) (armed : K → Armings) (entropy_count : E → ℕ) (device_count : Q → ℕ) (wire_count : X → ℕ) where
+  module _ where
     abbrev Done : State K Q E X → Outcome → Type 0
-    Done new outcome = Does (Stands is_honest moment image left told frames counted) (Tallied disk_count armed entropy_count device_count wire_count) old new net w (Deliver l number Fine) outcome
+    Done new outcome = Does (Stands outside) (Tallied outside) old new net w (Deliver l number Fine) outcome
 
     -- There is no such frame.
     pub none_done : (count : ℕ) → count ≡ length (w.wire l) → slice_get (w.wire l) number ≡ None → Done old (NoFrame count)
     none_done count is none =
         subst (λ (n : ℕ). Done old (NoFrame n)) (sym is)
-        (stays_done is_honest moment image left told frames counted disk_count armed entropy_count device_count wire_count old net w ready (Deliver l number Fine) (NoFrame (length (w.wire l)))
+        (stays_done outside old net w ready (Deliver l number Fine) (NoFrame (length (w.wire l)))
         refl (may_deliver net w l number at) refl (nothing_there net w l number none) (λ u. (no_part (v == u), refl, refl)) (record { devices = λ k. refl; wires = λ k. refl }))
 
     -- The frame comes to its receiver.
 
     module _ (octets : List ℕ) (seen : IsOnWire net w l number octets) (p : Post K E) (there : slice_get old.posts.items v ≡ Some p) where
-      pub may_hear : MayHear is_honest moment image left net w l number p octets old.up
+      pub may_hear : MayHear outside.disk outside.entropy net w l number p octets old.up
       may_hear = record {
         running = ready.stands.running;
         stands = ready.stands.posts v p there;
@@ -114,8 +112,8 @@ module _ {K Q E X : Type 0} (is_honest : K → Bool) (moment : K → ℕ) (image
         links = ready.stands.up;
       }
 
-      pub hear_done : (new : State K Q E X) (q : Post K E) → OnePost old new v p q → (reply : Reply) → HasHeard is_honest moment image disk_count armed left entropy_count net w l number p q reply →
+      pub hear_done : (new : State K Q E X) (q : Post K E) → OnePost old new v p q → (reply : Reply) → HasHeard outside.disk outside.entropy net w l number p q reply →
           Done new (Replies reply)
       hear_done new q change reply h =
-          happened is_honest moment image left told frames counted disk_count armed entropy_count device_count wire_count old new net w v p q change ready (λ (environment : Environment). Deliver l number environment)
+          happened outside old new net w v p q change ready (λ (environment : Environment). Deliver l number environment)
           (Deliver l number Fine) (Replies reply) (delivers_one net.site l number) (delivers_counted net.site l number) (λ environment. record { devices = λ k. refl; wires = λ k. refl }) (λ environment. refl) h

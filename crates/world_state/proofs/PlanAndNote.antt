@@ -1,11 +1,10 @@
 -- A post of a state plans, and notes what became of its frames.
-use Rattle.std.proofs.Common.{◌≡◌, ℕ, ◌<◌, Bool, true, ◌&&◌, List, [], refl, arith, Option, Some}
+use Rattle.std.proofs.Common.{◌≡◌, ℕ, ◌<◌, true, ◌&&◌, List, [], refl, arith, Some}
 use Rattle.std.specs.Prelude.{slice_get}
 use Rattle.std.proofs.lemmas.Bool.{lt-ltb}
 use Rattle.std.proofs.lemmas.Option.{slice_get_within}
 use Rattle.net_model.specs.declared.event.Event.TheVariants.{Plan, Note}
 use Rattle.net_model.specs.declared.placing.Placing.{Placing}
-use Rattle.net_model.specs.OctetSequence.{OctetSequence}
 use Rattle.net_model.specs.Site.{Site}
 use Rattle.net_model.specs.World.{Network, World}
 use Rattle.net_model.specs.Events.{is_valid_event}
@@ -24,6 +23,7 @@ use Rattle.world_state.specs.declared.state.State.{State}
 use Rattle.world_state.proofs.AsksOne.{elsewhere}
 use Rattle.world_state.proofs.Changes.{OnePost}
 use Rattle.world_state.proofs.OnePost.{ChangesPost, stands_after}
+use Rattle.world_state.specs.Outside.{Outside}
 
 plan_enabled : (net : Network) (w : World) (v : ℕ) → v < net.site.nodes → is_enabled net w (Ask v Plan Ok) ≡ true
 unfolding is_enabled is_valid_event
@@ -36,16 +36,15 @@ note_valid net v placings h = h
 note_changes : (s : Site) (v : ℕ) → ChangesPost s (Complete v) v
 note_changes s v = record { nodes = λ u other. elsewhere v u other; lanes = λ l. refl; links = λ link. refl }
 
-module _ {K Q E X : Type 0} (is_honest : K → Bool) (moment : K → ℕ) (image : K → ℕ → List ℕ → Type 0) (left : E → Option OctetSequence) (told : Q → Option OctetSequence)
-    (frames : X → Option (List (List ℕ))) (counted : X → ℕ) (old : State K Q E X) (net : Network) (w : World) (v : ℕ) (p : Post K E) where
-  pub may_plan : slice_get old.posts.items v ≡ Some p → Stands is_honest moment image left told frames counted old net w → MayAsk is_honest moment image left net w v p Plan old.up
+module _ {K Q E X : Type 0} (outside : Outside K Q E X) (old : State K Q E X) (net : Network) (w : World) (v : ℕ) (p : Post K E) where
+  pub may_plan : slice_get old.posts.items v ≡ Some p → Stands outside old net w → MayAsk outside.disk outside.entropy net w v p Plan old.up
   may_plan there s =
       let few = slice_get_within old.posts.items v p there in
       let below : v < net.site.nodes = omega (arith, few, s.nodes) in
       record { running = s.running; stands = s.posts v p there; enabled = plan_enabled net w v below; links = s.up }
 
-  module _ (placings : List Placing) (h : Sending is_honest moment image left told frames counted old net w v [] placings) where
-    pub may_note : slice_get old.posts.items v ≡ Some p → MayNote is_honest moment image left net w v p placings old.up
+  module _ (placings : List Placing) (h : Sending outside old net w v [] placings) where
+    pub may_note : slice_get old.posts.items v ≡ Some p → MayNote outside.disk outside.entropy net w v p placings old.up
     may_note there = record {
       running = h.stands.running;
       stands = h.stands.posts v p there;
@@ -55,11 +54,11 @@ module _ {K Q E X : Type 0} (is_honest : K → Bool) (moment : K → ℕ) (image
       links = h.stands.up;
     }
 
-    pub noted_ready : (new : State K Q E X) (q : Post K E) → OnePost old new v p q → IsStep net w (Complete v) → PostStands is_honest moment image left net (step net w (Complete v)).0 v q →
-        IsReady (Stands is_honest moment image left told frames counted) new net (step net w (Complete v)).0
+    pub noted_ready : (new : State K Q E X) (q : Post K E) → OnePost old new v p q → IsStep net w (Complete v) → PostStands outside.disk outside.entropy net (step net w (Complete v)).0 v q →
+        IsReady (Stands outside) new net (step net w (Complete v)).0
     noted_ready new q change may there =
         let quiet = completes net w v h.sends in
         record {
-          stands = stands_after is_honest moment image left told frames counted old new net w v p q change h.stands (Complete v) may (note_changes net.site v) there;
+          stands = stands_after outside old new net w v p q change h.stands (Complete v) may (note_changes net.site v) there;
           quiet = record { claimed = quiet.claimed; put = quiet.put; noted = quiet.noted };
         }

@@ -1,6 +1,6 @@
 -- An action that a script asks for is done.
-use Rattle.std.proofs.Common.{◌≡◌, ℕ, ◌+◌, ◌-◌, Bool, true, false, List, [], ◌∷◌, ◌++◌, length, refl, sym, ap, subst, ◌∙◌, append-nil, append_assoc}
-use Rattle.std.specs.Prelude.{if◌then◌else◌, map}
+use Rattle.std.proofs.Common.{◌≡◌, ℕ, Bool, false, List, [], ◌∷◌, ◌++◌, refl, sym, ap, subst, append_assoc}
+use Rattle.std.specs.Prelude.{if◌then◌else◌}
 use Rattle.std.proofs.lemmas.List.{map-append}
 use Rattle.net_model.specs.World.{Network, World}
 use Rattle.net_model.specs.Action.{Action, Outcome}
@@ -9,7 +9,7 @@ use Rattle.net_model.specs.Tick.{Emission, Again, New}
 use Rattle.run_types.specs.declared.item.Item.{Item}
 use Rattle.run_types.specs.declared.item.NumberedItem.{NumberedItem}
 use Rattle.run_model.specs.Script.{Script, Asks}
-use Rattle.run_model.specs.Play.{Played, Ending, plain, numbered, reporting, play, IsPlay, OneOf, is_forged, stopped_at, ForgedAt, CutShort}
+use Rattle.run_model.specs.Play.{Played, plain, numbered, reporting, play, IsPlay, OneOf, is_forged, stopped_at, ForgedAt, CutShort}
 use Rattle.run_model.specs.Lines.{emitted}
 
 module _ (net : Network) (w : World) (action : Action) (next : Outcome → Script) (a : Action) (rest : List Action) (open' : is_forged (step net w a).1 ≡ false) where

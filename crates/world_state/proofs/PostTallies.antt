@@ -18,6 +18,7 @@ use Rattle.world_state.proofs.OneSide.{some_same}
 use Rattle.world_state.proofs.OneTallied.{CountsOne, CountsNoOther, one_post_tallied}
 use Rattle.world_state.proofs.Tallies.{none_tallied}
 use Rattle.world_state.proofs.Tallying.{same_counted}
+use Rattle.world_state.specs.Outside.{Outside}
 
 -- A note adds to no count.
 
@@ -31,39 +32,39 @@ note_no_other v = record { devices = λ link. refl; wires = λ l. refl }
 unarmed : (before now : Armings) → now ≡ before → IsArmedBy [] before now
 unarmed before now same = subst (λ (n : Armings). IsArmedBy [] before n) (sym same) (record { times = omega arith; last = refl })
 
-module _ {K Q E X : Type 0} (disk_count : K → ℕ) (armed : K → Armings) (entropy_count : E → ℕ) (device_count : Q → ℕ) (wire_count : X → ℕ) (site : Site) (old new : State K Q E X) (v : ℕ) (p q : Post K E)
+module _ {K Q E X : Type 0} (outside : Outside K Q E X) (site : Site) (old new : State K Q E X) (v : ℕ) (p q : Post K E)
     (one : OnePost old new v p q) (disks : (u : ℕ) (x : Post K E) → slice_get old.posts.items u ≡ Some x → (k : K) × (disk_of x ≡ Some k)) where
-  pub asked_tallied : (event : Event) (environment : Environment) → Counts disk_count armed entropy_count (is_io_fault environment) (is_random_fault v (Ask v event environment)) p q →
-      Tallied disk_count armed entropy_count device_count wire_count old new site (Ask v event environment ∷ [])
+  pub asked_tallied : (event : Event) (environment : Environment) → Counts outside.disk outside.entropy (is_io_fault environment) (is_random_fault v (Ask v event environment)) p q →
+      Tallied outside old new site (Ask v event environment ∷ [])
   asked_tallied event environment c =
-      one_post_tallied disk_count armed entropy_count device_count wire_count site (Ask v event environment) old new disks v p q (is_io_fault environment) (is_random_fault v (Ask v event environment)) one
+      one_post_tallied outside site (Ask v event environment) old new disks v p q (is_io_fault environment) (is_random_fault v (Ask v event environment)) one
       (asks_counted site v event environment) (asks_no_other v event environment) c
 
-  module _ (c : Counts disk_count armed entropy_count false false p q) where
-    pub noted_tallied : Tallied disk_count armed entropy_count device_count wire_count old new site (Complete v ∷ [])
-    noted_tallied = one_post_tallied disk_count armed entropy_count device_count wire_count site (Complete v) old new disks v p q false false one (note_one site v) (note_no_other v) c
+  module _ (c : Counts outside.disk outside.entropy false false p q) where
+    pub noted_tallied : Tallied outside old new site (Complete v ∷ [])
+    noted_tallied = one_post_tallied outside site (Complete v) old new disks v p q false false one (note_one site v) (note_no_other v) c
 
-    mine : PostTallied disk_count armed entropy_count site v [] p q
+    mine : PostTallied outside.disk outside.entropy site v [] p q
     unfolding disk_faults entropy_faults armings
     mine = record {
       before = c.before;
       now = c.now;
       was = c.was;
       is = c.is;
-      failed = same_counted (disk_count c.before) (disk_count c.now) (c.disk.calm refl);
-      armed_with = unarmed (armed c.before) (armed c.now) c.arms;
-      refused = same_counted (entropy_count (entropy_of p)) (entropy_count (entropy_of q)) (c.entropy.calm refl);
+      failed = same_counted (outside.disk.faults c.before) (outside.disk.faults c.now) (c.disk.calm refl);
+      armed_with = unarmed (outside.disk.armings c.before) (outside.disk.armings c.now) c.arms;
+      refused = same_counted (outside.entropy.faults (entropy_of p)) (outside.entropy.faults (entropy_of q)) (c.entropy.calm refl);
     }
 
-    abbrev none : Tallied disk_count armed entropy_count device_count wire_count old old site []
-    none = none_tallied disk_count armed entropy_count device_count wire_count site old disks
+    abbrev none : Tallied outside old old site []
+    none = none_tallied outside site old disks
 
-    pub stayed_tallied : Tallied disk_count armed entropy_count device_count wire_count old new site []
+    pub stayed_tallied : Tallied outside old new site []
     stayed_tallied = record {
       nodes = posts_same old new v p q one;
       posts = λ u x y was is.
-          each_post old new v p q one (λ n z. (t : Post K E) → slice_get old.posts.items n ≡ Some t → PostTallied disk_count armed entropy_count site n [] t z)
-          (λ t at. let same : p ≡ t = some_same (sym one.there ∙ at) in subst (λ (s : Post K E). PostTallied disk_count armed entropy_count site v [] s q) same mine)
+          each_post old new v p q one (λ n z. (t : Post K E) → slice_get old.posts.items n ≡ Some t → PostTallied outside.disk outside.entropy site n [] t z)
+          (λ t at. let same : p ≡ t = some_same (sym one.there ∙ at) in subst (λ (s : Post K E). PostTallied outside.disk outside.entropy site v [] s q) same mine)
           (λ n z other at t was. none.posts n t z was at) u y is x was;
       links = ap (λ (xs : List Q). length xs) one.devices;
       devices = λ link x y was is. none.devices link x y was (ap (λ (xs : List Q). slice_get xs link) (sym one.devices) ∙ is);

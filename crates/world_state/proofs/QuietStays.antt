@@ -1,20 +1,19 @@
 -- An action that doesn't send leaves the network quiet.
-use Rattle.std.proofs.Common.{◌≡◌, ℕ, ◌+◌, Bool, true, false, ◌&&◌, List, [], ◌∷◌, length, refl, sym, ap, ◌∙◌, Option, Some, None}
-use Rattle.std.specs.Prelude.{◌==◌, if◌then◌else◌}
+use Rattle.std.proofs.Common.{◌≡◌, ℕ, Bool, true, false, ◌&&◌, [], refl, ◌∙◌, Option, Some, None}
+use Rattle.std.specs.Prelude.{◌==◌}
 use Rattle.qkd_base.specs.Family.{number_set}
 use Rattle.qkd_base.specs.declared.lane.Lane.{Lane}
 use Rattle.net_model.specs.declared.event.Event.{Event}
-use Rattle.net_model.specs.declared.event.Event.TheVariants.{Block, Note}
+use Rattle.net_model.specs.declared.event.Event.TheVariants.{Note}
 use Rattle.net_model.specs.declared.payload.Payload.{Payload}
-use Rattle.net_model.specs.Item.{payload}
 use Rattle.net_model.specs.Site.{receiver}
 use Rattle.net_model.specs.World.{Network, World}
 use Rattle.net_model.specs.Decision.{Effect}
 use Rattle.net_model.specs.Action.{Environment, Ok, Outcome, Action, Start, Crash, Arm, SetLink, TakeBlock, Ask, Allocate, Transmit, Complete, Deliver, Flip, Forge, Recovery, Recovers, Resumes, Interrupted, NoMemory, Foreign}
 use Rattle.net_model.specs.Handle.{commit, stopped, perform, handle}
 use Rattle.net_model.specs.Frames.{receive_item}
-use Rattle.net_model.specs.Start.{resolved, restarted, interrupted_start, recovers, start}
-use Rattle.net_model.specs.Step.{step, crash, complete_node, is_enabled}
+use Rattle.net_model.specs.Start.{restarted, recovers, start}
+use Rattle.net_model.specs.Step.{step, is_enabled}
 use Rattle.law_base.proofs.Base.{by_test}
 use Rattle.law_base.proofs.Walks.{perform_walk, handle_walk, take_block_walk, deliver_walk, tampered_walk, flip_walk}
 use Rattle.law_locality.specs.Touched.{touches_lane, changes_part, Unclaimed, Outgoing}

@@ -1,12 +1,11 @@
 -- The post of the node that receives on a lane.
-use Rattle.std.proofs.Common.{◌≡◌, ℕ, ◌<◌, Bool, true, false, ◌&&◌, List, length, refl, sym, ap, subst, arith, Option}
+use Rattle.std.proofs.Common.{◌≡◌, ℕ, ◌<◌, Bool, true, false, ◌&&◌, length, refl, sym, ap, subst, arith}
 use Rattle.std.specs.Prelude.{◌==◌}
 use Rattle.std.proofs.lemmas.Bool.{ltb-true}
 use Rattle.qkd_base.specs.declared.lane.Lane.{Lane}
 use Rattle.qkd_base.specs.declared.lane.Way.{Way}
 use Rattle.qkd_base.specs.declared.lane.Way.TheVariants.{Up, Down}
 use Rattle.net_model.specs.Site.{Site, receiver, of_way}
-use Rattle.net_model.specs.OctetSequence.{OctetSequence}
 use Rattle.net_model.specs.World.{Network, World}
 use Rattle.net_model.specs.Premises.{IsLink}
 use Rattle.net_model.specs.Events.{is_lane}
@@ -15,6 +14,7 @@ use Rattle.law_base.proofs.Base.{eq_from, not_false}
 use Rattle.run_ops.specs.Acting.{IsReady}
 use Rattle.world_state.specs.Stands.{Stands}
 use Rattle.world_state.specs.declared.state.State.{State}
+use Rattle.world_state.specs.Outside.{Outside}
 
 pub elsewhere : (v u : ℕ) → (u ≡ v → ⊥) → (v == u) ≡ false
 elsewhere v u other = not_false (v == u) (λ e. other (sym (eq_from v u e)))
@@ -23,9 +23,8 @@ pub no_part : (b : Bool) → (b && false) ≡ false
 no_part true = refl
 no_part false = refl
 
-module _ {K Q E X : Type 0} (is_honest : K → Bool) (moment : K → ℕ) (image : K → ℕ → List ℕ → Type 0) (left : E → Option OctetSequence) (told : Q → Option OctetSequence)
-    (frames : X → Option (List (List ℕ))) (counted : X → ℕ) (old : State K Q E X) (net : Network) (w : World) (l : Lane)
-    (ready : IsReady (Stands is_honest moment image left told frames counted) old net w) (fit : is_lane (site_of old.site) l ≡ true) where
+module _ {K Q E X : Type 0} (outside : Outside K Q E X) (old : State K Q E X) (net : Network) (w : World) (l : Lane)
+    (ready : IsReady (Stands outside) old net w) (fit : is_lane (site_of old.site) l ≡ true) where
   pub lane_at : is_lane net.site l ≡ true
   lane_at = subst (λ (s : Site). is_lane s l ≡ true) (sym ready.stands.sited) fit
 

@@ -1,11 +1,9 @@
 -- The next repeat of a plan is put: the action in the network, and its part of the script.
-use Rattle.std.proofs.Common.{◌≡◌, ℕ, ◌+◌, ◌-◌, ◌≤◌, Bool, true, false, List, [], ◌∷◌, ◌++◌, length, refl, sym, ap, subst, ◌∙◌, Option, Some, Result, Ok, Err}
+use Rattle.std.proofs.Common.{◌≡◌, ℕ, ◌-◌, true, List, [], ◌∷◌, ◌++◌, refl, sym, ap, subst, ◌∙◌, Some}
 use Rattle.std.specs.Prelude.{slice_get, IsErrOf}
 use Rattle.qkd_base.specs.Faults.{Rose}
 use Rattle.qkd_base.specs.Family.{number_set}
 use Rattle.qkd_base.specs.declared.lane.Lane.{Lane}
-use Rattle.disk_model.specs.declared.arm.Armings.{Armings}
-use Rattle.net_model.specs.OctetSequence.{OctetSequence}
 use Rattle.net_model.specs.declared.repeat.Repeat.{Repeat}
 use Rattle.net_model.specs.declared.placing.Placing.{Placing}
 use Rattle.net_model.specs.World.{Network, World}
@@ -14,22 +12,20 @@ use Rattle.net_model.specs.Events.{is_lane, is_frame_size}
 use Rattle.net_model.specs.Handle.{frame_at}
 use Rattle.net_model.specs.Tick.{Emission, Again}
 use Rattle.net_model.specs.Action.{Environment, Action, Transmit, Outcome, Ok as Fine}
-use Rattle.net_model.specs.Step.{step, IsStep}
+use Rattle.net_model.specs.Step.{step}
 use Rattle.run_types.specs.declared.item.Item.{Item}
-use Rattle.source_devices.specs.declared.wire.WireFailed.{WireFailed}
 use Rattle.source_devices.specs.declared.wire.WireFailed.TheVariants.{Fault}
 use Rattle.lane_sender.specs.Lane.{LaneForm}
 use Rattle.lane_sender.specs.declared.sent.Sent.{Sent}
 use Rattle.lane_sender.specs.Sending.{answer_of}
 use Rattle.law_base.proofs.Base.{number_set_same}
 use Rattle.law_locality.proofs.ManagerSteps.{transmit_unseen}
-use Rattle.law_locality.specs.Sending.{Sends, IsAgain, MayGoAgain}
+use Rattle.law_locality.specs.Sending.{IsAgain, MayGoAgain}
 use Rattle.law_locality.proofs.TickRepeats.{may_go_again, again_goes}
 use Rattle.run_model.specs.Outcomes.{put_items}
 use Rattle.run_model.specs.Script.{Script, Reports}
 use Rattle.run_model.specs.Play.{numbered, reporting, play, IsPlay, is_forged}
 use Rattle.run_model.specs.Lines.{emitted}
-use Rattle.world_nodes.specs.LaneStands.{LaneStands}
 use Rattle.world_nodes.specs.Emitting.{wire_answer, wire_outcome, repeat_placing, MayRepeat, Repeated}
 use Rattle.world_state.specs.Stands.{Stands, place_of}
 use Rattle.world_state.specs.Sending.{Sending, Puts, PutsOn, Breaks}
@@ -43,10 +39,10 @@ use Rattle.world_state.proofs.Tallying.{put_tallied}
 use Rattle.world_state.proofs.Disks.{has_disks}
 use Rattle.world_state.proofs.Emitting.{open_answer}
 use Rattle.world_state.proofs.Sendings.{puts_ends}
+use Rattle.world_state.specs.Outside.{Outside}
 
-module _ {K Q E X : Type 0} (is_honest : K → Bool) (moment : K → ℕ) (image : K → ℕ → List ℕ → Type 0) (left : E → Option OctetSequence) (told : Q → Option OctetSequence)
-    (frames : X → Option (List (List ℕ))) (counted : X → ℕ) (net : Network) (w : World) (v : ℕ) (repeat : Repeat) (es : List Emission) (old : State K Q E X) (placings : List Placing)
-    (sending : Sending is_honest moment image left told frames counted old net w v (Again repeat ∷ es) placings) where
+module _ {K Q E X : Type 0} (outside : Outside K Q E X) (net : Network) (w : World) (v : ℕ) (repeat : Repeat) (es : List Emission) (old : State K Q E X) (placings : List Placing)
+    (sending : Sending outside old net w v (Again repeat ∷ es) placings) where
   abbrev l : Lane
   l = repeat.lane
 
@@ -59,7 +55,7 @@ module _ {K Q E X : Type 0} (is_honest : K → Bool) (moment : K → ℕ) (image
   pub lane_from : sender net.site l ≡ v
   lane_from = ap (λ (x : Repeat). sender net.site x.lane) again.is ∙ again.sent.lane
 
-  pub may_repeat : (side : LaneForm X) → slice_get old.lanes.items (place_of l) ≡ Some side → MayRepeat frames counted net w side repeat
+  pub may_repeat : (side : LaneForm X) → slice_get old.lanes.items (place_of l) ≡ Some side → MayRepeat outside.wire net w side repeat
   may_repeat side there =
       let may : MayGoAgain net w repeat = may_go_again net w v repeat es sending.sends in
       record {
@@ -71,9 +67,9 @@ module _ {K Q E X : Type 0} (is_honest : K → Bool) (moment : K → ℕ) (image
         outgoing = may.outgoing;
       }
 
-  module _ (disk_count : K → ℕ) (armed : K → Armings) (entropy_count : E → ℕ) (device_count : Q → ℕ) (wire_count : X → ℕ)
-      (new : State K Q E X) (before now : LaneForm X) (one : OneSide old new l before now) (s : Sent) (e : Repeated frames counted net w now repeat s)
-      (cause : IsErrOf (answer_of s) Fault → Rose (wire_count before.wire) (wire_count now.wire)) (calm : (IsErrOf (answer_of s) Fault → ⊥) → wire_count now.wire ≡ wire_count before.wire) where
+  module _
+      (new : State K Q E X) (before now : LaneForm X) (one : OneSide old new l before now) (s : Sent) (e : Repeated outside.wire net w now repeat s)
+      (cause : IsErrOf (answer_of s) Fault → Rose (outside.wire.faults before.wire) (outside.wire.faults now.wire)) (calm : (IsErrOf (answer_of s) Fault → ⊥) → outside.wire.faults now.wire ≡ outside.wire.faults before.wire) where
     abbrev environment : Environment
     environment = wire_answer (answer_of s)
 
@@ -86,10 +82,10 @@ module _ {K Q E X : Type 0} (is_honest : K → Bool) (moment : K → ℕ) (image
     abbrev after : World
     after = (step net w action).0
 
-    stands_after : Stands is_honest moment image left told frames counted new net after
+    stands_after : Stands outside new net after
     stands_after =
-        stands_with is_honest moment image left told frames counted old net l w after new before now one sending.stands
-        (others_put is_honest moment image left told frames counted old net l w j environment e.may (others_of is_honest moment image left told frames counted old net l w sending.stands)) e.stands
+        stands_with outside old net l w after new before now one sending.stands
+        (others_put outside old net l w j environment e.may (others_of outside old net l w sending.stands)) e.stands
 
     abbrev p : Placing
     p = repeat_placing repeat s
@@ -105,7 +101,7 @@ module _ {K Q E X : Type 0} (is_honest : K → Bool) (moment : K → ℕ) (image
         put_sized net w l j environment after refl stands_after.running (enabled_of net w action e.may) p placings
         (sending.placed ∙ ap (λ (u : ℕ). w.placings u) (sym lane_from)) (ap after.placings lane_from ∙ placed_after)
 
-    sending_after : Sending is_honest moment image left told frames counted new net after v es (placings ++ p ∷ [])
+    sending_after : Sending outside new net after v es (placings ++ p ∷ [])
     sending_after = record {
       stands = stands_after;
       sends = again_goes net w v repeat es sending.sends environment sending.stands.running.network sending.stands.running.conserved;
@@ -131,15 +127,15 @@ module _ {K Q E X : Type 0} (is_honest : K → Bool) (moment : K → ℕ) (image
         ∙ ap (λ (x : Outcome). reporting (numbered number (put_items l repeat.offset (repeat.length - 24) x)) (play net number after (emitted v es) rest)) e.said
 
     pub repeat_puts : (item : Item) → item ∷ [] ≡ put_items l repeat.offset (repeat.length - 24) (wire_outcome (answer_of s)) →
-        Puts is_honest moment image left told frames counted disk_count armed entropy_count device_count wire_count old new net w v (Again repeat ∷ es) es (item ∷ []) (placings ++ p ∷ [])
+        Puts outside old new net w v (Again repeat ∷ es) es (item ∷ []) (placings ++ p ∷ [])
     repeat_puts item is = record {
       actions = action ∷ [];
       after = after;
       is = played;
       said = λ number rest. played_as number rest ∙ ap (λ (xs : List Item). reporting (numbered number xs) (play net number after (emitted v es) rest)) (sym is);
       sending = sending_after;
-      tallied = put_tallied disk_count armed entropy_count device_count wire_count net.site old new l before now one
-          (has_disks is_honest moment image left told frames counted old net w sending.stands) j (answer_of s) cause calm;
+      tallied = put_tallied outside net.site old new l before now one
+          (has_disks outside old net w sending.stands) j (answer_of s) cause calm;
     }
 
     module _ (item : Item) (size : ℕ) (out : Outcome) (is : item ∷ [] ≡ put_items l repeat.offset size out) (long : size ≡ repeat.length - 24) (said : out ≡ wire_outcome (answer_of s)) where
@@ -147,15 +143,15 @@ module _ {K Q E X : Type 0} (is_honest : K → Bool) (moment : K → ℕ) (image
       reported_is = is ∙ λ i. put_items l repeat.offset (long i) (said i)
 
       pub repeat_puts_on : (placing : Placing) → placing ≡ p → (items items' : List Item) (placings' : List Placing) → items' ≡ items ++ item ∷ [] → placings' ≡ placings ++ placing ∷ [] →
-          PutsOn is_honest moment image left told frames counted disk_count armed entropy_count device_count wire_count old new net w v (Again repeat ∷ es) es items items' placings'
+          PutsOn outside old new net w v (Again repeat ∷ es) es items items' placings'
       repeat_puts_on placing same items items' placings' more noted = record {
         reported = item ∷ [];
         items = more;
-        puts = subst (λ (ps : List Placing). Puts is_honest moment image left told frames counted disk_count armed entropy_count device_count wire_count old new net w v (Again repeat ∷ es) es (item ∷ []) ps)
+        puts = subst (λ (ps : List Placing). Puts outside old new net w v (Again repeat ∷ es) es (item ∷ []) ps)
             (sym (noted ∙ ap (λ (x : Placing). placings ++ x ∷ []) same)) (repeat_puts item reported_is);
       }
 
-      pub repeat_breaks : Breaks is_honest moment image left told frames counted disk_count armed entropy_count device_count wire_count old new net w v (Again repeat ∷ es)
+      pub repeat_breaks : Breaks outside old new net w v (Again repeat ∷ es)
       repeat_breaks =
-          puts_ends is_honest moment image left told frames counted disk_count armed entropy_count device_count wire_count old new new net w v (Again repeat ∷ es) es (item ∷ []) (placings ++ p ∷ [])
+          puts_ends outside old new new net w v (Again repeat ∷ es) es (item ∷ []) (placings ++ p ∷ [])
           (repeat_puts item reported_is)

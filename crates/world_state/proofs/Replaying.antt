@@ -1,5 +1,5 @@
 -- A lane with all the blocks that a batch of its sender brings.
-use Rattle.std.proofs.Common.{◌≡◌, ℕ, ◌+◌, ◌-◌, ◌≤◌, Bool, true, false, ◌&&◌, List, [], ◌∷◌, length, replicate, refl, sym, ap, subst, ◌∙◌, arith, Option, Some}
+use Rattle.std.proofs.Common.{◌≡◌, ℕ, ◌+◌, ◌-◌, ◌≤◌, Bool, true, false, ◌&&◌, List, [], ◌∷◌, length, replicate, refl, sym, ap, subst, ◌∙◌, arith, Some}
 use Rattle.std.specs.Prelude.{◌==◌, nat_lt, slice_get, count_by, if◌then◌else◌}
 use Rattle.std.proofs.lemmas.Bool.Decides.{nat_tests}
 use Rattle.qkd_base.specs.Lane.{lane_eq}
@@ -29,6 +29,7 @@ use Rattle.world_nodes.specs.Going.{IsReplayed}
 use Rattle.world_nodes.proofs.LaneGoing.{octets_kept}
 use Rattle.world_nodes.proofs.Wires.{wire_kept}
 use Rattle.world_state.specs.Starting.{ledger_at, refilled}
+use Rattle.source_devices.specs.declared.wire.Wire as Wire
 
 -- A batch brings a lane blocks or none; the first block brings its hash key. It doesn't lower the lane's lease.
 pub record Gains (d d' : Durable) (l : Lane) : Type 0 where
@@ -179,8 +180,8 @@ counts_at g n own lease below c few = elim (g.received == n) as (λ t. (g.receiv
 
 -- the lane in a world where the batch is durable
 
-module _ {X : Type 0} (frames : X → Option (List (List ℕ))) (counted : X → ℕ) (net : Network) (w w' : World) (v : ℕ) (batch : List Record) (l : Lane) (side : LaneForm X)
-    (running : IsRunning net w) (at : is_lane net.site l ≡ true) (made : IsReplayed net w w' v batch) (s : LaneStands frames counted net w l side) where
+module _ {X : Type 0} (wire_says : Wire.Ghosts X) (net : Network) (w w' : World) (v : ℕ) (batch : List Record) (l : Lane) (side : LaneForm X)
+    (running : IsRunning net w) (at : is_lane net.site l ≡ true) (made : IsReplayed net w w' v batch) (s : LaneStands wire_says net w l side) where
   pub gains : Gains w.durable w'.durable l
   gains = subst (λ (d : Durable). Gains w.durable d l) (sym made.durable) (replay_gains net.site v batch w.durable l made.may)
 
@@ -200,7 +201,7 @@ module _ {X : Type 0} (frames : X → Option (List (List ℕ))) (counted : X →
       (subst (λ (n : ℕ). Keyed side.ledger (ledger_at (length (octets_sent net w' l)) side.ledger) n (w.durable.own l) (w.durable.lease l)) sent
       (counts_at side.ledger (length (octets_sent net w' l)) (w.durable.own l) (w.durable.lease l) more (record { got = refl; used = s.used; burnt = s.burnt; end = s.end }) few))
 
-  pub refilled_stands : LaneStands frames counted net w' l (refilled (octets_sent net w' l) side)
+  pub refilled_stands : LaneStands wire_says net w' l (refilled (octets_sent net w' l) side)
   refilled_stands = record {
     lane = s.lane;
     bytes = refl;
@@ -208,7 +209,7 @@ module _ {X : Type 0} (frames : X → Option (List (List ℕ))) (counted : X →
     used = counts.used ∙ ap length (sym gains.own);
     burnt = counts.burnt ∙ ap (count_by is_burnt) (sym gains.own);
     end = omega (arith, counts.end, gains.lease);
-    wire = wire_kept frames counted net w w' l side.wire side.wire s.wire
+    wire = wire_kept wire_says net w w' l side.wire side.wire s.wire
         (octets_kept net w w' running l at
         (subst (λ (d : Durable). Grows w.durable.facts d.facts) (sym made.durable) (replay_grows net.site v batch w.durable).facts)
         gains.blocks

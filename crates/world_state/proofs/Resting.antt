@@ -1,9 +1,7 @@
 -- What is left of a run that ends because memory ran out: after an action that was asked for, or before it.
-use Rattle.std.proofs.Common.{◌≡◌, ℕ, Bool, false, List, [], ◌∷◌, length, refl, sym, ap, subst, ◌∙◌, Option}
+use Rattle.std.proofs.Common.{◌≡◌, ℕ, false, List, [], ◌∷◌, length, refl, sym, ap, subst, ◌∙◌}
 use Rattle.std.specs.Prelude.{slice_get}
-use Rattle.disk_model.specs.declared.arm.Armings.{Armings}
 use Rattle.net_model.specs.Site.{Site}
-use Rattle.net_model.specs.OctetSequence.{OctetSequence}
 use Rattle.net_model.specs.World.{Network, World}
 use Rattle.net_model.specs.Action.{Action, Outcome}
 use Rattle.net_model.specs.Step.{step, IsStep}
@@ -24,6 +22,9 @@ use Rattle.world_state.proofs.Disks.{has_disks}
 use Rattle.world_state.proofs.Others.{put_back}
 use Rattle.world_state.proofs.Plays.{asks_is, asks_said}
 use Rattle.world_state.proofs.Tallies.{none_tallied}
+use Rattle.disk_model.specs.declared.disk.Disk as Disk
+use Rattle.source_devices.specs.declared.entropy.Entropy as Entropy
+use Rattle.world_state.specs.Outside.{Outside}
 
 ended : (net : Network) (w : World) → (play net 0 w (Reports [] Ends) []).world ≡ w
 unfolding play
@@ -54,9 +55,9 @@ module _ (net : Network) (v : ℕ) (w : World) (running : IsRunning net w) where
   pub keeps_itself : KeepsAs net v w w
   keeps_itself = record { running = running; drawn = refl; journal = refl; doubt = refl; given = λ committed. refl }
 
-  pub post_rests : {K E : Type 0} (is_honest : K → Bool) (moment : K → ℕ) (image : K → ℕ → List ℕ → Type 0) (left : E → Option OctetSequence) (p : Post K E) →
-      PostStands is_honest moment image left net w v p → PostRests is_honest moment image left net w v p
-  post_rests is_honest moment image left p stands = (w, keeps_itself, stands)
+  pub post_rests : {K E : Type 0} (disk_says : Disk.Ghosts K) (entropy_says : Entropy.Ghosts E) (p : Post K E) →
+      PostStands disk_says entropy_says net w v p → PostRests disk_says entropy_says net w v p
+  post_rests disk_says entropy_says p stands = (w, keeps_itself, stands)
 
 -- Two states with the same parts.
 pub record SameParts {K Q E X : Type 0} (old new : State K Q E X) : Type 0 where
@@ -77,33 +78,32 @@ one_same old new v p q one is = record {
   devices = one.devices;
 }
 
-module _ {K Q E X : Type 0} (is_honest : K → Bool) (moment : K → ℕ) (image : K → ℕ → List ℕ → Type 0) (left : E → Option OctetSequence) (told : Q → Option OctetSequence)
-    (frames : X → Option (List (List ℕ))) (counted : X → ℕ) (net : Network) (w : World) where
+module _ {K Q E X : Type 0} (outside : Outside K Q E X) (net : Network) (w : World) where
   abbrev RestsHere : State K Q E X → Type 0
-  RestsHere s = Rests is_honest moment image left told frames counted s net w
+  RestsHere s = Rests outside s net w
 
   -- A state with the same parts as one that stands for a world rests in that world.
-  pub rests_same : (old new : State K Q E X) → SameParts old new → Stands is_honest moment image left told frames counted old net w → RestsHere new
+  pub rests_same : (old new : State K Q E X) → SameParts old new → Stands outside old net w → RestsHere new
   rests_same old new same s = record {
     running = s.running;
     sited = s.sited ∙ sym (ap site_of same.site);
     nodes = ap length same.posts ∙ s.nodes;
-    posts = λ v p at. post_rests net v w s.running is_honest moment image left p (s.posts v p (ap (λ (xs : List (Post K E)). slice_get xs v) (sym same.posts) ∙ at));
+    posts = λ v p at. post_rests net v w s.running outside.disk outside.entropy p (s.posts v p (ap (λ (xs : List (Post K E)). slice_get xs v) (sym same.posts) ∙ at));
     sides = ap length same.lanes ∙ s.sides;
     wires = λ l side at there. (s.lanes l side at (ap (λ (xs : List (LaneForm X)). slice_get xs (place_of l)) (sym same.lanes) ∙ there)).wire;
     links = ap length same.devices ∙ s.links;
     devices = λ link q at. s.devices link q (ap (λ (xs : List Q). slice_get xs link) (sym same.devices) ∙ at);
   }
 
-  pub comes_to_rest : (s : State K Q E X) → Stands is_honest moment image left told frames counted s net w → RestsHere s
+  pub comes_to_rest : (s : State K Q E X) → Stands outside s net w → RestsHere s
   comes_to_rest s stands = rests_same s s (same_parts s) stands
 
-  module _ (disk_count : K → ℕ) (armed : K → Armings) (entropy_count : E → ℕ) (device_count : Q → ℕ) (wire_count : X → ℕ) (old new : State K Q E X) (same : SameParts old new)
-      (stands : Stands is_honest moment image left told frames counted old net w) where
-    abbrev none : Tallied disk_count armed entropy_count device_count wire_count old old net.site []
-    none = none_tallied disk_count armed entropy_count device_count wire_count net.site old (has_disks is_honest moment image left told frames counted old net w stands)
+  module _ (old new : State K Q E X) (same : SameParts old new)
+      (stands : Stands outside old net w) where
+    abbrev none : Tallied outside old old net.site []
+    none = none_tallied outside net.site old (has_disks outside old net w stands)
 
-    same_tallied : Tallied disk_count armed entropy_count device_count wire_count old new net.site []
+    same_tallied : Tallied outside old new net.site []
     same_tallied = record {
       nodes = ap length same.posts;
       posts = λ v p q was is. none.posts v p q was (ap (λ (xs : List (Post K E)). slice_get xs v) (sym same.posts) ∙ is);
@@ -113,6 +113,6 @@ module _ {K Q E X : Type 0} (is_honest : K → Bool) (moment : K → ℕ) (image
       wires = λ l p q was is. none.wires l p q was (ap (λ (xs : List (LaneForm X)). slice_get xs (place_of l)) (sym same.lanes) ∙ is);
     }
 
-    pub rests_still : (asked : Action) → Begins (Rests is_honest moment image left told frames counted) (Tallied disk_count armed entropy_count device_count wire_count) old new net w (asks asked (λ outcome. []))
+    pub rests_still : (asked : Action) → Begins (Rests outside) (Tallied outside) old new net w (asks asked (λ outcome. []))
     rests_still asked =
-        rests_before (Rests is_honest moment image left told frames counted) (Tallied disk_count armed entropy_count device_count wire_count) old new net w asked (rests_same old new same stands) same_tallied
+        rests_before (Rests outside) (Tallied outside) old new net w asked (rests_same old new same stands) same_tallied

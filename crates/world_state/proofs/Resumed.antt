@@ -1,5 +1,5 @@
 -- A manager starts again: its view has just what the world has of its lanes.
-use Rattle.std.proofs.Common.{◌≡◌, ℕ, ◌+◌, ◌*◌, ◌/◌, ◌≤◌, Bool, true, List, ◌++◌, length, length-append, take, refl, sym, ap, subst, ◌∙◌, arith, Option, Some, None}
+use Rattle.std.proofs.Common.{◌≡◌, ℕ, ◌+◌, ◌*◌, ◌/◌, ◌≤◌, Bool, true, List, ◌++◌, length, length-append, take, refl, sym, ap, subst, ◌∙◌, arith, Some, None}
 use Rattle.std.specs.Prelude.{count_by, IfSome}
 use Rattle.std.proofs.lemmas.Bool.{ltb-true}
 use Rattle.std.proofs.lemmas.List.{take_at}
@@ -8,7 +8,7 @@ use Rattle.qkd_base.specs.declared.lane.Way.{Way}
 use Rattle.qkd_base.specs.declared.lane.Way.TheVariants.{Up, Down}
 use Rattle.qkd_base.specs.declared.lane.Lane.{Lane}
 use Rattle.net_model.specs.Ledger.{is_burnt}
-use Rattle.net_model.specs.OctetSequence.{OctetSequence, first_blocks}
+use Rattle.net_model.specs.OctetSequence.{first_blocks}
 use Rattle.net_model.specs.Site.{sender, is_incident, outgoing_lane}
 use Rattle.net_model.specs.World.{Network, World, Durable, received}
 use Rattle.net_model.specs.View.{View, incoming_octets}
@@ -33,6 +33,9 @@ use Rattle.world_nodes.proofs.Ports.{port_there}
 use Rattle.world_state.specs.Starting.{octets_in, refilled, gone_on, MayRefill, MayGoOn}
 use Rattle.world_state.proofs.Leases.{incident_of}
 use Rattle.world_state.proofs.Replaying.{gains, refilled_stands}
+use Rattle.disk_model.specs.declared.disk.Disk as Disk
+use Rattle.source_devices.specs.declared.entropy.Entropy as Entropy
+use Rattle.source_devices.specs.declared.wire.Wire as Wire
 
 -- The start brought the manager up.
 
@@ -85,7 +88,7 @@ module _ (net : Network) (w : World) (v : ℕ) where
 
 -- what a manager that is up has of a lane that leaves its node
 
-module _ {K E : Type 0} (is_honest : K → Bool) (moment : K → ℕ) (image : K → ℕ → List ℕ → Type 0) (left : E → Option OctetSequence) (net : Network) (w : World) (v : ℕ) (l : Lane)
+module _ {K E : Type 0} (disk_says : Disk.Ghosts K) (entropy_says : Entropy.Ghosts E) (net : Network) (w : World) (v : ℕ) (l : Lane)
     (running : IsRunning net w) (up : w.up v ≡ true) (at : is_lane net.site l ≡ true) (from : sender net.site l ≡ v) where
   seen_octets : octets_in (view_of net w v) l ≡ octets_sent net w l
   seen_octets =
@@ -93,12 +96,12 @@ module _ {K E : Type 0} (is_honest : K → Bool) (moment : K → ℕ) (image : K
       ∙ ap (λ (k : Lane). lane_octets l.way (first_blocks (net.device k.link) (w.durable.blocks k)))
       (ap (λ (u : ℕ). outgoing_lane net.site u l.link) (sym from) ∙ own_lane net.site running.network.site l at)
 
-  standing_octets : (m : ManagerForm K E) (s : Standing K) → StandingStands is_honest moment image net w v m.site m.view s → octets_in m.view l ≡ octets_sent net w l
+  standing_octets : (m : ManagerForm K E) (s : Standing K) → StandingStands disk_says net w v m.site m.view s → octets_in m.view l ≡ octets_sent net w l
   standing_octets m (standings.Up journal) stands = ap (λ (x : View). octets_in x l) stands.sees ∙ seen_octets
   standing_octets m (standings.Down disk) stands = absurd (not_both (w.up v) up stands.down)
   standing_octets m standings.Between stands = absurd stands
 
-  pub manager_octets : (m : ManagerForm K E) → PostStands is_honest moment image left net w v (On m) → octets_in m.view l ≡ octets_sent net w l
+  pub manager_octets : (m : ManagerForm K E) → PostStands disk_says entropy_says net w v (On m) → octets_in m.view l ≡ octets_sent net w l
   manager_octets m stands = standing_octets m m.standing stands.standing
 
 -- The lane goes on with what its sender's manager has.
@@ -115,9 +118,9 @@ whole_blocks : (way : Way) (n : ℕ) → n ≤ 1024 → (k : ℕ) × (lane_len w
 whole_blocks Up n h = ((n + 1) / 2, refl, omega (arith, h))
 whole_blocks Down n h = (n / 2, refl, omega (arith, h))
 
-same_lane_stands : {X : Type 0} (frames : X → Option (List (List ℕ))) (counted : X → ℕ) (net : Network) (a b : World) (l : Lane) (side : LaneForm X) →
-    b.durable ≡ a.durable → b.frames ≡ a.frames → b.wire ≡ a.wire → LaneStands frames counted net a l side → LaneStands frames counted net b l side
-same_lane_stands frames counted net a b l side durable fs wire s = record {
+same_lane_stands : {X : Type 0} (wire_says : Wire.Ghosts X) (net : Network) (a b : World) (l : Lane) (side : LaneForm X) →
+    b.durable ≡ a.durable → b.frames ≡ a.frames → b.wire ≡ a.wire → LaneStands wire_says net a l side → LaneStands wire_says net b l side
+same_lane_stands wire_says net a b l side durable fs wire s = record {
   lane = s.lane;
   bytes = subst (λ (d : Durable). side.bytes ≡ lane_octets l.way (first_blocks (net.device l.link) (d.blocks l))) (sym durable) s.bytes;
   received = subst (λ (d : Durable). side.ledger.received ≡ received d l) (sym durable) s.received;
@@ -127,15 +130,15 @@ same_lane_stands frames counted net a b l side durable fs wire s = record {
   wire = same_wire (sym durable) (sym fs) (sym wire) s.wire;
 }
   where
-    same_wire : a.durable ≡ b.durable → a.frames ≡ b.frames → a.wire ≡ b.wire → WireStands frames counted net a l side.wire → WireStands frames counted net b l side.wire
+    same_wire : a.durable ≡ b.durable → a.frames ≡ b.frames → a.wire ≡ b.wire → WireStands wire_says net a l side.wire → WireStands wire_says net b l side.wire
     same_wire d f x h = record {
       count = h.count ∙ ap (λ (t : Lane → List ℕ). length (t l)) x;
       tells = h.tells;
-      told = subst (λ (all : List (List ℕ)). IfSome (frames side.wire) (λ told. told ≡ all)) (λ i. spelled_wire net (record a { durable = d i; frames = f i; wire = x i }) l) h.told;
+      told = subst (λ (all : List (List ℕ)). IfSome (wire_says.frames side.wire) (λ told. told ≡ all)) (λ i. spelled_wire net (record a { durable = d i; frames = f i; wire = x i }) l) h.told;
     }
 
-module _ {X : Type 0} (frames : X → Option (List (List ℕ))) (counted : X → ℕ) (net : Network) (w : World) (side : LaneForm X)
-    (running : IsRunning net w) (at : is_lane net.site side.lane ≡ true) (s : LaneStands frames counted net w side.lane side)
+module _ {X : Type 0} (wire_says : Wire.Ghosts X) (net : Network) (w : World) (side : LaneForm X)
+    (running : IsRunning net w) (at : is_lane net.site side.lane ≡ true) (s : LaneStands wire_says net w side.lane side)
     (after : World) (again : IsAgain net w (sender net.site side.lane) after) (runs_on : IsRunning net after) where
   abbrev l : Lane
   l = side.lane
@@ -163,14 +166,14 @@ module _ {X : Type 0} (frames : X → Option (List (List ℕ))) (counted : X →
   replayed : IsReplayed net w here from (made w from again.committed)
   replayed = resolved_made net w from again.committed running
 
-  may_restart : MayRestart frames counted net w again.committed (refilled octets side) (here.durable.lease l)
-  may_restart = record { running = running; at = at; stands = refilled_stands frames counted net w here from (made w from again.committed) l side running at replayed s; leased = refl }
+  may_restart : MayRestart wire_says net w again.committed (refilled octets side) (here.durable.lease l)
+  may_restart = record { running = running; at = at; stands = refilled_stands wire_says net w here from (made w from again.committed) l side running at replayed s; leased = refl }
 
   few_here : here.durable.blocks l ≤ 1024
   few_here = let few = runs_on.conserved.few_blocks l in omega (arith, few, blocks_after)
 
   blocks_grow : w.durable.blocks l ≤ here.durable.blocks l
-  blocks_grow = (gains frames counted net w here from (made w from again.committed) l side running at replayed s).blocks
+  blocks_grow = (gains wire_says net w here from (made w from again.committed) l side running at replayed s).blocks
 
   may_refill : MayRefill octets side
   may_refill =
@@ -195,20 +198,20 @@ module _ {X : Type 0} (frames : X → Option (List (List ℕ))) (counted : X →
   may_go : MayGoOn octets (here.durable.lease l) side
   may_go = record {
     refill = may_refill;
-    later = may_raise frames counted net w again.committed (refilled octets side) (here.durable.lease l) may_restart;
-    received = within frames counted net w again.committed (refilled octets side) (here.durable.lease l) may_restart;
+    later = may_raise wire_says net w again.committed (refilled octets side) (here.durable.lease l) may_restart;
+    received = within wire_says net w again.committed (refilled octets side) (here.durable.lease l) may_restart;
   }
 
-  went : LaneStands frames counted net after l (gone_on octets (here.durable.lease l) side)
+  went : LaneStands wire_says net after l (gone_on octets (here.durable.lease l) side)
   went =
-      same_lane_stands frames counted net (restarted net here from) after l (gone_on octets (here.durable.lease l) side) again.durable (again.frames ∙ sym (frames_same net here from)) (again.wire ∙ sym (wire_same net here from))
-      (stands_again frames counted net w again.committed (refilled octets side) (here.durable.lease l) may_restart (gone_on octets (here.durable.lease l) side) refl)
+      same_lane_stands wire_says net (restarted net here from) after l (gone_on octets (here.durable.lease l) side) again.durable (again.frames ∙ sym (frames_same net here from)) (again.wire ∙ sym (wire_same net here from))
+      (stands_again wire_says net w again.committed (refilled octets side) (here.durable.lease l) may_restart (gone_on octets (here.durable.lease l) side) refl)
 
   module _ (bytes : List ℕ) (lease : ℕ) (b : bytes ≡ octets_sent net after l) (e : lease ≡ after.durable.lease l) where
     pub may_go_on : MayGoOn bytes lease side
     may_go_on = subst (λ (xs : List ℕ). MayGoOn xs lease side) (sym (b ∙ octets_after)) (subst (λ (n : ℕ). MayGoOn octets n side) (sym (e ∙ lease_after)) may_go)
 
-    pub goes_on_there : LaneStands frames counted net after l (gone_on bytes lease side)
+    pub goes_on_there : LaneStands wire_says net after l (gone_on bytes lease side)
     goes_on_there =
-        subst (λ (xs : List ℕ). LaneStands frames counted net after l (gone_on xs lease side)) (sym (b ∙ octets_after))
-        (subst (λ (n : ℕ). LaneStands frames counted net after l (gone_on octets n side)) (sym (e ∙ lease_after)) went)
+        subst (λ (xs : List ℕ). LaneStands wire_says net after l (gone_on xs lease side)) (sym (b ∙ octets_after))
+        (subst (λ (n : ℕ). LaneStands wire_says net after l (gone_on octets n side)) (sym (e ∙ lease_after)) went)

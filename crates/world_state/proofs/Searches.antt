@@ -12,6 +12,7 @@ use Rattle.world_nodes.specs.Seeing.{IsSeen}
 use Rattle.world_nodes.specs.Tampering.{put_as}
 use Rattle.world_state.specs.Frames.{frame_is}
 use Rattle.world_state.proofs.Passing.{on_wire_as}
+use Rattle.source_devices.specs.declared.wire.Wire as Wire
 
 some_is : {A : Type 0} {a b : A} → ◌≡◌ {A = Option A} (Some a) (Some b) → a ≡ b
 some_is h = cc
@@ -60,9 +61,9 @@ module _ (net : Network) (w : World) (l : Lane) (octets : List ℕ) where
   pub none_is : (k : ℕ) → slice_get (w.wire l) k ≡ None → frame_is net w l octets (slice_get (w.wire l) k) ≡ false
   none_is k none = ap (frame_is net w l octets) none
 
-module _ {X : Type 0} (frames : X → Option (List (List ℕ))) (counted : X → ℕ) (net : Network) (w : World) (side : LaneForm X) (s : LaneStands frames counted net w side.lane side) where
-  pub seen_is : (number n : ℕ) (room given octets : List ℕ) → IsSeen (frames side.wire) net w side.lane number n room → given ≡ take n room →
+module _ {X : Type 0} (wire_says : Wire.Ghosts X) (net : Network) (w : World) (side : LaneForm X) (s : LaneStands wire_says net w side.lane side) where
+  pub seen_is : (number n : ℕ) (room given octets : List ℕ) → IsSeen (wire_says.frames side.wire) net w side.lane number n room → given ≡ take n room →
       octets_eq given octets ≡ frame_is net w side.lane octets (slice_get (w.wire side.lane) number)
   seen_is number n room given octets seen is =
-      let on = on_wire_as frames counted net w side.lane side s number n room given seen is in
+      let on = on_wire_as wire_says net w side.lane side s number n room given seen is in
       ap (λ (bytes : List ℕ). octets_eq bytes octets) on.are ∙ sym (ap (frame_is net w side.lane octets) on.there)

@@ -1,9 +1,7 @@
 -- Setting a link up or down.
-use Rattle.std.proofs.Common.{◌≡◌, inr, ℕ, ◌<◌, Bool, true, false, List, [], ◌∷◌, refl, sym, ap, subst, ◌∙◌, Option}
-use Rattle.std.specs.Prelude.{◌==◌, nat_lt, if◌then◌else◌}
-use Rattle.disk_model.specs.declared.arm.Armings.{Armings}
+use Rattle.std.proofs.Common.{◌≡◌, inr, ℕ, ◌<◌, Bool, true, refl, sym, ap, subst, ◌∙◌}
+use Rattle.std.specs.Prelude.{◌==◌, if◌then◌else◌}
 use Rattle.net_model.specs.Site.{Site}
-use Rattle.net_model.specs.OctetSequence.{OctetSequence}
 use Rattle.net_model.specs.World.{Network, World}
 use Rattle.net_model.specs.Action.{Action, SetLink, LinkSet}
 use Rattle.net_model.specs.Step.{step, is_enabled, IsStep}
@@ -20,6 +18,7 @@ use Rattle.world_state.proofs.Disks.{has_disks}
 use Rattle.world_state.proofs.OneTallied.{all_tallied, posts_still, devices_still, wires_still}
 use Rattle.world_state.proofs.QuietStays.{quiet_stays}
 use Rattle.world_state.proofs.StateGoesOn.{state_goes_on}
+use Rattle.world_state.specs.Outside.{Outside}
 
 link_set : (net : Network) (w : World) (link : ℕ) (up : Bool) (other : ℕ) → (step net w (SetLink link up)).0.link_up other ≡ (if other == link then up else w.link_up other)
 unfolding step
@@ -33,9 +32,8 @@ may_set : (net : Network) (w : World) (link : ℕ) (up : Bool) → is_fit net.si
 unfolding is_enabled
 may_set net w link up fit = fit
 
-module _ {K Q E X : Type 0} (is_honest : K → Bool) (moment : K → ℕ) (image : K → ℕ → List ℕ → Type 0) (left : E → Option OctetSequence) (told : Q → Option OctetSequence)
-    (frames : X → Option (List (List ℕ))) (counted : X → ℕ) (disk_count : K → ℕ) (armed : K → Armings) (entropy_count : E → ℕ) (device_count : Q → ℕ) (wire_count : X → ℕ)
-    (old : State K Q E X) (net : Network) (w : World) (link : ℕ) (up : Bool) (ready : IsReady (Stands is_honest moment image left told frames counted) old net w)
+module _ {K Q E X : Type 0} (outside : Outside K Q E X)
+    (old : State K Q E X) (net : Network) (w : World) (link : ℕ) (up : Bool) (ready : IsReady (Stands outside) old net w)
     (fit : is_fit (site_of old.site) (SetLink link up) ≡ true) (number : ℕ) (set : (other : ℕ) → other < 32 → bit_is_set number other ≡ (if other == link then up else bit_is_set old.up other)) where
   abbrev new : State K Q E X
   new = record { site = old.site; posts = old.posts; lanes = old.lanes; devices = old.devices; up = number }
@@ -49,7 +47,7 @@ module _ {K Q E X : Type 0} (is_honest : K → Bool) (moment : K → ℕ) (image
   may : IsStep net w action
   may = and_both (is_enabled net w action) true enabled refl
 
-  moves : Moves is_honest moment image left told frames counted old new net w action
+  moves : Moves outside old new net w action
   moves = record {
     site = refl;
     nodes = refl;
@@ -61,18 +59,18 @@ module _ {K Q E X : Type 0} (is_honest : K → Bool) (moment : K → ℕ) (image
     up = λ other below. link_set net w link up other ∙ ap (λ (b : Bool). if other == link then up else b) (ready.stands.up other below) ∙ sym (set other below);
   }
 
-  pub link_done : Does (Stands is_honest moment image left told frames counted) (Tallied disk_count armed entropy_count device_count wire_count) old new net w action LinkSet
+  pub link_done : Does (Stands outside) (Tallied outside) old new net w action LinkSet
   link_done = record {
     action = action;
     is = refl;
     may = may;
     said = link_said net w link up;
     ready = record {
-      stands = state_goes_on is_honest moment image left told frames counted old new net w action may ready.stands moves;
+      stands = state_goes_on outside old new net w action may ready.stands moves;
       quiet = quiet_stays net w action ready.stands.running enabled refl ready.quiet;
     };
-    tallied = all_tallied disk_count armed entropy_count device_count wire_count net.site action old new refl refl refl
-        (posts_still disk_count armed entropy_count device_count wire_count net.site action old new (has_disks is_honest moment image left told frames counted old net w ready.stands) refl (λ v. (refl, refl, refl)))
-        (devices_still disk_count armed entropy_count device_count wire_count net.site action old new refl (λ k. refl))
-        (wires_still disk_count armed entropy_count device_count wire_count net.site action old new refl (λ l. refl));
+    tallied = all_tallied outside net.site action old new refl refl refl
+        (posts_still outside net.site action old new (has_disks outside old net w ready.stands) refl (λ v. (refl, refl, refl)))
+        (devices_still outside net.site action old new refl (λ k. refl))
+        (wires_still outside net.site action old new refl (λ l. refl));
   }

@@ -1,7 +1,6 @@
 -- A frame that is put has the size of a frame.
-use Rattle.std.proofs.Common.{◌≡◌, ℕ, ◌+◌, ◌-◌, ◌≤◌, Bool, true, false, ◌&&◌, ◌||◌, List, [], ◌∷◌, ◌++◌, length, take, replicate, refl, sym, ap, subst, ◌∙◌, arith, Option, Some, None}
-use Rattle.std.specs.Prelude.{◌==◌, slice_get, nat_le, is_some}
-use Rattle.std.specs.List.{list_all}
+use Rattle.std.proofs.Common.{◌≡◌, ℕ, ◌-◌, ◌≤◌, true, ◌||◌, List, [], ◌∷◌, ◌++◌, length, take, replicate, refl, sym, ap, subst, ◌∙◌, arith, Option, Some, None}
+use Rattle.std.specs.Prelude.{slice_get, nat_le, is_some}
 use Rattle.std.proofs.lemmas.Bool.Decides.{nat_tests}
 use Rattle.qkd_base.specs.Family.{number_set}
 use Rattle.qkd_base.specs.declared.lane.Lane.{Lane}
@@ -15,9 +14,8 @@ use Rattle.net_model.specs.Site.{sender, receiver}
 use Rattle.net_model.specs.Item.{Item, DataItem, AckItem, payload}
 use Rattle.net_model.specs.World.{Network, World, Allocation, Outgoing}
 use Rattle.net_model.specs.Knowledge.{IsFactOf, MayCarry}
-use Rattle.net_model.specs.Window.{room_octets}
 use Rattle.net_model.specs.Action.{Environment, Transmit, Outcome, is_no_memory, is_io_fault}
-use Rattle.net_model.specs.Frames.{frame_octets, sealed, octets_sent, outgoing_of, placing_of, put, transmit_one, transmit}
+use Rattle.net_model.specs.Frames.{frame_octets, sealed, octets_sent, outgoing_of, placing_of, transmit_one, transmit}
 use Rattle.net_model.specs.Events.{is_lane, is_frame_size}
 use Rattle.net_model.specs.Step.{step, is_enabled}
 use Rattle.frame_codec.proofs.Writes.{payload_range}
@@ -27,7 +25,6 @@ use Rattle.law_base.proofs.Tables.{found_name, ranged_name}
 use Rattle.law_base.proofs.Growth.{sealable}
 use Rattle.law_base.proofs.Lists.{get_last}
 use Rattle.world_nodes.specs.LaneStands.{IsRunning}
-use Rattle.world_nodes.specs.Emitting.{with_placing}
 use Rattle.world_state.specs.Sending.{are_sized}
 use Rattle.world_state.proofs.OneSide.{some_same}
 

@@ -1,27 +1,21 @@
 -- If an action does to a state what it does to the network, the state stands for the world after it.
-use Rattle.std.proofs.Common.{◌≡◌, ◌⊎◌, inl, inr, ℕ, Bool, true, false, ◌&&◌, List, length, refl, sym, ap, subst, ◌∙◌, Option, Some}
-use Rattle.std.specs.Prelude.{slice_get}
-use Rattle.qkd_base.specs.declared.lane.Lane.{Lane}
-use Rattle.net_model.specs.OctetSequence.{OctetSequence}
+use Rattle.std.proofs.Common.{◌≡◌, inl, inr, ℕ, true, false, sym, ap, ◌∙◌}
 use Rattle.net_model.specs.World.{Network, World}
-use Rattle.net_model.specs.Events.{is_lane}
 use Rattle.net_model.specs.Action.{Action, Start, Crash, Arm, SetLink, TakeBlock, Ask, Allocate, Transmit, Complete, Deliver, Flip, Forge, is_shown, environment_of}
 use Rattle.net_model.specs.Step.{step, is_enabled, IsStep}
 use Rattle.declared_site.specs.SiteOf.{site_of}
-use Rattle.world_nodes.specs.Passed.{Post}
-use Rattle.lane_sender.specs.Lane.{LaneForm}
 use Rattle.law_base.proofs.Base.{and_left}
 use Rattle.law_invariant.proofs.Steps.{step_keeps}
-use Rattle.law_locality.specs.Touched.{touches_node, ManagerStays}
+use Rattle.law_locality.specs.Touched.{ManagerStays}
 use Rattle.law_locality.proofs.ManagerSteps.{step_unseen, transmit_unseen}
-use Rattle.world_nodes.specs.LaneStands.{IsRunning, LaneStands}
-use Rattle.world_nodes.specs.Stands.{PostStands}
+use Rattle.world_nodes.specs.LaneStands.{IsRunning}
 use Rattle.world_nodes.proofs.Going.{post_on}
-use Rattle.world_state.specs.Changed.{changes_node, changes_lane}
-use Rattle.world_state.specs.Stands.{Stands, place_of}
+use Rattle.world_state.specs.Changed.{changes_node}
+use Rattle.world_state.specs.Stands.{Stands}
 use Rattle.world_state.specs.Moving.{Moves}
 use Rattle.world_state.specs.declared.state.State.{State}
 use Rattle.world_state.proofs.LanesGoOn.{lane_goes_on}
+use Rattle.world_state.specs.Outside.{Outside}
 
 pub running_on : (net : Network) (w : World) (a : Action) → IsRunning net w → IsStep net w a → IsRunning net (step net w a).0
 running_on net w a r may = record { network = r.network; conserved = step_keeps net w a r.network may r.conserved; sealing = r.sealing }
@@ -44,13 +38,12 @@ manager_on net w (Deliver l number environment) v r may none = (step_unseen net 
 manager_on net w (Flip l number bit environment) v r may none = (step_unseen net w r.network r.conserved v (Flip l number bit environment) may none).manager
 manager_on net w (Forge l octets environment) v r may none = (step_unseen net w r.network r.conserved v (Forge l octets environment) may none).manager
 
-module _ {K Q E X : Type 0} (is_honest : K → Bool) (moment : K → ℕ) (image : K → ℕ → List ℕ → Type 0) (left : E → Option OctetSequence) (told : Q → Option OctetSequence)
-    (frames : X → Option (List (List ℕ))) (counted : X → ℕ) (old new : State K Q E X) (net : Network) (w : World) (a : Action) where
+module _ {K Q E X : Type 0} (outside : Outside K Q E X) (old new : State K Q E X) (net : Network) (w : World) (a : Action) where
   abbrev after : World
   after = (step net w a).0
 
-  pub state_goes_on : IsStep net w a → Stands is_honest moment image left told frames counted old net w → Moves is_honest moment image left told frames counted old new net w a →
-      Stands is_honest moment image left told frames counted new net after
+  pub state_goes_on : IsStep net w a → Stands outside old net w → Moves outside old new net w a →
+      Stands outside new net after
   state_goes_on may s m =
       let enabled = enabled_of net w a may in
       record {
@@ -59,12 +52,12 @@ module _ {K Q E X : Type 0} (is_honest : K → Bool) (moment : K → ℕ) (image
         nodes = m.nodes ∙ s.nodes;
         posts = λ v p there. elim (m.posts v p there) [
           | inl stands ↦ stands
-          | inr same ↦ post_on is_honest moment image left net w after v (manager_on net w a v s.running enabled same.0) p (s.posts v p same.1)
+          | inr same ↦ post_on outside.disk outside.entropy net w after v (manager_on net w a v s.running enabled same.0) p (s.posts v p same.1)
         ];
         sides = m.sides ∙ s.sides;
         lanes = λ l side at there. elim (m.lanes l side at there) [
           | inl stands ↦ stands
-          | inr same ↦ lane_goes_on net w s.running l frames counted a side at enabled same.0 (s.lanes l side at same.1)
+          | inr same ↦ lane_goes_on net w s.running l outside.wire a side at enabled same.0 (s.lanes l side at same.1)
         ];
         links = m.links ∙ s.links;
         devices = m.devices;

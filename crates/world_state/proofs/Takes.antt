@@ -5,12 +5,11 @@ use Rattle.std.proofs.lemmas.Bool.{ltb-true}
 use Rattle.qkd_base.specs.Faults.{Rose}
 use Rattle.qkd_base.specs.Lane.{lane_eq}
 use Rattle.qkd_base.specs.declared.lane.Lane.{Lane}
-use Rattle.disk_model.specs.declared.arm.Armings.{Armings}
 use Rattle.net_model.specs.declared.record.Record.TheVariants.{Block}
 use Rattle.net_model.specs.declared.reply.Reply.TheVariants.{Took}
 use Rattle.net_model.specs.Table.{fact_at}
 use Rattle.net_model.specs.Site.{Site, outgoing_lane, is_incident}
-use Rattle.net_model.specs.OctetSequence.{OctetSequence, block_at}
+use Rattle.net_model.specs.OctetSequence.{block_at}
 use Rattle.net_model.specs.World.{Network, World, Durable, Allocation}
 use Rattle.net_model.specs.Events.{is_lane}
 use Rattle.net_model.specs.Handle.{blocks_at}
@@ -51,6 +50,7 @@ use Rattle.world_state.proofs.QuietStays.{quiet_stays}
 use Rattle.world_state.proofs.Receivers.{elsewhere}
 use Rattle.world_state.proofs.Resting.{post_rests, rests_after}
 use Rattle.world_state.proofs.StateGoesOn.{running_on, enabled_of, manager_on}
+use Rattle.world_state.specs.Outside.{Outside}
 
 some_is : {A : Type 0} {a b : A} → ◌≡◌ {A = Option A} (Some a) (Some b) → a ≡ b
 some_is h = cc
@@ -84,9 +84,8 @@ goes_same w after k durable frames wire = record {
   wire = ap (λ (f : Lane → List ℕ). f k) wire;
 }
 
-module _ {K Q E X : Type 0} (is_honest : K → Bool) (moment : K → ℕ) (image : K → ℕ → List ℕ → Type 0) (left : E → Option OctetSequence) (told : Q → Option OctetSequence)
-    (frames : X → Option (List (List ℕ))) (counted : X → ℕ) (old : State K Q E X) (net : Network) (w : World) (v link : ℕ)
-    (ready : IsReady (Stands is_honest moment image left told frames counted) old net w) (fit : is_fit (site_of old.site) (TakeBlock v link Fine) ≡ true) where
+module _ {K Q E X : Type 0} (outside : Outside K Q E X) (old : State K Q E X) (net : Network) (w : World) (v link : ℕ)
+    (ready : IsReady (Stands outside) old net w) (fit : is_fit (site_of old.site) (TakeBlock v link Fine) ≡ true) where
   fits : is_fit net.site (TakeBlock v link Fine) ≡ true
   fits = subst (λ (s : Site). is_fit s (TakeBlock v link Fine) ≡ true) (sym ready.stands.sited) fit
 
@@ -108,61 +107,61 @@ module _ {K Q E X : Type 0} (is_honest : K → Bool) (moment : K → ℕ) (image
   device_below = let below = ltb-true link net.site.links link_there in let links = ready.stands.links in omega (arith, below, links)
 
   module _ (p : Post K E) (there : slice_get old.posts.items v ≡ Some p) (d : Q) (at : slice_get old.devices.items link ≡ Some d) where
-    pub may_take : MayTakeBlock is_honest moment image left net w v p link old.up
+    pub may_take : MayTakeBlock outside.disk outside.entropy net w v p link old.up
     may_take = record { running = ready.stands.running; stands = ready.stands.posts v p there; enabled = fit_enabled net w v link fits; links = ready.stands.up }
 
-    pub tells : told d ≡ Some (net.device link)
+    pub tells : outside.device.told d ≡ Some (net.device link)
     tells = ready.stands.devices link d at
 
-    module _ (disk_count : K → ℕ) (armed : K → Armings) (entropy_count : E → ℕ) (device_count : Q → ℕ) (wire_count : X → ℕ) (new : State K Q E X) (q : Post K E) (e : Q)
+    module _ (new : State K Q E X) (q : Post K E) (e : Q)
         (site : new.site ≡ old.site) (posts : new.posts.items ≡ slice_set old.posts.items v q) (devices : new.devices.items ≡ slice_set old.devices.items link e)
-        (lanes : new.lanes.items ≡ old.lanes.items) (up : new.up ≡ old.up) (outcome : Outcome) (h : IsTaken is_honest moment image disk_count armed left entropy_count net w v link p q outcome)
-        (cause : outcome ≡ DeviceFailed → Rose (device_count d) (device_count e)) (same : told e ≡ told d) (later : device_count d ≤ device_count e)
-        (calm : (outcome ≡ DeviceFailed → ⊥) → device_count e ≡ device_count d) where
+        (lanes : new.lanes.items ≡ old.lanes.items) (up : new.up ≡ old.up) (outcome : Outcome) (h : IsTaken outside.disk outside.entropy net w v link p q outcome)
+        (cause : outcome ≡ DeviceFailed → Rose (outside.device.faults d) (outside.device.faults e)) (same : outside.device.told e ≡ outside.device.told d) (later : outside.device.faults d ≤ outside.device.faults e)
+        (calm : (outcome ≡ DeviceFailed → ⊥) → outside.device.faults e ≡ outside.device.faults d) where
       abbrev a : Action
       a = TakeBlock v link h.environment
 
-      device_counted : Counted (0 + cond (is_block_fault link a) 1 0) (device_count d) (device_count e)
-      device_counted = counted_once (is_block_fault link a) (device_count d) (device_count e)
+      device_counted : Counted (0 + cond (is_block_fault link a) 1 0) (outside.device.faults d) (outside.device.faults e)
+      device_counted = counted_once (is_block_fault link a) (outside.device.faults d) (outside.device.faults e)
           (record {
             later = later;
             rose = λ fault. cause (h.device (fails_device h.environment (and_right (link == link) (is_device_fault h.environment) fault)));
             calm = λ none. calm (λ failed. spares_device h.environment (sym (here_too (link == link) (is_device_fault h.environment) (eq_same link)) ∙ none) (h.no_device failed));
           })
 
-      tallied : Tallied disk_count armed entropy_count device_count wire_count old new net.site (a ∷ [])
+      tallied : Tallied outside old new net.site (a ∷ [])
       tallied =
-          all_tallied disk_count armed entropy_count device_count wire_count net.site a old new (placed_length old.posts.items new.posts.items v q posts)
+          all_tallied outside net.site a old new (placed_length old.posts.items new.posts.items v q posts)
           (placed_length old.devices.items new.devices.items link e devices) (ap length lanes)
-          (posts_one disk_count armed entropy_count device_count wire_count net.site a old new (has_disks is_honest moment image left told frames counted old net w ready.stands) v p q there posts
-          (post_once disk_count armed entropy_count device_count wire_count net.site a v (is_io_fault h.environment) false p q
+          (posts_one outside net.site a old new (has_disks outside old net w ready.stands) v p q there posts
+          (post_once outside net.site a v (is_io_fault h.environment) false p q
           (here_too (v == v) (is_io_fault h.environment) (eq_same v)) refl refl h.counts)
           (λ u other. (ap (λ (b : Bool). b && is_io_fault h.environment) (elsewhere v u other), refl, refl)))
           (λ k x y was is.
           each_placed old.devices.items new.devices.items link e devices
-          (λ n z. (t : Q) → slice_get old.devices.items n ≡ Some t → Counted (0 + cond (is_block_fault n a) 1 0) (device_count t) (device_count z))
-          (λ t here. let one : d ≡ t = some_is (sym at ∙ here) in subst (λ (s : Q). Counted (0 + cond (is_block_fault link a) 1 0) (device_count s) (device_count e)) one device_counted)
+          (λ n z. (t : Q) → slice_get old.devices.items n ≡ Some t → Counted (0 + cond (is_block_fault n a) 1 0) (outside.device.faults t) (outside.device.faults z))
+          (λ t here. let one : d ≡ t = some_is (sym at ∙ here) in subst (λ (s : Q). Counted (0 + cond (is_block_fault link a) 1 0) (outside.device.faults s) (outside.device.faults e)) one device_counted)
           (λ n z other stood t here.
           let one : z ≡ t = some_is (sym stood ∙ here) in
-          subst (λ (s : Q). Counted (0 + cond (is_block_fault n a) 1 0) (device_count s) (device_count z)) one
-          (still_counted (is_block_fault n a) (device_count z) (ap (λ (b : Bool). b && is_device_fault h.environment) (elsewhere link n other))))
+          subst (λ (s : Q). Counted (0 + cond (is_block_fault n a) 1 0) (outside.device.faults s) (outside.device.faults z)) one
+          (still_counted (is_block_fault n a) (outside.device.faults z) (ap (λ (b : Bool). b && is_device_fault h.environment) (elsewhere link n other))))
           k y is x was)
-          (wires_still disk_count armed entropy_count device_count wire_count net.site a old new lanes (λ l. refl))
+          (wires_still outside net.site a old new lanes (λ l. refl))
 
       pub block_taken : (block : List ℕ) → ((number : ℕ) → outcome ≡ Replies (Took number) → block ≡ block_at (net.device link) (blocks_at net w v link)) →
-          IsBlockTaken is_honest moment image left told disk_count armed entropy_count device_count wire_count old new net w v link block outcome
+          IsBlockTaken outside old new net w v link block outcome
       block_taken block is = record {
         environment = h.environment;
         may = h.may;
         said = h.said;
         site = site;
         nodes = placed_length old.posts.items new.posts.items v q posts;
-        posts = each_placed old.posts.items new.posts.items v q posts (λ u x. PostStands is_honest moment image left net (step net w a).0 u x) h.stands
+        posts = each_placed old.posts.items new.posts.items v q posts (λ u x. PostStands outside.disk outside.entropy net (step net w a).0 u x) h.stands
             (λ u x other stood.
-            post_on is_honest moment image left net w (step net w a).0 u (manager_on net w a u ready.stands.running (enabled_of net w a h.may) (elsewhere v u other)) x (ready.stands.posts u x stood));
+            post_on outside.disk outside.entropy net w (step net w a).0 u (manager_on net w a u ready.stands.running (enabled_of net w a h.may) (elsewhere v u other)) x (ready.stands.posts u x stood));
         lanes = lanes;
         links = placed_length old.devices.items new.devices.items link e devices;
-        devices = each_placed old.devices.items new.devices.items link e devices (λ k x. told x ≡ Some (net.device k)) (same ∙ tells) (λ k x other stood. ready.stands.devices k x stood);
+        devices = each_placed old.devices.items new.devices.items link e devices (λ k x. outside.device.told x ≡ Some (net.device k)) (same ∙ tells) (λ k x other stood. ready.stands.devices k x stood);
         up = up;
         octets = is;
         tallied = tallied;
@@ -170,8 +169,8 @@ module _ {K Q E X : Type 0} (is_honest : K → Bool) (moment : K → ℕ) (image
 
   -- ---- the lane
 
-  module _ (disk_count : K → ℕ) (armed : K → Armings) (entropy_count : E → ℕ) (device_count : Q → ℕ) (wire_count : X → ℕ) (mid : State K Q E X) (block : List ℕ) (outcome : Outcome)
-      (h : IsBlockTaken is_honest moment image left told disk_count armed entropy_count device_count wire_count old mid net w v link block outcome) where
+  module _ (mid : State K Q E X) (block : List ℕ) (outcome : Outcome)
+      (h : IsBlockTaken outside old mid net w v link block outcome) where
     abbrev b : Action
     b = TakeBlock v link h.environment
 
@@ -179,18 +178,18 @@ module _ {K Q E X : Type 0} (is_honest : K → Bool) (moment : K → ℕ) (image
     after = (step net w b).0
 
     abbrev Done : State K Q E X → Type 0
-    Done new = Does (Stands is_honest moment image left told frames counted) (Tallied disk_count armed entropy_count device_count wire_count) old new net w (TakeBlock v link Fine) outcome
+    Done new = Does (Stands outside) (Tallied outside) old new net w (TakeBlock v link Fine) outcome
 
     made : TakesOrStays net w v link (step net w b)
     made = takes net w ready.stands.running v link h.environment incident
 
-    stood : (k : Lane) (side : LaneForm X) → is_lane net.site k ≡ true → slice_get mid.lanes.items (place_of k) ≡ Some side → LaneStands frames counted net w k side
+    stood : (k : Lane) (side : LaneForm X) → is_lane net.site k ≡ true → slice_get mid.lanes.items (place_of k) ≡ Some side → LaneStands outside.wire net w k side
     stood k side at there = ready.stands.lanes k side at (ap (λ (xs : List (LaneForm X)). slice_get xs (place_of k)) (sym h.lanes) ∙ there)
 
     -- all parts except the lanes
     others : (new : State K Q E X) → new.site ≡ mid.site → new.posts.items ≡ mid.posts.items → new.devices.items ≡ mid.devices.items → new.up ≡ mid.up → length new.lanes.items ≡ length mid.lanes.items →
-        ((k : Lane) (side : LaneForm X) → is_lane net.site k ≡ true → slice_get new.lanes.items (place_of k) ≡ Some side → LaneStands frames counted net after k side) →
-        Tallied disk_count armed entropy_count device_count wire_count old new net.site (b ∷ []) → Done new
+        ((k : Lane) (side : LaneForm X) → is_lane net.site k ≡ true → slice_get new.lanes.items (place_of k) ≡ Some side → LaneStands outside.wire net after k side) →
+        Tallied outside old new net.site (b ∷ []) → Done new
     others new site posts devices up sides lanes tallied = record {
       action = b;
       is = refl;
@@ -225,7 +224,7 @@ module _ {K Q E X : Type 0} (is_honest : K → Bool) (moment : K → ℕ) (image
     none_done none =
         let same = made.otherwise (λ number is. none number (sym h.said ∙ is)) in
         others mid refl refl refl refl refl
-        (λ k side at there. goes_on frames counted net w after k side ready.stands.running at (goes_same w after k same.0 same.1 same.2) (stood k side at there)) h.tallied
+        (λ k side at there. goes_on outside.wire net w after k side ready.stands.running at (goes_same w after k same.0 same.1 same.2) (stood k side at there)) h.tallied
 
     -- A block was taken.
 
@@ -240,13 +239,13 @@ module _ {K Q E X : Type 0} (is_honest : K → Bool) (moment : K → ℕ) (image
       octets = h.octets number took ∙ ap (block_at (net.device link)) (sym made_here.0)
 
       module _ (side : LaneForm X) (there : slice_get mid.lanes.items (place_of lane) ≡ Some side) where
-        stands : LaneStands frames counted net w lane side
+        stands : LaneStands outside.wire net w lane side
         stands = stood lane side link_there there
 
-        pub may_bring : MayTake frames counted net w side number block
+        pub may_bring : MayTake outside.wire net w side number block
         may_bring = record {
           running = ready.stands.running;
-          stands = subst (λ (l : Lane). LaneStands frames counted net w l side) (sym stands.lane) stands;
+          stands = subst (λ (l : Lane). LaneStands outside.wire net w l side) (sym stands.lane) stands;
           at = ap (is_lane net.site) stands.lane ∙ link_there;
           next = made_here.0 ∙ ap w.durable.blocks (sym stands.lane);
           few = made_here.1;
@@ -259,13 +258,13 @@ module _ {K Q E X : Type 0} (is_honest : K → Bool) (moment : K → ℕ) (image
             (subst (λ (bytes : List ℕ). IsReplayed net w after v (Block link number bytes ∷ [])) (sym octets) made_here.2))
 
         -- another lane
-        other_lane : (k : Lane) (x : LaneForm X) → lane_eq k lane ≡ false → is_lane net.site k ≡ true → slice_get mid.lanes.items (place_of k) ≡ Some x → LaneStands frames counted net after k x
+        other_lane : (k : Lane) (x : LaneForm X) → lane_eq k lane ≡ false → is_lane net.site k ≡ true → slice_get mid.lanes.items (place_of k) ≡ Some x → LaneStands outside.wire net after k x
         other_lane k x apart at stood_there =
-            goes_on frames counted net w after k x ready.stands.running at
+            goes_on outside.wire net w after k x ready.stands.running at
             (batch_goes_on net w after v (Block link number (block_at (net.device link) number) ∷ []) k made_here.2 (ap (λ (b : Bool). b || false) apart)) (stood k x at stood_there)
 
         module _ (new : State K Q E X) (now : LaneForm X) (one : OneSide mid new lane side now) (kept : now.wire ≡ side.wire) where
-          all : Tallied disk_count armed entropy_count device_count wire_count old new net.site (b ∷ [])
+          all : Tallied outside old new net.site (b ∷ [])
           all = record {
             nodes = ap length one.posts ∙ h.tallied.nodes;
             posts = λ u p q was is. h.tallied.posts u p q was (ap (λ (xs : List (Post K E)). slice_get xs u) (sym one.posts) ∙ is);
@@ -273,29 +272,29 @@ module _ {K Q E X : Type 0} (is_honest : K → Bool) (moment : K → ℕ) (image
             devices = λ k p q was is. h.tallied.devices k p q was (ap (λ (xs : List Q). slice_get xs k) (sym one.devices) ∙ is);
             sides = sides_same mid new lane side now one ∙ h.tallied.sides;
             wires = λ k p q was is.
-                each_side mid new lane side now one (λ m x. (y : LaneForm X) → slice_get old.lanes.items (place_of m) ≡ Some y → Counted (wire_faults m (b ∷ [])) (wire_count y.wire) (wire_count x.wire))
-                (λ y at. subst (λ (z : X). Counted (wire_faults lane (b ∷ [])) (wire_count y.wire) (wire_count z)) (sym kept) (h.tallied.wires lane y side at there))
+                each_side mid new lane side now one (λ m x. (y : LaneForm X) → slice_get old.lanes.items (place_of m) ≡ Some y → Counted (wire_faults m (b ∷ [])) (outside.wire.faults y.wire) (outside.wire.faults x.wire))
+                (λ y at. subst (λ (z : X). Counted (wire_faults lane (b ∷ [])) (outside.wire.faults y.wire) (outside.wire.faults z)) (sym kept) (h.tallied.wires lane y side at there))
                 (λ m x apart at y stood_there. h.tallied.wires m y x stood_there at) k q is p was;
           }
 
-          pub took_done : LaneStands frames counted net after side.lane now → Done new
+          pub took_done : LaneStands outside.wire net after side.lane now → Done new
           took_done lane_stands =
               others new one.site one.posts one.devices one.up (sides_same mid new lane side now one)
-              (λ k x at at_place. each_side mid new lane side now one (λ m y. is_lane net.site m ≡ true → LaneStands frames counted net after m y)
-              (λ there_too. subst (λ (l : Lane). LaneStands frames counted net after l now) stands.lane lane_stands) (λ m y apart stood_there there_too. other_lane m y apart there_too stood_there) k x at_place at) all
+              (λ k x at at_place. each_side mid new lane side now one (λ m y. is_lane net.site m ≡ true → LaneStands outside.wire net after m y)
+              (λ there_too. subst (λ (l : Lane). LaneStands outside.wire net after l now) stands.lane lane_stands) (λ m y apart stood_there there_too. other_lane m y apart there_too stood_there) k x at_place at) all
 
-          pub took_rests : WireStands frames counted net after side.lane now.wire →
-              Begins (Rests is_honest moment image left told frames counted) (Tallied disk_count armed entropy_count device_count wire_count) old new net w (asks (TakeBlock v link Fine) (λ o. []))
+          pub took_rests : WireStands outside.wire net after side.lane now.wire →
+              Begins (Rests outside) (Tallied outside) old new net w (asks (TakeBlock v link Fine) (λ o. []))
           took_rests wire =
-              rests_after (Rests is_honest moment image left told frames counted) (Tallied disk_count armed entropy_count device_count wire_count) old new net w (TakeBlock v link Fine) b refl h.may
+              rests_after (Rests outside) (Tallied outside) old new net w (TakeBlock v link Fine) b refl h.may
               (ap is_forged (h.said ∙ took)) (record {
                 running = running_on net w b ready.stands.running h.may;
                 sited = ready.stands.sited ∙ sym (ap site_of (one.site ∙ h.site));
                 nodes = ap length one.posts ∙ h.nodes ∙ ready.stands.nodes;
-                posts = λ u p at. post_rests net u after (running_on net w b ready.stands.running h.may) is_honest moment image left p (h.posts u p (ap (λ (xs : List (Post K E)). slice_get xs u) (sym one.posts) ∙ at));
+                posts = λ u p at. post_rests net u after (running_on net w b ready.stands.running h.may) outside.disk outside.entropy p (h.posts u p (ap (λ (xs : List (Post K E)). slice_get xs u) (sym one.posts) ∙ at));
                 sides = sides_same mid new lane side now one ∙ ap length h.lanes ∙ ready.stands.sides;
-                wires = λ k x at at_place. each_side mid new lane side now one (λ m y. is_lane net.site m ≡ true → WireStands frames counted net after m y.wire)
-                    (λ there_too. subst (λ (l : Lane). WireStands frames counted net after l now.wire) stands.lane wire) (λ m y apart stood_there there_too. (other_lane m y apart there_too stood_there).wire) k x at_place at;
+                wires = λ k x at at_place. each_side mid new lane side now one (λ m y. is_lane net.site m ≡ true → WireStands outside.wire net after m y.wire)
+                    (λ there_too. subst (λ (l : Lane). WireStands outside.wire net after l now.wire) stands.lane wire) (λ m y apart stood_there there_too. (other_lane m y apart there_too stood_there).wire) k x at_place at;
                 links = ap length one.devices ∙ h.links ∙ ready.stands.links;
                 devices = λ k q at. h.devices k q (ap (λ (xs : List Q). slice_get xs k) (sym one.devices) ∙ at);
               }) all

@@ -1,12 +1,11 @@
 -- The counts of two lists of actions in order add up to the counts of both.
-use Rattle.std.proofs.Common.{◌≡◌, ℕ, ◌+◌, ◌-◌, ◌^◌, ◌<◌, ◌≤◌, Bool, List, [], ◌∷◌, ◌++◌, length, refl, sym, ◌∙◌, ap, subst, arith, Option, Some, None, length-append}
+use Rattle.std.proofs.Common.{◌≡◌, ℕ, ◌+◌, ◌-◌, ◌^◌, ◌<◌, ◌≤◌, Bool, List, [], ◌∷◌, ◌++◌, length, refl, sym, ◌∙◌, ap, subst, arith, Option, Some, length-append}
 use Rattle.std.specs.Prelude.{min, slice_get, count_by, cond}
 use Rattle.std.specs.Option.{option_map}
 use Rattle.std.specs.List.{filter_map}
 use Rattle.std.proofs.lemmas.Option.{slice_get_within}
 use Rattle.std.proofs.lemmas.List.Sums.{sum_by-append}
 use Rattle.std.proofs.lemmas.List.Elements.{filter_map-append}
-use Rattle.qkd_base.specs.declared.lane.Lane.{Lane}
 use Rattle.disk_model.specs.declared.arm.Armings.{Armings}
 use Rattle.net_model.specs.Site.{Site}
 use Rattle.net_model.specs.Action.{Action, Fault}
@@ -20,6 +19,7 @@ use Rattle.world_state.specs.Stands.{place_of}
 use Rattle.world_state.specs.Tallied.{Counted, IsArmedBy, PostTallied, Tallied}
 use Rattle.world_nodes.specs.Counts.{disk_of, entropy_of}
 use Rattle.world_state.specs.declared.state.State.{State}
+use Rattle.world_state.specs.Outside.{Outside}
 
 -- counts
 
@@ -64,29 +64,29 @@ armed_more xs ys a b c h k = record {
 
 -- posts
 
-module _ {K Q E X : Type 0} (disk_count : K → ℕ) (armed : K → Armings) (entropy_count : E → ℕ) (device_count : Q → ℕ) (wire_count : X → ℕ) (site : Site) where
-  post_more : (v : ℕ) (xs ys : List Action) (p q r : Post K E) → PostTallied disk_count armed entropy_count site v xs p q → PostTallied disk_count armed entropy_count site v ys q r →
-      PostTallied disk_count armed entropy_count site v (xs ++ ys) p r
+module _ {K Q E X : Type 0} (outside : Outside K Q E X) (site : Site) where
+  post_more : (v : ℕ) (xs ys : List Action) (p q r : Post K E) → PostTallied outside.disk outside.entropy site v xs p q → PostTallied outside.disk outside.entropy site v ys q r →
+      PostTallied outside.disk outside.entropy site v (xs ++ ys) p r
   unfolding disk_faults entropy_faults armings
   post_more v xs ys p q r h k =
       let same : h.now ≡ k.before = some_same (sym h.is ∙ k.was) in
-      let fails : Counted (count_by (is_disk_fault site v) xs) (disk_count h.before) (disk_count k.before) =
-      subst (λ (x : K). Counted (count_by (is_disk_fault site v) xs) (disk_count h.before) (disk_count x)) same h.failed in
+      let fails : Counted (count_by (is_disk_fault site v) xs) (outside.disk.faults h.before) (outside.disk.faults k.before) =
+      subst (λ (x : K). Counted (count_by (is_disk_fault site v) xs) (outside.disk.faults h.before) (outside.disk.faults x)) same h.failed in
       record {
         before = h.before;
         now = k.now;
         was = h.was;
         is = k.is;
-        failed = subst (λ (n : ℕ). Counted n (disk_count h.before) (disk_count k.now)) (sym (count_both (is_disk_fault site v) xs ys)) (counted_more _ _ (disk_count h.before) (disk_count k.before) (disk_count k.now) fails k.failed);
-        armed_with = subst (λ (fs : List Fault). IsArmedBy fs (armed h.before) (armed k.now)) (sym (filter_map-append (fault_armed v) xs ys))
-            (armed_more (filter_map (fault_armed v) xs) (filter_map (fault_armed v) ys) (armed h.before) (armed k.before) (armed k.now)
-            (subst (λ (x : K). IsArmedBy (filter_map (fault_armed v) xs) (armed h.before) (armed x)) same h.armed_with) k.armed_with);
-        refused = subst (λ (n : ℕ). Counted n (entropy_count (entropy_of p)) (entropy_count (entropy_of r))) (sym (count_both (is_random_fault v) xs ys))
-            (counted_more _ _ (entropy_count (entropy_of p)) (entropy_count (entropy_of q)) (entropy_count (entropy_of r)) h.refused k.refused);
+        failed = subst (λ (n : ℕ). Counted n (outside.disk.faults h.before) (outside.disk.faults k.now)) (sym (count_both (is_disk_fault site v) xs ys)) (counted_more _ _ (outside.disk.faults h.before) (outside.disk.faults k.before) (outside.disk.faults k.now) fails k.failed);
+        armed_with = subst (λ (fs : List Fault). IsArmedBy fs (outside.disk.armings h.before) (outside.disk.armings k.now)) (sym (filter_map-append (fault_armed v) xs ys))
+            (armed_more (filter_map (fault_armed v) xs) (filter_map (fault_armed v) ys) (outside.disk.armings h.before) (outside.disk.armings k.before) (outside.disk.armings k.now)
+            (subst (λ (x : K). IsArmedBy (filter_map (fault_armed v) xs) (outside.disk.armings h.before) (outside.disk.armings x)) same h.armed_with) k.armed_with);
+        refused = subst (λ (n : ℕ). Counted n (outside.entropy.faults (entropy_of p)) (outside.entropy.faults (entropy_of r))) (sym (count_both (is_random_fault v) xs ys))
+            (counted_more _ _ (outside.entropy.faults (entropy_of p)) (outside.entropy.faults (entropy_of q)) (outside.entropy.faults (entropy_of r)) h.refused k.refused);
       }
 
   abbrev All : State K Q E X → State K Q E X → List Action → Type 0
-  All old new actions = Tallied disk_count armed entropy_count device_count wire_count old new site actions
+  All old new actions = Tallied outside old new site actions
 
   pub tallied_more : (a b c : State K Q E X) (xs ys : List Action) → All a b xs → All b c ys → All a c (xs ++ ys)
   unfolding device_faults wire_faults
@@ -98,25 +98,25 @@ module _ {K Q E X : Type 0} (disk_count : K → ℕ) (armed : K → Armings) (en
     links = k.links ∙ h.links;
     devices = λ link p r old new.
         let mid = get_within b.devices.items link (within_same a.devices.items b.devices.items link p h.links old) in
-        subst (λ (n : ℕ). Counted n (device_count p) (device_count r)) (sym (count_both (is_block_fault link) xs ys))
-        (counted_more _ _ (device_count p) (device_count mid.0) (device_count r) (h.devices link p mid.0 old mid.1) (k.devices link mid.0 r mid.1 new));
+        subst (λ (n : ℕ). Counted n (outside.device.faults p) (outside.device.faults r)) (sym (count_both (is_block_fault link) xs ys))
+        (counted_more _ _ (outside.device.faults p) (outside.device.faults mid.0) (outside.device.faults r) (h.devices link p mid.0 old mid.1) (k.devices link mid.0 r mid.1 new));
     sides = k.sides ∙ h.sides;
     wires = λ l p r old new.
         let mid = get_within b.lanes.items (place_of l) (within_same a.lanes.items b.lanes.items (place_of l) p h.sides old) in
-        subst (λ (n : ℕ). Counted n (wire_count p.wire) (wire_count r.wire)) (sym (count_both (is_wire_fault l) xs ys))
-        (counted_more _ _ (wire_count p.wire) (wire_count mid.0.wire) (wire_count r.wire) (h.wires l p mid.0 old mid.1) (k.wires l mid.0 r mid.1 new));
+        subst (λ (n : ℕ). Counted n (outside.wire.faults p.wire) (outside.wire.faults r.wire)) (sym (count_both (is_wire_fault l) xs ys))
+        (counted_more _ _ (outside.wire.faults p.wire) (outside.wire.faults mid.0.wire) (outside.wire.faults r.wire) (h.wires l p mid.0 old mid.1) (k.wires l mid.0 r mid.1 new));
   }
 
-  post_same : (v : ℕ) (p : Post K E) (k : K) → disk_of p ≡ Some k → PostTallied disk_count armed entropy_count site v [] p p
+  post_same : (v : ℕ) (p : Post K E) (k : K) → disk_of p ≡ Some k → PostTallied outside.disk outside.entropy site v [] p p
   unfolding disk_faults entropy_faults armings
   post_same v p k has = record {
     before = k;
     now = k;
     was = has;
     is = has;
-    failed = none_counted (disk_count k);
+    failed = none_counted (outside.disk.faults k);
     armed_with = record { times = omega arith; last = refl };
-    refused = none_counted (entropy_count (entropy_of p));
+    refused = none_counted (outside.entropy.faults (entropy_of p));
   }
 
   pub none_tallied : (s : State K Q E X) → ((v : ℕ) (p : Post K E) → slice_get s.posts.items v ≡ Some p → (k : K) × (disk_of p ≡ Some k)) → All s s []
@@ -126,9 +126,9 @@ module _ {K Q E X : Type 0} (disk_count : K → ℕ) (armed : K → Armings) (en
     posts = λ v p q old new.
         let same : p ≡ q = some_same (sym old ∙ new) in
         let disk = has v p old in
-        subst (λ (x : Post K E). PostTallied disk_count armed entropy_count site v [] p x) same (post_same v p disk.0 disk.1);
+        subst (λ (x : Post K E). PostTallied outside.disk outside.entropy site v [] p x) same (post_same v p disk.0 disk.1);
     links = refl;
-    devices = λ link p q old new. let same : p ≡ q = some_same (sym old ∙ new) in subst (λ (x : Q). Counted 0 (device_count p) (device_count x)) same (none_counted (device_count p));
+    devices = λ link p q old new. let same : p ≡ q = some_same (sym old ∙ new) in subst (λ (x : Q). Counted 0 (outside.device.faults p) (outside.device.faults x)) same (none_counted (outside.device.faults p));
     sides = refl;
-    wires = λ l p q old new. let same : p ≡ q = some_same (sym old ∙ new) in subst (λ (x : LaneForm X). Counted 0 (wire_count p.wire) (wire_count x.wire)) same (none_counted (wire_count p.wire));
+    wires = λ l p q old new. let same : p ≡ q = some_same (sym old ∙ new) in subst (λ (x : LaneForm X). Counted 0 (outside.wire.faults p.wire) (outside.wire.faults x.wire)) same (none_counted (outside.wire.faults p.wire));
   }

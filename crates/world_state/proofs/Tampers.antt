@@ -3,10 +3,8 @@ use Rattle.std.proofs.Common.{◌≡◌, ℕ, ◌*◌, Bool, true, false, not, �
 use Rattle.std.specs.Prelude.{◌==◌, nat_lt, nat_le, slice_get, is_some, if◌then◌else◌}
 use Rattle.std.specs.List.{list_all}
 use Rattle.qkd_base.specs.declared.lane.Lane.{Lane}
-use Rattle.disk_model.specs.declared.arm.Armings.{Armings}
 use Rattle.net_model.specs.declared.reply.Reply.{Reply}
 use Rattle.net_model.specs.Site.{Site, receiver}
-use Rattle.net_model.specs.OctetSequence.{OctetSequence}
 use Rattle.net_model.specs.World.{Network, World}
 use Rattle.net_model.specs.Events.{is_lane}
 use Rattle.net_model.specs.Frames.{with_flipped, flip_octets, flip_number, flip, tampered}
@@ -14,7 +12,7 @@ use Rattle.net_model.specs.Action.{Environment, Flip, Forge, Outcome, NoFrame, N
 use Rattle.net_model.specs.Step.{step, is_enabled}
 use Rattle.declared_site.specs.SiteOf.{site_of}
 use Rattle.world_nodes.specs.Passed.{Post}
-use Rattle.law_base.proofs.Base.{eq_same, and_left, and_right}
+use Rattle.law_base.proofs.Base.{eq_same, and_left}
 use Rattle.world_nodes.proofs.Counted.{here_too}
 use Rattle.run_ops.specs.Fitting.{is_fit, fits_a_frame}
 use Rattle.run_ops.specs.Acting.{IsReady, Does}
@@ -28,6 +26,7 @@ use Rattle.world_state.proofs.OnePost.{ChangesOne, happened}
 use Rattle.world_state.proofs.OneTallied.{CountsOne}
 use Rattle.world_state.proofs.Receivers.{elsewhere, no_part, lane_at}
 use Rattle.world_state.proofs.Staying.{stays_done}
+use Rattle.world_state.specs.Outside.{Outside}
 
 flips_one : (s : Site) (l : Lane) (number bit : ℕ) (environment : Environment) → ChangesOne s (Flip l number bit environment) (receiver s l)
 flips_one s l number bit environment = record { nodes = λ u other. elsewhere (receiver s l) u other; lanes = λ k. refl; links = λ link. refl; sends = refl }
@@ -111,11 +110,10 @@ changed_from net w l number bit octets other seen near is = record {
   are = is ∙ ap (λ (bytes : List ℕ). with_flipped bytes bit) seen.are;
 }
 
-module _ {K Q E X : Type 0} (is_honest : K → Bool) (moment : K → ℕ) (image : K → ℕ → List ℕ → Type 0) (left : E → Option OctetSequence) (told : Q → Option OctetSequence)
-    (frames : X → Option (List (List ℕ))) (counted : X → ℕ) (old : State K Q E X) (net : Network) (w : World) (l : Lane)
-    (ready : IsReady (Stands is_honest moment image left told frames counted) old net w) (fit : is_lane (site_of old.site) l ≡ true) where
+module _ {K Q E X : Type 0} (outside : Outside K Q E X) (old : State K Q E X) (net : Network) (w : World) (l : Lane)
+    (ready : IsReady (Stands outside) old net w) (fit : is_lane (site_of old.site) l ≡ true) where
   at : is_lane net.site l ≡ true
-  at = lane_at is_honest moment image left told frames counted old net w l ready fit
+  at = lane_at outside old net w l ready fit
 
   abbrev v : ℕ
   v = receiver net.site l
@@ -123,17 +121,17 @@ module _ {K Q E X : Type 0} (is_honest : K → Bool) (moment : K → ℕ) (image
   -- what the post is asked for
 
   module _ (p : Post K E) (there : slice_get old.posts.items v ≡ Some p) where
-    pub receiver_stands : ReceiverStands is_honest moment image left net w l p
+    pub receiver_stands : ReceiverStands outside.disk outside.entropy net w l p
     receiver_stands = record { running = ready.stands.running; stands = ready.stands.posts v p there; at = at }
 
   module _ (octets : List ℕ) (forged : Bool) (is : forged ≡ is_forged net w l octets) (p : Post K E) (there : slice_get old.posts.items v ≡ Some p) where
-    tampers : MayTamper is_honest moment image left net w l p octets forged old.up
+    tampers : MayTamper outside.disk outside.entropy net w l p octets forged old.up
     tampers = record { there = receiver_stands p there; is = is; links = ready.stands.up }
 
-    pub may_flip : (number bit : ℕ) → IsChanged net w l number bit octets → MayFlip is_honest moment image left net w l number bit p octets forged old.up
+    pub may_flip : (number bit : ℕ) → IsChanged net w l number bit octets → MayFlip outside.disk outside.entropy net w l number bit p octets forged old.up
     may_flip number bit changed = record { tampers = tampers; frame = changed.frame; there = changed.there; has = changed.has; are = changed.are }
 
-    pub may_forge : is_fit (site_of old.site) (Forge l octets Fine) ≡ true → MayForge is_honest moment image left net w l p octets forged old.up
+    pub may_forge : is_fit (site_of old.site) (Forge l octets Fine) ≡ true → MayForge outside.disk outside.entropy net w l p octets forged old.up
     may_forge made = record {
       tampers = tampers;
       enabled = may_forge_there net w l octets (subst (λ (s : Site). is_fit s (Forge l octets Fine) ≡ true) (sym ready.stands.sited) made);
@@ -141,13 +139,13 @@ module _ {K Q E X : Type 0} (is_honest : K → Bool) (moment : K → ℕ) (image
 
   -- the outcome
 
-  module _ (disk_count : K → ℕ) (armed : K → Armings) (entropy_count : E → ℕ) (device_count : Q → ℕ) (wire_count : X → ℕ) where
+  module _ where
     abbrev Flips : ℕ → ℕ → State K Q E X → Outcome → Type 0
-    Flips number bit new outcome = Does (Stands is_honest moment image left told frames counted) (Tallied disk_count armed entropy_count device_count wire_count) old new net w (Flip l number bit Fine) outcome
+    Flips number bit new outcome = Does (Stands outside) (Tallied outside) old new net w (Flip l number bit Fine) outcome
 
     stays : (number bit : ℕ) (outcome : Outcome) → step net w (Flip l number bit Fine) ≡ (w, outcome) → Flips number bit old outcome
     stays number bit outcome steps =
-        stays_done is_honest moment image left told frames counted disk_count armed entropy_count device_count wire_count old net w ready (Flip l number bit Fine) outcome
+        stays_done outside old net w ready (Flip l number bit Fine) outcome
         refl (may_flip_there net w l number bit at) refl steps (λ u. (no_part (v == u), refl, refl)) (record { devices = λ k. refl; wires = λ k. refl })
 
     pub no_frame_done : (number bit count : ℕ) → count ≡ length (w.wire l) → slice_get (w.wire l) number ≡ None → Flips number bit old (NoFrame count)
@@ -159,15 +157,15 @@ module _ {K Q E X : Type 0} (is_honest : K → Bool) (moment : K → ℕ) (image
         subst (λ (n : ℕ). Flips number bit old (NoBit n)) (sym is) (stays number bit (NoBit (8 * length octets)) (no_bit net w l number bit octets seen far))
 
     module _ (p q : Post K E) (new : State K Q E X) (change : OnePost old new v p q) (reply : Option Reply) (outcome : Outcome) (is : outcome ≡ tampered_outcome reply) where
-      pub flip_done : (number bit : ℕ) → HasFlipped is_honest moment image disk_count armed left entropy_count net w l number bit p q reply → Flips number bit new outcome
+      pub flip_done : (number bit : ℕ) → HasFlipped outside.disk outside.entropy net w l number bit p q reply → Flips number bit new outcome
       flip_done number bit h =
           subst (Flips number bit new) (sym is)
-          (happened is_honest moment image left told frames counted disk_count armed entropy_count device_count wire_count old new net w v p q change ready (λ (environment : Environment). Flip l number bit environment)
+          (happened outside old new net w v p q change ready (λ (environment : Environment). Flip l number bit environment)
           (Flip l number bit Fine) (tampered_outcome reply) (flips_one net.site l number bit) (flips_counted net.site l number bit) (λ environment. record { devices = λ k. refl; wires = λ k. refl }) (λ environment. refl) h)
 
-      pub forge_done : (octets : List ℕ) → HasForged is_honest moment image disk_count armed left entropy_count net w l octets p q reply →
-          Does (Stands is_honest moment image left told frames counted) (Tallied disk_count armed entropy_count device_count wire_count) old new net w (Forge l octets Fine) outcome
+      pub forge_done : (octets : List ℕ) → HasForged outside.disk outside.entropy net w l octets p q reply →
+          Does (Stands outside) (Tallied outside) old new net w (Forge l octets Fine) outcome
       forge_done octets h =
-          subst (Does (Stands is_honest moment image left told frames counted) (Tallied disk_count armed entropy_count device_count wire_count) old new net w (Forge l octets Fine)) (sym is)
-          (happened is_honest moment image left told frames counted disk_count armed entropy_count device_count wire_count old new net w v p q change ready (λ (environment : Environment). Forge l octets environment)
+          subst (Does (Stands outside) (Tallied outside) old new net w (Forge l octets Fine)) (sym is)
+          (happened outside old new net w v p q change ready (λ (environment : Environment). Forge l octets environment)
           (Forge l octets Fine) (tampered_outcome reply) (forges_one net.site l octets) (forges_counted net.site l octets) (λ environment. record { devices = λ k. refl; wires = λ k. refl }) (λ environment. refl) h)

@@ -1,8 +1,7 @@
 -- A tick as a play: a plan, the frames that it puts, and its note.
-use Rattle.std.proofs.Common.{◌≡◌, ℕ, Bool, true, false, ◌&&◌, ◌||◌, not, ◌+◌, List, [], ◌∷◌, ◌++◌, refl, sym, ap, subst, ◌∙◌, append-nil, Option}
+use Rattle.std.proofs.Common.{◌≡◌, ℕ, Bool, true, false, ◌&&◌, ◌||◌, not, ◌+◌, List, [], ◌∷◌, ◌++◌, refl, sym, ap, subst, ◌∙◌, append-nil}
 use Rattle.std.specs.Prelude.{nat_lt}
 use Rattle.std.specs.List.{list_all}
-use Rattle.disk_model.specs.declared.arm.Armings.{Armings}
 use Rattle.net_model.specs.declared.event.Event.TheVariants.{Plan}
 use Rattle.net_model.specs.declared.order.Order.{Order}
 use Rattle.net_model.specs.declared.repeat.Repeat.{Repeat}
@@ -10,7 +9,7 @@ use Rattle.net_model.specs.declared.short_of.ShortOf.{ShortOf}
 use Rattle.net_model.specs.declared.placing.Placing.{Placing}
 use Rattle.net_model.specs.declared.reply.Reply.{Reply}
 use Rattle.net_model.specs.declared.reply.Reply.TheVariants.{Planned}
-use Rattle.net_model.specs.OctetSequence.{OctetSequence, has_octets}
+use Rattle.net_model.specs.OctetSequence.{has_octets}
 use Rattle.net_model.specs.Site.{Site, outgoing_lanes}
 use Rattle.net_model.specs.World.{Network, World}
 use Rattle.net_model.specs.Action.{Environment, Action, Ask, Complete, Outcome, Replies, is_no_memory, is_entropy_fault, is_io_fault, Ok as Fine}
@@ -39,6 +38,7 @@ use Rattle.world_state.specs.Ticking.{HasPlanned, HasNoted, HasStayed}
 use Rattle.world_state.specs.declared.state.State.{State}
 use Rattle.world_state.proofs.Plays.{asks_is, asks_said, none_is, none_said, numbered_both}
 use Rattle.world_state.proofs.Tallies.{tallied_more}
+use Rattle.world_state.specs.Outside.{Outside}
 
 -- The reply isn't a plan.
 abbrev pub IsOther : Reply → Type 0
@@ -90,23 +90,22 @@ module _ (net : Network) (w : World) (v : ℕ) where
   unfolding step handle decide random_need
   planned_up environment = by_test StaysUp (w.up v) _ _ (λ t. up_performed 0 environment _ t) (λ t. up_other w _ tt)
 
-module _ {K Q E X : Type 0} (is_honest : K → Bool) (moment : K → ℕ) (image : K → ℕ → List ℕ → Type 0) (left : E → Option OctetSequence) (told : Q → Option OctetSequence)
-    (frames : X → Option (List (List ℕ))) (counted : X → ℕ) (disk_count : K → ℕ) (armed : K → Armings) (entropy_count : E → ℕ) (device_count : Q → ℕ) (wire_count : X → ℕ) where
+module _ {K Q E X : Type 0} (outside : Outside K Q E X) where
   abbrev Standing : State K Q E X → Network → World → Type 0
-  Standing s net w = Stands is_honest moment image left told frames counted s net w
+  Standing s net w = Stands outside s net w
 
   abbrev Counted : State K Q E X → State K Q E X → Site → List Action → Type 0
-  Counted old new site actions = Tallied disk_count armed entropy_count device_count wire_count old new site actions
+  Counted old new site actions = Tallied outside old new site actions
 
   abbrev Resting : State K Q E X → Network → World → Type 0
-  Resting s net w = Rests is_honest moment image left told frames counted s net w
+  Resting s net w = Rests outside s net w
 
   pub rests_of : (s : State K Q E X) (net : Network) (w : World) → Standing s net w → Resting s net w
   rests_of s net w h = record {
     running = h.running;
     sited = h.sited;
     nodes = h.nodes;
-    posts = λ v p at. post_rests net v w h.running is_honest moment image left p (h.posts v p at);
+    posts = λ v p at. post_rests net v w h.running outside.disk outside.entropy p (h.posts v p at);
     sides = h.sides;
     wires = λ l side at there. (h.lanes l side at there).wire;
     links = h.links;
@@ -116,11 +115,11 @@ module _ {K Q E X : Type 0} (is_honest : K → Bool) (moment : K → ℕ) (image
   -- ---- the last action
 
   module _ (old mid new : State K Q E X) (net : Network) (w : World) (v : ℕ) (from : List Emission) (reported : List Item) (placings : List Placing)
-      (h : Puts is_honest moment image left told frames counted disk_count armed entropy_count device_count wire_count old mid net w v from [] reported placings) where
+      (h : Puts outside old mid net w v from [] reported placings) where
     abbrev last : Outcome → Script
     last out = Ended
 
-    module _ (k : HasNoted is_honest moment image left told frames counted disk_count armed entropy_count device_count wire_count mid new net h.after v) where
+    module _ (k : HasNoted outside mid new net h.after v) where
       abbrev x : World
       x = (step net h.after (Complete v)).0
 
@@ -145,22 +144,22 @@ module _ {K Q E X : Type 0} (is_honest : K → Bool) (moment : K → ℕ) (image
         is = h.is (Complete v ∷ []) noted_is;
         said = λ number. h.said number (Complete v ∷ []) ∙ ap (reporting (numbered number reported)) (noted_said number) ∙ none_more number;
         ready = k.ready;
-        tallied = tallied_more disk_count armed entropy_count device_count wire_count net.site old mid new h.actions (Complete v ∷ []) h.tallied k.tallied;
+        tallied = tallied_more outside net.site old mid new h.actions (Complete v ∷ []) h.tallied k.tallied;
       }
 
-    pub stayed_breaks : HasStayed is_honest moment image left told frames counted disk_count armed entropy_count device_count wire_count mid new net h.after →
-        Breaks is_honest moment image left told frames counted disk_count armed entropy_count device_count wire_count old new net w v from
+    pub stayed_breaks : HasStayed outside mid new net h.after →
+        Breaks outside old new net w v from
     stayed_breaks k = record {
       actions = h.actions ++ [];
       is = h.is [] (none_is net h.after v []);
       rests = subst (λ (y : World). Standing new net y) (sym (ap (λ (p : Played). p.world) (h.said 0 [] ∙ ap (reporting (numbered 0 reported)) (none_said net h.after v [])))) k.stands;
-      tallied = tallied_more disk_count armed entropy_count device_count wire_count net.site old mid new h.actions [] h.tallied k.tallied;
+      tallied = tallied_more outside net.site old mid new h.actions [] h.tallied k.tallied;
     }
 
   -- ---- the first action
 
   module _ (old mid : State K Q E X) (net : Network) (w : World) (v : ℕ) (reply : Reply)
-      (h : HasPlanned is_honest moment image left told frames counted disk_count armed entropy_count device_count wire_count old mid net w v reply) where
+      (h : HasPlanned outside old mid net w v reply) where
     abbrev first : Action
     first = Ask v Plan h.environment
 
@@ -230,15 +229,15 @@ module _ {K Q E X : Type 0} (is_honest : K → Bool) (moment : K → ℕ) (image
   -- ---- a tick with frames to put
 
   module _ (old mid : State K Q E X) (net : Network) (w : World) (v : ℕ) (orders : List Order) (repeats : List Repeat) (shorts : List ShortOf)
-      (h : HasPlanned is_honest moment image left told frames counted disk_count armed entropy_count device_count wire_count old mid net w v (Planned orders repeats shorts)) where
+      (h : HasPlanned outside old mid net w v (Planned orders repeats shorts)) where
     abbrev w₂ : World
     w₂ = (step net w (Ask v Plan h.environment)).0
 
     abbrev wanted : Site → List Emission
     wanted s = tick_order (outgoing_lanes s v) repeats orders
 
-    pub planned_sending : IsReady Standing old net w → (s : Site) → net.site ≡ s → Sending is_honest moment image left told frames counted mid net w₂ v (wanted s) []
-    planned_sending ready s sited = subst (λ (t : Site). Sending is_honest moment image left told frames counted mid net w₂ v (wanted t) []) sited (record {
+    pub planned_sending : IsReady Standing old net w → (s : Site) → net.site ≡ s → Sending outside mid net w₂ v (wanted s) []
+    planned_sending ready s sited = subst (λ (t : Site). Sending outside mid net w₂ v (wanted t) []) sited (record {
       stands = h.stands;
       sends = plan_goes net w v h.environment orders repeats shorts ready.stands.running.network ready.stands.running.conserved (quiet_before w ready.quiet) h.may h.said;
       up = planned_up net w v h.environment orders repeats shorts h.said;
@@ -258,16 +257,16 @@ module _ {K Q E X : Type 0} (is_honest : K → Bool) (moment : K → ℕ) (image
           said = λ number. planned_said old mid net w v (Planned orders repeats shorts) h net.site quiet number k.actions ∙ ap (reporting (numbered number head)) (k.said number)
               ∙ λ i. record { items = numbered_both number head reported i; world = k.after; ending = Whole };
           ready = k.ready;
-          tallied = tallied_more disk_count armed entropy_count device_count wire_count net.site old mid new (Ask v Plan h.environment ∷ []) k.actions h.tallied k.tallied;
+          tallied = tallied_more outside net.site old mid new (Ask v Plan h.environment ∷ []) k.actions h.tallied k.tallied;
         }
 
     pub tick_breaks : (new : State K Q E X) (quiet : Bool) (s : Site) → net.site ≡ s →
-        Breaks is_honest moment image left told frames counted disk_count armed entropy_count device_count wire_count mid new net w₂ v (wanted s) → Begins Resting Counted old new net w (ticked net.site quiet v)
+        Breaks outside mid new net w₂ v (wanted s) → Begins Resting Counted old new net w (ticked net.site quiet v)
     tick_breaks new quiet s sited k' =
         let k : Begins Standing Counted mid new net w₂ (emitted v (wanted net.site)) = subst (λ (t : Site). Begins Standing Counted mid new net w₂ (emitted v (wanted t))) (sym sited) k' in
         record {
           actions = Ask v Plan h.environment ∷ k.actions;
           is = planned_is old mid net w v (Planned orders repeats shorts) h net.site quiet k.actions k.is;
           rests = subst (λ (y : World). Resting new net y) (sym (ap (λ (p : Played). p.world) (planned_said old mid net w v (Planned orders repeats shorts) h net.site quiet 0 k.actions))) (rests_of new net _ k.rests);
-          tallied = tallied_more disk_count armed entropy_count device_count wire_count net.site old mid new (Ask v Plan h.environment ∷ []) k.actions h.tallied k.tallied;
+          tallied = tallied_more outside net.site old mid new (Ask v Plan h.environment ∷ []) k.actions h.tallied k.tallied;
         }

@@ -3,6 +3,7 @@ pub mod Blocks
 pub mod Changed
 pub mod Frames
 pub mod Moving
+pub mod Outside
 pub mod Rests
 pub mod Sending
 pub mod Sized

@@ -1,9 +1,7 @@
 -- Starting a node's manager. If it is up afterwards, each lane that leaves the node takes the blocks that it lacks, and goes on at the journal's
 -- lease.
-use Rattle.std.specs.Prelude.{◌≡◌, ℕ, ◌-◌, ◌*◌, ◌≤◌, ◌==◌, Bool, true, false, List, [], ◌∷◌, length, take, slice_get, Option, Some, if◌then◌else◌}
+use Rattle.std.specs.Prelude.{◌≡◌, ℕ, ◌-◌, ◌*◌, ◌≤◌, ◌==◌, Bool, true, false, List, [], ◌∷◌, length, take, slice_get, Some, if◌then◌else◌}
 use Rattle.qkd_base.specs.declared.lane.Lane.{Lane}
-use Rattle.disk_model.specs.declared.arm.Armings.{Armings}
-use Rattle.net_model.specs.OctetSequence.{OctetSequence}
 use Rattle.net_model.specs.Site.{Site, sender}
 use Rattle.net_model.specs.World.{Network, World}
 use Rattle.net_model.specs.View.{View, port_of, incoming_octets}
@@ -18,25 +16,25 @@ use Rattle.lane_sender.specs.Lane.{LaneForm, burnt_to}
 use Rattle.world_nodes.specs.Stands.{PostStands}
 use Rattle.world_state.specs.Tallied.{Tallied}
 use Rattle.world_state.specs.declared.state.State.{State}
+use Rattle.world_state.specs.Outside.{Outside}
 
 abbrev pub is_started : StartResult → Bool
 is_started starts.Started = true
 is_started _ = false
 
 -- All parts are as the start leaves them, except the lanes, which stay as they were.
-pub record HasBegun {K Q E X : Type 0} (is_honest : K → Bool) (moment : K → ℕ) (image : K → ℕ → List ℕ → Type 0) (left : E → Option OctetSequence)
-    (disk_count : K → ℕ) (armed : K → Armings) (entropy_count : E → ℕ) (device_count : Q → ℕ) (wire_count : X → ℕ)
+pub record HasBegun {K Q E X : Type 0} (outside : Outside K Q E X)
     (old new : State K Q E X) (net : Network) (w : World) (v : ℕ) (result : StartResult) : Type 0 where
   pub recovery : Recovery
   pub may : IsStep net w (Start v recovery)
   pub said : (step net w (Start v recovery)).1 ≡ started result
   pub site : new.site ≡ old.site
   pub nodes : length new.posts.items ≡ length old.posts.items
-  pub posts : (u : ℕ) (p : Post K E) → slice_get new.posts.items u ≡ Some p → PostStands is_honest moment image left net (step net w (Start v recovery)).0 u p
+  pub posts : (u : ℕ) (p : Post K E) → slice_get new.posts.items u ≡ Some p → PostStands outside.disk outside.entropy net (step net w (Start v recovery)).0 u p
   pub lanes : new.lanes.items ≡ old.lanes.items
   pub devices : new.devices.items ≡ old.devices.items
   pub up : new.up ≡ old.up
-  pub tallied : Tallied disk_count armed entropy_count device_count wire_count old new net.site (Start v recovery ∷ [])
+  pub tallied : Tallied outside old new net.site (Start v recovery ∷ [])
 
 -- the bytes that a manager has of a lane that leaves its node
 

@@ -1,10 +1,9 @@
 -- The counts of a run: how often each part failed, and with which faults each disk was armed.
-use Rattle.std.specs.Prelude.{◌≡◌, ℕ, ◌+◌, ◌-◌, ◌^◌, ◌≤◌, min, true, List, length, slice_get, Option, Some}
+use Rattle.std.specs.Prelude.{◌≡◌, ℕ, ◌+◌, ◌-◌, ◌^◌, ◌≤◌, min, List, length, slice_get, Some}
 use Rattle.std.specs.Option.{option_map}
 use Rattle.qkd_base.specs.declared.lane.Lane.{Lane}
 use Rattle.disk_model.specs.declared.arm.Armings.{Armings}
 use Rattle.net_model.specs.Site.{Site}
-use Rattle.net_model.specs.Events.{is_lane}
 use Rattle.net_model.specs.Action.{Action, Fault}
 use Rattle.net_model.specs.Faults.{disk_faults, entropy_faults, device_faults, wire_faults, armings}
 use Rattle.world_nodes.specs.Passed.{Post}
@@ -14,6 +13,9 @@ use Rattle.run_ops.specs.Acting.{fault_of}
 use Rattle.world_nodes.specs.Counts.{disk_of, entropy_of}
 use Rattle.world_state.specs.Stands.{place_of}
 use Rattle.world_state.specs.declared.state.State.{State}
+use Rattle.disk_model.specs.declared.disk.Disk as Disk
+use Rattle.source_devices.specs.declared.entropy.Entropy as Entropy
+use Rattle.world_state.specs.Outside.{Outside}
 
 -- A part failed n times: its count rose by at least n, or it is at its highest value, 2^64 - 1. Where the part didn't fail, the count stayed. So if the
 -- faults come in some order, the count may have risen with each of them, and only with them.
@@ -27,24 +29,24 @@ pub record IsArmedBy (faults : List Fault) (before now : Armings) : Type 0 where
   pub last : option_map fault_of now.last ≡ last_of_both (option_map fault_of before.last) faults
 
 -- the counts of a node's disk and of its entropy
-pub record PostTallied {K E : Type 0} (disk_count : K → ℕ) (armed : K → Armings) (entropy_count : E → ℕ) (site : Site) (v : ℕ) (actions : List Action) (old new : Post K E) : Type 0 where
+pub record PostTallied {K E : Type 0} (disk_says : Disk.Ghosts K) (entropy_says : Entropy.Ghosts E) (site : Site) (v : ℕ) (actions : List Action) (old new : Post K E) : Type 0 where
   pub before : K
   pub now : K
   pub was : disk_of old ≡ Some before
   pub is : disk_of new ≡ Some now
-  pub failed : Counted (disk_faults site v actions) (disk_count before) (disk_count now)
-  pub armed_with : IsArmedBy (armings v actions) (armed before) (armed now)
-  pub refused : Counted (entropy_faults v actions) (entropy_count (entropy_of old)) (entropy_count (entropy_of new))
+  pub failed : Counted (disk_faults site v actions) (disk_says.faults before) (disk_says.faults now)
+  pub armed_with : IsArmedBy (armings v actions) (disk_says.armings before) (disk_says.armings now)
+  pub refused : Counted (entropy_faults v actions) (entropy_says.faults (entropy_of old)) (entropy_says.faults (entropy_of new))
 
 -- the counts of all parts
-pub record Tallied {K Q E X : Type 0} (disk_count : K → ℕ) (armed : K → Armings) (entropy_count : E → ℕ) (device_count : Q → ℕ) (wire_count : X → ℕ)
+pub record Tallied {K Q E X : Type 0} (outside : Outside K Q E X)
     (old new : State K Q E X) (site : Site) (actions : List Action) : Type 0 where
   pub nodes : length new.posts.items ≡ length old.posts.items
   pub posts : (v : ℕ) (p q : Post K E) → slice_get old.posts.items v ≡ Some p → slice_get new.posts.items v ≡ Some q →
-      PostTallied disk_count armed entropy_count site v actions p q
+      PostTallied outside.disk outside.entropy site v actions p q
   pub links : length new.devices.items ≡ length old.devices.items
   pub devices : (link : ℕ) (p q : Q) → slice_get old.devices.items link ≡ Some p → slice_get new.devices.items link ≡ Some q →
-      Counted (device_faults link actions) (device_count p) (device_count q)
+      Counted (device_faults link actions) (outside.device.faults p) (outside.device.faults q)
   pub sides : length new.lanes.items ≡ length old.lanes.items
   pub wires : (l : Lane) (p q : LaneForm X) → slice_get old.lanes.items (place_of l) ≡ Some p → slice_get new.lanes.items (place_of l) ≡ Some q →
-      Counted (wire_faults l actions) (wire_count p.wire) (wire_count q.wire)
+      Counted (wire_faults l actions) (outside.wire.faults p.wire) (outside.wire.faults q.wire)

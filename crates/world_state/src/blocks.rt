@@ -14,6 +14,7 @@ ghost use Rattle.world_state.specs.Blocks.{IsBlockTaken};
 ghost use Rattle.world_state.specs.Rests.{Rests};
 ghost use Rattle.world_state.specs.Stands.{Stands};
 ghost use Rattle.world_state.specs.Tallied.{Tallied};
+ghost use Rattle.world_state.specs.Outside.{outside};
 
 use crate::State;
 use crate::state_reads::lane_place;
@@ -52,10 +53,10 @@ fn hand<K: Disk + Drop, Q: Device + Drop, E: Entropy + Drop, X: Wire + Drop>(
     into: &mut [u8; 1024],
 ) -> BlockTake
     requires fit { is_fit (site_of state.old.site) (TakeBlock node link Fine) ≡ true }
-    requires ready { (net : Network) × (w : World) × IsReady (Stands K.is_honest K.moment K.image E.left Q.told X.frames X.counted) state.old net w }
-    ensures armed { most_armed K.armings state.new.posts.items ≡ most_armed K.armings state.old.posts.items }
-    ensures taken { (net : Network) (w : World) → IsReady (Stands K.is_honest K.moment K.image E.left Q.told X.frames X.counted) state.old net w
-        → IsBlockTaken K.is_honest K.moment K.image E.left Q.told K.faults K.armings E.faults Q.faults X.faults state.old state.new net w node link into.new (taken result) }
+    requires ready { (net : Network) × (w : World) × IsReady (Stands (outside K.Disk Q.Device E.Entropy X.Wire)) state.old net w }
+    ensures armed { most_armed K.Disk state.new.posts.items ≡ most_armed K.Disk state.old.posts.items }
+    ensures taken { (net : Network) (w : World) → IsReady (Stands (outside K.Disk Q.Device E.Entropy X.Wire)) state.old net w
+        → IsBlockTaken (outside K.Disk Q.Device E.Entropy X.Wire) state.old state.new net w node link into.new (taken result) }
 {
     let up = state.up;
     let alloc = *state.posts.allocator();
@@ -72,13 +73,13 @@ pub fn take_block<K: Disk + Drop, Q: Device + Drop, E: Entropy + Drop, X: Wire +
     link: LinkNo,
 ) -> Result<BlockTake, Memory>
     requires fit { is_fit (site_of state.old.site) (TakeBlock node link Fine) ≡ true }
-    requires ready { (net : Network) × (w : World) × IsReady (Stands K.is_honest K.moment K.image E.left Q.told X.frames X.counted) state.old net w }
+    requires ready { (net : Network) × (w : World) × IsReady (Stands (outside K.Disk Q.Device E.Entropy X.Wire)) state.old net w }
     ensures site { state.new.site ≡ state.old.site }
-    ensures armed { most_armed K.armings state.new.posts.items ≡ most_armed K.armings state.old.posts.items }
-    ensures done { IfOk result (λ take. (net : Network) (w : World) → IsReady (Stands K.is_honest K.moment K.image E.left Q.told X.frames X.counted) state.old net w
-        → Does (Stands K.is_honest K.moment K.image E.left Q.told X.frames X.counted) (Tallied K.faults K.armings E.faults Q.faults X.faults) state.old state.new net w (TakeBlock node link Fine) (taken take)) }
-    ensures left { OnErr result ((net : Network) (w : World) → IsReady (Stands K.is_honest K.moment K.image E.left Q.told X.frames X.counted) state.old net w
-        → Begins (Rests K.is_honest K.moment K.image E.left Q.told X.frames X.counted) (Tallied K.faults K.armings E.faults Q.faults X.faults) state.old state.new net w (asks (TakeBlock node link Fine) (λ outcome. []))) }
+    ensures armed { most_armed K.Disk state.new.posts.items ≡ most_armed K.Disk state.old.posts.items }
+    ensures done { IfOk result (λ take. (net : Network) (w : World) → IsReady (Stands (outside K.Disk Q.Device E.Entropy X.Wire)) state.old net w
+        → Does (Stands (outside K.Disk Q.Device E.Entropy X.Wire)) (Tallied (outside K.Disk Q.Device E.Entropy X.Wire)) state.old state.new net w (TakeBlock node link Fine) (taken take)) }
+    ensures left { OnErr result ((net : Network) (w : World) → IsReady (Stands (outside K.Disk Q.Device E.Entropy X.Wire)) state.old net w
+        → Begins (Rests (outside K.Disk Q.Device E.Entropy X.Wire)) (Tallied (outside K.Disk Q.Device E.Entropy X.Wire)) state.old state.new net w (asks (TakeBlock node link Fine) (λ outcome. []))) }
 {
     let mut block = [0u8; 1024];
     let take = hand(state, node, link, &mut block);

@@ -13,6 +13,7 @@ ghost use Rattle.world_state.specs.Frames.{IsOnWire};
 ghost use Rattle.world_state.specs.Rests.{Rests};
 ghost use Rattle.world_state.specs.Stands.{Stands};
 ghost use Rattle.world_state.specs.Tallied.{Tallied};
+ghost use Rattle.world_state.specs.Outside.{outside};
 
 use crate::State;
 use crate::places::at;
@@ -31,8 +32,8 @@ pub fn seen<K: Disk + Drop, Q: Device + Drop, E: Entropy + Drop, X: Wire + Drop>
     number: u64,
 ) -> Result<Option<Octets>, Memory>
     requires lane { is_lane (site_of state.now.site) lane.now ≡ true }
-    requires ready { (net : Network) × (w : World) × Stands K.is_honest K.moment K.image E.left Q.told X.frames X.counted state.now net w }
-    ensures found { IfOk result (λ found. (net : Network) (w : World) → Stands K.is_honest K.moment K.image E.left Q.told X.frames X.counted state.now net w
+    requires ready { (net : Network) × (w : World) × Stands (outside K.Disk Q.Device E.Entropy X.Wire) state.now net w }
+    ensures found { IfOk result (λ found. (net : Network) (w : World) → Stands (outside K.Disk Q.Device E.Entropy X.Wire) state.now net w
         → MatchOption found (slice_get (w.wire lane.now) number ≡ None) (IsOnWire net w lane.now number)) }
     ensures short { IfOk result (λ found. IfSome found (λ octets. length octets ≤ 600)) }
 {
@@ -61,11 +62,11 @@ fn come<K: Disk + Drop, Q: Device + Drop, E: Entropy + Drop, X: Wire + Drop>(
     octets: Octets,
 ) -> Reply
     requires lane { is_lane (site_of state.old.site) lane.now ≡ true }
-    requires ready { (net : Network) × (w : World) × (number : ℕ) × IsOnWire net w lane.now number octets × IsReady (Stands K.is_honest K.moment K.image E.left Q.told X.frames X.counted) state.old net w }
+    requires ready { (net : Network) × (w : World) × (number : ℕ) × IsOnWire net w lane.now number octets × IsReady (Stands (outside K.Disk Q.Device E.Entropy X.Wire)) state.old net w }
     ensures site { state.new.site ≡ state.old.site }
-    ensures armed { most_armed K.armings state.new.posts.items ≡ most_armed K.armings state.old.posts.items }
-    ensures done { (net : Network) (w : World) (number : ℕ) → IsOnWire net w lane.now number octets → IsReady (Stands K.is_honest K.moment K.image E.left Q.told X.frames X.counted) state.old net w
-        → Does (Stands K.is_honest K.moment K.image E.left Q.told X.frames X.counted) (Tallied K.faults K.armings E.faults Q.faults X.faults) state.old state.new net w (Deliver lane.now number Fine) (Replies result) }
+    ensures armed { most_armed K.Disk state.new.posts.items ≡ most_armed K.Disk state.old.posts.items }
+    ensures done { (net : Network) (w : World) (number : ℕ) → IsOnWire net w lane.now number octets → IsReady (Stands (outside K.Disk Q.Device E.Entropy X.Wire)) state.old net w
+        → Does (Stands (outside K.Disk Q.Device E.Entropy X.Wire)) (Tallied (outside K.Disk Q.Device E.Entropy X.Wire)) state.old state.new net w (Deliver lane.now number Fine) (Replies result) }
 {
     let up = state.up;
     let node = receiver(&state.site, *lane);
@@ -83,13 +84,13 @@ pub fn pass<K: Disk + Drop, Q: Device + Drop, E: Entropy + Drop, X: Wire + Drop>
     number: u64,
 ) -> Result<Delivery, Memory>
     requires fit { is_fit (site_of state.old.site) (Deliver lane.now number Fine) ≡ true }
-    requires ready { (net : Network) × (w : World) × IsReady (Stands K.is_honest K.moment K.image E.left Q.told X.frames X.counted) state.old net w }
+    requires ready { (net : Network) × (w : World) × IsReady (Stands (outside K.Disk Q.Device E.Entropy X.Wire)) state.old net w }
     ensures site { state.new.site ≡ state.old.site }
-    ensures armed { most_armed K.armings state.new.posts.items ≡ most_armed K.armings state.old.posts.items }
-    ensures done { IfOk result (λ delivery. (net : Network) (w : World) → IsReady (Stands K.is_honest K.moment K.image E.left Q.told X.frames X.counted) state.old net w
-        → Does (Stands K.is_honest K.moment K.image E.left Q.told X.frames X.counted) (Tallied K.faults K.armings E.faults Q.faults X.faults) state.old state.new net w (Deliver lane.now number Fine) (delivered delivery)) }
-    ensures left { OnErr result ((net : Network) (w : World) → IsReady (Stands K.is_honest K.moment K.image E.left Q.told X.frames X.counted) state.old net w
-        → Begins (Rests K.is_honest K.moment K.image E.left Q.told X.frames X.counted) (Tallied K.faults K.armings E.faults Q.faults X.faults) state.old state.new net w (asks (Deliver lane.now number Fine) (λ outcome. []))) }
+    ensures armed { most_armed K.Disk state.new.posts.items ≡ most_armed K.Disk state.old.posts.items }
+    ensures done { IfOk result (λ delivery. (net : Network) (w : World) → IsReady (Stands (outside K.Disk Q.Device E.Entropy X.Wire)) state.old net w
+        → Does (Stands (outside K.Disk Q.Device E.Entropy X.Wire)) (Tallied (outside K.Disk Q.Device E.Entropy X.Wire)) state.old state.new net w (Deliver lane.now number Fine) (delivered delivery)) }
+    ensures left { OnErr result ((net : Network) (w : World) → IsReady (Stands (outside K.Disk Q.Device E.Entropy X.Wire)) state.old net w
+        → Begins (Rests (outside K.Disk Q.Device E.Entropy X.Wire)) (Tallied (outside K.Disk Q.Device E.Entropy X.Wire)) state.old state.new net w (asks (Deliver lane.now number Fine) (λ outcome. []))) }
 {
     match seen(state, lane, number) {
         Err(_) => Err(Memory),

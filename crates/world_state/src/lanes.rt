@@ -4,6 +4,7 @@ ghost use Rattle.qkd_base.specs.Lane.{lane_eq};
 ghost use Rattle.net_model.specs.World.{Network, World};
 ghost use Rattle.net_model.specs.Tick.{Emission, tick_order};
 ghost use Rattle.world_state.specs.Sending.{Sending, PutsOn, Breaks, repeats_on, orders_on};
+ghost use Rattle.world_state.specs.Outside.{outside};
 
 use crate::plan_puts::{put_order, put_repeat};
 use crate::{Progress, State};
@@ -26,13 +27,13 @@ fn put_repeats<K: Disk + Drop, Q: Device + Drop, E: Entropy + Drop, X: Wire + Dr
     repeats: &[Repeat],
     progress: &mut Progress,
 ) -> Result<(), Memory>
-    requires next { (net : Network) × (w : World) × (es : List Emission) × Sending K.is_honest K.moment K.image E.left Q.told X.frames X.counted state.old net w node (repeats_on lane repeats.now ++ es) progress.old.placings }
+    requires next { (net : Network) × (w : World) × (es : List Emission) × Sending (outside K.Disk Q.Device E.Entropy X.Wire) state.old net w node (repeats_on lane repeats.now ++ es) progress.old.placings }
     ensures site { state.new.site ≡ state.old.site }
     ensures posts { state.new.posts.items ≡ state.old.posts.items }
-    ensures ok { OnOk result ((net : Network) (w : World) (es : List Emission) → Sending K.is_honest K.moment K.image E.left Q.told X.frames X.counted state.old net w node (repeats_on lane repeats.now ++ es) progress.old.placings
-        → PutsOn K.is_honest K.moment K.image E.left Q.told X.frames X.counted K.faults K.armings E.faults Q.faults X.faults state.old state.new net w node (repeats_on lane repeats.now ++ es) es progress.old.items progress.new.items progress.new.placings) }
-    ensures err { OnErr result ((net : Network) (w : World) (es : List Emission) → Sending K.is_honest K.moment K.image E.left Q.told X.frames X.counted state.old net w node (repeats_on lane repeats.now ++ es) progress.old.placings
-        → Breaks K.is_honest K.moment K.image E.left Q.told X.frames X.counted K.faults K.armings E.faults Q.faults X.faults state.old state.new net w node (repeats_on lane repeats.now ++ es)) }
+    ensures ok { OnOk result ((net : Network) (w : World) (es : List Emission) → Sending (outside K.Disk Q.Device E.Entropy X.Wire) state.old net w node (repeats_on lane repeats.now ++ es) progress.old.placings
+        → PutsOn (outside K.Disk Q.Device E.Entropy X.Wire) state.old state.new net w node (repeats_on lane repeats.now ++ es) es progress.old.items progress.new.items progress.new.placings) }
+    ensures err { OnErr result ((net : Network) (w : World) (es : List Emission) → Sending (outside K.Disk Q.Device E.Entropy X.Wire) state.old net w node (repeats_on lane repeats.now ++ es) progress.old.placings
+        → Breaks (outside K.Disk Q.Device E.Entropy X.Wire) state.old state.new net w node (repeats_on lane repeats.now ++ es)) }
 {
     for repeat in repeats {
         if is_same(&repeat.lane, &lane) {
@@ -50,13 +51,13 @@ fn put_orders<K: Disk + Drop, Q: Device + Drop, E: Entropy + Drop, X: Wire + Dro
     orders: &[Order],
     progress: &mut Progress,
 ) -> Result<(), Memory>
-    requires next { (net : Network) × (w : World) × (es : List Emission) × Sending K.is_honest K.moment K.image E.left Q.told X.frames X.counted state.old net w node (orders_on lane orders.now ++ es) progress.old.placings }
+    requires next { (net : Network) × (w : World) × (es : List Emission) × Sending (outside K.Disk Q.Device E.Entropy X.Wire) state.old net w node (orders_on lane orders.now ++ es) progress.old.placings }
     ensures site { state.new.site ≡ state.old.site }
     ensures posts { state.new.posts.items ≡ state.old.posts.items }
-    ensures ok { OnOk result ((net : Network) (w : World) (es : List Emission) → Sending K.is_honest K.moment K.image E.left Q.told X.frames X.counted state.old net w node (orders_on lane orders.now ++ es) progress.old.placings
-        → PutsOn K.is_honest K.moment K.image E.left Q.told X.frames X.counted K.faults K.armings E.faults Q.faults X.faults state.old state.new net w node (orders_on lane orders.now ++ es) es progress.old.items progress.new.items progress.new.placings) }
-    ensures err { OnErr result ((net : Network) (w : World) (es : List Emission) → Sending K.is_honest K.moment K.image E.left Q.told X.frames X.counted state.old net w node (orders_on lane orders.now ++ es) progress.old.placings
-        → Breaks K.is_honest K.moment K.image E.left Q.told X.frames X.counted K.faults K.armings E.faults Q.faults X.faults state.old state.new net w node (orders_on lane orders.now ++ es)) }
+    ensures ok { OnOk result ((net : Network) (w : World) (es : List Emission) → Sending (outside K.Disk Q.Device E.Entropy X.Wire) state.old net w node (orders_on lane orders.now ++ es) progress.old.placings
+        → PutsOn (outside K.Disk Q.Device E.Entropy X.Wire) state.old state.new net w node (orders_on lane orders.now ++ es) es progress.old.items progress.new.items progress.new.placings) }
+    ensures err { OnErr result ((net : Network) (w : World) (es : List Emission) → Sending (outside K.Disk Q.Device E.Entropy X.Wire) state.old net w node (orders_on lane orders.now ++ es) progress.old.placings
+        → Breaks (outside K.Disk Q.Device E.Entropy X.Wire) state.old state.new net w node (orders_on lane orders.now ++ es)) }
 {
     for order in orders {
         if is_same(&order.lane, &lane) {
@@ -75,13 +76,13 @@ pub fn put_lanes<K: Disk + Drop, Q: Device + Drop, E: Entropy + Drop, X: Wire + 
     orders: &[Order],
     progress: &mut Progress,
 ) -> Result<(), Memory>
-    requires next { (net : Network) × (w : World) × (es : List Emission) × Sending K.is_honest K.moment K.image E.left Q.told X.frames X.counted state.old net w node (tick_order lanes.now repeats.now orders.now ++ es) progress.old.placings }
+    requires next { (net : Network) × (w : World) × (es : List Emission) × Sending (outside K.Disk Q.Device E.Entropy X.Wire) state.old net w node (tick_order lanes.now repeats.now orders.now ++ es) progress.old.placings }
     ensures site { state.new.site ≡ state.old.site }
     ensures posts { state.new.posts.items ≡ state.old.posts.items }
-    ensures ok { OnOk result ((net : Network) (w : World) (es : List Emission) → Sending K.is_honest K.moment K.image E.left Q.told X.frames X.counted state.old net w node (tick_order lanes.now repeats.now orders.now ++ es) progress.old.placings
-        → PutsOn K.is_honest K.moment K.image E.left Q.told X.frames X.counted K.faults K.armings E.faults Q.faults X.faults state.old state.new net w node (tick_order lanes.now repeats.now orders.now ++ es) es progress.old.items progress.new.items progress.new.placings) }
-    ensures err { OnErr result ((net : Network) (w : World) (es : List Emission) → Sending K.is_honest K.moment K.image E.left Q.told X.frames X.counted state.old net w node (tick_order lanes.now repeats.now orders.now ++ es) progress.old.placings
-        → Breaks K.is_honest K.moment K.image E.left Q.told X.frames X.counted K.faults K.armings E.faults Q.faults X.faults state.old state.new net w node (tick_order lanes.now repeats.now orders.now ++ es)) }
+    ensures ok { OnOk result ((net : Network) (w : World) (es : List Emission) → Sending (outside K.Disk Q.Device E.Entropy X.Wire) state.old net w node (tick_order lanes.now repeats.now orders.now ++ es) progress.old.placings
+        → PutsOn (outside K.Disk Q.Device E.Entropy X.Wire) state.old state.new net w node (tick_order lanes.now repeats.now orders.now ++ es) es progress.old.items progress.new.items progress.new.placings) }
+    ensures err { OnErr result ((net : Network) (w : World) (es : List Emission) → Sending (outside K.Disk Q.Device E.Entropy X.Wire) state.old net w node (tick_order lanes.now repeats.now orders.now ++ es) progress.old.placings
+        → Breaks (outside K.Disk Q.Device E.Entropy X.Wire) state.old state.new net w node (tick_order lanes.now repeats.now orders.now ++ es)) }
 {
     for lane in lanes {
         put_repeats(state, node, *lane, repeats, progress)?;

@@ -9,6 +9,7 @@ ghost use Rattle.run_ops.specs.Acting.{IsReady, Does, fault_of};
 ghost use Rattle.world_state.specs.Armed.{most_armed};
 ghost use Rattle.world_state.specs.Stands.{Stands};
 ghost use Rattle.world_state.specs.Tallied.{Tallied};
+ghost use Rattle.world_state.specs.Outside.{outside};
 
 use crate::State;
 use disk_model::{Arm, Disk};
@@ -21,11 +22,11 @@ pub fn crash<K: Disk + Drop, Q: Device + Drop, E: Entropy + Drop, X: Wire + Drop
     node: NodeNo,
 ) -> bool
     requires fit { is_fit (site_of state.old.site) (Crashes node) ≡ true }
-    requires ready { (net : Network) × (w : World) × IsReady (Stands K.is_honest K.moment K.image E.left Q.told X.frames X.counted) state.old net w }
+    requires ready { (net : Network) × (w : World) × IsReady (Stands (outside K.Disk Q.Device E.Entropy X.Wire)) state.old net w }
     ensures site { state.new.site ≡ state.old.site }
-    ensures armed { most_armed K.armings state.new.posts.items ≡ most_armed K.armings state.old.posts.items }
-    ensures done { (net : Network) (w : World) → IsReady (Stands K.is_honest K.moment K.image E.left Q.told X.frames X.counted) state.old net w
-        → Does (Stands K.is_honest K.moment K.image E.left Q.told X.frames X.counted) (Tallied K.faults K.armings E.faults Q.faults X.faults) state.old state.new net w (Crashes node) (crashed result) }
+    ensures armed { most_armed K.Disk state.new.posts.items ≡ most_armed K.Disk state.old.posts.items }
+    ensures done { (net : Network) (w : World) → IsReady (Stands (outside K.Disk Q.Device E.Entropy X.Wire)) state.old net w
+        → Does (Stands (outside K.Disk Q.Device E.Entropy X.Wire)) (Tallied (outside K.Disk Q.Device E.Entropy X.Wire)) state.old state.new net w (Crashes node) (crashed result) }
 {
     let place = usize::from(node.get());
     let post = state.posts.remove(place);
@@ -41,12 +42,12 @@ pub fn arm<K: Disk + Drop, Q: Device + Drop, E: Entropy + Drop, X: Wire + Drop>(
     arm: Arm,
 )
     requires fit { is_fit (site_of state.old.site) (Arms node (fault_of arm)) ≡ true }
-    requires ready { (net : Network) × (w : World) × IsReady (Stands K.is_honest K.moment K.image E.left Q.told X.frames X.counted) state.old net w }
-    requires few { most_armed K.armings state.old.posts.items < 2 ^ 32 }
+    requires ready { (net : Network) × (w : World) × IsReady (Stands (outside K.Disk Q.Device E.Entropy X.Wire)) state.old net w }
+    requires few { most_armed K.Disk state.old.posts.items < 2 ^ 32 }
     ensures site { state.new.site ≡ state.old.site }
-    ensures armed { most_armed K.armings state.new.posts.items ≤ most_armed K.armings state.old.posts.items + 1 }
-    ensures done { (net : Network) (w : World) → IsReady (Stands K.is_honest K.moment K.image E.left Q.told X.frames X.counted) state.old net w
-        → Does (Stands K.is_honest K.moment K.image E.left Q.told X.frames X.counted) (Tallied K.faults K.armings E.faults Q.faults X.faults) state.old state.new net w (Arms node (fault_of arm)) Armed }
+    ensures armed { most_armed K.Disk state.new.posts.items ≤ most_armed K.Disk state.old.posts.items + 1 }
+    ensures done { (net : Network) (w : World) → IsReady (Stands (outside K.Disk Q.Device E.Entropy X.Wire)) state.old net w
+        → Does (Stands (outside K.Disk Q.Device E.Entropy X.Wire)) (Tallied (outside K.Disk Q.Device E.Entropy X.Wire)) state.old state.new net w (Arms node (fault_of arm)) Armed }
 {
     match state.posts.get_mut(usize::from(node.get())) {
         None => {}

@@ -12,6 +12,7 @@ ghost use Rattle.world_state.specs.Rests.{Rests};
 ghost use Rattle.world_state.specs.Stands.{Stands};
 ghost use Rattle.world_state.specs.Starting.{is_started, HasBegun, octets_in, lease_in, refilled, gone_on, MayRefill, MayGoOn, MayAllGoOn, AllWentOn, WiresKept};
 ghost use Rattle.world_state.specs.Tallied.{Tallied};
+ghost use Rattle.world_state.specs.Outside.{outside};
 
 use crate::State;
 use declared_site::Site;
@@ -41,11 +42,11 @@ fn begin<K: Disk + Drop, Q: Device + Drop, E: Entropy + Drop, X: Wire + Drop>(
 ) -> StartResult
     requires declared { IsDeclared state.old.site }
     requires fit { is_fit (site_of state.old.site) (Starts node (Recovers false)) ≡ true }
-    requires ready { (net : Network) × (w : World) × IsReady (Stands K.is_honest K.moment K.image E.left Q.told X.frames X.counted) state.old net w }
+    requires ready { (net : Network) × (w : World) × IsReady (Stands (outside K.Disk Q.Device E.Entropy X.Wire)) state.old net w }
     ensures site { state.new.site ≡ state.old.site }
-    ensures armed { most_armed K.armings state.new.posts.items ≡ most_armed K.armings state.old.posts.items }
-    ensures begun { (net : Network) (w : World) → IsReady (Stands K.is_honest K.moment K.image E.left Q.told X.frames X.counted) state.old net w
-        → HasBegun K.is_honest K.moment K.image E.left K.faults K.armings E.faults Q.faults X.faults state.old state.new net w node result }
+    ensures armed { most_armed K.Disk state.new.posts.items ≡ most_armed K.Disk state.old.posts.items }
+    ensures begun { (net : Network) (w : World) → IsReady (Stands (outside K.Disk Q.Device E.Entropy X.Wire)) state.old net w
+        → HasBegun (outside K.Disk Q.Device E.Entropy X.Wire) state.old state.new net w node result }
 {
     let place = usize::from(node.get());
     let post = state.posts.remove(place);
@@ -118,13 +119,13 @@ pub fn start<K: Disk + Drop, Q: Device + Drop, E: Entropy + Drop, X: Wire + Drop
 ) -> Result<StartResult, Memory>
     requires declared { IsDeclared state.old.site }
     requires fit { is_fit (site_of state.old.site) (Starts node (Recovers false)) ≡ true }
-    requires ready { (net : Network) × (w : World) × IsReady (Stands K.is_honest K.moment K.image E.left Q.told X.frames X.counted) state.old net w }
+    requires ready { (net : Network) × (w : World) × IsReady (Stands (outside K.Disk Q.Device E.Entropy X.Wire)) state.old net w }
     ensures site { state.new.site ≡ state.old.site }
-    ensures armed { most_armed K.armings state.new.posts.items ≡ most_armed K.armings state.old.posts.items }
-    ensures done { IfOk result (λ start. (net : Network) (w : World) → IsReady (Stands K.is_honest K.moment K.image E.left Q.told X.frames X.counted) state.old net w
-        → Does (Stands K.is_honest K.moment K.image E.left Q.told X.frames X.counted) (Tallied K.faults K.armings E.faults Q.faults X.faults) state.old state.new net w (Starts node (Recovers false)) (started start)) }
-    ensures left { OnErr result ((net : Network) (w : World) → IsReady (Stands K.is_honest K.moment K.image E.left Q.told X.frames X.counted) state.old net w
-        → Begins (Rests K.is_honest K.moment K.image E.left Q.told X.frames X.counted) (Tallied K.faults K.armings E.faults Q.faults X.faults) state.old state.new net w (asks (Starts node (Recovers false)) (λ outcome. []))) }
+    ensures armed { most_armed K.Disk state.new.posts.items ≡ most_armed K.Disk state.old.posts.items }
+    ensures done { IfOk result (λ start. (net : Network) (w : World) → IsReady (Stands (outside K.Disk Q.Device E.Entropy X.Wire)) state.old net w
+        → Does (Stands (outside K.Disk Q.Device E.Entropy X.Wire)) (Tallied (outside K.Disk Q.Device E.Entropy X.Wire)) state.old state.new net w (Starts node (Recovers false)) (started start)) }
+    ensures left { OnErr result ((net : Network) (w : World) → IsReady (Stands (outside K.Disk Q.Device E.Entropy X.Wire)) state.old net w
+        → Begins (Rests (outside K.Disk Q.Device E.Entropy X.Wire)) (Tallied (outside K.Disk Q.Device E.Entropy X.Wire)) state.old state.new net w (asks (Starts node (Recovers false)) (λ outcome. []))) }
 {
     let answer = begin(alloc, state, node);
     if !is_started(&answer) {

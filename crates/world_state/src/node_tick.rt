@@ -13,6 +13,7 @@ ghost use Rattle.world_state.specs.Sending.{Sending, Breaks};
 ghost use Rattle.world_state.specs.Stands.{Stands};
 ghost use Rattle.world_state.specs.Tallied.{Tallied};
 ghost use Rattle.world_state.specs.Ticking.{HasPlanned, HasNoted, HasStayed};
+ghost use Rattle.world_state.specs.Outside.{outside};
 
 use crate::lanes::put_lanes;
 use crate::{Progress, State};
@@ -31,10 +32,10 @@ fn plan<K: Disk + Drop, Q: Device + Drop, E: Entropy + Drop, X: Wire + Drop>(
     node: NodeNo,
 ) -> Reply
     requires node { node < length state.old.site.nodes }
-    requires ready { (net : Network) × (w : World) × IsReady (Stands K.is_honest K.moment K.image E.left Q.told X.frames X.counted) state.old net w }
+    requires ready { (net : Network) × (w : World) × IsReady (Stands (outside K.Disk Q.Device E.Entropy X.Wire)) state.old net w }
     ensures site { state.new.site ≡ state.old.site }
-    ensures armed { most_armed K.armings state.new.posts.items ≡ most_armed K.armings state.old.posts.items }
-    ensures planned { (net : Network) (w : World) → IsReady (Stands K.is_honest K.moment K.image E.left Q.told X.frames X.counted) state.old net w → HasPlanned K.is_honest K.moment K.image E.left Q.told X.frames X.counted K.faults K.armings E.faults Q.faults X.faults state.old state.new net w node result }
+    ensures armed { most_armed K.Disk state.new.posts.items ≡ most_armed K.Disk state.old.posts.items }
+    ensures planned { (net : Network) (w : World) → IsReady (Stands (outside K.Disk Q.Device E.Entropy X.Wire)) state.old net w → HasPlanned (outside K.Disk Q.Device E.Entropy X.Wire) state.old state.new net w node result }
 {
     let up = state.up;
     match state.posts.get_mut(usize::from(node.get())) {
@@ -49,11 +50,11 @@ fn note<K: Disk + Drop, Q: Device + Drop, E: Entropy + Drop, X: Wire + Drop>(
     node: NodeNo,
     placings: Placings,
 ) -> Result<(), Memory>
-    requires sent { (net : Network) × (w : World) × Sending K.is_honest K.moment K.image E.left Q.told X.frames X.counted state.old net w node [] placings }
+    requires sent { (net : Network) × (w : World) × Sending (outside K.Disk Q.Device E.Entropy X.Wire) state.old net w node [] placings }
     ensures site { state.new.site ≡ state.old.site }
-    ensures armed { most_armed K.armings state.new.posts.items ≡ most_armed K.armings state.old.posts.items }
-    ensures ok { OnOk result ((net : Network) (w : World) → Sending K.is_honest K.moment K.image E.left Q.told X.frames X.counted state.old net w node [] placings → HasNoted K.is_honest K.moment K.image E.left Q.told X.frames X.counted K.faults K.armings E.faults Q.faults X.faults state.old state.new net w node) }
-    ensures err { OnErr result ((net : Network) (w : World) → Sending K.is_honest K.moment K.image E.left Q.told X.frames X.counted state.old net w node [] placings → HasStayed K.is_honest K.moment K.image E.left Q.told X.frames X.counted K.faults K.armings E.faults Q.faults X.faults state.old state.new net w) }
+    ensures armed { most_armed K.Disk state.new.posts.items ≡ most_armed K.Disk state.old.posts.items }
+    ensures ok { OnOk result ((net : Network) (w : World) → Sending (outside K.Disk Q.Device E.Entropy X.Wire) state.old net w node [] placings → HasNoted (outside K.Disk Q.Device E.Entropy X.Wire) state.old state.new net w node) }
+    ensures err { OnErr result ((net : Network) (w : World) → Sending (outside K.Disk Q.Device E.Entropy X.Wire) state.old net w node [] placings → HasStayed (outside K.Disk Q.Device E.Entropy X.Wire) state.old state.new net w) }
 {
     let up = state.up;
     match state.posts.get_mut(usize::from(node.get())) {
@@ -75,13 +76,13 @@ fn send<K: Disk + Drop, Q: Device + Drop, E: Entropy + Drop, X: Wire + Drop>(
     items: Items<Item>,
 ) -> Result<Items<Item>, Memory>
     requires declared { IsDeclared state.old.site }
-    requires next { (net : Network) × (w : World) × Sending K.is_honest K.moment K.image E.left Q.told X.frames X.counted state.old net w node (tick_order (outgoing_lanes (site_of state.old.site) node) repeats.now orders.now) [] }
+    requires next { (net : Network) × (w : World) × Sending (outside K.Disk Q.Device E.Entropy X.Wire) state.old net w node (tick_order (outgoing_lanes (site_of state.old.site) node) repeats.now orders.now) [] }
     ensures site { state.new.site ≡ state.old.site }
-    ensures armed { most_armed K.armings state.new.posts.items ≡ most_armed K.armings state.old.posts.items }
-    ensures ok { IfOk result (λ all. (net : Network) (w : World) → Sending K.is_honest K.moment K.image E.left Q.told X.frames X.counted state.old net w node (tick_order (outgoing_lanes (site_of state.old.site) node) repeats.now orders.now) []
-        → (reported : List ItemValue) × (all ≡ items ++ reported) × Plays (Stands K.is_honest K.moment K.image E.left Q.told X.frames X.counted) (Tallied K.faults K.armings E.faults Q.faults X.faults) state.old state.new net w (emitted node (tick_order (outgoing_lanes (site_of state.old.site) node) repeats.now orders.now)) reported) }
-    ensures err { OnErr result ((net : Network) (w : World) → Sending K.is_honest K.moment K.image E.left Q.told X.frames X.counted state.old net w node (tick_order (outgoing_lanes (site_of state.old.site) node) repeats.now orders.now) []
-        → Breaks K.is_honest K.moment K.image E.left Q.told X.frames X.counted K.faults K.armings E.faults Q.faults X.faults state.old state.new net w node (tick_order (outgoing_lanes (site_of state.old.site) node) repeats.now orders.now)) }
+    ensures armed { most_armed K.Disk state.new.posts.items ≡ most_armed K.Disk state.old.posts.items }
+    ensures ok { IfOk result (λ all. (net : Network) (w : World) → Sending (outside K.Disk Q.Device E.Entropy X.Wire) state.old net w node (tick_order (outgoing_lanes (site_of state.old.site) node) repeats.now orders.now) []
+        → (reported : List ItemValue) × (all ≡ items ++ reported) × Plays (Stands (outside K.Disk Q.Device E.Entropy X.Wire)) (Tallied (outside K.Disk Q.Device E.Entropy X.Wire)) state.old state.new net w (emitted node (tick_order (outgoing_lanes (site_of state.old.site) node) repeats.now orders.now)) reported) }
+    ensures err { OnErr result ((net : Network) (w : World) → Sending (outside K.Disk Q.Device E.Entropy X.Wire) state.old net w node (tick_order (outgoing_lanes (site_of state.old.site) node) repeats.now orders.now) []
+        → Breaks (outside K.Disk Q.Device E.Entropy X.Wire) state.old state.new net w node (tick_order (outgoing_lanes (site_of state.old.site) node) repeats.now orders.now)) }
 {
     let lanes = outgoing_lanes(alloc, &state.site, node)?;
     let placings = Items::new(alloc);
@@ -109,11 +110,11 @@ pub fn tick<K: Disk + Drop, Q: Device + Drop, E: Entropy + Drop, X: Wire + Drop>
 ) -> Result<Items<Item>, Memory>
     requires declared { IsDeclared state.old.site }
     requires node { node < length state.old.site.nodes }
-    requires ready { (net : Network) × (w : World) × IsReady (Stands K.is_honest K.moment K.image E.left Q.told X.frames X.counted) state.old net w }
+    requires ready { (net : Network) × (w : World) × IsReady (Stands (outside K.Disk Q.Device E.Entropy X.Wire)) state.old net w }
     ensures site { state.new.site ≡ state.old.site }
-    ensures armed { most_armed K.armings state.new.posts.items ≡ most_armed K.armings state.old.posts.items }
-    ensures done { IfOk result (λ items. (net : Network) (w : World) → IsReady (Stands K.is_honest K.moment K.image E.left Q.told X.frames X.counted) state.old net w → Plays (Stands K.is_honest K.moment K.image E.left Q.told X.frames X.counted) (Tallied K.faults K.armings E.faults Q.faults X.faults) state.old state.new net w (ticked net.site quiet node) items) }
-    ensures left { OnErr result ((net : Network) (w : World) → IsReady (Stands K.is_honest K.moment K.image E.left Q.told X.frames X.counted) state.old net w → Begins (Rests K.is_honest K.moment K.image E.left Q.told X.frames X.counted) (Tallied K.faults K.armings E.faults Q.faults X.faults) state.old state.new net w (ticked net.site quiet node)) }
+    ensures armed { most_armed K.Disk state.new.posts.items ≡ most_armed K.Disk state.old.posts.items }
+    ensures done { IfOk result (λ items. (net : Network) (w : World) → IsReady (Stands (outside K.Disk Q.Device E.Entropy X.Wire)) state.old net w → Plays (Stands (outside K.Disk Q.Device E.Entropy X.Wire)) (Tallied (outside K.Disk Q.Device E.Entropy X.Wire)) state.old state.new net w (ticked net.site quiet node) items) }
+    ensures left { OnErr result ((net : Network) (w : World) → IsReady (Stands (outside K.Disk Q.Device E.Entropy X.Wire)) state.old net w → Begins (Rests (outside K.Disk Q.Device E.Entropy X.Wire)) (Tallied (outside K.Disk Q.Device E.Entropy X.Wire)) state.old state.new net w (ticked net.site quiet node)) }
 {
     let reply = plan(state, node);
     let items = tick_items(alloc, node, quiet, &reply)?;

@@ -9,6 +9,7 @@ ghost use Rattle.run_ops.specs.Reported.{put};
 ghost use Rattle.world_nodes.specs.Emitting.{offset_of, wire_outcome};
 ghost use Rattle.world_state.specs.Stands.{Stands};
 ghost use Rattle.world_state.specs.Sending.{Sending, PutsOn, Breaks};
+ghost use Rattle.world_state.specs.Outside.{outside};
 
 use crate::places::at;
 use crate::{Progress, State, lane_place};
@@ -27,7 +28,7 @@ pub fn lease<K: Disk + Drop, Q: Device + Drop, E: Entropy + Drop, X: Wire + Drop
     node: NodeNo,
     lane: Lane,
 ) -> u64
-    ensures { (net : Network) (w : World) → Stands K.is_honest K.moment K.image E.left Q.told X.frames X.counted state.now net w → w.up node ≡ true →
+    ensures { (net : Network) (w : World) → Stands (outside K.Disk Q.Device E.Entropy X.Wire) state.now net w → w.up node ≡ true →
         is_lane net.site lane ≡ true → sender net.site lane ≡ node → result ≡ w.durable.lease lane }
 {
     match at(&state.posts, usize::from(node.get())) {
@@ -77,13 +78,13 @@ pub fn put_order<K: Disk + Drop, Q: Device + Drop, E: Entropy + Drop, X: Wire + 
     order: &Order,
     progress: &mut Progress,
 ) -> Result<(), Memory>
-    requires next { (net : Network) × (w : World) × (es : List Emission) × Sending K.is_honest K.moment K.image E.left Q.told X.frames X.counted state.old net w node (New order.now ∷ es) progress.old.placings }
+    requires next { (net : Network) × (w : World) × (es : List Emission) × Sending (outside K.Disk Q.Device E.Entropy X.Wire) state.old net w node (New order.now ∷ es) progress.old.placings }
     ensures site { state.new.site ≡ state.old.site }
     ensures posts { state.new.posts.items ≡ state.old.posts.items }
-    ensures ok { OnOk result ((net : Network) (w : World) (es : List Emission) → Sending K.is_honest K.moment K.image E.left Q.told X.frames X.counted state.old net w node (New order.now ∷ es) progress.old.placings
-        → PutsOn K.is_honest K.moment K.image E.left Q.told X.frames X.counted K.faults K.armings E.faults Q.faults X.faults state.old state.new net w node (New order.now ∷ es) es progress.old.items progress.new.items progress.new.placings) }
-    ensures err { OnErr result ((net : Network) (w : World) (es : List Emission) → Sending K.is_honest K.moment K.image E.left Q.told X.frames X.counted state.old net w node (New order.now ∷ es) progress.old.placings
-        → Breaks K.is_honest K.moment K.image E.left Q.told X.frames X.counted K.faults K.armings E.faults Q.faults X.faults state.old state.new net w node (New order.now ∷ es)) }
+    ensures ok { OnOk result ((net : Network) (w : World) (es : List Emission) → Sending (outside K.Disk Q.Device E.Entropy X.Wire) state.old net w node (New order.now ∷ es) progress.old.placings
+        → PutsOn (outside K.Disk Q.Device E.Entropy X.Wire) state.old state.new net w node (New order.now ∷ es) es progress.old.items progress.new.items progress.new.placings) }
+    ensures err { OnErr result ((net : Network) (w : World) (es : List Emission) → Sending (outside K.Disk Q.Device E.Entropy X.Wire) state.old net w node (New order.now ∷ es) progress.old.placings
+        → Breaks (outside K.Disk Q.Device E.Entropy X.Wire) state.old state.new net w node (New order.now ∷ es)) }
 {
     let size = spelled_len(&order.payload);
     let end = lease(state, node, order.lane);
@@ -99,13 +100,13 @@ pub fn put_repeat<K: Disk + Drop, Q: Device + Drop, E: Entropy + Drop, X: Wire +
     repeat: &Repeat,
     progress: &mut Progress,
 ) -> Result<(), Memory>
-    requires next { (net : Network) × (w : World) × (es : List Emission) × Sending K.is_honest K.moment K.image E.left Q.told X.frames X.counted state.old net w node (Again repeat.now ∷ es) progress.old.placings }
+    requires next { (net : Network) × (w : World) × (es : List Emission) × Sending (outside K.Disk Q.Device E.Entropy X.Wire) state.old net w node (Again repeat.now ∷ es) progress.old.placings }
     ensures site { state.new.site ≡ state.old.site }
     ensures posts { state.new.posts.items ≡ state.old.posts.items }
-    ensures ok { OnOk result ((net : Network) (w : World) (es : List Emission) → Sending K.is_honest K.moment K.image E.left Q.told X.frames X.counted state.old net w node (Again repeat.now ∷ es) progress.old.placings
-        → PutsOn K.is_honest K.moment K.image E.left Q.told X.frames X.counted K.faults K.armings E.faults Q.faults X.faults state.old state.new net w node (Again repeat.now ∷ es) es progress.old.items progress.new.items progress.new.placings) }
-    ensures err { OnErr result ((net : Network) (w : World) (es : List Emission) → Sending K.is_honest K.moment K.image E.left Q.told X.frames X.counted state.old net w node (Again repeat.now ∷ es) progress.old.placings
-        → Breaks K.is_honest K.moment K.image E.left Q.told X.frames X.counted K.faults K.armings E.faults Q.faults X.faults state.old state.new net w node (Again repeat.now ∷ es)) }
+    ensures ok { OnOk result ((net : Network) (w : World) (es : List Emission) → Sending (outside K.Disk Q.Device E.Entropy X.Wire) state.old net w node (Again repeat.now ∷ es) progress.old.placings
+        → PutsOn (outside K.Disk Q.Device E.Entropy X.Wire) state.old state.new net w node (Again repeat.now ∷ es) es progress.old.items progress.new.items progress.new.placings) }
+    ensures err { OnErr result ((net : Network) (w : World) (es : List Emission) → Sending (outside K.Disk Q.Device E.Entropy X.Wire) state.old net w node (Again repeat.now ∷ es) progress.old.placings
+        → Breaks (outside K.Disk Q.Device E.Entropy X.Wire) state.old state.new net w node (Again repeat.now ∷ es)) }
 {
     let sent = again(&mut state.lanes[lane_place(repeat.lane)], repeat);
     let size = repeat.length.saturating_sub(24);

@@ -5,6 +5,7 @@ ghost use Rattle.net_model.specs.World.{Network, World};
 ghost use Rattle.net_model.specs.Events.{is_lane};
 ghost use Rattle.net_model.specs.Ledger.{ledger};
 ghost use Rattle.world_state.specs.Stands.{Stands, place_of};
+ghost use Rattle.world_state.specs.Outside.{outside};
 
 use crate::State;
 use crate::places::at;
@@ -31,7 +32,7 @@ pub fn is_up<K: Disk + Drop, Q: Device + Drop, E: Entropy + Drop, X: Wire + Drop
     node: NodeNo,
 ) -> bool
     requires { node < length state.now.site.nodes }
-    ensures { (net : Network) (w : World) → Stands K.is_honest K.moment K.image E.left Q.told X.frames X.counted state.now net w → result ≡ w.up node }
+    ensures { (net : Network) (w : World) → Stands (outside K.Disk Q.Device E.Entropy X.Wire) state.now net w → result ≡ w.up node }
 {
     match at(&state.posts, usize::from(node.get())) {
         None => false,
@@ -46,7 +47,7 @@ pub fn on_wire<K: Disk + Drop, Q: Device + Drop, E: Entropy + Drop, X: Wire + Dr
     lane: Lane,
 ) -> u64
     requires { is_lane (site_of state.now.site) lane ≡ true }
-    ensures { (net : Network) (w : World) → Stands K.is_honest K.moment K.image E.left Q.told X.frames X.counted state.now net w → result ≡ length (w.wire lane) }
+    ensures { (net : Network) (w : World) → Stands (outside K.Disk Q.Device E.Entropy X.Wire) state.now net w → result ≡ length (w.wire lane) }
 {
     match at(&state.lanes, lane_place(lane)) {
         None => 0,
@@ -60,7 +61,7 @@ pub fn counts<K: Disk + Drop, Q: Device + Drop, E: Entropy + Drop, X: Wire + Dro
     lane: Lane,
 ) -> Counts4
     requires { is_lane (site_of state.now.site) lane ≡ true }
-    ensures { (net : Network) (w : World) → Stands K.is_honest K.moment K.image E.left Q.told X.frames X.counted state.now net w → result ≡ ledger w lane }
+    ensures { (net : Network) (w : World) → Stands (outside K.Disk Q.Device E.Entropy X.Wire) state.now net w → result ≡ ledger w lane }
 {
     match at(&state.lanes, lane_place(lane)) {
         None => Counts4 {

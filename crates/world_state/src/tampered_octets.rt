@@ -14,6 +14,7 @@ ghost use Rattle.world_state.specs.Frames.{IsChanged};
 ghost use Rattle.world_state.specs.Rests.{Rests};
 ghost use Rattle.world_state.specs.Stands.{Stands};
 ghost use Rattle.world_state.specs.Tallied.{Tallied};
+ghost use Rattle.world_state.specs.Outside.{outside};
 
 use crate::State;
 use crate::frames::seen;
@@ -61,8 +62,8 @@ fn is_forged<K: Disk + Drop, Q: Device + Drop, E: Entropy + Drop, X: Wire + Drop
     octets: &[u8],
 ) -> Result<bool, Memory>
     requires lane { is_lane (site_of state.now.site) lane.now ≡ true }
-    requires ready { (net : Network) × (w : World) × IsReady (Stands K.is_honest K.moment K.image E.left Q.told X.frames X.counted) state.now net w }
-    ensures { (net : Network) (w : World) → IsReady (Stands K.is_honest K.moment K.image E.left Q.told X.frames X.counted) state.now net w → IfOk result (λ forged. forged ≡ are_forged net w lane.now octets.now) }
+    requires ready { (net : Network) × (w : World) × IsReady (Stands (outside K.Disk Q.Device E.Entropy X.Wire)) state.now net w }
+    ensures { (net : Network) (w : World) → IsReady (Stands (outside K.Disk Q.Device E.Entropy X.Wire)) state.now net w → IfOk result (λ forged. forged ≡ are_forged net w lane.now octets.now) }
 {
     let node = receiver(&state.site, *lane);
     match at(&state.posts, usize::from(node.get())) {
@@ -82,13 +83,13 @@ fn bring_changed<K: Disk + Drop, Q: Device + Drop, E: Entropy + Drop, X: Wire + 
     octets: Octets,
 ) -> Result<Tampered, Memory>
     requires lane { is_lane (site_of state.old.site) lane.now ≡ true }
-    requires ready { (net : Network) × (w : World) × (number : ℕ) × (bit : ℕ) × IsChanged net w lane.now number bit octets × IsReady (Stands K.is_honest K.moment K.image E.left Q.told X.frames X.counted) state.old net w }
+    requires ready { (net : Network) × (w : World) × (number : ℕ) × (bit : ℕ) × IsChanged net w lane.now number bit octets × IsReady (Stands (outside K.Disk Q.Device E.Entropy X.Wire)) state.old net w }
     ensures site { state.new.site ≡ state.old.site }
-    ensures armed { most_armed K.armings state.new.posts.items ≡ most_armed K.armings state.old.posts.items }
-    ensures done { IfOk result (λ found. (net : Network) (w : World) (number bit : ℕ) → IsChanged net w lane.now number bit octets → IsReady (Stands K.is_honest K.moment K.image E.left Q.told X.frames X.counted) state.old net w
-        → Does (Stands K.is_honest K.moment K.image E.left Q.told X.frames X.counted) (Tallied K.faults K.armings E.faults Q.faults X.faults) state.old state.new net w (Flip lane.now number bit Fine) (tampered found)) }
-    ensures left { OnErr result ((net : Network) (w : World) (number bit : ℕ) → IsReady (Stands K.is_honest K.moment K.image E.left Q.told X.frames X.counted) state.old net w
-        → Begins (Rests K.is_honest K.moment K.image E.left Q.told X.frames X.counted) (Tallied K.faults K.armings E.faults Q.faults X.faults) state.old state.new net w (asks (Flip lane.now number bit Fine) (λ outcome. []))) }
+    ensures armed { most_armed K.Disk state.new.posts.items ≡ most_armed K.Disk state.old.posts.items }
+    ensures done { IfOk result (λ found. (net : Network) (w : World) (number bit : ℕ) → IsChanged net w lane.now number bit octets → IsReady (Stands (outside K.Disk Q.Device E.Entropy X.Wire)) state.old net w
+        → Does (Stands (outside K.Disk Q.Device E.Entropy X.Wire)) (Tallied (outside K.Disk Q.Device E.Entropy X.Wire)) state.old state.new net w (Flip lane.now number bit Fine) (tampered found)) }
+    ensures left { OnErr result ((net : Network) (w : World) (number bit : ℕ) → IsReady (Stands (outside K.Disk Q.Device E.Entropy X.Wire)) state.old net w
+        → Begins (Rests (outside K.Disk Q.Device E.Entropy X.Wire)) (Tallied (outside K.Disk Q.Device E.Entropy X.Wire)) state.old state.new net w (asks (Flip lane.now number bit Fine) (λ outcome. []))) }
 {
     let forged = match is_forged(state, lane, octets.as_slice()) {
         Err(_) => return Err(Memory),
@@ -109,13 +110,13 @@ fn bring_made<K: Disk + Drop, Q: Device + Drop, E: Entropy + Drop, X: Wire + Dro
     octets: Octets,
 ) -> Result<Tampered, Memory>
     requires fit { is_fit (site_of state.old.site) (Forge lane.now octets Fine) ≡ true }
-    requires ready { (net : Network) × (w : World) × IsReady (Stands K.is_honest K.moment K.image E.left Q.told X.frames X.counted) state.old net w }
+    requires ready { (net : Network) × (w : World) × IsReady (Stands (outside K.Disk Q.Device E.Entropy X.Wire)) state.old net w }
     ensures site { state.new.site ≡ state.old.site }
-    ensures armed { most_armed K.armings state.new.posts.items ≡ most_armed K.armings state.old.posts.items }
-    ensures done { IfOk result (λ found. (net : Network) (w : World) → IsReady (Stands K.is_honest K.moment K.image E.left Q.told X.frames X.counted) state.old net w
-        → Does (Stands K.is_honest K.moment K.image E.left Q.told X.frames X.counted) (Tallied K.faults K.armings E.faults Q.faults X.faults) state.old state.new net w (Forge lane.now octets Fine) (tampered found)) }
-    ensures left { OnErr result ((net : Network) (w : World) → IsReady (Stands K.is_honest K.moment K.image E.left Q.told X.frames X.counted) state.old net w
-        → Begins (Rests K.is_honest K.moment K.image E.left Q.told X.frames X.counted) (Tallied K.faults K.armings E.faults Q.faults X.faults) state.old state.new net w (asks (Forge lane.now octets Fine) (λ outcome. []))) }
+    ensures armed { most_armed K.Disk state.new.posts.items ≡ most_armed K.Disk state.old.posts.items }
+    ensures done { IfOk result (λ found. (net : Network) (w : World) → IsReady (Stands (outside K.Disk Q.Device E.Entropy X.Wire)) state.old net w
+        → Does (Stands (outside K.Disk Q.Device E.Entropy X.Wire)) (Tallied (outside K.Disk Q.Device E.Entropy X.Wire)) state.old state.new net w (Forge lane.now octets Fine) (tampered found)) }
+    ensures left { OnErr result ((net : Network) (w : World) → IsReady (Stands (outside K.Disk Q.Device E.Entropy X.Wire)) state.old net w
+        → Begins (Rests (outside K.Disk Q.Device E.Entropy X.Wire)) (Tallied (outside K.Disk Q.Device E.Entropy X.Wire)) state.old state.new net w (asks (Forge lane.now octets Fine) (λ outcome. []))) }
 {
     let forged = match is_forged(state, lane, octets.as_slice()) {
         Err(_) => return Err(Memory),
@@ -138,13 +139,13 @@ pub fn flip<K: Disk + Drop, Q: Device + Drop, E: Entropy + Drop, X: Wire + Drop>
     bit: u32,
 ) -> Result<Tampered, Memory>
     requires fit { is_fit (site_of state.old.site) (Flip lane.now number bit Fine) ≡ true }
-    requires ready { (net : Network) × (w : World) × IsReady (Stands K.is_honest K.moment K.image E.left Q.told X.frames X.counted) state.old net w }
+    requires ready { (net : Network) × (w : World) × IsReady (Stands (outside K.Disk Q.Device E.Entropy X.Wire)) state.old net w }
     ensures site { state.new.site ≡ state.old.site }
-    ensures armed { most_armed K.armings state.new.posts.items ≡ most_armed K.armings state.old.posts.items }
-    ensures done { IfOk result (λ found. (net : Network) (w : World) → IsReady (Stands K.is_honest K.moment K.image E.left Q.told X.frames X.counted) state.old net w
-        → Does (Stands K.is_honest K.moment K.image E.left Q.told X.frames X.counted) (Tallied K.faults K.armings E.faults Q.faults X.faults) state.old state.new net w (Flip lane.now number bit Fine) (tampered found)) }
-    ensures left { OnErr result ((net : Network) (w : World) → IsReady (Stands K.is_honest K.moment K.image E.left Q.told X.frames X.counted) state.old net w
-        → Begins (Rests K.is_honest K.moment K.image E.left Q.told X.frames X.counted) (Tallied K.faults K.armings E.faults Q.faults X.faults) state.old state.new net w (asks (Flip lane.now number bit Fine) (λ outcome. []))) }
+    ensures armed { most_armed K.Disk state.new.posts.items ≡ most_armed K.Disk state.old.posts.items }
+    ensures done { IfOk result (λ found. (net : Network) (w : World) → IsReady (Stands (outside K.Disk Q.Device E.Entropy X.Wire)) state.old net w
+        → Does (Stands (outside K.Disk Q.Device E.Entropy X.Wire)) (Tallied (outside K.Disk Q.Device E.Entropy X.Wire)) state.old state.new net w (Flip lane.now number bit Fine) (tampered found)) }
+    ensures left { OnErr result ((net : Network) (w : World) → IsReady (Stands (outside K.Disk Q.Device E.Entropy X.Wire)) state.old net w
+        → Begins (Rests (outside K.Disk Q.Device E.Entropy X.Wire)) (Tallied (outside K.Disk Q.Device E.Entropy X.Wire)) state.old state.new net w (asks (Flip lane.now number bit Fine) (λ outcome. []))) }
 {
     match seen(state, lane, number) {
         Err(_) => Err(Memory),
@@ -167,13 +168,13 @@ pub fn forge<K: Disk + Drop, Q: Device + Drop, E: Entropy + Drop, X: Wire + Drop
     octets: &[u8],
 ) -> Result<Tampered, Memory>
     requires fit { is_fit (site_of state.old.site) (Forge lane.now octets.now Fine) ≡ true }
-    requires ready { (net : Network) × (w : World) × IsReady (Stands K.is_honest K.moment K.image E.left Q.told X.frames X.counted) state.old net w }
+    requires ready { (net : Network) × (w : World) × IsReady (Stands (outside K.Disk Q.Device E.Entropy X.Wire)) state.old net w }
     ensures site { state.new.site ≡ state.old.site }
-    ensures armed { most_armed K.armings state.new.posts.items ≡ most_armed K.armings state.old.posts.items }
-    ensures done { IfOk result (λ found. (net : Network) (w : World) → IsReady (Stands K.is_honest K.moment K.image E.left Q.told X.frames X.counted) state.old net w
-        → Does (Stands K.is_honest K.moment K.image E.left Q.told X.frames X.counted) (Tallied K.faults K.armings E.faults Q.faults X.faults) state.old state.new net w (Forge lane.now octets.now Fine) (tampered found)) }
-    ensures left { OnErr result ((net : Network) (w : World) → IsReady (Stands K.is_honest K.moment K.image E.left Q.told X.frames X.counted) state.old net w
-        → Begins (Rests K.is_honest K.moment K.image E.left Q.told X.frames X.counted) (Tallied K.faults K.armings E.faults Q.faults X.faults) state.old state.new net w (asks (Forge lane.now octets.now Fine) (λ outcome. []))) }
+    ensures armed { most_armed K.Disk state.new.posts.items ≡ most_armed K.Disk state.old.posts.items }
+    ensures done { IfOk result (λ found. (net : Network) (w : World) → IsReady (Stands (outside K.Disk Q.Device E.Entropy X.Wire)) state.old net w
+        → Does (Stands (outside K.Disk Q.Device E.Entropy X.Wire)) (Tallied (outside K.Disk Q.Device E.Entropy X.Wire)) state.old state.new net w (Forge lane.now octets.now Fine) (tampered found)) }
+    ensures left { OnErr result ((net : Network) (w : World) → IsReady (Stands (outside K.Disk Q.Device E.Entropy X.Wire)) state.old net w
+        → Begins (Rests (outside K.Disk Q.Device E.Entropy X.Wire)) (Tallied (outside K.Disk Q.Device E.Entropy X.Wire)) state.old state.new net w (asks (Forge lane.now octets.now Fine) (λ outcome. []))) }
 {
     match Octets::from_slice(*state.posts.allocator(), octets) {
         Err(_) => Err(Memory),

@@ -8,6 +8,7 @@ ghost use Rattle.world_nodes.specs.LaneStands.{IsRunning, LaneStands};
 ghost use Rattle.world_nodes.specs.Tampering.{put_as};
 ghost use Rattle.world_state.specs.Frames.{frame_is};
 ghost use Rattle.world_state.specs.Stands.{Stands};
+ghost use Rattle.world_state.specs.Outside.{outside};
 
 use crate::State;
 use crate::places::at;
@@ -30,8 +31,8 @@ fn has_octets<X: Wire>(
     octets: &[u8],
     room: &mut FrameOctets,
 ) -> bool
-    requires ready { (net : Network) × (w : World) × IsRunning net w × LaneStands X.frames X.counted net w side.now.lane side.now }
-    ensures { (net : Network) (w : World) → IsRunning net w → LaneStands X.frames X.counted net w side.now.lane side.now
+    requires ready { (net : Network) × (w : World) × IsRunning net w × LaneStands X.Wire net w side.now.lane side.now }
+    ensures { (net : Network) (w : World) → IsRunning net w → LaneStands X.Wire net w side.now.lane side.now
         → result ≡ frame_is net w side.now.lane octets.now (slice_get (w.wire side.now.lane) number) }
 {
     match world_nodes::frame(side, number, room) {
@@ -42,8 +43,8 @@ fn has_octets<X: Wire>(
 
 // Whether any frame of a lane's wire has these octets.
 fn any_has<X: Wire>(side: &LaneSide<X>, octets: &[u8]) -> bool
-    requires ready { (net : Network) × (w : World) × IsRunning net w × LaneStands X.frames X.counted net w side.now.lane side.now }
-    ensures { (net : Network) (w : World) → IsRunning net w → LaneStands X.frames X.counted net w side.now.lane side.now
+    requires ready { (net : Network) × (w : World) × IsRunning net w × LaneStands X.Wire net w side.now.lane side.now }
+    ensures { (net : Network) (w : World) → IsRunning net w → LaneStands X.Wire net w side.now.lane side.now
         → result ≡ is_some (put_as net w side.now.lane octets.now) }
 {
     let mut room = FrameOctets::new();
@@ -62,8 +63,8 @@ pub fn is_put<K: Disk + Drop, Q: Device + Drop, E: Entropy + Drop, X: Wire + Dro
     octets: &[u8],
 ) -> bool
     requires lane { is_lane (site_of state.now.site) lane.now ≡ true }
-    requires ready { (net : Network) × (w : World) × Stands K.is_honest K.moment K.image E.left Q.told X.frames X.counted state.now net w }
-    ensures { (net : Network) (w : World) → Stands K.is_honest K.moment K.image E.left Q.told X.frames X.counted state.now net w → result ≡ is_some (put_as net w lane.now octets.now) }
+    requires ready { (net : Network) × (w : World) × Stands (outside K.Disk Q.Device E.Entropy X.Wire) state.now net w }
+    ensures { (net : Network) (w : World) → Stands (outside K.Disk Q.Device E.Entropy X.Wire) state.now net w → result ≡ is_some (put_as net w lane.now octets.now) }
 {
     match at(&state.lanes, lane_place(*lane)) {
         None => false,

@@ -4,6 +4,7 @@ use Rattle.std.specs.Result.{IsErr}
 use Rattle.world_state.proofs.Endings.{on_err}
 use Rattle.kme_shared.proofs.Nobody.{nobody_asked}
 use Rattle.kme_shared.proofs.block.run_block.Goals as goal
+use Rattle.world_state.specs.Outside.{outside}
 
 no_ok : {T E : Type 0} (P : T → Type 0) (r : Result T E) → IsErr r → IfOk r P
 no_ok P (Ok x) h = cc
@@ -24,7 +25,7 @@ returns-in_err-worked g c = record {
     armed_as = c.work_block.ensures.armed;
     done = no_ok _ c.from_residual.result c.from_residual.ensures.0;
     left = on_err c.from_residual.result (λ net w ready.
-        nobody_asked g.K.Disk.is_honest g.K.Disk.moment g.K.Disk.image g.E.Entropy.left g.Q.Device.told g.X.Wire.frames g.X.Wire.counted g.K.Disk.faults g.K.Disk.armings g.E.Entropy.faults g.Q.Device.faults g.X.Wire.faults net w
+        nobody_asked (outside g.K.Disk g.Q.Device g.E.Entropy g.X.Wire) net w
         c.args.workers c.args.jobs.now c.args.state.now c.work_block.new.state ready.stands c.in_err-worked.ensures.kept);
   };
 }

@@ -1,4 +1,4 @@
-use Rattle.std.proofs.Common.{◌≡◌, map, refl, sym, ap, subst, ◌∙◌, arith, vec_len, Some, length}
+use Rattle.std.proofs.Common.{◌≡◌, map, refl, sym, ap, subst, ◌∙◌, arith, vec_len, length}
 use Rattle.std.specs.Prelude.{slice_get}
 use Rattle.std.proofs.lemmas.Grind.{common_steps}
 use Rattle.net_model.specs.World.{Network, World}
@@ -7,6 +7,7 @@ use Rattle.world_state.specs.Stands.{Stands}
 use Rattle.kme_shared.specs.Sheets.{HasOpened}
 use Rattle.kme_shared.proofs.Sitting.{in_front, at_end, last_at, manager_sits, no_manager}
 use Rattle.kme_shared.proofs.block_desks.seat_managers.Goals as goal
+use Rattle.world_state.specs.Outside.{outside}
 
 pub loop-init : goal.loop-init
 loop-init g c = record {
@@ -36,7 +37,7 @@ new-desk-requires g c =
       sited = c.requires.sited ∙ ap (λ s. s.site) (sym sheet.kept');
       up = c.requires.up ∙ ap (λ s. s.up) (sym sheet.kept');
       post = ap (λ s. slice_get s.posts.items n) sheet.kept' ∙ there;
-      ready = subst (λ s. (net : Network) × (w : World) × IsReady (Stands g.K.Disk.is_honest g.K.Disk.moment g.K.Disk.image g.E.Entropy.left g.Q.Device.told g.X.Wire.frames g.X.Wire.counted) s net w) (sym sheet.kept') c.requires.ready;
+      ready = subst (λ s. (net : Network) × (w : World) × IsReady (Stands (outside g.K.Disk g.Q.Device g.E.Entropy g.X.Wire)) s net w) (sym sheet.kept') c.requires.ready;
       lanes = c.requires.shares ∙ ap (λ s. length s.lanes.items) (sym sheet.kept');
       shared = sheet.shared;
       opened = subst (λ s. HasOpened s c.args.shares.now n posts.result sheets.result.issuers.items) (sym sheet.kept') (sheet.opened posts.result there);

@@ -10,6 +10,7 @@ use Rattle.kme_shared.proofs.Dealt.{opened_fit, used_of}
 use Rattle.kme_shared.specs.Keeping.{IsFresh}
 use Rattle.kme_shared.proofs.Opened.{same_long, still_opened, shifts_at, dealt_at, worked_from}
 use Rattle.kme_shared.proofs.block_workers.work_block.Goals as goal
+use Rattle.world_state.specs.Outside.{outside}
 
 pub keeps-requires : goal.keeps-requires
 keeps-requires g c =
@@ -36,7 +37,7 @@ work_on_stage-requires-clause-few g c κs within =
 pub work_on_stage-requires-clause-shifts : goal.work_on_stage-requires-clause-shifts
 work_on_stage-requires-clause-shifts g c κs within =
     let many = same_long (λ keep. keep.shift.items) (λ shift. shift.items) c.in_ok-keeps.keeps.items c.in_ok-shifts.shifts.items c.in_ok-keeps.ensures.shifts in
-    shifts_at g.K.Disk.is_honest g.K.Disk.moment g.K.Disk.image g.E.Entropy.left g.Q.Device.told g.X.Wire.frames g.X.Wire.counted c.args.state.now c.of-opening.result.value c.of-opening.ensures (length c.in_ok-keeps.keeps.items) c.args.workers c.args.jobs.now _ _ (many ∙ c.in_ok-shifts.ensures.many) c.in_ok-keeps.ensures.shifts c.in_ok-shifts.ensures.shifts
+    shifts_at (outside g.K.Disk g.Q.Device g.E.Entropy g.X.Wire) c.args.state.now c.of-opening.result.value c.of-opening.ensures (length c.in_ok-keeps.keeps.items) c.args.workers c.args.jobs.now _ _ (many ∙ c.in_ok-shifts.ensures.many) c.in_ok-keeps.ensures.shifts c.in_ok-shifts.ensures.shifts
 
 pub work_on_stage-requires-clause-fresh : goal.work_on_stage-requires-clause-fresh
 work_on_stage-requires-clause-fresh g c κs within =
@@ -51,7 +52,7 @@ work_on_stage-requires-clause-sheets g c κs within = c.in_ok-sheets.sheets.ok.0
 
 pub work_on_stage-requires-clause-dealt : goal.work_on_stage-requires-clause-dealt
 work_on_stage-requires-clause-dealt g c κs within v sheet at =
-    dealt_at g.K.Disk.is_honest g.K.Disk.moment g.K.Disk.image g.E.Entropy.left g.Q.Device.told g.X.Wire.frames g.X.Wire.counted c.args.state.now c.of-opening.result.value c.of-opening.ensures c.deref-2.result.now c.deref-3.result.now v sheet.issuers.items sheet.opening.value (c.deref-3.ensures.value ∙ sym c.deref-2.ensures.value) (c.in_ok-sheets.ensures.dealt v sheet at)
+    dealt_at (outside g.K.Disk g.Q.Device g.E.Entropy g.X.Wire) c.args.state.now c.of-opening.result.value c.of-opening.ensures c.deref-2.result.now c.deref-3.result.now v sheet.issuers.items sheet.opening.value (c.deref-3.ensures.value ∙ sym c.deref-2.ensures.value) (c.in_ok-sheets.ensures.dealt v sheet at)
 
 pub work_on_stage-requires-clause-count : goal.work_on_stage-requires-clause-count
 work_on_stage-requires-clause-count g c κs within =
@@ -65,6 +66,6 @@ pub returns-clause-worked : goal.returns-clause-worked
 returns-clause-worked g c =
     let many = same_long (λ keep. keep.shift.items) (λ shift. shift.items) c.in_ok-keeps.keeps.items c.in_ok-shifts.shifts.items c.in_ok-keeps.ensures.shifts in
     IfOk-weaker c.work_on_stage.result _ _
-    (λ worked h. worked_from g.K.Disk.is_honest g.K.Disk.moment g.K.Disk.image g.E.Entropy.left g.Q.Device.told g.X.Wire.frames g.X.Wire.counted c.args.state.now c.of-opening.result.value c.of-opening.ensures g.K.Disk.faults g.K.Disk.armings g.E.Entropy.faults g.Q.Device.faults g.X.Wire.faults
+    (λ worked h. worked_from (outside g.K.Disk g.Q.Device g.E.Entropy g.X.Wire) c.args.state.now c.of-opening.result.value c.of-opening.ensures
     c.work_on_stage.new.posts c.work_on_stage.new.lanes (length c.in_ok-keeps.keeps.items) c.args.workers c.args.jobs.now worked (many ∙ c.in_ok-shifts.ensures.many) h)
     c.work_on_stage.ensures.worked

@@ -12,6 +12,7 @@ use Rattle.kme_shared.proofs.Seated.{are_seated, still_many, still_many_lanes, s
 use Rattle.kme_shared.proofs.Sent.{seat_send, errands_sync}
 use Rattle.kme_shared.proofs.WholeBlock.{few_calls, entries, below, no_replies, may_work, did_work, as_many, went_through}
 use Rattle.kme_shared.proofs.block_workers.work_on_stage.Goals as goal
+use Rattle.world_state.specs.Outside.{outside}
 
 pub work_scripts-requires-send-M : goal.work_scripts-requires-send-M
 work_scripts-requires-send-M g c κs within = param_send 2 _ (arg_send _ no _ (seat_send _ (param 2 g.row.K) (param 3 g.row.Q) (param 4 g.row.E) (param 5 g.row.X) g.K.Disk g.Q.Device g.E.Entropy g.X.Wire c.type_bounds.send-K c.type_bounds.send-E c.type_bounds.send-X))
@@ -24,19 +25,19 @@ work_scripts-requires-clause-may g c κs within =
     let a = c.requires.ready in
     let first : c.len-first.result ≡ length c.args.opening.value.posts.items = c.len-first.ensures ∙ c.args.posts.now.ok.0 ∙ ap (λ ps. length ps) c.requires.posts in
     λ w keep at.
-    may_work g.K.Disk.is_honest g.K.Disk.moment g.K.Disk.image g.E.Entropy.left g.Q.Device.told g.X.Wire.frames g.X.Wire.counted c.args.opening.value (length c.args.keeps.items) c.args.jobs.now c.args.keeps.items c.requires.shifts refl c.args.shares.now c.requires.fresh (λ d. d.opening.value) (λ d. d.node) (λ d. d.shares.now) (λ d. d.side) (λ d. d.shares.now)
-    c.len-first.result first c.sit.new.machines.items (are_seated (λ d. d.opening.value) (λ d. d.node) (λ d. d.up) (λ d. d.post) (λ d. d.shares.now) (λ d. d.side) (λ d. d.shares.now) c.args.opening.value c.args.shares.now c.sit.new.machines.items c.sit.ensures.seated g.K.Disk.is_honest g.K.Disk.moment g.K.Disk.image g.E.Entropy.left g.Q.Device.told g.X.Wire.frames g.X.Wire.counted a.0 a.1 a.2 (few_nodes g.K.Disk.is_honest g.K.Disk.moment g.K.Disk.image g.E.Entropy.left g.Q.Device.told g.X.Wire.frames g.X.Wire.counted c.args.opening.value a.0 a.1 a.2)) w keep at
+    may_work (outside g.K.Disk g.Q.Device g.E.Entropy g.X.Wire) c.args.opening.value (length c.args.keeps.items) c.args.jobs.now c.args.keeps.items c.requires.shifts refl c.args.shares.now c.requires.fresh (λ d. d.opening.value) (λ d. d.node) (λ d. d.shares.now) (λ d. d.side) (λ d. d.shares.now)
+    c.len-first.result first c.sit.new.machines.items (are_seated (λ d. d.opening.value) (λ d. d.node) (λ d. d.up) (λ d. d.post) (λ d. d.shares.now) (λ d. d.side) (λ d. d.shares.now) c.args.opening.value c.args.shares.now c.sit.new.machines.items c.sit.ensures.seated (outside g.K.Disk g.Q.Device g.E.Entropy g.X.Wire) a.0 a.1 a.2 (few_nodes (outside g.K.Disk g.Q.Device g.E.Entropy g.X.Wire) c.args.opening.value a.0 a.1 a.2)) w keep at
 
 pub rise-requires-clause-posts : goal.rise-requires-clause-posts
 rise-requires-clause-posts g c =
     let first : c.len-first.result ≡ length c.args.opening.value.posts.items = c.len-first.ensures ∙ c.args.posts.now.ok.0 ∙ ap (λ ps. length ps) c.requires.posts in
     let done = c.in-Ok.ensures.ok in
-    let did = did_work g.K.Disk.is_honest g.K.Disk.moment g.K.Disk.image g.E.Entropy.left g.Q.Device.told g.X.Wire.frames g.X.Wire.counted g.K.Disk.faults g.K.Disk.armings g.E.Entropy.faults g.X.Wire.faults (λ d. d.opening.value) (λ d. d.node) (λ d. d.up) (λ d. d.post) (λ d. d.shares.now) (λ d. d.side) (λ d. d.shares.now) c.args.opening.value (length c.args.keeps.items) c.args.jobs.now c.args.shares.now c.args.keeps.items c.in-Ok.keeps.items c.sit.new.machines.items c.in-Ok.machines.items c.len-first.result first done
+    let did = did_work (outside g.K.Disk g.Q.Device g.E.Entropy g.X.Wire) (λ d. d.opening.value) (λ d. d.node) (λ d. d.up) (λ d. d.post) (λ d. d.shares.now) (λ d. d.side) (λ d. d.shares.now) c.args.opening.value (length c.args.keeps.items) c.args.jobs.now c.args.shares.now c.args.keeps.items c.in-Ok.keeps.items c.sit.new.machines.items c.in-Ok.machines.items c.len-first.result first done
     (λ w keep at. (
-      entries g.K.Disk.is_honest g.K.Disk.moment g.K.Disk.image g.E.Entropy.left g.Q.Device.told g.X.Wire.frames g.X.Wire.counted c.args.opening.value (length c.args.keeps.items) c.args.jobs.now c.args.keeps.items c.requires.shifts refl c.args.shares.now c.requires.fresh w keep at,
-      below g.K.Disk.is_honest g.K.Disk.moment g.K.Disk.image g.E.Entropy.left g.Q.Device.told g.X.Wire.frames g.X.Wire.counted c.args.opening.value (length c.args.keeps.items) c.args.jobs.now c.args.keeps.items c.requires.shifts refl c.args.shares.now c.requires.fresh c.len-first.result first w keep at,
+      entries (outside g.K.Disk g.Q.Device g.E.Entropy g.X.Wire) c.args.opening.value (length c.args.keeps.items) c.args.jobs.now c.args.keeps.items c.requires.shifts refl c.args.shares.now c.requires.fresh w keep at,
+      below (outside g.K.Disk g.Q.Device g.E.Entropy g.X.Wire) c.args.opening.value (length c.args.keeps.items) c.args.jobs.now c.args.keeps.items c.requires.shifts refl c.args.shares.now c.requires.fresh c.len-first.result first w keep at,
     )) in
-    let all = (as_many g.K.Disk.is_honest g.K.Disk.moment g.K.Disk.image g.E.Entropy.left g.Q.Device.told g.X.Wire.frames g.X.Wire.counted g.K.Disk.faults g.K.Disk.armings g.E.Entropy.faults g.X.Wire.faults (λ d. d.opening.value) (λ d. d.node) (λ d. d.up) (λ d. d.post) (λ d. d.shares.now) (λ d. d.side) (λ d. d.shares.now) c.args.opening.value (length c.args.keeps.items) c.args.jobs.now c.args.shares.now c.args.keeps.items c.in-Ok.keeps.items c.sit.new.machines.items c.in-Ok.machines.items c.sit.ensures.seated done.answered.same did).0 in
+    let all = (as_many (outside g.K.Disk g.Q.Device g.E.Entropy g.X.Wire) (λ d. d.opening.value) (λ d. d.node) (λ d. d.up) (λ d. d.post) (λ d. d.shares.now) (λ d. d.side) (λ d. d.shares.now) c.args.opening.value (length c.args.keeps.items) c.args.jobs.now c.args.shares.now c.args.keeps.items c.in-Ok.keeps.items c.sit.new.machines.items c.in-Ok.machines.items c.sit.ensures.seated done.answered.same did).0 in
     let none = c.sit.new.posts.ok.0 ∙ ap (λ ps. length ps) c.sit.ensures.posts in
     let room = c.sit.ensures.posts_block.1 in
     omega (arith, all, none, room, first, c.len-first.ensures, c.args.posts.now.ok.1)
@@ -45,12 +46,12 @@ pub rise-requires-clause-lanes : goal.rise-requires-clause-lanes
 rise-requires-clause-lanes g c =
     let first : c.len-first.result ≡ length c.args.opening.value.posts.items = c.len-first.ensures ∙ c.args.posts.now.ok.0 ∙ ap (λ ps. length ps) c.requires.posts in
     let done = c.in-Ok.ensures.ok in
-    let did = did_work g.K.Disk.is_honest g.K.Disk.moment g.K.Disk.image g.E.Entropy.left g.Q.Device.told g.X.Wire.frames g.X.Wire.counted g.K.Disk.faults g.K.Disk.armings g.E.Entropy.faults g.X.Wire.faults (λ d. d.opening.value) (λ d. d.node) (λ d. d.up) (λ d. d.post) (λ d. d.shares.now) (λ d. d.side) (λ d. d.shares.now) c.args.opening.value (length c.args.keeps.items) c.args.jobs.now c.args.shares.now c.args.keeps.items c.in-Ok.keeps.items c.sit.new.machines.items c.in-Ok.machines.items c.len-first.result first done
+    let did = did_work (outside g.K.Disk g.Q.Device g.E.Entropy g.X.Wire) (λ d. d.opening.value) (λ d. d.node) (λ d. d.up) (λ d. d.post) (λ d. d.shares.now) (λ d. d.side) (λ d. d.shares.now) c.args.opening.value (length c.args.keeps.items) c.args.jobs.now c.args.shares.now c.args.keeps.items c.in-Ok.keeps.items c.sit.new.machines.items c.in-Ok.machines.items c.len-first.result first done
     (λ w keep at. (
-      entries g.K.Disk.is_honest g.K.Disk.moment g.K.Disk.image g.E.Entropy.left g.Q.Device.told g.X.Wire.frames g.X.Wire.counted c.args.opening.value (length c.args.keeps.items) c.args.jobs.now c.args.keeps.items c.requires.shifts refl c.args.shares.now c.requires.fresh w keep at,
-      below g.K.Disk.is_honest g.K.Disk.moment g.K.Disk.image g.E.Entropy.left g.Q.Device.told g.X.Wire.frames g.X.Wire.counted c.args.opening.value (length c.args.keeps.items) c.args.jobs.now c.args.keeps.items c.requires.shifts refl c.args.shares.now c.requires.fresh c.len-first.result first w keep at,
+      entries (outside g.K.Disk g.Q.Device g.E.Entropy g.X.Wire) c.args.opening.value (length c.args.keeps.items) c.args.jobs.now c.args.keeps.items c.requires.shifts refl c.args.shares.now c.requires.fresh w keep at,
+      below (outside g.K.Disk g.Q.Device g.E.Entropy g.X.Wire) c.args.opening.value (length c.args.keeps.items) c.args.jobs.now c.args.keeps.items c.requires.shifts refl c.args.shares.now c.requires.fresh c.len-first.result first w keep at,
     )) in
-    let all = (as_many g.K.Disk.is_honest g.K.Disk.moment g.K.Disk.image g.E.Entropy.left g.Q.Device.told g.X.Wire.frames g.X.Wire.counted g.K.Disk.faults g.K.Disk.armings g.E.Entropy.faults g.X.Wire.faults (λ d. d.opening.value) (λ d. d.node) (λ d. d.up) (λ d. d.post) (λ d. d.shares.now) (λ d. d.side) (λ d. d.shares.now) c.args.opening.value (length c.args.keeps.items) c.args.jobs.now c.args.shares.now c.args.keeps.items c.in-Ok.keeps.items c.sit.new.machines.items c.in-Ok.machines.items c.sit.ensures.seated done.answered.same did).1 in
+    let all = (as_many (outside g.K.Disk g.Q.Device g.E.Entropy g.X.Wire) (λ d. d.opening.value) (λ d. d.node) (λ d. d.up) (λ d. d.post) (λ d. d.shares.now) (λ d. d.side) (λ d. d.shares.now) c.args.opening.value (length c.args.keeps.items) c.args.jobs.now c.args.shares.now c.args.keeps.items c.in-Ok.keeps.items c.sit.new.machines.items c.in-Ok.machines.items c.sit.ensures.seated done.answered.same did).1 in
     let none = c.sit.new.lanes.ok.0 ∙ ap (λ ls. length ls) c.sit.ensures.lanes in
     let room = c.sit.ensures.lanes_block.1 in
     let long = c.args.lanes.now.ok.0 ∙ ap (λ ls. length ls) c.requires.lanes in
@@ -60,7 +61,7 @@ pub gather-requires : goal.gather-requires
 gather-requires g c =
     let done = c.in-Ok.ensures.ok in
     let few = all_replies c.args.opening.value.lanes.items c.len-first.result (length c.args.jobs.now) c.args.keeps.items done.talks c.in-Ok.keeps.items done.talked
-    (no_replies g.K.Disk.is_honest g.K.Disk.moment g.K.Disk.image g.E.Entropy.left g.Q.Device.told g.X.Wire.frames g.X.Wire.counted c.args.opening.value (length c.args.keeps.items) c.args.jobs.now c.args.keeps.items c.requires.shifts refl c.args.shares.now c.requires.fresh) c.requires.some in
+    (no_replies (outside g.K.Disk g.Q.Device g.E.Entropy g.X.Wire) c.args.opening.value (length c.args.keeps.items) c.args.jobs.now c.args.keeps.items c.requires.shifts refl c.args.shares.now c.requires.fresh) c.requires.some in
     record {
       none = c.requires.empty;
       replied = omega (arith, few, c.requires.room.0);
@@ -73,30 +74,30 @@ returns-in-Ok-clause-armed g c =
     let new = record c.args.opening.value { posts = c.rise.new.posts; lanes = c.rise.new.lanes } in
     let first : c.len-first.result ≡ length c.args.opening.value.posts.items = c.len-first.ensures ∙ c.args.posts.now.ok.0 ∙ ap (λ ps. length ps) c.requires.posts in
     let done = c.in-Ok.ensures.ok in
-    let did = did_work g.K.Disk.is_honest g.K.Disk.moment g.K.Disk.image g.E.Entropy.left g.Q.Device.told g.X.Wire.frames g.X.Wire.counted g.K.Disk.faults g.K.Disk.armings g.E.Entropy.faults g.X.Wire.faults (λ d. d.opening.value) (λ d. d.node) (λ d. d.up) (λ d. d.post) (λ d. d.shares.now) (λ d. d.side) (λ d. d.shares.now) c.args.opening.value (length c.args.keeps.items) c.args.jobs.now c.args.shares.now c.args.keeps.items c.in-Ok.keeps.items c.sit.new.machines.items c.in-Ok.machines.items c.len-first.result first done
+    let did = did_work (outside g.K.Disk g.Q.Device g.E.Entropy g.X.Wire) (λ d. d.opening.value) (λ d. d.node) (λ d. d.up) (λ d. d.post) (λ d. d.shares.now) (λ d. d.side) (λ d. d.shares.now) c.args.opening.value (length c.args.keeps.items) c.args.jobs.now c.args.shares.now c.args.keeps.items c.in-Ok.keeps.items c.sit.new.machines.items c.in-Ok.machines.items c.len-first.result first done
     (λ w keep at. (
-      entries g.K.Disk.is_honest g.K.Disk.moment g.K.Disk.image g.E.Entropy.left g.Q.Device.told g.X.Wire.frames g.X.Wire.counted c.args.opening.value (length c.args.keeps.items) c.args.jobs.now c.args.keeps.items c.requires.shifts refl c.args.shares.now c.requires.fresh w keep at,
-      below g.K.Disk.is_honest g.K.Disk.moment g.K.Disk.image g.E.Entropy.left g.Q.Device.told g.X.Wire.frames g.X.Wire.counted c.args.opening.value (length c.args.keeps.items) c.args.jobs.now c.args.keeps.items c.requires.shifts refl c.args.shares.now c.requires.fresh c.len-first.result first w keep at,
+      entries (outside g.K.Disk g.Q.Device g.E.Entropy g.X.Wire) c.args.opening.value (length c.args.keeps.items) c.args.jobs.now c.args.keeps.items c.requires.shifts refl c.args.shares.now c.requires.fresh w keep at,
+      below (outside g.K.Disk g.Q.Device g.E.Entropy g.X.Wire) c.args.opening.value (length c.args.keeps.items) c.args.jobs.now c.args.keeps.items c.requires.shifts refl c.args.shares.now c.requires.fresh c.len-first.result first w keep at,
     )) in
     let posts = c.rise.ensures.posts ∙ ap (λ ps. ps ++ map (λ d. d.post) (lefts c.in-Ok.machines.items)) c.sit.ensures.posts in
     let lanes = c.rise.ensures.lanes ∙ ap (λ ls. ls ++ map (λ d. d.side) (rights c.in-Ok.machines.items)) c.sit.ensures.lanes in
-    let went = went_through g.K.Disk.is_honest g.K.Disk.moment g.K.Disk.image g.E.Entropy.left g.Q.Device.told g.X.Wire.frames g.X.Wire.counted g.K.Disk.faults g.K.Disk.armings g.E.Entropy.faults g.X.Wire.faults (λ d. d.opening.value) (λ d. d.node) (λ d. d.up) (λ d. d.post) (λ d. d.shares.now) (λ d. d.side) (λ d. d.shares.now) c.args.opening.value (length c.args.keeps.items) c.args.jobs.now c.args.shares.now c.args.keeps.items c.in-Ok.keeps.items c.sit.new.machines.items c.in-Ok.machines.items new c.gather.result c.sit.ensures.seated c.requires.some refl c.requires.shifts c.requires.fresh done.answered.same did refl refl refl posts lanes c.gather.ensures in
-    has_armed g.K.Disk.is_honest g.K.Disk.moment g.K.Disk.image g.E.Entropy.left g.Q.Device.told g.X.Wire.frames g.X.Wire.counted g.K.Disk.faults g.K.Disk.armings g.E.Entropy.faults g.Q.Device.faults g.X.Wire.faults (λ d. d.opening.value) (λ d. d.node) (λ d. d.up) (λ d. d.post) (λ d. d.shares.now) (λ d. d.side) (λ d. d.shares.now) c.args.opening.value new (length c.args.keeps.items) c.args.jobs.now c.gather.result went a.0 a.1 a.2 ∙ ap (λ ps. most_armed g.K.Disk.armings ps) (sym c.requires.posts)
+    let went = went_through (outside g.K.Disk g.Q.Device g.E.Entropy g.X.Wire) (λ d. d.opening.value) (λ d. d.node) (λ d. d.up) (λ d. d.post) (λ d. d.shares.now) (λ d. d.side) (λ d. d.shares.now) c.args.opening.value (length c.args.keeps.items) c.args.jobs.now c.args.shares.now c.args.keeps.items c.in-Ok.keeps.items c.sit.new.machines.items c.in-Ok.machines.items new c.gather.result c.sit.ensures.seated c.requires.some refl c.requires.shifts c.requires.fresh done.answered.same did refl refl refl posts lanes c.gather.ensures in
+    has_armed (outside g.K.Disk g.Q.Device g.E.Entropy g.X.Wire) (λ d. d.opening.value) (λ d. d.node) (λ d. d.up) (λ d. d.post) (λ d. d.shares.now) (λ d. d.side) (λ d. d.shares.now) c.args.opening.value new (length c.args.keeps.items) c.args.jobs.now c.gather.result went a.0 a.1 a.2 ∙ ap (λ ps. most_armed g.K.Disk ps) (sym c.requires.posts)
 
 pub returns-in-Ok-clause-worked : goal.returns-in-Ok-clause-worked
 returns-in-Ok-clause-worked g c net w ready =
     let new = record c.args.opening.value { posts = c.rise.new.posts; lanes = c.rise.new.lanes } in
     let first : c.len-first.result ≡ length c.args.opening.value.posts.items = c.len-first.ensures ∙ c.args.posts.now.ok.0 ∙ ap (λ ps. length ps) c.requires.posts in
     let done = c.in-Ok.ensures.ok in
-    let did = did_work g.K.Disk.is_honest g.K.Disk.moment g.K.Disk.image g.E.Entropy.left g.Q.Device.told g.X.Wire.frames g.X.Wire.counted g.K.Disk.faults g.K.Disk.armings g.E.Entropy.faults g.X.Wire.faults (λ d. d.opening.value) (λ d. d.node) (λ d. d.up) (λ d. d.post) (λ d. d.shares.now) (λ d. d.side) (λ d. d.shares.now) c.args.opening.value (length c.args.keeps.items) c.args.jobs.now c.args.shares.now c.args.keeps.items c.in-Ok.keeps.items c.sit.new.machines.items c.in-Ok.machines.items c.len-first.result first done
+    let did = did_work (outside g.K.Disk g.Q.Device g.E.Entropy g.X.Wire) (λ d. d.opening.value) (λ d. d.node) (λ d. d.up) (λ d. d.post) (λ d. d.shares.now) (λ d. d.side) (λ d. d.shares.now) c.args.opening.value (length c.args.keeps.items) c.args.jobs.now c.args.shares.now c.args.keeps.items c.in-Ok.keeps.items c.sit.new.machines.items c.in-Ok.machines.items c.len-first.result first done
     (λ w keep at. (
-      entries g.K.Disk.is_honest g.K.Disk.moment g.K.Disk.image g.E.Entropy.left g.Q.Device.told g.X.Wire.frames g.X.Wire.counted c.args.opening.value (length c.args.keeps.items) c.args.jobs.now c.args.keeps.items c.requires.shifts refl c.args.shares.now c.requires.fresh w keep at,
-      below g.K.Disk.is_honest g.K.Disk.moment g.K.Disk.image g.E.Entropy.left g.Q.Device.told g.X.Wire.frames g.X.Wire.counted c.args.opening.value (length c.args.keeps.items) c.args.jobs.now c.args.keeps.items c.requires.shifts refl c.args.shares.now c.requires.fresh c.len-first.result first w keep at,
+      entries (outside g.K.Disk g.Q.Device g.E.Entropy g.X.Wire) c.args.opening.value (length c.args.keeps.items) c.args.jobs.now c.args.keeps.items c.requires.shifts refl c.args.shares.now c.requires.fresh w keep at,
+      below (outside g.K.Disk g.Q.Device g.E.Entropy g.X.Wire) c.args.opening.value (length c.args.keeps.items) c.args.jobs.now c.args.keeps.items c.requires.shifts refl c.args.shares.now c.requires.fresh c.len-first.result first w keep at,
     )) in
     let posts = c.rise.ensures.posts ∙ ap (λ ps. ps ++ map (λ d. d.post) (lefts c.in-Ok.machines.items)) c.sit.ensures.posts in
     let lanes = c.rise.ensures.lanes ∙ ap (λ ls. ls ++ map (λ d. d.side) (rights c.in-Ok.machines.items)) c.sit.ensures.lanes in
-    let went = went_through g.K.Disk.is_honest g.K.Disk.moment g.K.Disk.image g.E.Entropy.left g.Q.Device.told g.X.Wire.frames g.X.Wire.counted g.K.Disk.faults g.K.Disk.armings g.E.Entropy.faults g.X.Wire.faults (λ d. d.opening.value) (λ d. d.node) (λ d. d.up) (λ d. d.post) (λ d. d.shares.now) (λ d. d.side) (λ d. d.shares.now) c.args.opening.value (length c.args.keeps.items) c.args.jobs.now c.args.shares.now c.args.keeps.items c.in-Ok.keeps.items c.sit.new.machines.items c.in-Ok.machines.items new c.gather.result c.sit.ensures.seated c.requires.some refl c.requires.shifts c.requires.fresh done.answered.same did refl refl refl posts lanes c.gather.ensures in
-    has_worked g.K.Disk.is_honest g.K.Disk.moment g.K.Disk.image g.E.Entropy.left g.Q.Device.told g.X.Wire.frames g.X.Wire.counted g.K.Disk.faults g.K.Disk.armings g.E.Entropy.faults g.Q.Device.faults g.X.Wire.faults (λ d. d.opening.value) (λ d. d.node) (λ d. d.up) (λ d. d.post) (λ d. d.shares.now) (λ d. d.side) (λ d. d.shares.now) c.args.opening.value new (length c.args.keeps.items) c.args.jobs.now c.gather.result went net w ready
+    let went = went_through (outside g.K.Disk g.Q.Device g.E.Entropy g.X.Wire) (λ d. d.opening.value) (λ d. d.node) (λ d. d.up) (λ d. d.post) (λ d. d.shares.now) (λ d. d.side) (λ d. d.shares.now) c.args.opening.value (length c.args.keeps.items) c.args.jobs.now c.args.shares.now c.args.keeps.items c.in-Ok.keeps.items c.sit.new.machines.items c.in-Ok.machines.items new c.gather.result c.sit.ensures.seated c.requires.some refl c.requires.shifts c.requires.fresh done.answered.same did refl refl refl posts lanes c.gather.ensures in
+    has_worked (outside g.K.Disk g.Q.Device g.E.Entropy g.X.Wire) (λ d. d.opening.value) (λ d. d.node) (λ d. d.up) (λ d. d.post) (λ d. d.shares.now) (λ d. d.side) (λ d. d.shares.now) c.args.opening.value new (length c.args.keeps.items) c.args.jobs.now c.gather.result went net w ready
 
 pub rise-requires-in-Err-clause-posts : goal.rise-requires-in-Err-clause-posts
 rise-requires-in-Err-clause-posts g c =
@@ -116,7 +117,7 @@ rise-requires-in-Err-clause-lanes g c =
 
 pub returns-in-Err-clause-armed : goal.returns-in-Err-clause-armed
 returns-in-Err-clause-armed g c =
-    ap (λ ps. most_armed g.K.Disk.armings ps) (c.rise-in-Err.ensures.posts ∙ ap (λ ps. ps ++ map (λ d. d.post) (lefts c.in-Err.machines.items)) c.sit.ensures.posts ∙ still_posts (λ d. d.opening.value) (λ d. d.node) (λ d. d.up) (λ d. d.post) (λ d. d.shares.now) (λ d. d.side) (λ d. d.shares.now) c.args.opening.value c.args.shares.now c.sit.new.machines.items c.sit.ensures.seated c.in-Err.machines.items c.in-Err.ensures.err.0 ∙ sym c.requires.posts)
+    ap (λ ps. most_armed g.K.Disk ps) (c.rise-in-Err.ensures.posts ∙ ap (λ ps. ps ++ map (λ d. d.post) (lefts c.in-Err.machines.items)) c.sit.ensures.posts ∙ still_posts (λ d. d.opening.value) (λ d. d.node) (λ d. d.up) (λ d. d.post) (λ d. d.shares.now) (λ d. d.side) (λ d. d.shares.now) c.args.opening.value c.args.shares.now c.sit.new.machines.items c.sit.ensures.seated c.in-Err.machines.items c.in-Err.ensures.err.0 ∙ sym c.requires.posts)
 
 pub returns-in-Err-clause-left : goal.returns-in-Err-clause-left
 returns-in-Err-clause-left g c = (

@@ -1,16 +1,15 @@
-use Rattle.std.proofs.Common.{◌≡◌, ℕ, ◌+◌, ◌≤◌, List, [], length, vec_len, Some, refl, sym, ap, subst, ◌∙◌, arith}
+use Rattle.std.proofs.Common.{◌≡◌, ℕ, ◌+◌, List, [], length, Some, refl, sym, ap, subst, ◌∙◌, arith}
 use Rattle.std.specs.Prelude.{slice_get}
 use Rattle.std.proofs.lemmas.Grind.{common_steps}
-use Rattle.net_model.specs.Site.{sender}
-use Rattle.declared_site.specs.SiteOf.{site_of}
 use Rattle.par_managers.proofs.Openings.{opened_long}
 use Rattle.kme_shared.specs.Sheets.{IsDealt}
 use Rattle.kme_shared.proofs.Dealt.{each_more, few_nodes, opened_fit, row_dealt}
 use Rattle.kme_shared.proofs.node_sheets.sheets.Goals as goal
+use Rattle.world_state.specs.Outside.{outside}
 
 pub loop-number-init : goal.loop-number-init
 loop-number-init g c = record {
-  nodes = few_nodes g.K.Disk.is_honest g.K.Disk.moment g.K.Disk.image g.E.Entropy.left g.Q.Device.told g.X.Wire.frames g.X.Wire.counted c.args.state.now c.requires.ready.0 c.requires.ready.1 c.requires.ready.2;
+  nodes = few_nodes (outside g.K.Disk g.Q.Device g.E.Entropy g.X.Wire) c.args.state.now c.requires.ready.0 c.requires.ready.1 c.requires.ready.2;
   below = omega arith;
   made = c.in_ok-sheets.ensures.len;
   room = omega (arith, c.in_ok-sheets.ensures.capacity, c.len.ensures, c.args.state.now.posts.ok.0);
@@ -44,7 +43,7 @@ loop-number-preserved g c =
     let lanes = c.deref.ensures.value in
     let node = c.unwrap-node.result in
     let is : node ≡ c.loop-number.number = grind (arith, common_steps, c.new.ensures, c.unwrap-node.ensures) in
-    let dealt = row_dealt s shares c.args.issuers.now c.requires.opened.0 c.requires.opened.1 g.K.Disk.is_honest g.K.Disk.moment g.K.Disk.image g.E.Entropy.left g.Q.Device.told g.X.Wire.frames g.X.Wire.counted a.0 a.1 a.2
+    let dealt = row_dealt s shares c.args.issuers.now c.requires.opened.0 c.requires.opened.1 (outside g.K.Disk g.Q.Device g.E.Entropy g.X.Wire) a.0 a.1 a.2
     node c.in_ok-row.row.items row.row.fits
     (λ i side at from. row.row.own i side (ap (λ xs. slice_get xs i) lanes ∙ at) from ∙ inv.left i side at (omega (arith, from, is))) c.of-opening.result.value c.of-opening.ensures in
     record {

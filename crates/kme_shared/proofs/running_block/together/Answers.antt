@@ -12,6 +12,7 @@ use Rattle.kme_shared.proofs.Carried.{together_in, together_out}
 use Rattle.kme_shared.proofs.Crews.{may_alone, did_alone}
 use Rattle.kme_shared.proofs.Sizes.{sized_together}
 use Rattle.kme_shared.proofs.running_block.together.Goals as goal
+use Rattle.world_state.specs.Outside.{outside}
 
 pub run_block-requires : goal.run_block-requires
 run_block-requires g c =
@@ -27,10 +28,10 @@ run_block-requires g c =
               search (sendable, b.sync-R),
               (
                 search (sendable, b.sync-G),
-                may_alone (λ (s : State g.row.K.Denot g.row.Q.Denot g.row.E.Denot g.row.X.Denot). s.site) (Stands g.K.Disk.is_honest g.K.Disk.moment g.K.Disk.image g.E.Entropy.left g.Q.Device.told g.X.Wire.frames g.X.Wire.counted)
-                    (Rests g.K.Disk.is_honest g.K.Disk.moment g.K.Disk.image g.E.Entropy.left g.Q.Device.told g.X.Wire.frames g.X.Wire.counted) (Tallied g.K.Disk.faults g.K.Disk.armings g.E.Entropy.faults g.Q.Device.faults g.X.Wire.faults)
-                    (λ (s : State g.row.K.Denot g.row.Q.Denot g.row.E.Denot g.row.X.Denot). most_armed g.K.Disk.armings s.posts.items) c.crew-crew.result c.args.workers c.crew-crew.ensures c.args.jobs.now c.args.running.now.state
-                    (together_in (λ (r : Running g.row.K.Denot g.row.Q.Denot g.row.E.Denot g.row.X.Denot g.K.Disk g.Q.Device g.E.Entropy g.X.Wire). r.state) (Stands g.K.Disk.is_honest g.K.Disk.moment g.K.Disk.image g.E.Entropy.left g.Q.Device.told g.X.Wire.frames g.X.Wire.counted)
+                may_alone (λ (s : State g.row.K.Denot g.row.Q.Denot g.row.E.Denot g.row.X.Denot). s.site) (Stands (outside g.K.Disk g.Q.Device g.E.Entropy g.X.Wire))
+                    (Rests (outside g.K.Disk g.Q.Device g.E.Entropy g.X.Wire)) (Tallied (outside g.K.Disk g.Q.Device g.E.Entropy g.X.Wire))
+                    (λ (s : State g.row.K.Denot g.row.Q.Denot g.row.E.Denot g.row.X.Denot). most_armed g.K.Disk s.posts.items) c.crew-crew.result c.args.workers c.crew-crew.ensures c.args.jobs.now c.args.running.now.state
+                    (together_in (λ (r : Running g.row.K.Denot g.row.Q.Denot g.row.E.Denot g.row.X.Denot g.K.Disk g.Q.Device g.E.Entropy g.X.Wire). r.state) (Stands (outside g.K.Disk g.Q.Device g.E.Entropy g.X.Wire))
                     (λ (s : State g.row.K.Denot g.row.Q.Denot g.row.E.Denot g.row.X.Denot). s.site) c.args.running.now c.args.workers c.args.jobs.now c.requires.may),
               ),
             ),
@@ -41,14 +42,14 @@ run_block-requires g c =
 
 pub returns : goal.returns
 returns g c = record {
-  did = together_out (λ (r : Running g.row.K.Denot g.row.Q.Denot g.row.E.Denot g.row.X.Denot g.K.Disk g.Q.Device g.E.Entropy g.X.Wire). r.state) (Stands g.K.Disk.is_honest g.K.Disk.moment g.K.Disk.image g.E.Entropy.left g.Q.Device.told g.X.Wire.frames g.X.Wire.counted)
-      (Tallied g.K.Disk.faults g.K.Disk.armings g.E.Entropy.faults g.Q.Device.faults g.X.Wire.faults) c.args.running.now _
-      (λ (s : State g.row.K.Denot g.row.Q.Denot g.row.E.Denot g.row.X.Denot). s.site) (Rests g.K.Disk.is_honest g.K.Disk.moment g.K.Disk.image g.E.Entropy.left g.Q.Device.told g.X.Wire.frames g.X.Wire.counted)
-      (λ (s : State g.row.K.Denot g.row.Q.Denot g.row.E.Denot g.row.X.Denot). most_armed g.K.Disk.armings s.posts.items)
+  did = together_out (λ (r : Running g.row.K.Denot g.row.Q.Denot g.row.E.Denot g.row.X.Denot g.K.Disk g.Q.Device g.E.Entropy g.X.Wire). r.state) (Stands (outside g.K.Disk g.Q.Device g.E.Entropy g.X.Wire))
+      (Tallied (outside g.K.Disk g.Q.Device g.E.Entropy g.X.Wire)) c.args.running.now _
+      (λ (s : State g.row.K.Denot g.row.Q.Denot g.row.E.Denot g.row.X.Denot). s.site) (Rests (outside g.K.Disk g.Q.Device g.E.Entropy g.X.Wire))
+      (λ (s : State g.row.K.Denot g.row.Q.Denot g.row.E.Denot g.row.X.Denot). most_armed g.K.Disk s.posts.items)
       c.run_block.result c.args.workers c.args.jobs.now
-      (did_alone (λ (s : State g.row.K.Denot g.row.Q.Denot g.row.E.Denot g.row.X.Denot). s.site) (Stands g.K.Disk.is_honest g.K.Disk.moment g.K.Disk.image g.E.Entropy.left g.Q.Device.told g.X.Wire.frames g.X.Wire.counted)
-      (Rests g.K.Disk.is_honest g.K.Disk.moment g.K.Disk.image g.E.Entropy.left g.Q.Device.told g.X.Wire.frames g.X.Wire.counted) (Tallied g.K.Disk.faults g.K.Disk.armings g.E.Entropy.faults g.Q.Device.faults g.X.Wire.faults)
-      (λ (s : State g.row.K.Denot g.row.Q.Denot g.row.E.Denot g.row.X.Denot). most_armed g.K.Disk.armings s.posts.items) c.crew-crew.result c.args.workers c.crew-crew.ensures c.args.jobs.now c.args.running.now.state _ c.requires.may.some
+      (did_alone (λ (s : State g.row.K.Denot g.row.Q.Denot g.row.E.Denot g.row.X.Denot). s.site) (Stands (outside g.K.Disk g.Q.Device g.E.Entropy g.X.Wire))
+      (Rests (outside g.K.Disk g.Q.Device g.E.Entropy g.X.Wire)) (Tallied (outside g.K.Disk g.Q.Device g.E.Entropy g.X.Wire))
+      (λ (s : State g.row.K.Denot g.row.Q.Denot g.row.E.Denot g.row.X.Denot). most_armed g.K.Disk s.posts.items) c.crew-crew.result c.args.workers c.crew-crew.ensures c.args.jobs.now c.args.running.now.state _ c.requires.may.some
       c.run_block.result c.run_block.ensures.did);
 }
 
@@ -58,7 +59,7 @@ invariant_of-running g c =
     let did = c.run_block.ensures.did in
     record {
       declared = subst (λ (d : Declared). IsDeclared d) (sym did.sited) c.args.running.now.declared;
-      sized = sized_together g.K.Disk.is_honest g.K.Disk.moment g.K.Disk.image g.E.Entropy.left g.Q.Device.told g.X.Wire.frames g.X.Wire.counted
-          g.K.Disk.faults g.K.Disk.armings g.E.Entropy.faults g.Q.Device.faults g.X.Wire.faults c.args.running.now.state c.run_block.new.state q.0 q.1 c.crew-crew.result c.args.jobs.now
+      sized = sized_together (outside g.K.Disk g.Q.Device g.E.Entropy g.X.Wire)
+          c.args.running.now.state c.run_block.new.state q.0 q.1 c.crew-crew.result c.args.jobs.now
           (record { stands = q.2.stands; quiet = q.2.quiet }) c.run_block.result did.done did.left;
     }

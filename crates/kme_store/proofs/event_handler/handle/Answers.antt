@@ -22,13 +22,13 @@ pub returns-in-Err-clause-answers : goal.returns-in-Err-clause-answers
 returns-in-Err-clause-answers g c = λ is_up up.
     let d = g.K.Disk in
     let e = g.E.Entropy in
-    back d.is_honest d.content d.moment d.image d.faults d.armings e.left e.faults is_up c.args.event.now c.args.node.now.site (view c.args.node.now) c.args.entropy.now c.args.journal
+    back d e is_up c.args.event.now c.args.node.now.site (view c.args.node.now) c.args.entropy.now c.args.journal
     c.new.new.journal c.new.new.node.site (view c.new.new.node) c.in-Err.reply c.in-Err.ensures.journal c.stands.ensures c.in-Err.ensures.view (λ random as_many. c.in-Err.ensures.refused is_up random up as_many)
 
 pub returns-in-Err-clause-kept : goal.returns-in-Err-clause-kept
 returns-in-Err-clause-kept g c =
     let d = g.K.Disk in
-    roomier_kept d.is_honest d.content d.moment d.image d.faults d.armings c.args.journal c.new.new.journal c.in-Err.ensures.journal c.stands.ensures
+    roomier_kept d c.args.journal c.new.new.journal c.in-Err.ensures.journal c.stands.ensures
 
 pub returns-in-Err-draw-clause-answers : goal.returns-in-Err-draw-clause-answers
 returns-in-Err-draw-clause-answers g c = λ is_up up.
@@ -38,9 +38,9 @@ returns-in-Err-draw-clause-answers g c = λ is_up up.
     let v = view c.args.node.now in
     let laws : AreOver = record { fills = c.law_fill_over_other_octets.ensures; groups = c.law_group_fill_over_other_octets.ensures; feeds = c.law_feed_over_other_octets.ensures } in
     let gives : Gives {T = Unit {0}} (e.left c.args.entropy.now) (e.left c.draw.new.entropy) (Err c.in-Err-draw.field-0) (length draft.random.items) c.draw.new.random = subst (λ (xs : List ℕ). Gives {T = Unit {0}} (e.left c.args.entropy.now) (e.left c.draw.new.entropy) (Err c.in-Err-draw.field-0) (length xs) c.draw.new.random) c.deref_mut.ensures.value c.in-Err-draw.ensures.given in
-    undrawn d.is_honest d.content d.moment d.image d.faults d.armings e.left e.faults is_up c.args.event.now c.args.node.now.site v c.args.entropy.now c.args.journal
+    undrawn d e is_up c.args.event.now c.args.node.now.site v c.args.entropy.now c.args.journal
     laws (Unit {0}) draft.random.items c.draw.new.random draft.step draft.body c.new.new.journal c.new.new.node.site (view c.new.new.node) c.draw.new.entropy c.in-Err-draw.field-0
-    (made_over d.is_honest d.content d.moment d.image d.faults d.armings e.left e.faults is_up c.args.event.now c.args.node.now.site v c.args.entropy.now c.args.journal c.new.new.journal draft.random.items draft.step draft.body
+    (made_over d e is_up c.args.event.now c.args.node.now.site v c.args.entropy.now c.args.journal c.new.new.journal draft.random.items draft.step draft.body
     (record { roomier = c.in-Ok.ensures.journal; kept = c.stands.ensures; over = c.in-Ok.ensures.zeros; step = c.in-Ok.ensures.step is_up up; spelled = c.in-Ok.ensures.ready.body; place = c.in-Ok.ensures.place }))
     c.in-Ok.ensures.journal c.stands.ensures c.in-Ok.ensures.view gives (λ why. c.in-Err-draw.ensures.cause (refused c.in-Err-draw.field-0 Failed why)) (λ other. c.in-Err-draw.ensures.calm (λ is. other (cc is)))
 
@@ -76,10 +76,10 @@ returns-clause-answers g c = λ is_up up.
     let left = written draft.random.len random (drop (length random) draft.random.items) (c.draw.auto.random ∙ c.deref_mut.ensures.len) in
     let step : new.step ≡ record draft.step { batch = with_random random draft.step.batch } = c.put_random.ensures.step ∙ ap (λ (xs : List ℕ). record draft.step { batch = with_random xs draft.step.batch }) left in
     let ended =
-    is_finished d.is_honest d.content d.moment d.image d.faults d.armings e.left e.faults is_up c.args.event.now c.args.node.now.site v c.args.entropy.now c.args.journal
+    is_finished d e is_up c.args.event.now c.args.node.now.site v c.args.entropy.now c.args.journal
     mid random draft.step new.step new.body c.finish.result.0 (view c.new.new.node) (view c.finish.new.node) c.finish.result.1 c.in-Ok.ensures.view step (c.put_random.ensures.body mid.live.version c.in-Ok.ensures.ready.body)
     c.finish.ensures.moments c.finish.ensures.up c.finish.ensures.taken c.finish.ensures.down c.finish.ensures.left c.finish.ensures.calm in
-    finished d.is_honest d.content d.moment d.image d.faults d.armings e.left e.faults is_up c.args.event.now c.args.node.now.site v c.args.entropy.now c.args.journal
+    finished d e is_up c.args.event.now c.args.node.now.site v c.args.entropy.now c.args.journal
     laws {T = Unit {0}} draft.random.items random draft.step draft.body new.body c.draw.new.entropy tt mid c.finish.result.0 c.finish.new.node.site (view c.finish.new.node) c.finish.result.1
     (record { roomier = c.in-Ok.ensures.journal; kept = c.stands.ensures; over = c.in-Ok.ensures.zeros; step = c.in-Ok.ensures.step is_up up; spelled = c.in-Ok.ensures.ready.body; place = c.in-Ok.ensures.place })
     as_many (subst (λ (n : ℕ). Gives {T = Unit {0}} (e.left c.args.entropy.now) (e.left c.draw.new.entropy) (Ok tt) n random) (sym c.draw.auto.random) c.in-Ok-draw.ensures.given) ended (c.in-Ok-draw.ensures.calm (λ is. absurd (cc is)))
@@ -100,10 +100,10 @@ returns-clause-told g c = λ was.
     let left = written draft.random.len random (drop (length random) draft.random.items) (c.draw.auto.random ∙ c.deref_mut.ensures.len) in
     let step : new.step ≡ record draft.step { batch = with_random random draft.step.batch } = c.put_random.ensures.step ∙ ap (λ (xs : List ℕ). record draft.step { batch = with_random xs draft.step.batch }) left in
     let ended =
-    is_finished d.is_honest d.content d.moment d.image d.faults d.armings e.left e.faults is_up c.args.event.now c.args.node.now.site v c.args.entropy.now c.args.journal
+    is_finished d e is_up c.args.event.now c.args.node.now.site v c.args.entropy.now c.args.journal
     mid random draft.step new.step new.body c.finish.result.0 (view c.new.new.node) (view c.finish.new.node) c.finish.result.1 c.in-Ok.ensures.view step (c.put_random.ensures.body mid.live.version c.in-Ok.ensures.ready.body)
     c.finish.ensures.moments c.finish.ensures.up c.finish.ensures.taken c.finish.ensures.down c.finish.ensures.left c.finish.ensures.calm in
-    told_after d.is_honest d.content d.moment d.image d.faults d.armings e.left e.faults is_up c.args.event.now c.args.node.now.site v c.args.entropy.now c.args.journal
+    told_after d e is_up c.args.event.now c.args.node.now.site v c.args.entropy.now c.args.journal
     laws c.law_effect_is_given_back.ensures.appended c.law_effect_is_given_back.ensures.nothing draft.random.items random draft.step draft.body new.body mid c.finish.result.0 c.finish.new.node.site (view c.finish.new.node) c.finish.result.1
     (record { roomier = c.in-Ok.ensures.journal; kept = c.stands.ensures; over = c.in-Ok.ensures.zeros; step = c.in-Ok.ensures.step is_up (λ link within. refl); spelled = c.in-Ok.ensures.ready.body; place = c.in-Ok.ensures.place })
     as_many ended (c.finish.ensures.site ∙ c.in-Ok.ensures.site) was

@@ -8,8 +8,8 @@ use Rattle.net_serve.proofs.bench.law_bench_serves.Goals as goal
 
 pub returns : goal.returns
 returns g c http scenario workers connections port stop old new before after done served h lines follows told cut =
-    let net = network_on g.Q.Device.told g.E.Entropy.left old scenario.site in
-    let course = course_on g.Q.Device.told g.E.Entropy.left old scenario done served in
+    let net = network_on g.Q.Device g.E.Entropy old scenario.site in
+    let course = course_on g.Q.Device g.E.Entropy old scenario done served in
     let benched = c.law_bench_begins.ensures.benched old scenario h.fresh h.declared in
     let is = c.law_served_lines_make_a_course.ensures http scenario workers connections port net first done served benched (first_begins net) lines follows in
     let reported = c.law_reported_of_serve.ensures workers connections port stop http scenario course before after told in

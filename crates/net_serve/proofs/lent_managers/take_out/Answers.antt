@@ -4,6 +4,7 @@ use Rattle.net_model.specs.Site.{count_up}
 use Rattle.shared_objects.proofs.Lasts.{put_back, all_back, all_and_one, no_items, count_down, last_there}
 use Rattle.net_serve.proofs.Servable.{servable}
 use Rattle.net_serve.proofs.lent_managers.take_out.Goals as goal
+use Rattle.world_state.specs.Outside.{outside}
 
 pub invariant_of-manager : goal.invariant_of-manager
 invariant_of-manager g c =
@@ -14,7 +15,7 @@ invariant_of-manager g c =
     let there = last_there c.loop.posts.items c.take_last-post.new.self.items c.take_last-post.result o.posts.items (reverse (map (λ m. m.post) c.loop.managers.items)) c.unwrap-node.result
     c.take_last-post.ensures.items (inv.before ∙ c.requires.posts) (sym c.take_last-post.new.self.ok.0 ∙ sym is) in
     record {
-      servable = ∣ servable g.K.Disk.is_honest g.K.Disk.moment g.K.Disk.image g.E.Entropy.left g.Q.Device.told g.X.Wire.frames g.X.Wire.counted o a.0 a.1 a.2 c.of.result.value c.unwrap-node.result
+      servable = ∣ servable (outside g.K.Disk g.Q.Device g.E.Entropy g.X.Wire) o a.0 a.1 a.2 c.of.result.value c.unwrap-node.result
           c.take_last-post.result c.args.up (c.of.ensures ∙ c.requires.sited) c.requires.up there ∣₁;
     }
 

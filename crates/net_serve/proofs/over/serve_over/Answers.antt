@@ -7,6 +7,7 @@ use Rattle.kme_serve.specs.Doors.{PortsTold, ports_of, ports_told, AreOpened, We
 use Rattle.kme_serve.proofs.Rooms.{adds_same, adds_to}
 use Rattle.net_serve.proofs.Going.{nothing_served, served_over}
 use Rattle.net_serve.proofs.over.serve_over.Goals as goal
+use Rattle.world_state.specs.Outside.{outside}
 
 pub returns-in-Err-Listen-clause-served : goal.returns-in-Err-Listen-clause-served
 returns-in-Err-Listen-clause-served g c net w stands =
@@ -19,7 +20,7 @@ returns-in-Err-Listen-clause-served g c net w stands =
     let is = c.in-Err-Listen.field-0-is in
     let opened : WereOpened tell failed c.args.port c.args.workers (length c.args.state.now.site.nodes) before after =
     subst (λ (n : ℕ). WereOpened tell failed c.args.port c.args.workers n before after) c.len-nodes.ensures (c.in-Err-Listen.ensures.listen cc) in
-    nothing_served g.K.Disk.is_honest g.K.Disk.moment g.K.Disk.image g.E.Entropy.left g.Q.Device.told g.X.Wire.frames g.X.Wire.counted g.K.Disk.faults g.K.Disk.armings g.E.Entropy.faults g.Q.Device.faults g.X.Wire.faults tell failed tells c.args.workers c.args.connections c.args.port
+    nothing_served (outside g.K.Disk g.Q.Device g.E.Entropy g.X.Wire) tell failed tells c.args.workers c.args.connections c.args.port
     c.args.state.now net w before after stands c.args.state.now refl ListenFault (inl (record { nodes = c.requires.some; opened = opened; none = refl }))
 
 pub returns-in-Err-Memory-clause-served : goal.returns-in-Err-Memory-clause-served
@@ -32,7 +33,7 @@ returns-in-Err-Memory-clause-served g c net w stands =
     let after : PortsTold g.row.P-Door.Denot = ports_told g.P.Ports.asked g.P.Ports.back g.P.Ports.queues c.open_doors.new.ports in
     let is = c.in-Err-Memory.field-0-is in
     let same : c.open_doors.new.ports ≡ c.args.ports.now = c.in-Err-Memory.ensures.memory cc in
-    nothing_served g.K.Disk.is_honest g.K.Disk.moment g.K.Disk.image g.E.Entropy.left g.Q.Device.told g.X.Wire.frames g.X.Wire.counted g.K.Disk.faults g.K.Disk.armings g.E.Entropy.faults g.Q.Device.faults g.X.Wire.faults tell failed tells c.args.workers c.args.connections c.args.port
+    nothing_served (outside g.K.Disk g.Q.Device g.E.Entropy g.X.Wire) tell failed tells c.args.workers c.args.connections c.args.port
     c.args.state.now net w before after stands c.args.state.now refl Memory
     (inl (record { same = ap (λ (p : g.row.P.Denot). ports_told g.P.Ports.asked g.P.Ports.back g.P.Ports.queues p) same; none = refl }))
 
@@ -60,6 +61,6 @@ returns-clause-served g c net w stands =
     (subst (λ (n : ℕ). Adds before.asked (g.P.Ports.asked c.open_doors.new.ports) (ports_of c.args.port c.args.workers n)) c.len-nodes.ensures c.in-Ok.ensures.asked) c.shut_doors.ensures.same.0 in
     let given : Adds before.back after.back c.serve-result.result.1.items =
     adds_same before.back (g.P.Ports.back c.open_doors.new.ports) after.back c.serve-result.result.1.items c.in-Ok.ensures.same.0 c.shut_doors.ensures.back in
-    served_over g.K.Disk.is_honest g.K.Disk.moment g.K.Disk.image g.E.Entropy.left g.Q.Device.told g.X.Wire.frames g.X.Wire.counted g.K.Disk.faults g.K.Disk.armings g.E.Entropy.faults g.Q.Device.faults g.X.Wire.faults tell failed tells c.args.workers c.args.connections c.args.port
+    served_over (outside g.K.Disk g.Q.Device g.E.Entropy g.X.Wire) tell failed tells c.args.workers c.args.connections c.args.port
     c.args.state.now net w before after stands c.serve-result.new.state c.in-Ok.doors.items c.serve-result.result.1.items c.requires.some opened asked given
     c.serve-result.result.0 c.serve-result.ensures.memory (λ some. c.serve-result.ensures.served some net w stands)

@@ -9,6 +9,7 @@ use Rattle.net_serve.proofs.Headlines.{headlines}
 use Rattle.net_serve.proofs.Blaming.{blamed}
 use Rattle.net_serve.proofs.Lined.{unlined, lined_behind}
 use Rattle.net_serve.proofs.scenario_serve.run_serve.Goals as goal
+use Rattle.world_state.specs.Outside.{outside}
 
 pub returns-in-Ok-clause-headline : goal.returns-in-Ok-clause-headline
 returns-in-Ok-clause-headline g c =
@@ -19,7 +20,7 @@ returns-in-Ok-clause-headline g c =
     let before : PortsTold g.row.P-Door.Denot = ports_told g.P.Ports.asked g.P.Ports.back g.P.Ports.queues c.args.ports.now in
     let after : PortsTold g.row.P-Door.Denot = ports_told g.P.Ports.asked g.P.Ports.back g.P.Ports.queues c.serve_behind-result.new.ports in
     let r = c.in-Ok.ensures.ran in
-    inr (headlines g.K.Disk.is_honest g.K.Disk.content g.K.Disk.moment g.K.Disk.image g.E.Entropy.left g.Q.Device.told g.X.Wire.frames g.X.Wire.counted g.K.Disk.faults g.K.Disk.armings g.E.Entropy.faults g.Q.Device.faults g.X.Wire.faults tell failed tells
+    inr (headlines (outside g.K.Disk g.Q.Device g.E.Entropy g.X.Wire) tell failed tells
     c.args.bench.now c.run_out.new.bench c.put_back.new.bench c.in-Ok.left.state c.serve_behind-result.new.state c.args.scenario c.args.workers c.args.connections c.args.port
     (given_to g.W.Sink.taken g.W.Sink.pieces c.args.sink.now) (given_to g.W.Sink.taken g.W.Sink.pieces c.run_out.new.sink) (given_to g.W.Sink.taken g.W.Sink.pieces c.serve_behind-result.new.sink) before after c.in-Ok.left.ended c.serve_behind-result.result
     c.law_tasks_are_run.ensures.world c.law_bench_begins.ensures.benched c.law_bench_serves.ensures c.requires.fresh c.requires.runnable.site r c.serve_behind-result.ensures.ends c.put_back.ensures)
@@ -27,7 +28,7 @@ returns-in-Ok-clause-headline g c =
 pub returns-in-Ok-clause-whole : goal.returns-in-Ok-clause-whole
 returns-in-Ok-clause-whole g c =
     let r = c.in-Ok.ensures.ran in
-    whole_again g.K.Disk.is_honest g.K.Disk.content g.K.Disk.moment g.K.Disk.image c.args.bench.now c.run_out.new.bench c.put_back.new.bench c.args.scenario.site
+    whole_again g.K.Disk c.args.bench.now c.run_out.new.bench c.put_back.new.bench c.args.scenario.site
     r.begin c.serve_behind-result.new.state c.requires.runnable.site c.requires.fresh.whole r.laid c.serve_behind-result.ensures.sized (c.serve_behind-result.ensures.site ∙ r.sited) c.put_back.ensures
 
 pub returns-in-Ok-clause-blame : goal.returns-in-Ok-clause-blame

@@ -21,7 +21,7 @@ loop-preserved g c =
       entropies = ap (λ xs. map entropy_of rest ++ xs) c.put_first-in-loop.ensures.items
           ∙ put_last entropy_of posts rest post entropy c.loop.entropies.items is c.parts_of-disk.ensures.entropy ∙ c.loop.invariant.entropies;
       disk_room = omega (arith, c.put_first.ensures.len, c.put_first.ensures.room, c.take_last-post.ensures.len, c.loop.invariant.disk_room);
-      on_disk = λ all. c.loop.invariant.on_disk (subst (All (IsOnDisk g.K.Disk.is_honest g.K.Disk.content g.K.Disk.moment g.K.Disk.image)) (sym is)
-          (All-push (IsOnDisk g.K.Disk.is_honest g.K.Disk.content g.K.Disk.moment g.K.Disk.image) rest post all c.parts_of-disk.ensures.on_disk));
+      on_disk = λ all. c.loop.invariant.on_disk (subst (All (IsOnDisk g.K.Disk)) (sym is)
+          (All-push (IsOnDisk g.K.Disk) rest post all c.parts_of-disk.ensures.on_disk));
       entropy_room = omega (arith, c.put_first-in-loop.ensures.len, c.put_first-in-loop.ensures.room, c.take_last-post.ensures.len, c.loop.invariant.entropy_room);
     }

@@ -10,6 +10,6 @@ invariant-loop g l = record {
   disks : map disk_of l.posts.items ++ map Some l.disks.items ≡ map disk_of l.fn.posts.items ++ map Some l.fn.disks.items;
   entropies : map entropy_of l.posts.items ++ l.entropies.items ≡ map entropy_of l.fn.posts.items ++ l.fn.entropies.items;
   disk_room : vec_len l.posts + vec_len l.disks ≤ vec_capacity l.disks;
-  on_disk : All (IsOnDisk g.K.Disk.is_honest g.K.Disk.content g.K.Disk.moment g.K.Disk.image) l.posts.items → All (IsOnDisk g.K.Disk.is_honest g.K.Disk.content g.K.Disk.moment g.K.Disk.image) l.fn.posts.items;
+  on_disk : All (IsOnDisk g.K.Disk) l.posts.items → All (IsOnDisk g.K.Disk) l.fn.posts.items;
   entropy_room : vec_len l.posts + vec_len l.entropies ≤ vec_capacity l.entropies;
 }

@@ -13,6 +13,6 @@ abbrev pub invariant-loop-number : goal.invariant-loop-number
 invariant-loop-number g l = record {
   size : length l.marks ≡ length l.fn.side.bytes;
   few : length l.frames ≤ marked l.marks;
-  collected : (net : Network) (w : World) → IsRunning net w → is_lane net.site l.fn.side.lane ≡ true → LaneStands g.X.Wire.frames g.X.Wire.counted net w l.fn.side.lane l.fn.side →
+  collected : (net : Network) (w : World) → IsRunning net w → is_lane net.site l.fn.side.lane ≡ true → LaneStands g.X.Wire net w l.fn.side.lane l.fn.side →
       IsCollected (λ j. sealed_with w.durable.facts (veiled_facts w) (slice_get (w.frames l.fn.side.lane) j)) (w.wire l.fn.side.lane) l.number l.frames l.marks;
 }

@@ -16,7 +16,7 @@ unsealed-requires g c =
       s.a.offset,
       s.p,
       frame_sent r.0 r.1 lane seen.frame c.bytes.result.now c.part.result.now r.2.sealing s (c.bytes.ensures ∙ r.4.bytes)
-          (seen_is g.X.Wire.frames g.X.Wire.counted r.0 r.1 c.args.side.now c.args.number c.in-Some.length c.frame.new.into.octets c.part.result.now r.4 seen c.part.ensures),
+          (seen_is g.X.Wire r.0 r.1 c.args.side.now c.args.number c.in-Some.length c.frame.new.into.octets c.part.result.now r.4 seen c.part.ensures),
     )
 
 pub returns-clause-frame : goal.returns-clause-frame
@@ -30,7 +30,7 @@ returns-clause-frame g c =
     let s = is_sent net w running.network running.conserved lane at c.args.number j on in
     says lane s.a.offset s.p
     (frame_sent net w lane j c.bytes.result.now c.part.result.now running.sealing s (c.bytes.ensures ∙ stands.bytes)
-    (seen_is g.X.Wire.frames g.X.Wire.counted net w c.args.side.now c.args.number c.in-Some.length c.frame.new.into.octets c.part.result.now stands seen c.part.ensures ∙
+    (seen_is g.X.Wire net w c.args.side.now c.args.number c.in-Some.length c.frame.new.into.octets c.part.result.now stands seen c.part.ensures ∙
     ap (λ (k : ℕ). frame_octets net w lane (slice_get (w.frames lane) k)) same)) ∙
     frame_veiled net w lane j s)
     c.unsealed.ensures
@@ -42,7 +42,7 @@ returns-clause-within g c =
     let seen = (c.in-Some.ensures.frame r.0 r.1 r.2 r.4).1 in
     let s = is_sent r.0 r.1 r.2.network r.2.conserved lane r.3 c.args.number seen.frame seen.stands in
     let is = frame_sent r.0 r.1 lane seen.frame c.bytes.result.now c.part.result.now r.2.sealing s (c.bytes.ensures ∙ r.4.bytes)
-    (seen_is g.X.Wire.frames g.X.Wire.counted r.0 r.1 c.args.side.now c.args.number c.in-Some.length c.frame.new.into.octets c.part.result.now r.4 seen c.part.ensures) in
+    (seen_is g.X.Wire r.0 r.1 c.args.side.now c.args.number c.in-Some.length c.frame.new.into.octets c.part.result.now r.4 seen c.part.ensures) in
     if_ok _ _ c.unsealed.result
     (λ frame says.
     let at : frame.offset ≡ s.a.offset = ap (λ (f : SealedFrame). f.offset) (says lane s.a.offset s.p is) in

@@ -20,5 +20,5 @@ returns-in-Err-clause-err g c =
     record { site = c.in_ok-state.state.site; posts = c.in_ok-state.state.posts; lanes = c.go_on_all.new.lanes; devices = c.in_ok-state.state.devices; up = c.in_ok-state.state.up } in
     let laid = c.in_ok-state.ensures.laid in
     let sized = sized_laid c.args.bench.now c.lay_out.new.bench c.args.site c.in_ok-state.state laid c.requires.declared c.requires.whole end refl refl refl c.go_on_all.ensures.sides in
-    whole_again g.K.Disk.is_honest g.K.Disk.content g.K.Disk.moment g.K.Disk.image c.args.bench.now c.lay_out.new.bench c.put_back.new.bench c.args.site c.in_ok-state.state end
+    whole_again g.K.Disk c.args.bench.now c.lay_out.new.bench c.put_back.new.bench c.args.site c.in_ok-state.state end
     c.requires.declared c.requires.whole laid sized laid.sited c.put_back.ensures

@@ -1,10 +1,11 @@
 use Rattle.net_world.proofs.Kept.{new_is_kept}
 use Rattle.net_world.proofs.KeptLanes.{nothing_kept, laid_anew}
 use Rattle.net_world.proofs.kept_laws.law_new_is_kept.Goals as goal
+use Rattle.world_state.specs.Outside.{outside}
 
 pub returns-clause-kept : goal.returns-clause-kept
 returns-clause-kept g c b site new declared =
-    new_is_kept g.K.Disk.is_honest g.K.Disk.moment g.K.Disk.image g.E.Entropy.left g.Q.Device.told g.X.Wire.frames b new site declared c.frames_of_a_network.ensures
+    new_is_kept (outside g.K.Disk g.Q.Device g.E.Entropy g.X.Wire) b new site declared c.frames_of_a_network.ensures
 
 pub returns-clause-lanes : goal.returns-clause-lanes
 returns-clause-lanes g c net = nothing_kept net

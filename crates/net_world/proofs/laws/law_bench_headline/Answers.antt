@@ -6,15 +6,16 @@ use Rattle.law_run.proofs.Resting.{first_begins}
 use Rattle.net_world.specs.New.{network_on}
 use Rattle.net_world.proofs.Headlines.{over_benched, over_seen}
 use Rattle.net_world.proofs.laws.law_bench_headline.Goals as goal
+use Rattle.world_state.specs.Outside.{outside}
 
 pub returns-clause-run : goal.returns-clause-run
 returns-clause-run g c http scenario workers stop old new before after done h runs told cut =
-    let net = network_on g.Q.Device.told g.E.Entropy.left old scenario.site in
+    let net = network_on g.Q.Device g.E.Entropy old scenario.site in
     let w = (report http net first (tasks_of scenario) done).world in
-    let benched = over_benched g.K.Disk.is_honest g.K.Disk.content g.K.Disk.moment g.K.Disk.image g.E.Entropy.left g.Q.Device.told g.X.Wire.frames g.X.Wire.counted
-    g.K.Disk.faults g.K.Disk.armings g.E.Entropy.faults g.Q.Device.faults g.X.Wire.faults old new scenario (actions_of net done) w c.frames_of_a_network.ensures h in
-    let sees = over_seen g.K.Disk.is_honest g.K.Disk.content g.K.Disk.moment g.K.Disk.image g.E.Entropy.left g.Q.Device.told g.X.Wire.frames g.X.Wire.counted
-    g.K.Disk.faults g.K.Disk.armings g.E.Entropy.faults g.Q.Device.faults g.X.Wire.faults old new scenario (actions_of net done) w c.frames_of_a_network.ensures h
+    let benched = over_benched (outside g.K.Disk g.Q.Device g.E.Entropy g.X.Wire)
+    old new scenario (actions_of net done) w c.frames_of_a_network.ensures h in
+    let sees = over_seen (outside g.K.Disk g.Q.Device g.E.Entropy g.X.Wire)
+    old new scenario (actions_of net done) w c.frames_of_a_network.ensures h
     (c.law_tasks_are_run.ensures.run http net workers first (tasks_of scenario) done benched.network (first_begins net).conserved runs)
     (c.law_tasks_are_run.ensures.world http net workers first (tasks_of scenario) done benched.network (first_begins net).conserved runs) in
     record {
@@ -26,12 +27,12 @@ returns-clause-run g c http scenario workers stop old new before after done h ru
 
 pub returns-clause-load : goal.returns-clause-load
 returns-clause-load g c http scenario rounds stop old new before after done is h runs told cut =
-    let net = network_on g.Q.Device.told g.E.Entropy.left old scenario.site in
+    let net = network_on g.Q.Device g.E.Entropy old scenario.site in
     let w = (report http net first (tasks_of scenario) done).world in
-    let benched = over_benched g.K.Disk.is_honest g.K.Disk.content g.K.Disk.moment g.K.Disk.image g.E.Entropy.left g.Q.Device.told g.X.Wire.frames g.X.Wire.counted
-    g.K.Disk.faults g.K.Disk.armings g.E.Entropy.faults g.Q.Device.faults g.X.Wire.faults old new scenario (actions_of net done) w c.frames_of_a_network.ensures h in
-    let sees = over_seen g.K.Disk.is_honest g.K.Disk.content g.K.Disk.moment g.K.Disk.image g.E.Entropy.left g.Q.Device.told g.X.Wire.frames g.X.Wire.counted
-    g.K.Disk.faults g.K.Disk.armings g.E.Entropy.faults g.Q.Device.faults g.X.Wire.faults old new scenario (actions_of net done) w c.frames_of_a_network.ensures h
+    let benched = over_benched (outside g.K.Disk g.Q.Device g.E.Entropy g.X.Wire)
+    old new scenario (actions_of net done) w c.frames_of_a_network.ensures h in
+    let sees = over_seen (outside g.K.Disk g.Q.Device g.E.Entropy g.X.Wire)
+    old new scenario (actions_of net done) w c.frames_of_a_network.ensures h
     (c.law_tasks_are_run.ensures.run http net 1 first (tasks_of scenario) done benched.network (first_begins net).conserved runs)
     (c.law_tasks_are_run.ensures.world http net 1 first (tasks_of scenario) done benched.network (first_begins net).conserved runs) in
     record {

@@ -1,6 +1,7 @@
 use Rattle.net_world.specs.Reading.{batches_on}
 use Rattle.net_world.specs.Shown.{shown_by}
 use Rattle.net_world.proofs.laws.law_headline_stands.Goals as goal
+use Rattle.world_state.specs.Outside.{outside}
 
 pub returns-clause-whatever : goal.returns-clause-whatever
 returns-clause-whatever g c old new words scenario before after stop h =
@@ -17,6 +18,6 @@ returns-clause-honest g c old new words scenario before after stop h honest =
       course.0,
       course.1.begin,
       course.1.holds batches_on
-          (shown_by g.K.Disk.content g.X.Wire.frames g.K.Disk.faults g.K.Disk.armings g.E.Entropy.faults g.Q.Device.faults g.X.Wire.faults old new)
+          (shown_by (outside g.K.Disk g.Q.Device g.E.Entropy g.X.Wire) old new)
           c.law_disks_are_read.ensures (c.law_bench_is_shown.ensures old new honest),
     )

@@ -23,11 +23,12 @@ use Rattle.net_world.proofs.Rooms.{first_is_quiet, whole_again}
 use Rattle.net_world.proofs.LoadHeadlines.{headlines}
 use Rattle.net_world.proofs.Lined.{none_written}
 use Rattle.net_world.proofs.lines.run_lines_of.Goals as goal
+use Rattle.world_state.specs.Outside.{outside}
 
 pub new-running-requires-clause-sized : goal.new-running-requires-clause-sized
 new-running-requires-clause-sized g c =
     let laid = c.in-Ok.ensures.laid in
-    let s = stands_first g.K.Disk.is_honest g.K.Disk.moment g.K.Disk.image g.E.Entropy.left g.Q.Device.told g.X.Wire.frames g.X.Wire.counted g.met.X.Wire.all_counted
+    let s = stands_first (outside g.K.Disk g.Q.Device g.E.Entropy g.X.Wire) g.met.X.Wire.all_counted
     c.args.bench.now c.lay_out.new.bench c.requires.fresh c.args.scenario.site c.requires.runnable.site c.frames_of_a_network.ensures c.in-Ok.state laid in
     record {
       nodes = s.nodes ∙ ap (λ (d : Site). (site_of d).nodes) (sym laid.sited);
@@ -42,13 +43,13 @@ run_load-result-requires-clause-fit g c =
 
 pub run_load-result-requires-clause-ready : goal.run_load-result-requires-clause-ready
 run_load-result-requires-clause-ready g c =
-    let net = network_on g.Q.Device.told g.E.Entropy.left c.args.bench.now c.args.scenario.site in
-    let s = stands_first g.K.Disk.is_honest g.K.Disk.moment g.K.Disk.image g.E.Entropy.left g.Q.Device.told g.X.Wire.frames g.X.Wire.counted g.met.X.Wire.all_counted
+    let net = network_on g.Q.Device g.E.Entropy c.args.bench.now c.args.scenario.site in
+    let s = stands_first (outside g.K.Disk g.Q.Device g.E.Entropy g.X.Wire) g.met.X.Wire.all_counted
     c.args.bench.now c.lay_out.new.bench c.requires.fresh c.args.scenario.site c.requires.runnable.site c.frames_of_a_network.ensures c.in-Ok.state c.in-Ok.ensures.laid in (
       net,
       first,
       record {
-        stands = subst (λ (x : State g.row.K.Denot g.row.Q.Denot g.row.E.Denot g.row.X.Denot). Stands g.K.Disk.is_honest g.K.Disk.moment g.K.Disk.image g.E.Entropy.left g.Q.Device.told g.X.Wire.frames g.X.Wire.counted x net first)
+        stands = subst (λ (x : State g.row.K.Denot g.row.Q.Denot g.row.E.Denot g.row.X.Denot). Stands (outside g.K.Disk g.Q.Device g.E.Entropy g.X.Wire) x net first)
             (sym c.new-running.ensures) s;
         quiet = first_is_quiet;
       },
@@ -58,19 +59,18 @@ pub returns-clause-headline : goal.returns-clause-headline
 returns-clause-headline g c rounds is =
     let State-here = State g.row.K.Denot g.row.Q.Denot g.row.E.Denot g.row.X.Denot in
     let Running-here = Running g.row.K.Denot g.row.Q.Denot g.row.E.Denot g.row.X.Denot g.K.Disk g.Q.Device g.E.Entropy g.X.Wire in
-    let net = network_on g.Q.Device.told g.E.Entropy.left c.args.bench.now c.args.scenario.site in
+    let net = network_on g.Q.Device g.E.Entropy c.args.bench.now c.args.scenario.site in
     let laid = c.in-Ok.ensures.laid in
-    let stands = stands_first g.K.Disk.is_honest g.K.Disk.moment g.K.Disk.image g.E.Entropy.left g.Q.Device.told g.X.Wire.frames g.X.Wire.counted g.met.X.Wire.all_counted
+    let stands = stands_first (outside g.K.Disk g.Q.Device g.E.Entropy g.X.Wire) g.met.X.Wire.all_counted
     c.args.bench.now c.lay_out.new.bench c.requires.fresh c.args.scenario.site c.requires.runnable.site c.frames_of_a_network.ensures c.in-Ok.state laid in
-    let ready : IsReady (λ (r : Running-here). Stands g.K.Disk.is_honest g.K.Disk.moment g.K.Disk.image g.E.Entropy.left g.Q.Device.told g.X.Wire.frames g.X.Wire.counted r.state)
+    let ready : IsReady (λ (r : Running-here). Stands (outside g.K.Disk g.Q.Device g.E.Entropy g.X.Wire) r.state)
     c.new-running.result net first = record {
-      stands = subst (λ (x : State-here). Stands g.K.Disk.is_honest g.K.Disk.moment g.K.Disk.image g.E.Entropy.left g.Q.Device.told g.X.Wire.frames g.X.Wire.counted x net first)
+      stands = subst (λ (x : State-here). Stands (outside g.K.Disk g.Q.Device g.E.Entropy g.X.Wire) x net first)
           (sym c.new-running.ensures) stands;
       quiet = first_is_quiet;
     } in
     let sited : c.new-running.result.state.site ≡ c.args.scenario.site = ap (λ (s : State-here). s.site) c.new-running.ensures ∙ laid.sited in
-    inr (headlines g.K.Disk.is_honest g.K.Disk.content g.K.Disk.moment g.K.Disk.image g.E.Entropy.left g.Q.Device.told g.X.Wire.frames g.X.Wire.counted
-    g.K.Disk.faults g.K.Disk.armings g.E.Entropy.faults g.Q.Device.faults g.X.Wire.faults
+    inr (headlines (outside g.K.Disk g.Q.Device g.E.Entropy g.X.Wire)
     (λ (r : Running-here). r.state)
     c.args.bench.now c.lay_out.new.bench c.put_back.new.bench c.new-running.result c.run_load-result.new.net c.args.scenario rounds
     (given_to g.W.Sink.taken g.W.Sink.pieces c.args.sink.now) (given_to g.W.Sink.taken g.W.Sink.pieces c.run_load-result.new.sink) c.run_load-result.result c.law_bench_headline.ensures.load
@@ -78,27 +78,27 @@ returns-clause-headline g c rounds is =
     c.requires.fresh c.requires.runnable.site
     (subst (λ (x : State-here). IsLaidOut c.args.bench.now c.lay_out.new.bench c.args.scenario.site x) (sym c.new-running.ensures) laid)
     (λ http.
-    subst (λ (numbers : List ℕ). RanLoad (λ (r : Running-here). Stands g.K.Disk.is_honest g.K.Disk.moment g.K.Disk.image g.E.Entropy.left g.Q.Device.told g.X.Wire.frames g.X.Wire.counted r.state)
-    (λ (r : Running-here). Rests g.K.Disk.is_honest g.K.Disk.moment g.K.Disk.image g.E.Entropy.left g.Q.Device.told g.X.Wire.frames g.X.Wire.counted r.state)
-    (λ (a b : Running-here). Tallied g.K.Disk.faults g.K.Disk.armings g.E.Entropy.faults g.Q.Device.faults g.X.Wire.faults a.state b.state)
+    subst (λ (numbers : List ℕ). RanLoad (λ (r : Running-here). Stands (outside g.K.Disk g.Q.Device g.E.Entropy g.X.Wire) r.state)
+    (λ (r : Running-here). Rests (outside g.K.Disk g.Q.Device g.E.Entropy g.X.Wire) r.state)
+    (λ (a b : Running-here). Tallied (outside g.K.Disk g.Q.Device g.E.Entropy g.X.Wire) a.state b.state)
     c.args.scenario.site.nodes c.new-running.result c.run_load-result.new.net (given_to g.W.Sink.taken g.W.Sink.pieces c.args.sink.now) (given_to g.W.Sink.taken g.W.Sink.pieces c.run_load-result.new.sink)
     http net first (tasks numbers c.args.scenario.entries) c.run_load-result.result)
     c.as_slice.ensures
-    (subst (λ (d : Site). RanLoad (λ (r : Running-here). Stands g.K.Disk.is_honest g.K.Disk.moment g.K.Disk.image g.E.Entropy.left g.Q.Device.told g.X.Wire.frames g.X.Wire.counted r.state)
-    (λ (r : Running-here). Rests g.K.Disk.is_honest g.K.Disk.moment g.K.Disk.image g.E.Entropy.left g.Q.Device.told g.X.Wire.frames g.X.Wire.counted r.state)
-    (λ (a b : Running-here). Tallied g.K.Disk.faults g.K.Disk.armings g.E.Entropy.faults g.Q.Device.faults g.X.Wire.faults a.state b.state)
+    (subst (λ (d : Site). RanLoad (λ (r : Running-here). Stands (outside g.K.Disk g.Q.Device g.E.Entropy g.X.Wire) r.state)
+    (λ (r : Running-here). Rests (outside g.K.Disk g.Q.Device g.E.Entropy g.X.Wire) r.state)
+    (λ (a b : Running-here). Tallied (outside g.K.Disk g.Q.Device g.E.Entropy g.X.Wire) a.state b.state)
     d.nodes c.new-running.result c.run_load-result.new.net (given_to g.W.Sink.taken g.W.Sink.pieces c.args.sink.now) (given_to g.W.Sink.taken g.W.Sink.pieces c.run_load-result.new.sink)
     http net first (tasks c.as_slice.result.now c.args.scenario.entries) c.run_load-result.result)
     sited
     (c.run_load-result.ensures.ran http net first ready)))
-    (subst (λ (x : State-here). IsPutBack g.K.Disk.is_honest g.K.Disk.content g.K.Disk.moment g.K.Disk.image x c.lay_out.new.bench c.put_back.new.bench)
+    (subst (λ (x : State-here). IsPutBack g.K.Disk x c.lay_out.new.bench c.put_back.new.bench)
     c.into_state.ensures.state c.put_back.ensures))
 
 pub returns-clause-whole : goal.returns-clause-whole
 returns-clause-whole g c =
     let State-here = State g.row.K.Denot g.row.Q.Denot g.row.E.Denot g.row.X.Denot in
     let laid = subst (λ (x : State-here). IsLaidOut c.args.bench.now c.lay_out.new.bench c.args.scenario.site x) (sym c.new-running.ensures) c.in-Ok.ensures.laid in
-    whole_again g.K.Disk.is_honest g.K.Disk.content g.K.Disk.moment g.K.Disk.image c.args.bench.now c.lay_out.new.bench c.put_back.new.bench c.args.scenario.site
+    whole_again g.K.Disk c.args.bench.now c.lay_out.new.bench c.put_back.new.bench c.args.scenario.site
     c.new-running.result.state c.into_state.result c.requires.runnable.site c.requires.fresh.whole laid c.into_state.ensures.sized
     (ap (λ (s : State-here). s.site) c.into_state.ensures.state ∙ c.run_load-result.ensures.site ∙ laid.sited) c.put_back.ensures
 

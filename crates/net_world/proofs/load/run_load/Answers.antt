@@ -9,12 +9,13 @@ use Rattle.run_lines.specs.Reporting.{InLines}
 use Rattle.run_tasks.specs.Pieces.{IsLoadLine}
 use Rattle.net_world.proofs.Lined.{none_written}
 use Rattle.net_world.proofs.load.run_load.Goals as goal
+use Rattle.world_state.specs.Outside.{outside}
 
 pub returns-clause-headline : goal.returns-clause-headline
 returns-clause-headline g c =
     subst (λ (s : Scenario). WasLeft c.args.bench.now c.run_lines_of.new.bench c.args.sink.now c.run_lines_of.new.sink c.run_lines_of.result
-    ⊎ HasHeadlines g.K.Disk.moment g.K.Disk.image g.E.Entropy.left g.Q.Device.told g.X.Wire.frames
-    g.K.Disk.faults g.K.Disk.armings g.E.Entropy.faults g.Q.Device.faults g.X.Wire.faults c.args.bench.now c.run_lines_of.new.bench (Load c.args.rounds) s
+    ⊎ HasHeadlines (outside g.K.Disk g.Q.Device g.E.Entropy g.X.Wire)
+    c.args.bench.now c.run_lines_of.new.bench (Load c.args.rounds) s
     (given_to g.W.Sink.taken g.W.Sink.pieces c.args.sink.now) (given_to g.W.Sink.taken g.W.Sink.pieces c.run_lines_of.new.sink) (ended c.run_lines_of.result))
     c.in-Ok.ensures.is (c.run_lines_of.ensures.headline c.args.rounds c.in-Ok.ensures.is)
 

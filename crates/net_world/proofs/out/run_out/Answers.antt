@@ -23,6 +23,7 @@ use Rattle.world_state.specs.Sized.{IsSized}
 use Rattle.net_world.proofs.RunHeadlines.{of_states, ready_after}
 use Rattle.net_world.proofs.Rooms.{none_armed, first_is_quiet, has_room}
 use Rattle.net_world.proofs.out.run_out.Goals as goal
+use Rattle.world_state.specs.Outside.{outside}
 
 pub new-running-requires-clause-sized : goal.new-running-requires-clause-sized
 new-running-requires-clause-sized g c =
@@ -41,12 +42,12 @@ run_entries-ended-requires-clause-fit g c =
 
 pub run_entries-ended-requires-clause-ready : goal.run_entries-ended-requires-clause-ready
 run_entries-ended-requires-clause-ready g c =
-    let net = network_on g.Q.Device.told g.E.Entropy.left c.args.bench.now c.args.scenario.site in
+    let net = network_on g.Q.Device g.E.Entropy c.args.bench.now c.args.scenario.site in
     let s = c.law_bench_begins.ensures.stands c.args.bench.now c.lay_out.new.bench c.args.scenario.site c.in-Ok-lay_out.state c.requires.fresh c.requires.runnable.site c.in-Ok-lay_out.ensures.laid in (
       net,
       first,
       record {
-        stands = subst (λ (x : State g.row.K.Denot g.row.Q.Denot g.row.E.Denot g.row.X.Denot). Stands g.K.Disk.is_honest g.K.Disk.moment g.K.Disk.image g.E.Entropy.left g.Q.Device.told g.X.Wire.frames g.X.Wire.counted x net first)
+        stands = subst (λ (x : State g.row.K.Denot g.row.Q.Denot g.row.E.Denot g.row.X.Denot). Stands (outside g.K.Disk g.Q.Device g.E.Entropy g.X.Wire) x net first)
             (sym c.new-running.ensures) s;
         quiet = first_is_quiet;
       },
@@ -55,22 +56,22 @@ run_entries-ended-requires-clause-ready g c =
 pub run_entries-ended-requires-clause-few : goal.run_entries-ended-requires-clause-few
 run_entries-ended-requires-clause-few g c =
     let nodes = (site_of c.args.scenario.site).nodes in
-    let none : most_armed g.K.Disk.armings c.new-running.result.state.posts.items ≡ 0 =
-    ap (λ (s : State g.row.K.Denot g.row.Q.Denot g.row.E.Denot g.row.X.Denot). most_armed g.K.Disk.armings s.posts.items) c.new-running.ensures ∙
-    ap (most_armed g.K.Disk.armings) c.in-Ok-lay_out.ensures.laid.posts ∙
-    none_armed g.K.Disk.armings nodes nodes c.args.bench.now.disks.items c.args.bench.now.entropies.items c.requires.unarmed in
+    let none : most_armed g.K.Disk c.new-running.result.state.posts.items ≡ 0 =
+    ap (λ (s : State g.row.K.Denot g.row.Q.Denot g.row.E.Denot g.row.X.Denot). most_armed g.K.Disk s.posts.items) c.new-running.ensures ∙
+    ap (most_armed g.K.Disk) c.in-Ok-lay_out.ensures.laid.posts ∙
+    none_armed g.K.Disk nodes nodes c.args.bench.now.disks.items c.args.bench.now.entropies.items c.requires.unarmed in
     omega (arith, none, c.requires.runnable.arms)
 
 pub returns-clause-ran : goal.returns-clause-ran
 returns-clause-ran g c =
     let State-here = State g.row.K.Denot g.row.Q.Denot g.row.E.Denot g.row.X.Denot in
     let Running-here = Running g.row.K.Denot g.row.Q.Denot g.row.E.Denot g.row.X.Denot g.K.Disk g.Q.Device g.E.Entropy g.X.Wire in
-    let net = network_on g.Q.Device.told g.E.Entropy.left c.args.bench.now c.args.scenario.site in
+    let net = network_on g.Q.Device g.E.Entropy c.args.bench.now c.args.scenario.site in
     let laid = c.in-Ok-lay_out.ensures.laid in
     let stands = c.law_bench_begins.ensures.stands c.args.bench.now c.lay_out.new.bench c.args.scenario.site c.in-Ok-lay_out.state c.requires.fresh c.requires.runnable.site laid in
-    let ready : IsReady (λ (r : Running-here). Stands g.K.Disk.is_honest g.K.Disk.moment g.K.Disk.image g.E.Entropy.left g.Q.Device.told g.X.Wire.frames g.X.Wire.counted r.state)
+    let ready : IsReady (λ (r : Running-here). Stands (outside g.K.Disk g.Q.Device g.E.Entropy g.X.Wire) r.state)
     c.new-running.result net first = record {
-      stands = subst (λ (x : State-here). Stands g.K.Disk.is_honest g.K.Disk.moment g.K.Disk.image g.E.Entropy.left g.Q.Device.told g.X.Wire.frames g.X.Wire.counted x net first)
+      stands = subst (λ (x : State-here). Stands (outside g.K.Disk g.Q.Device g.E.Entropy g.X.Wire) x net first)
           (sym c.new-running.ensures) stands;
       quiet = first_is_quiet;
     } in
@@ -85,19 +86,19 @@ returns-clause-ran g c =
       begin = c.in-Ok-lay_out.state;
       laid = laid;
       ran = λ http speaks.
-          of_states g.K.Disk.is_honest g.K.Disk.content g.K.Disk.moment g.K.Disk.image g.E.Entropy.left g.Q.Device.told g.X.Wire.frames g.X.Wire.counted
-          g.K.Disk.faults g.K.Disk.armings g.E.Entropy.faults g.Q.Device.faults g.X.Wire.faults (λ (r : Running-here). r.state)
+          of_states (outside g.K.Disk g.Q.Device g.E.Entropy g.X.Wire)
+          (λ (r : Running-here). r.state)
           c.new-running.result c.run_entries-ended.new.net c.in-Ok-lay_out.state c.into_state.result c.new-running.ensures (sym c.into_state.ensures.state)
           c.args.scenario.site.nodes (given_to g.W.Sink.taken g.W.Sink.pieces c.args.sink.now) (given_to g.W.Sink.taken g.W.Sink.pieces c.run_entries-ended.new.sink) http net c.args.workers first (tasks_of c.args.scenario) c.run_entries-ended.result
-          (subst (λ (numbers : List ℕ). RanTasks (λ (r : Running-here). Stands g.K.Disk.is_honest g.K.Disk.moment g.K.Disk.image g.E.Entropy.left g.Q.Device.told g.X.Wire.frames g.X.Wire.counted r.state)
-          (λ (r : Running-here). Rests g.K.Disk.is_honest g.K.Disk.moment g.K.Disk.image g.E.Entropy.left g.Q.Device.told g.X.Wire.frames g.X.Wire.counted r.state)
-          (λ (a b : Running-here). Tallied g.K.Disk.faults g.K.Disk.armings g.E.Entropy.faults g.Q.Device.faults g.X.Wire.faults a.state b.state)
+          (subst (λ (numbers : List ℕ). RanTasks (λ (r : Running-here). Stands (outside g.K.Disk g.Q.Device g.E.Entropy g.X.Wire) r.state)
+          (λ (r : Running-here). Rests (outside g.K.Disk g.Q.Device g.E.Entropy g.X.Wire) r.state)
+          (λ (a b : Running-here). Tallied (outside g.K.Disk g.Q.Device g.E.Entropy g.X.Wire) a.state b.state)
           c.args.scenario.site.nodes c.new-running.result c.run_entries-ended.new.net (given_to g.W.Sink.taken g.W.Sink.pieces c.args.sink.now) (given_to g.W.Sink.taken g.W.Sink.pieces c.run_entries-ended.new.sink)
           http net c.args.workers first (tasks numbers c.args.scenario.entries) c.run_entries-ended.result)
           c.as_slice.ensures
-          (subst (λ (d : Site). RanTasks (λ (r : Running-here). Stands g.K.Disk.is_honest g.K.Disk.moment g.K.Disk.image g.E.Entropy.left g.Q.Device.told g.X.Wire.frames g.X.Wire.counted r.state)
-          (λ (r : Running-here). Rests g.K.Disk.is_honest g.K.Disk.moment g.K.Disk.image g.E.Entropy.left g.Q.Device.told g.X.Wire.frames g.X.Wire.counted r.state)
-          (λ (a b : Running-here). Tallied g.K.Disk.faults g.K.Disk.armings g.E.Entropy.faults g.Q.Device.faults g.X.Wire.faults a.state b.state)
+          (subst (λ (d : Site). RanTasks (λ (r : Running-here). Stands (outside g.K.Disk g.Q.Device g.E.Entropy g.X.Wire) r.state)
+          (λ (r : Running-here). Rests (outside g.K.Disk g.Q.Device g.E.Entropy g.X.Wire) r.state)
+          (λ (a b : Running-here). Tallied (outside g.K.Disk g.Q.Device g.E.Entropy g.X.Wire) a.state b.state)
           d.nodes c.new-running.result c.run_entries-ended.new.net (given_to g.W.Sink.taken g.W.Sink.pieces c.args.sink.now) (given_to g.W.Sink.taken g.W.Sink.pieces c.run_entries-ended.new.sink)
           http net c.args.workers first (tasks c.as_slice.result.now c.args.scenario.entries) c.run_entries-ended.result)
           sited
@@ -113,8 +114,8 @@ returns-clause-ran g c =
 pub returns-clause-ready : goal.returns-clause-ready
 returns-clause-ready g c =
     let Running-here = Running g.row.K.Denot g.row.Q.Denot g.row.E.Denot g.row.X.Denot g.K.Disk g.Q.Device g.E.Entropy g.X.Wire in
-    ready_after g.K.Disk.is_honest g.K.Disk.content g.K.Disk.moment g.K.Disk.image g.E.Entropy.left g.Q.Device.told g.X.Wire.frames g.X.Wire.counted
-    g.K.Disk.faults g.K.Disk.armings g.E.Entropy.faults g.Q.Device.faults g.X.Wire.faults (λ (r : Running-here). r.state)
+    ready_after (outside g.K.Disk g.Q.Device g.E.Entropy g.X.Wire)
+    (λ (r : Running-here). r.state)
     c.run_entries-ended.new.net c.into_state.result (sym c.into_state.ensures.state) c.run_entries-ended.result c.run_entries-ended.ensures.ready
 
 pub returns-clause-lined : goal.returns-clause-lined

@@ -6,13 +6,13 @@ use Rattle.world_state.specs.declared.state.State.{State}
 use Rattle.net_world.proofs.RunHeadlines.{headlines}
 use Rattle.net_world.proofs.Rooms.{whole_again}
 use Rattle.net_world.proofs.scenario_run.run_scenario.Goals as goal
+use Rattle.world_state.specs.Outside.{outside}
 
 pub returns-in-Ok-clause-headline : goal.returns-in-Ok-clause-headline
 returns-in-Ok-clause-headline g c =
     let State-here = State g.row.K.Denot g.row.Q.Denot g.row.E.Denot g.row.X.Denot in
     let r = c.in-Ok.ensures.ran in
-    inr (headlines g.K.Disk.is_honest g.K.Disk.content g.K.Disk.moment g.K.Disk.image g.E.Entropy.left g.Q.Device.told g.X.Wire.frames g.X.Wire.counted
-    g.K.Disk.faults g.K.Disk.armings g.E.Entropy.faults g.Q.Device.faults g.X.Wire.faults
+    inr (headlines (outside g.K.Disk g.Q.Device g.E.Entropy g.X.Wire)
     (λ (s : State-here). s)
     c.args.bench.now c.run_out.new.bench c.put_back.new.bench r.begin c.in-Ok.left.state c.args.scenario c.args.workers
     (given_to g.W.Sink.taken g.W.Sink.pieces c.args.sink.now) (given_to g.W.Sink.taken g.W.Sink.pieces c.run_out.new.sink) c.in-Ok.left.ended c.law_bench_headline.ensures.run
@@ -21,7 +21,7 @@ returns-in-Ok-clause-headline g c =
 pub returns-in-Ok-clause-whole : goal.returns-in-Ok-clause-whole
 returns-in-Ok-clause-whole g c =
     let r = c.in-Ok.ensures.ran in
-    whole_again g.K.Disk.is_honest g.K.Disk.content g.K.Disk.moment g.K.Disk.image c.args.bench.now c.run_out.new.bench c.put_back.new.bench c.args.scenario.site
+    whole_again g.K.Disk c.args.bench.now c.run_out.new.bench c.put_back.new.bench c.args.scenario.site
     r.begin c.in-Ok.left.state c.requires.runnable.site c.requires.fresh.whole r.laid r.sized r.sited c.put_back.ensures
 
 pub returns-in-Err-clause-lined : goal.returns-in-Err-clause-lined

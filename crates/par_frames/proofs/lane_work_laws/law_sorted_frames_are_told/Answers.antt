@@ -4,4 +4,4 @@ use Rattle.par_frames.proofs.lane_work_laws.law_sorted_frames_are_told.Goals as 
 pub returns : goal.returns
 returns g c =
     λ net workers w jobs histories lanes left outs sorted h.
-    are_told g.X.Wire.frames g.X.Wire.counted g.X.Wire.faults net workers w jobs histories lanes left outs sorted h
+    are_told g.X.Wire net workers w jobs histories lanes left outs sorted h

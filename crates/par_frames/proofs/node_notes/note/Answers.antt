@@ -5,6 +5,7 @@ use Rattle.world_state.proofs.Changes.{with_post}
 use Rattle.world_state.proofs.Endings.{on_err}
 use Rattle.par_frames.proofs.Notes.{may_note, notes_one, stays_one}
 use Rattle.par_frames.proofs.node_notes.note.Goals as goal
+use Rattle.world_state.specs.Outside.{outside}
 
 pub note-requires : goal.note-requires
 note-requires g c =
@@ -12,7 +13,7 @@ note-requires g c =
     let as_long = c.args.state.now.posts.ok.0 in
     let there = slice_get-get_or c.args.state.now.posts.items c.args.node c.in-Some.post.now (omega (arith, below, as_long)) ∙ ap Some (sym c.in-Some.ensures.value) in
     let a = c.requires.asked in
-    record { asked = (a.0, a.1, c.args.node, may_note g.K.Disk.is_honest g.K.Disk.moment g.K.Disk.image g.E.Entropy.left g.Q.Device.told g.X.Wire.frames g.X.Wire.counted c.args.state.now a.0 a.1 c.args.node c.in-Some.post.now c.args.placings a.2 there) }
+    record { asked = (a.0, a.1, c.args.node, may_note (outside g.K.Disk g.Q.Device g.E.Entropy g.X.Wire) c.args.state.now a.0 a.1 c.args.node c.in-Some.post.now c.args.placings a.2 there) }
 
 pub returns-in_err-note-in-Some-clause-armed : goal.returns-in_err-note-in-Some-clause-armed
 returns-in_err-note-in-Some-clause-armed g c =
@@ -20,9 +21,9 @@ returns-in_err-note-in-Some-clause-armed g c =
     let as_long = c.args.state.now.posts.ok.0 in
     let there = slice_get-get_or c.args.state.now.posts.items c.args.node c.in-Some.post.now (omega (arith, below, as_long)) ∙ ap Some (sym c.in-Some.ensures.value) in
     let a = c.requires.asked in
-    let may = may_note g.K.Disk.is_honest g.K.Disk.moment g.K.Disk.image g.E.Entropy.left g.Q.Device.told g.X.Wire.frames g.X.Wire.counted c.args.state.now a.0 a.1 c.args.node c.in-Some.post.now c.args.placings a.2 there in
-    most_same g.K.Disk.armings c.args.state.now.posts.items c.args.node c.in-Some.post.now c.note.new.post there
-    (times_same g.K.Disk.armings g.K.Disk.faults g.E.Entropy.faults _ _ c.in-Some.post.now c.note.new.post (c.in_err-note-in-Some.ensures.counts a.0 a.1 c.args.node may))
+    let may = may_note (outside g.K.Disk g.Q.Device g.E.Entropy g.X.Wire) c.args.state.now a.0 a.1 c.args.node c.in-Some.post.now c.args.placings a.2 there in
+    most_same g.K.Disk c.args.state.now.posts.items c.args.node c.in-Some.post.now c.note.new.post there
+    (times_same g.K.Disk g.E.Entropy _ _ c.in-Some.post.now c.note.new.post (c.in_err-note-in-Some.ensures.counts a.0 a.1 c.args.node may))
 
 pub returns-in_err-note-in-Some-clause-err : goal.returns-in_err-note-in-Some-clause-err
 returns-in_err-note-in-Some-clause-err g c =
@@ -30,9 +31,9 @@ returns-in_err-note-in-Some-clause-err g c =
     let below = c.in-Some.ensures.variant.0 refl in
     let as_long = c.args.state.now.posts.ok.0 in
     let there = slice_get-get_or c.args.state.now.posts.items c.args.node c.in-Some.post.now (omega (arith, below, as_long)) ∙ ap Some (sym c.in-Some.ensures.value) in
-    let may = may_note g.K.Disk.is_honest g.K.Disk.moment g.K.Disk.image g.E.Entropy.left g.Q.Device.told g.X.Wire.frames g.X.Wire.counted c.args.state.now net w c.args.node c.in-Some.post.now c.args.placings h there in
+    let may = may_note (outside g.K.Disk g.Q.Device g.E.Entropy g.X.Wire) c.args.state.now net w c.args.node c.in-Some.post.now c.args.placings h there in
     let change = with_post c.args.state.now c.args.node c.args.node c.in-Some.post.now c.note.new.post refl there in
-    stays_one g.K.Disk.is_honest g.K.Disk.moment g.K.Disk.image g.E.Entropy.left g.Q.Device.told g.X.Wire.frames g.X.Wire.counted c.args.state.now net w c.args.node c.in-Some.post.now c.args.placings h there g.K.Disk.faults g.K.Disk.armings g.E.Entropy.faults g.Q.Device.faults g.X.Wire.faults _ c.note.new.post change
+    stays_one (outside g.K.Disk g.Q.Device g.E.Entropy g.X.Wire) c.args.state.now net w c.args.node c.in-Some.post.now c.args.placings h there _ c.note.new.post change
     (c.in_err-note-in-Some.ensures.err net w c.args.node may) (c.in_err-note-in-Some.ensures.counts net w c.args.node may))
 
 pub returns-in_ok-note-in-Some-clause-armed : goal.returns-in_ok-note-in-Some-clause-armed
@@ -41,16 +42,16 @@ returns-in_ok-note-in-Some-clause-armed g c =
     let as_long = c.args.state.now.posts.ok.0 in
     let there = slice_get-get_or c.args.state.now.posts.items c.args.node c.in-Some.post.now (omega (arith, below, as_long)) ∙ ap Some (sym c.in-Some.ensures.value) in
     let a = c.requires.asked in
-    let may = may_note g.K.Disk.is_honest g.K.Disk.moment g.K.Disk.image g.E.Entropy.left g.Q.Device.told g.X.Wire.frames g.X.Wire.counted c.args.state.now a.0 a.1 c.args.node c.in-Some.post.now c.args.placings a.2 there in
-    most_same g.K.Disk.armings c.args.state.now.posts.items c.args.node c.in-Some.post.now c.note.new.post there
-    (times_same g.K.Disk.armings g.K.Disk.faults g.E.Entropy.faults _ _ c.in-Some.post.now c.note.new.post (c.in_ok-note-in-Some.ensures.ok a.0 a.1 c.args.node may).counts)
+    let may = may_note (outside g.K.Disk g.Q.Device g.E.Entropy g.X.Wire) c.args.state.now a.0 a.1 c.args.node c.in-Some.post.now c.args.placings a.2 there in
+    most_same g.K.Disk c.args.state.now.posts.items c.args.node c.in-Some.post.now c.note.new.post there
+    (times_same g.K.Disk g.E.Entropy _ _ c.in-Some.post.now c.note.new.post (c.in_ok-note-in-Some.ensures.ok a.0 a.1 c.args.node may).counts)
 
 pub returns-in_ok-note-in-Some-clause-ok : goal.returns-in_ok-note-in-Some-clause-ok
 returns-in_ok-note-in-Some-clause-ok g c net w h =
     let below = c.in-Some.ensures.variant.0 refl in
     let as_long = c.args.state.now.posts.ok.0 in
     let there = slice_get-get_or c.args.state.now.posts.items c.args.node c.in-Some.post.now (omega (arith, below, as_long)) ∙ ap Some (sym c.in-Some.ensures.value) in
-    let may = may_note g.K.Disk.is_honest g.K.Disk.moment g.K.Disk.image g.E.Entropy.left g.Q.Device.told g.X.Wire.frames g.X.Wire.counted c.args.state.now net w c.args.node c.in-Some.post.now c.args.placings h there in
+    let may = may_note (outside g.K.Disk g.Q.Device g.E.Entropy g.X.Wire) c.args.state.now net w c.args.node c.in-Some.post.now c.args.placings h there in
     let noted = c.in_ok-note-in-Some.ensures.ok net w c.args.node may in
     let change = with_post c.args.state.now c.args.node c.args.node c.in-Some.post.now c.note.new.post refl there in
-    notes_one g.K.Disk.is_honest g.K.Disk.moment g.K.Disk.image g.E.Entropy.left g.Q.Device.told g.X.Wire.frames g.X.Wire.counted c.args.state.now net w c.args.node c.in-Some.post.now c.args.placings h there g.K.Disk.faults g.K.Disk.armings g.E.Entropy.faults g.Q.Device.faults g.X.Wire.faults _ c.note.new.post change noted.stands noted.counts
+    notes_one (outside g.K.Disk g.Q.Device g.E.Entropy g.X.Wire) c.args.state.now net w c.args.node c.in-Some.post.now c.args.placings h there _ c.note.new.post change noted.stands noted.counts

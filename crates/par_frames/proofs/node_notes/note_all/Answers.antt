@@ -4,6 +4,7 @@ use Rattle.par_frames.proofs.Noted.{noted_over}
 use Rattle.par_frames.proofs.Notes.{noted_none, may_go_on, noted_more, noted_ends, noted_all}
 use Rattle.par_frames.proofs.PlaceAmong.{left_there, left_below, left_next, none_left}
 use Rattle.par_frames.proofs.node_notes.note_all.Goals as goal
+use Rattle.world_state.specs.Outside.{outside}
 
 pub loop-placings-init : goal.loop-placings-init
 loop-placings-init g c = record {
@@ -11,7 +12,7 @@ loop-placings-init g c = record {
   armed = refl;
   within = omega arith;
   rest = c.into_iter-placings-iterator.ensures.into_iter_gives.0;
-  went = λ net w h. noted_none g.K.Disk.is_honest g.K.Disk.moment g.K.Disk.image g.E.Entropy.left g.Q.Device.told g.X.Wire.frames g.X.Wire.counted g.K.Disk.faults g.K.Disk.armings g.E.Entropy.faults g.Q.Device.faults g.X.Wire.faults c.args.state.now net w h.stands;
+  went = λ net w h. noted_none (outside g.K.Disk g.Q.Device g.E.Entropy g.X.Wire) c.args.state.now net w h.stands;
 }
 
 pub note-requires : goal.note-requires
@@ -22,7 +23,7 @@ note-requires g c =
     let a = c.requires.asked in
     let far = c.loop-placings.invariant.went a.0 a.1 a.2 in
     let few : c.loop-placings.node < a.0.site.nodes = omega (arith, below, a.2.noted.nodes') in
-    let may = may_go_on g.K.Disk.is_honest g.K.Disk.moment g.K.Disk.image g.E.Entropy.left g.Q.Device.told g.X.Wire.frames g.X.Wire.counted g.K.Disk.faults g.K.Disk.armings g.E.Entropy.faults g.Q.Device.faults g.X.Wire.faults c.args.state.now c.loop-placings.state a.0 a.1 c.args.all.items a.2 c.loop-placings.node far c.in-Some.placings at few in
+    let may = may_go_on (outside g.K.Disk g.Q.Device g.E.Entropy g.X.Wire) c.args.state.now c.loop-placings.state a.0 a.1 c.args.all.items a.2 c.loop-placings.node far c.in-Some.placings at few in
     record { asked = (a.0, noted_over a.0 a.1 c.loop-placings.node, may) }
 
 pub returns-in_err-note-clause-site : goal.returns-in_err-note-clause-site
@@ -39,9 +40,9 @@ returns-in_err-note-clause-err g c =
     let below = left_below c.args.all.items c.loop-placings.node c.in-Some.placings c.next.new.self.rest.items left in
     let far = c.loop-placings.invariant.went net w h in
     let few : c.loop-placings.node < net.site.nodes = omega (arith, below, h.noted.nodes') in
-    let may = may_go_on g.K.Disk.is_honest g.K.Disk.moment g.K.Disk.image g.E.Entropy.left g.Q.Device.told g.X.Wire.frames g.X.Wire.counted g.K.Disk.faults g.K.Disk.armings g.E.Entropy.faults g.Q.Device.faults g.X.Wire.faults c.args.state.now c.loop-placings.state net w c.args.all.items h c.loop-placings.node far c.in-Some.placings at few in
+    let may = may_go_on (outside g.K.Disk g.Q.Device g.E.Entropy g.X.Wire) c.args.state.now c.loop-placings.state net w c.args.all.items h c.loop-placings.node far c.in-Some.placings at few in
     let few : c.loop-placings.node ≤ net.site.nodes = omega (arith, few) in
-    noted_ends g.K.Disk.is_honest g.K.Disk.moment g.K.Disk.image g.E.Entropy.left g.Q.Device.told g.X.Wire.frames g.X.Wire.counted g.K.Disk.faults g.K.Disk.armings g.E.Entropy.faults g.Q.Device.faults g.X.Wire.faults c.args.state.now c.loop-placings.state net w c.args.all.items h c.loop-placings.node far c.note.new.state few
+    noted_ends (outside g.K.Disk g.Q.Device g.E.Entropy g.X.Wire) c.args.state.now c.loop-placings.state net w c.args.all.items h c.loop-placings.node far c.note.new.state few
     (c.in_err-note.ensures.err net (noted_over net w c.loop-placings.node) may))
 
 pub loop-placings-preserved : goal.loop-placings-preserved
@@ -57,8 +58,8 @@ loop-placings-preserved g c =
       went = λ net w h.
           let far = c.loop-placings.invariant.went net w h in
           let few : c.loop-placings.node < net.site.nodes = omega (arith, below, h.noted.nodes') in
-          let may = may_go_on g.K.Disk.is_honest g.K.Disk.moment g.K.Disk.image g.E.Entropy.left g.Q.Device.told g.X.Wire.frames g.X.Wire.counted g.K.Disk.faults g.K.Disk.armings g.E.Entropy.faults g.Q.Device.faults g.X.Wire.faults c.args.state.now c.loop-placings.state net w c.args.all.items h c.loop-placings.node far c.in-Some.placings at few in
-          noted_more g.K.Disk.is_honest g.K.Disk.moment g.K.Disk.image g.E.Entropy.left g.Q.Device.told g.X.Wire.frames g.X.Wire.counted g.K.Disk.faults g.K.Disk.armings g.E.Entropy.faults g.Q.Device.faults g.X.Wire.faults c.args.state.now c.loop-placings.state net w c.args.all.items h c.loop-placings.node far c.note.new.state few
+          let may = may_go_on (outside g.K.Disk g.Q.Device g.E.Entropy g.X.Wire) c.args.state.now c.loop-placings.state net w c.args.all.items h c.loop-placings.node far c.in-Some.placings at few in
+          noted_more (outside g.K.Disk g.Q.Device g.E.Entropy g.X.Wire) c.args.state.now c.loop-placings.state net w c.args.all.items h c.loop-placings.node far c.note.new.state few
           (c.in_ok-note.ensures.ok net (noted_over net w c.loop-placings.node) may);
     }
 
@@ -70,4 +71,4 @@ returns-clause-ok g c net w h =
     let past = none_left c.args.all.items c.loop-placings.placings-iterator.rest.items c.loop-placings.node c.loop-placings.invariant.rest (omega (arith, long, none)) in
     let within = c.loop-placings.invariant.within in
     let nodes = h.noted.nodes' in
-    noted_all g.K.Disk.is_honest g.K.Disk.moment g.K.Disk.image g.E.Entropy.left g.Q.Device.told g.X.Wire.frames g.X.Wire.counted g.K.Disk.faults g.K.Disk.armings g.E.Entropy.faults g.Q.Device.faults g.X.Wire.faults c.args.state.now c.loop-placings.state net w c.loop-placings.node (omega (arith, past, within, nodes)) far
+    noted_all (outside g.K.Disk g.Q.Device g.E.Entropy g.X.Wire) c.args.state.now c.loop-placings.state net w c.loop-placings.node (omega (arith, past, within, nodes)) far

@@ -4,11 +4,11 @@ use Rattle.par_lanes.proofs.Following.{follow}
 use Rattle.par_lanes.proofs.laws.law_desks_lead_their_lanes.Goals as goal
 
 pub returns-clause-turns : goal.returns-clause-turns
-returns-clause-turns g c = λ side shares first last log h. lane_leads g.X.Wire.frames g.X.Wire.counted g.X.Wire.faults side shares first last log h
+returns-clause-turns g c = λ side shares first last log h. lane_leads g.X.Wire side shares first last log h
 
 pub returns-clause-claims : goal.returns-clause-claims
 returns-clause-claims g c = λ side shares first last log h.
-    follow g.X.Wire.frames g.X.Wire.counted g.X.Wire.faults (lane_cap (shares first)) (side first) (side last) log (lane_leads g.X.Wire.frames g.X.Wire.counted g.X.Wire.faults side shares first last log h)
+    follow g.X.Wire (lane_cap (shares first)) (side first) (side last) log (lane_leads g.X.Wire side shares first last log h)
 
 pub returns-clause-charter : goal.returns-clause-charter
-returns-clause-charter g c = λ side shares first last log h. charter_kept g.X.Wire.frames g.X.Wire.counted g.X.Wire.faults side shares first last log h
+returns-clause-charter g c = λ side shares first last log h. charter_kept g.X.Wire side shares first last log h

@@ -9,7 +9,7 @@ pub call_right-place-requires-clause-taken : goal.call_right-place-requires-clau
 call_right-place-requires-clause-taken g c = (c.requires.desk.0, c.requires.desk.1, g.met.D.Desk.asks c.requires.desk.0 c.args.ask (may_put (desk_charter g.D.Desk.side g.D.Desk.shares c.requires.desk.0) c.args.ask c.requires.frame))
 
 pub placed_of-requires : goal.placed_of-requires
-placed_of-requires g c = put_placed g.D.Line.Wire.frames g.D.Line.Wire.counted g.D.Line.Wire.faults g.D.Desk.side g.D.Desk.shares c.requires.desk.0 c.args.ask c.requires.frame c.call_right-place.result.1 (turned_as g.D.Line.Wire.frames g.D.Line.Wire.counted g.D.Line.Wire.faults g.D.Desk.side g.D.Desk.shares (turn_of g.D.Machine.charter g.D.Machine.takes g.D.Machine.turns) g.met.D.Desk.leads c.requires.desk.0 c.args.ask c.call_right-place.result.1 (c.call_right-place.ensures.answered c.requires.desk.0 c.requires.desk.1))
+placed_of-requires g c = put_placed g.D.Line.Wire g.D.Desk.side g.D.Desk.shares c.requires.desk.0 c.args.ask c.requires.frame c.call_right-place.result.1 (turned_as g.D.Line.Wire g.D.Desk.side g.D.Desk.shares (turn_of g.D.Machine.charter g.D.Machine.takes g.D.Machine.turns) g.met.D.Desk.leads c.requires.desk.0 c.args.ask c.call_right-place.result.1 (c.call_right-place.ensures.answered c.requires.desk.0 c.requires.desk.1))
 
 pub returns-clause-went : goal.returns-clause-went
 returns-clause-went g c =

@@ -6,6 +6,7 @@ use Rattle.world_state.proofs.OneSide.{read_at}
 use Rattle.par_managers.specs.Opening.{issued_in, AreOpened, AllOpened}
 use Rattle.par_managers.proofs.Openings.{opened_next, sender_there, used_few, used_issued, issued_received, issued_is}
 use Rattle.par_managers.proofs.opening_shares.open_each.Goals as goal
+use Rattle.world_state.specs.Outside.{outside}
 
 pub index-requires : goal.index-requires
 index-requires g c =
@@ -13,7 +14,7 @@ index-requires g c =
     let s = c.args.state.now in
     let side = c.side-item.result in
     let i = c.loop-side.side-index in
-    let there = sender_there g.K.Disk.is_honest g.K.Disk.moment g.K.Disk.image g.E.Entropy.left g.Q.Device.told g.X.Wire.frames g.X.Wire.counted s a.0 a.1 a.2 i side
+    let there = sender_there (outside g.K.Disk g.Q.Device g.E.Entropy g.X.Wire) s a.0 a.1 a.2 i side
     (subst (λ xs. i < length xs) c.requires.all c.loop-side-test.true) (subst (λ xs. side ≡ get_or xs i side) c.requires.all c.side-item.is) in
     let place : c.from.result ≡ sender (site_of s.site) side.lane = c.from.ensures ∙ c.get.ensures.number ∙ c.sender-node.ensures ∙ ap (sender (site_of s.site)) c.lane.ensures in
     let size = s.posts.ok.0 in
@@ -24,7 +25,7 @@ issued-issued-requires g c =
     let a = c.requires.ready in
     let side = c.side-item.result in
     let i = c.loop-side.side-index in
-    used_few g.K.Disk.is_honest g.K.Disk.moment g.K.Disk.image g.E.Entropy.left g.Q.Device.told g.X.Wire.frames g.X.Wire.counted c.args.state.now a.0 a.1 a.2 i side
+    used_few (outside g.K.Disk g.Q.Device g.E.Entropy g.X.Wire) c.args.state.now a.0 a.1 a.2 i side
     (subst (λ xs. i < length xs) c.requires.all c.loop-side-test.true) (subst (λ xs. side ≡ get_or xs i side) c.requires.all c.side-item.is)
 
 pub open-requires-clause-used : goal.open-requires-clause-used
@@ -35,10 +36,10 @@ open-requires-clause-used g c =
     let i = c.loop-side.side-index in
     let below = subst (λ xs. i < length xs) c.requires.all c.loop-side-test.true in
     let is = subst (λ xs. side ≡ get_or xs i side) c.requires.all c.side-item.is in
-    let there = sender_there g.K.Disk.is_honest g.K.Disk.moment g.K.Disk.image g.E.Entropy.left g.Q.Device.told g.X.Wire.frames g.X.Wire.counted s a.0 a.1 a.2 i side below is in
+    let there = sender_there (outside g.K.Disk g.Q.Device g.E.Entropy g.X.Wire) s a.0 a.1 a.2 i side below is in
     let place : c.from.result ≡ sender (site_of s.site) side.lane = c.from.ensures ∙ c.get.ensures.number ∙ c.sender-node.ensures ∙ ap (sender (site_of s.site)) c.lane.ensures in
     let at = read_at s.posts.items c.from.result (sender (site_of s.site) side.lane) c.index.result.now place there c.index.ensures in
-    let used = used_issued g.K.Disk.is_honest g.K.Disk.moment g.K.Disk.image g.E.Entropy.left g.Q.Device.told g.X.Wire.frames g.X.Wire.counted s a.0 a.1 a.2 i side below is c.index.result.now at in
+    let used = used_issued (outside g.K.Disk g.Q.Device g.E.Entropy g.X.Wire) s a.0 a.1 a.2 i side below is c.index.result.now at in
     let same = c.issued-issued.ensures in
     omega (arith, used, same)
 
@@ -50,10 +51,10 @@ open-requires-clause-issued g c =
     let i = c.loop-side.side-index in
     let below = subst (λ xs. i < length xs) c.requires.all c.loop-side-test.true in
     let is = subst (λ xs. side ≡ get_or xs i side) c.requires.all c.side-item.is in
-    let there = sender_there g.K.Disk.is_honest g.K.Disk.moment g.K.Disk.image g.E.Entropy.left g.Q.Device.told g.X.Wire.frames g.X.Wire.counted s a.0 a.1 a.2 i side below is in
+    let there = sender_there (outside g.K.Disk g.Q.Device g.E.Entropy g.X.Wire) s a.0 a.1 a.2 i side below is in
     let place : c.from.result ≡ sender (site_of s.site) side.lane = c.from.ensures ∙ c.get.ensures.number ∙ c.sender-node.ensures ∙ ap (sender (site_of s.site)) c.lane.ensures in
     let at = read_at s.posts.items c.from.result (sender (site_of s.site) side.lane) c.index.result.now place there c.index.ensures in
-    let issued = issued_received g.K.Disk.is_honest g.K.Disk.moment g.K.Disk.image g.E.Entropy.left g.Q.Device.told g.X.Wire.frames g.X.Wire.counted s a.0 a.1 a.2 i side below is c.index.result.now at in
+    let issued = issued_received (outside g.K.Disk g.Q.Device g.E.Entropy g.X.Wire) s a.0 a.1 a.2 i side below is c.index.result.now at in
     let same = c.issued-issued.ensures in
     omega (arith, issued, same)
 
@@ -67,11 +68,11 @@ loop-side-preserved g c =
     let lane = c.in_ok-lane.lane in
     let below = subst (λ xs. i < length xs) c.requires.all c.loop-side-test.true in
     let is = subst (λ xs. side ≡ get_or xs i side) c.requires.all c.side-item.is in
-    let there = sender_there g.K.Disk.is_honest g.K.Disk.moment g.K.Disk.image g.E.Entropy.left g.Q.Device.told g.X.Wire.frames g.X.Wire.counted s a.0 a.1 a.2 i side below is in
+    let there = sender_there (outside g.K.Disk g.Q.Device g.E.Entropy g.X.Wire) s a.0 a.1 a.2 i side below is in
     let place : c.from.result ≡ sender (site_of s.site) side.lane = c.from.ensures ∙ c.get.ensures.number ∙ c.sender-node.ensures ∙ ap (sender (site_of s.site)) c.lane.ensures in
     let at = read_at s.posts.items c.from.result (sender (site_of s.site) side.lane) c.index.result.now place there c.index.ensures in
     let same = c.issued-issued.ensures
-    ∙ issued_is g.K.Disk.is_honest g.K.Disk.moment g.K.Disk.image g.E.Entropy.left g.Q.Device.told g.X.Wire.frames g.X.Wire.counted s a.0 a.1 a.2 i side below is c.index.result.now at in
+    ∙ issued_is (outside g.K.Disk g.Q.Device g.E.Entropy g.X.Wire) s a.0 a.1 a.2 i side below is c.index.result.now at in
     let one : AreOpened (issued_in s side) side lane.shares lane.issuer lane.used = subst (λ n. AreOpened n side lane.shares lane.issuer lane.used) same c.in_ok-lane.ensures in
     let ds = c.loop-side.shares.items in
     let rs = c.loop-side.issuers.items in

@@ -9,21 +9,22 @@ use Rattle.qkd_network.specs.Outcome.{ScenarioOutcome}
 use Rattle.qkd_network.specs.declared.status.Status.{Status}
 use Rattle.qkd_network.proofs.Outcomes.{scenario_unread, veil_ran, left_or}
 use Rattle.qkd_network.proofs.quiet.quiet.Goals as goal
+use Rattle.net_world.specs.New.{outside}
 
 pub returns-in-Err-clause-outcome : goal.returns-in-Err-clause-outcome
 returns-in-Err-clause-outcome g c =
     scenario_unread g.S.Source.left
     (λ (scenario : Scenario) (stop : headline.Stop). IsQuiet g.W.Sink.taken g.W.Sink.pieces
-    (λ (report : Given) (stop : headline.Stop). HasHeadlines g.K.Disk.moment g.K.Disk.image g.E.Entropy.left g.Q.Device.told g.X.Wire.frames
-    g.K.Disk.faults g.K.Disk.armings g.E.Entropy.faults g.Q.Device.faults g.X.Wire.faults c.args.bench.now c.args.bench.now (Run c.args.workers) scenario (given_lines []) report stop)
+    (λ (report : Given) (stop : headline.Stop). HasHeadlines (outside g.K.Disk g.Q.Device g.E.Entropy g.X.Wire)
+    c.args.bench.now c.args.bench.now (Run c.args.workers) scenario (given_lines []) report stop)
     scenario.site.nodes c.args.sink.now c.args.sink.now stop)
     c.args.source.now c.scenario_in.new.source c.in-Err.status c.args.sink.now c.args.bench.now c.in-Err.ensures.read
 
 pub returns-in-Ok-clause-outcome : goal.returns-in-Ok-clause-outcome
 returns-in-Ok-clause-outcome g c =
     let Quieted = (λ (scenario : Scenario) (stop : headline.Stop). IsQuiet g.W.Sink.taken g.W.Sink.pieces
-    (λ (report : Given) (stop : headline.Stop). HasHeadlines g.K.Disk.moment g.K.Disk.image g.E.Entropy.left g.Q.Device.told g.X.Wire.frames
-    g.K.Disk.faults g.K.Disk.armings g.E.Entropy.faults g.Q.Device.faults g.X.Wire.faults c.args.bench.now c.run_quietly.new.bench (Run c.args.workers) scenario (given_lines []) report stop)
+    (λ (report : Given) (stop : headline.Stop). HasHeadlines (outside g.K.Disk g.Q.Device g.E.Entropy g.X.Wire)
+    c.args.bench.now c.run_quietly.new.bench (Run c.args.workers) scenario (given_lines []) report stop)
     scenario.site.nodes c.args.sink.now c.run_quietly.new.sink stop) in
     subst (λ (s : Status). ScenarioOutcome g.S.Source.left Quieted s c.args.source.now c.scenario_in.new.source c.args.sink.now c.run_quietly.new.sink c.args.bench.now c.run_quietly.new.bench)
     (sym c.of_run.ensures)

@@ -6,6 +6,7 @@ use Rattle.net_world.specs.Running.{HasHeadlines}
 use Rattle.qkd_network.specs.Quiet.{given_lines}
 use Rattle.qkd_network.proofs.Quietly.{quietly}
 use Rattle.qkd_network.proofs.quiet.run_quietly.Goals as goal
+use Rattle.net_world.specs.New.{outside}
 
 pub returns-clause-quiet : goal.returns-clause-quiet
 returns-clause-quiet g c =
@@ -13,7 +14,7 @@ returns-clause-quiet g c =
     let lined = c.run_scenario-ended.ensures.lined in
     let told = c.tell_asked.ensures.told in
     quietly c.args.bench.now c.run_scenario-ended.new.bench g.W.Sink.taken g.W.Sink.pieces
-    (λ (report : Given) (stop : headline.Stop). HasHeadlines g.K.Disk.moment g.K.Disk.image g.E.Entropy.left g.Q.Device.told g.X.Wire.frames
-    g.K.Disk.faults g.K.Disk.armings g.E.Entropy.faults g.Q.Device.faults g.X.Wire.faults c.args.bench.now c.run_scenario-ended.new.bench (Run c.args.workers) c.args.scenario (given_lines []) report stop)
+    (λ (report : Given) (stop : headline.Stop). HasHeadlines (outside g.K.Disk g.Q.Device g.E.Entropy g.X.Wire)
+    c.args.bench.now c.run_scenario-ended.new.bench (Run c.args.workers) c.args.scenario (given_lines []) report stop)
     c.args.scenario.site.nodes c.run_scenario-ended.new.sink c.args.sink.now c.tell_asked.new.sink c.run_scenario-ended.result c.tell_asked.result
     (rw c.new-kept.ensures at whole) (rw c.new-kept.ensures at lined) c.tell_asked.ensures.none c.tell_asked.ensures.wanting (rw c.in_ok-nodes.ensures at told)

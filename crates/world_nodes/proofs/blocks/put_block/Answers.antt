@@ -9,17 +9,17 @@ handle-requires g c =
         a.0,
         a.1,
         a.2,
-        may_handle g.K.Disk.is_honest g.K.Disk.moment g.K.Disk.image g.E.Entropy.left a.0 a.1 a.2 c.args.post.now c.args.link c.args.number c.args.block.now c.args.up a.3 c.in-Ok.bytes c.in-Ok.ensures,
+        may_handle g.K.Disk g.E.Entropy a.0 a.1 a.2 c.args.post.now c.args.link c.args.number c.args.block.now c.args.up a.3 c.in-Ok.bytes c.in-Ok.ensures,
       );
     }
 
 pub returns-in-Err : goal.returns-in-Err
 returns-in-Err g c net w v m =
-    put_wanting g.K.Disk.is_honest g.K.Disk.moment g.K.Disk.image g.E.Entropy.left net w v c.args.post.now c.args.link c.args.number c.args.block.now c.args.up m g.K.Disk.faults g.K.Disk.armings g.E.Entropy.faults
+    put_wanting g.K.Disk g.E.Entropy net w v c.args.post.now c.args.link c.args.number c.args.block.now c.args.up m
 
 pub returns-in-Ok : goal.returns-in-Ok
 returns-in-Ok g c net w v m =
-    put_handled g.K.Disk.is_honest g.K.Disk.moment g.K.Disk.image g.E.Entropy.left net w v c.args.post.now c.args.link c.args.number c.args.block.now c.args.up m g.K.Disk.faults g.K.Disk.armings g.E.Entropy.faults c.handle.new.post
+    put_handled g.K.Disk g.E.Entropy net w v c.args.post.now c.args.link c.args.number c.args.block.now c.args.up m c.handle.new.post
     c.handle.result c.in-Ok.bytes c.in-Ok.ensures
     (c.handle.ensures net w v
-    (may_handle g.K.Disk.is_honest g.K.Disk.moment g.K.Disk.image g.E.Entropy.left net w v c.args.post.now c.args.link c.args.number c.args.block.now c.args.up m c.in-Ok.bytes c.in-Ok.ensures))
+    (may_handle g.K.Disk g.E.Entropy net w v c.args.post.now c.args.link c.args.number c.args.block.now c.args.up m c.in-Ok.bytes c.in-Ok.ensures))

@@ -4,4 +4,4 @@ use Rattle.world_nodes.proofs.event_handler.handle.Goals as goal
 pub ask_if_up-requires : goal.ask_if_up-requires
 ask_if_up-requires g c =
     let a = c.requires.asked in
-    record { valid = λ m on up. valid_there g.K.Disk.is_honest g.K.Disk.moment g.K.Disk.image g.E.Entropy.left a.0 a.1 a.2 m up c.args.post.now on a.3.stands c.args.event.now a.3.valid }
+    record { valid = λ m on up. valid_there g.K.Disk g.E.Entropy a.0 a.1 a.2 m up c.args.post.now on a.3.stands c.args.event.now a.3.valid }

@@ -4,5 +4,5 @@ use Rattle.world_nodes.proofs.laws.law_answered_is_handled.Goals as goal
 
 pub returns : goal.returns
 returns g c net w v event old new reply r goes fits a site stays later drawn h =
-    acted g.K.Disk.is_honest g.K.Disk.moment g.K.Disk.image g.K.Disk.faults g.K.Disk.armings g.E.Entropy.left g.E.Entropy.faults net w v r event old new reply
+    acted g.K.Disk g.E.Entropy net w v r event old new reply
     old.standing refl a h site stays (later, drawn) goes fits

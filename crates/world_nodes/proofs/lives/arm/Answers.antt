@@ -9,22 +9,22 @@ arm-requires g c = subst (λ (p : Post g.row.K.Denot g.row.E.Denot). OnDisk (λ 
 
 pub returns-in-On-clause-armed : goal.returns-in-On-clause-armed
 returns-in-On-clause-armed g c =
-    counted_on g.K.Disk.is_honest g.K.Disk.content g.K.Disk.moment g.K.Disk.image g.K.Disk.faults g.K.Disk.armings g.E.Entropy.faults c.args.arm c.args.post.now c.in-On.manager c.arm.new.self c.in-On.is
+    counted_on g.K.Disk g.E.Entropy c.args.arm c.args.post.now c.in-On.manager c.arm.new.self c.in-On.is
     c.arm.ensures.same c.arm.ensures.armed
 
 pub returns-in-Off-clause-armed : goal.returns-in-Off-clause-armed
 returns-in-Off-clause-armed g c =
-    counted_off g.K.Disk.is_honest g.K.Disk.content g.K.Disk.moment g.K.Disk.image g.K.Disk.faults g.K.Disk.armings g.E.Entropy.faults c.args.arm c.args.post.now c.in-Off.disk c.arm-in-Off.new.self
+    counted_off g.K.Disk g.E.Entropy c.args.arm c.args.post.now c.in-Off.disk c.arm-in-Off.new.self
     c.in-Off.field-1 c.in-Off.is
     (let e = c.arm-in-Off.ensures in record { armed = e.armings; same = e.content; time = e.time; failed = e.faults; honest = e.honest })
 
 pub returns-in-On-clause-action : goal.returns-in-On-clause-action
 returns-in-On-clause-action g c net w v fault m =
-    armed_on g.K.Disk.is_honest g.K.Disk.content g.K.Disk.moment g.K.Disk.image g.K.Disk.faults g.K.Disk.armings c.args.arm net w v g.E.Entropy.left fault c.args.post.now c.in-On.manager c.arm.new.self c.in-On.is
+    armed_on g.K.Disk c.args.arm net w v g.E.Entropy fault c.args.post.now c.in-On.manager c.arm.new.self c.in-On.is
     c.arm.ensures.same c.arm.ensures.armed m
 
 pub returns-in-Off-clause-action : goal.returns-in-Off-clause-action
 returns-in-Off-clause-action g c net w v fault m =
-    armed_off g.K.Disk.is_honest g.K.Disk.content g.K.Disk.moment g.K.Disk.image g.K.Disk.faults g.K.Disk.armings c.args.arm net w v g.E.Entropy.left fault c.args.post.now c.in-Off.disk c.arm-in-Off.new.self
+    armed_off g.K.Disk c.args.arm net w v g.E.Entropy fault c.args.post.now c.in-Off.disk c.arm-in-Off.new.self
     c.in-Off.field-1 c.in-Off.is
     (let e = c.arm-in-Off.ensures in record { armed = e.armings; same = e.content; time = e.time; failed = e.faults; honest = e.honest }) m

@@ -4,9 +4,9 @@ use Rattle.world_nodes.proofs.manager_event.ask.Goals as goal
 pub handle-requires : goal.handle-requires
 handle-requires g c =
     let a = c.requires.asked in
-    record { asked = (a.0, a.1, a.2, may_handle g.K.Disk.is_honest g.K.Disk.moment g.K.Disk.image g.E.Entropy.left a.0 a.1 a.2 c.args.event.now c.args.up c.args.post.now a.3) }
+    record { asked = (a.0, a.1, a.2, may_handle g.K.Disk g.E.Entropy a.0 a.1 a.2 c.args.event.now c.args.up c.args.post.now a.3) }
 
 pub returns : goal.returns
 returns g c net w v m =
-    asked g.K.Disk.is_honest g.K.Disk.moment g.K.Disk.image g.E.Entropy.left net w v c.args.event.now c.args.up g.K.Disk.faults g.K.Disk.armings g.E.Entropy.faults c.args.post.now c.handle.new.post c.handle.result m
-    (c.handle.ensures net w v (may_handle g.K.Disk.is_honest g.K.Disk.moment g.K.Disk.image g.E.Entropy.left net w v c.args.event.now c.args.up c.args.post.now m))
+    asked g.K.Disk g.E.Entropy net w v c.args.event.now c.args.up c.args.post.now c.handle.new.post c.handle.result m
+    (c.handle.ensures net w v (may_handle g.K.Disk g.E.Entropy net w v c.args.event.now c.args.up c.args.post.now m))

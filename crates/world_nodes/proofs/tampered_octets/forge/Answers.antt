@@ -6,5 +6,5 @@ tamper-requires g c = let a = c.requires.asked in record { asked = (a.0, a.1, a.
 
 pub returns : goal.returns
 returns g c net w m =
-    has_forged g.K.Disk.is_honest g.K.Disk.moment g.K.Disk.image g.K.Disk.faults g.K.Disk.armings g.E.Entropy.left g.E.Entropy.faults net w c.args.lane c.args.post.now c.tamper.new.post c.args.octets c.args.forged c.args.up c.tamper.result
+    has_forged g.K.Disk g.E.Entropy net w c.args.lane c.args.post.now c.tamper.new.post c.args.octets c.args.forged c.args.up c.tamper.result
     (c.tamper.ensures net w m.tampers) m

@@ -10,24 +10,24 @@ heard-requires g c =
       asked = (
         a.0,
         a.1,
-        may_handle g.K.Disk.is_honest g.K.Disk.moment g.K.Disk.image g.E.Entropy.left a.0 a.1 c.args.lane c.args.post.now c.args.octets c.args.forged c.args.up a.2 up c.if-forged.false,
+        may_handle g.K.Disk g.E.Entropy a.0 a.1 c.args.lane c.args.post.now c.args.octets c.args.forged c.args.up a.2 up c.if-forged.false,
       );
     }
 
 pub returns-then-not-is_up : goal.returns-then-not-is_up
 returns-then-not-is_up g c net w m =
-    says_down g.K.Disk.is_honest g.K.Disk.moment g.K.Disk.image g.E.Entropy.left net w c.args.lane c.args.post.now c.args.octets c.args.forged c.args.up m g.K.Disk.faults g.K.Disk.armings g.E.Entropy.faults
+    says_down g.K.Disk g.E.Entropy net w c.args.lane c.args.post.now c.args.octets c.args.forged c.args.up m
     (c.is_up.ensures net w c.args.lane m.there ∙ c.if-not-is_up.true)
 
 pub returns-then-forged : goal.returns-then-forged
 returns-then-forged g c net w m =
-    says_match g.K.Disk.is_honest g.K.Disk.moment g.K.Disk.image g.E.Entropy.left net w c.args.lane c.args.post.now c.args.octets c.args.forged c.args.up m g.K.Disk.faults g.K.Disk.armings g.E.Entropy.faults
+    says_match g.K.Disk g.E.Entropy net w c.args.lane c.args.post.now c.args.octets c.args.forged c.args.up m
     c.if-forged.true
 
 pub returns : goal.returns
 returns g c net w m =
     let up = c.is_up.ensures net w c.args.lane m.there ∙ c.if-not-is_up.false in
-    says_heard g.K.Disk.is_honest g.K.Disk.moment g.K.Disk.image g.E.Entropy.left net w c.args.lane c.args.post.now c.args.octets c.args.forged c.args.up m g.K.Disk.faults g.K.Disk.armings g.E.Entropy.faults up c.if-forged.false
+    says_heard g.K.Disk g.E.Entropy net w c.args.lane c.args.post.now c.args.octets c.args.forged c.args.up m up c.if-forged.false
     c.heard.new.post c.heard.result
     (c.heard.ensures net w
-    (may_handle g.K.Disk.is_honest g.K.Disk.moment g.K.Disk.image g.E.Entropy.left net w c.args.lane c.args.post.now c.args.octets c.args.forged c.args.up m up c.if-forged.false))
+    (may_handle g.K.Disk g.E.Entropy net w c.args.lane c.args.post.now c.args.octets c.args.forged c.args.up m up c.if-forged.false))

@@ -7,13 +7,14 @@ use Rattle.world_state.proofs.Changes.{with_post}
 use Rattle.world_state.proofs.Passing.{may_hear, hear_done}
 use Rattle.world_state.proofs.Receivers.{same_receiver}
 use Rattle.world_state.proofs.frames.come.Goals as goal
+use Rattle.world_state.specs.Outside.{outside}
 
 pub hear-requires : goal.hear-requires
 hear-requires g c =
     let a = c.requires.ready in
     let place : c.from.result ≡ receiver a.0.site c.args.lane.now =
     c.from.ensures ∙ c.get.ensures.number ∙ c.receiver-node.ensures
-    ∙ same_receiver g.K.Disk.is_honest g.K.Disk.moment g.K.Disk.image g.E.Entropy.left g.Q.Device.told g.X.Wire.frames g.X.Wire.counted c.args.state.now a.0 a.1 c.args.lane.now a.4 c.requires.lane in
+    ∙ same_receiver (outside g.K.Disk g.Q.Device g.E.Entropy g.X.Wire) c.args.state.now a.0 a.1 c.args.lane.now a.4 c.requires.lane in
     let below = c.in-Some.ensures.variant.0 refl in
     let as_long = c.args.state.now.posts.ok.0 in
     let there = ap (slice_get c.args.state.now.posts.items) (sym place) ∙ slice_get-get_or c.args.state.now.posts.items c.from.result c.in-Some.post.now (omega (arith, below, as_long)) ∙ ap Some (sym c.in-Some.ensures.value) in
@@ -22,8 +23,8 @@ hear-requires g c =
         a.0,
         a.1,
         a.2,
-        may_hear g.K.Disk.is_honest g.K.Disk.moment g.K.Disk.image g.E.Entropy.left g.Q.Device.told g.X.Wire.frames g.X.Wire.counted c.args.state.now a.0 a.1 c.args.lane.now a.2 a.4 c.requires.lane
-            g.K.Disk.faults g.K.Disk.armings g.E.Entropy.faults g.Q.Device.faults g.X.Wire.faults c.args.octets a.3 c.in-Some.post.now there,
+        may_hear (outside g.K.Disk g.Q.Device g.E.Entropy g.X.Wire) c.args.state.now a.0 a.1 c.args.lane.now a.2 a.4 c.requires.lane
+            c.args.octets a.3 c.in-Some.post.now there,
       );
     }
 
@@ -32,27 +33,27 @@ returns-in-Some-clause-armed g c =
     let a = c.requires.ready in
     let place : c.from.result ≡ receiver a.0.site c.args.lane.now =
     c.from.ensures ∙ c.get.ensures.number ∙ c.receiver-node.ensures
-    ∙ same_receiver g.K.Disk.is_honest g.K.Disk.moment g.K.Disk.image g.E.Entropy.left g.Q.Device.told g.X.Wire.frames g.X.Wire.counted c.args.state.now a.0 a.1 c.args.lane.now a.4 c.requires.lane in
+    ∙ same_receiver (outside g.K.Disk g.Q.Device g.E.Entropy g.X.Wire) c.args.state.now a.0 a.1 c.args.lane.now a.4 c.requires.lane in
     let below = c.in-Some.ensures.variant.0 refl in
     let as_long = c.args.state.now.posts.ok.0 in
     let at = slice_get-get_or c.args.state.now.posts.items c.from.result c.in-Some.post.now (omega (arith, below, as_long)) ∙ ap Some (sym c.in-Some.ensures.value) in
     let there = ap (slice_get c.args.state.now.posts.items) (sym place) ∙ at in
-    let may = may_hear g.K.Disk.is_honest g.K.Disk.moment g.K.Disk.image g.E.Entropy.left g.Q.Device.told g.X.Wire.frames g.X.Wire.counted c.args.state.now a.0 a.1 c.args.lane.now a.2 a.4 c.requires.lane
-    g.K.Disk.faults g.K.Disk.armings g.E.Entropy.faults g.Q.Device.faults g.X.Wire.faults c.args.octets a.3 c.in-Some.post.now there in
+    let may = may_hear (outside g.K.Disk g.Q.Device g.E.Entropy g.X.Wire) c.args.state.now a.0 a.1 c.args.lane.now a.2 a.4 c.requires.lane
+    c.args.octets a.3 c.in-Some.post.now there in
     let h = c.hear.ensures a.0 a.1 a.2 may in
-    most_same g.K.Disk.armings c.args.state.now.posts.items c.from.result c.in-Some.post.now c.hear.new.post at
-    (times_same g.K.Disk.armings g.K.Disk.faults g.E.Entropy.faults _ _ c.in-Some.post.now c.hear.new.post h.counts)
+    most_same g.K.Disk c.args.state.now.posts.items c.from.result c.in-Some.post.now c.hear.new.post at
+    (times_same g.K.Disk g.E.Entropy _ _ c.in-Some.post.now c.hear.new.post h.counts)
 
 pub returns-in-Some-clause-done : goal.returns-in-Some-clause-done
 returns-in-Some-clause-done g c net w number seen ready =
     let place : c.from.result ≡ receiver net.site c.args.lane.now =
     c.from.ensures ∙ c.get.ensures.number ∙ c.receiver-node.ensures
-    ∙ same_receiver g.K.Disk.is_honest g.K.Disk.moment g.K.Disk.image g.E.Entropy.left g.Q.Device.told g.X.Wire.frames g.X.Wire.counted c.args.state.now net w c.args.lane.now ready c.requires.lane in
+    ∙ same_receiver (outside g.K.Disk g.Q.Device g.E.Entropy g.X.Wire) c.args.state.now net w c.args.lane.now ready c.requires.lane in
     let below = c.in-Some.ensures.variant.0 refl in
     let as_long = c.args.state.now.posts.ok.0 in
     let there = ap (slice_get c.args.state.now.posts.items) (sym place) ∙ slice_get-get_or c.args.state.now.posts.items c.from.result c.in-Some.post.now (omega (arith, below, as_long)) ∙ ap Some (sym c.in-Some.ensures.value) in
-    let may = may_hear g.K.Disk.is_honest g.K.Disk.moment g.K.Disk.image g.E.Entropy.left g.Q.Device.told g.X.Wire.frames g.X.Wire.counted c.args.state.now net w c.args.lane.now number ready c.requires.lane
-    g.K.Disk.faults g.K.Disk.armings g.E.Entropy.faults g.Q.Device.faults g.X.Wire.faults c.args.octets seen c.in-Some.post.now there in
-    hear_done g.K.Disk.is_honest g.K.Disk.moment g.K.Disk.image g.E.Entropy.left g.Q.Device.told g.X.Wire.frames g.X.Wire.counted c.args.state.now net w c.args.lane.now number ready c.requires.lane
-    g.K.Disk.faults g.K.Disk.armings g.E.Entropy.faults g.Q.Device.faults g.X.Wire.faults c.args.octets seen c.in-Some.post.now there _ c.hear.new.post
+    let may = may_hear (outside g.K.Disk g.Q.Device g.E.Entropy g.X.Wire) c.args.state.now net w c.args.lane.now number ready c.requires.lane
+    c.args.octets seen c.in-Some.post.now there in
+    hear_done (outside g.K.Disk g.Q.Device g.E.Entropy g.X.Wire) c.args.state.now net w c.args.lane.now number ready c.requires.lane
+    c.args.octets seen c.in-Some.post.now there _ c.hear.new.post
     (with_post c.args.state.now (receiver net.site c.args.lane.now) c.from.result c.in-Some.post.now c.hear.new.post place there) c.hear.result (c.hear.ensures net w number may)

@@ -3,11 +3,12 @@ use Rattle.world_state.specs.Starting.{is_started}
 use Rattle.world_state.proofs.BeginsAgain.{otherwise_done, not_off, may_all, all_done, some_left, begun_below}
 use Rattle.world_state.proofs.OneSide.{read_at}
 use Rattle.world_state.proofs.node_start.start.Goals as goal
+use Rattle.world_state.specs.Outside.{outside}
 
 pub returns-then-not-is_started-clause-done : goal.returns-then-not-is_started-clause-done
 returns-then-not-is_started-clause-done g c net w ready =
-    otherwise_done g.K.Disk.is_honest g.K.Disk.moment g.K.Disk.image g.E.Entropy.left g.Q.Device.told g.X.Wire.frames g.X.Wire.counted c.args.state.now net w c.args.node ready
-    g.K.Disk.faults g.K.Disk.armings g.E.Entropy.faults g.Q.Device.faults g.X.Wire.faults c.begin-answer.new.state c.begin-answer.result (c.begin-answer.ensures.begun net w ready)
+    otherwise_done (outside g.K.Disk g.Q.Device g.E.Entropy g.X.Wire) c.args.state.now net w c.args.node ready
+    c.begin-answer.new.state c.begin-answer.result (c.begin-answer.ensures.begun net w ready)
     (sym c.is_started.ensures ∙ c.if-not-is_started.true)
 
 pub go_on_all-requires : goal.go_on_all-requires
@@ -17,12 +18,12 @@ go_on_all-requires g c =
     let is : is_started c.begin-answer.result ≡ true = sym c.is_started.ensures ∙ c.if-not-is_started.false in
     let place : c.from.result ≡ c.args.node = c.from.ensures ∙ c.get.ensures.number in
     let below : c.args.node < length c.begin-answer.new.state.posts.items =
-    begun_below g.K.Disk.is_honest g.K.Disk.moment g.K.Disk.image g.E.Entropy.left g.Q.Device.told g.X.Wire.frames g.X.Wire.counted c.args.state.now a.0 a.1 c.args.node a.2
-    g.K.Disk.faults g.K.Disk.armings g.E.Entropy.faults g.Q.Device.faults g.X.Wire.faults c.begin-answer.new.state c.begin-answer.result h c.requires.fit in
+    begun_below (outside g.K.Disk g.Q.Device g.E.Entropy g.X.Wire) c.args.state.now a.0 a.1 c.args.node a.2
+    c.begin-answer.new.state c.begin-answer.result h c.requires.fit in
     let there = read_at c.begin-answer.new.state.posts.items c.from.result c.args.node c.index.result.now place below c.index.ensures ∙ ap Some c.in-On.is in
     record {
-      may = may_all g.K.Disk.is_honest g.K.Disk.moment g.K.Disk.image g.E.Entropy.left g.Q.Device.told g.X.Wire.frames g.X.Wire.counted c.args.state.now a.0 a.1 c.args.node a.2
-          g.K.Disk.faults g.K.Disk.armings g.E.Entropy.faults g.Q.Device.faults g.X.Wire.faults c.begin-answer.new.state c.begin-answer.result h is c.in-On.manager there c.begin-answer.new.state.site refl;
+      may = may_all (outside g.K.Disk g.Q.Device g.E.Entropy g.X.Wire) c.args.state.now a.0 a.1 c.args.node a.2
+          c.begin-answer.new.state c.begin-answer.result h is c.in-On.manager there c.begin-answer.new.state.site refl;
     }
 
 pub returns-in-Off-clause-done : goal.returns-in-Off-clause-done
@@ -31,11 +32,11 @@ returns-in-Off-clause-done g c net w ready =
     let is : is_started c.begin-answer.result ≡ true = sym c.is_started.ensures ∙ c.if-not-is_started.false in
     let place : c.from.result ≡ c.args.node = c.from.ensures ∙ c.get.ensures.number in
     let below : c.args.node < length c.begin-answer.new.state.posts.items =
-    begun_below g.K.Disk.is_honest g.K.Disk.moment g.K.Disk.image g.E.Entropy.left g.Q.Device.told g.X.Wire.frames g.X.Wire.counted c.args.state.now net w c.args.node ready
-    g.K.Disk.faults g.K.Disk.armings g.E.Entropy.faults g.Q.Device.faults g.X.Wire.faults c.begin-answer.new.state c.begin-answer.result h c.requires.fit in
+    begun_below (outside g.K.Disk g.Q.Device g.E.Entropy g.X.Wire) c.args.state.now net w c.args.node ready
+    c.begin-answer.new.state c.begin-answer.result h c.requires.fit in
     let there = read_at c.begin-answer.new.state.posts.items c.from.result c.args.node c.index.result.now place below c.index.ensures ∙ ap Some c.in-Off.is in
-    not_off g.K.Disk.is_honest g.K.Disk.moment g.K.Disk.image g.E.Entropy.left g.Q.Device.told g.X.Wire.frames g.X.Wire.counted c.args.state.now net w c.args.node ready
-    g.K.Disk.faults g.K.Disk.armings g.E.Entropy.faults g.Q.Device.faults g.X.Wire.faults c.begin-answer.new.state c.begin-answer.result h is _ _ there
+    not_off (outside g.K.Disk g.Q.Device g.E.Entropy g.X.Wire) c.args.state.now net w c.args.node ready
+    c.begin-answer.new.state c.begin-answer.result h is _ _ there
 
 pub returns-in-Err-clause-left : goal.returns-in-Err-clause-left
 returns-in-Err-clause-left g c net w ready =
@@ -43,11 +44,11 @@ returns-in-Err-clause-left g c net w ready =
     let is : is_started c.begin-answer.result ≡ true = sym c.is_started.ensures ∙ c.if-not-is_started.false in
     let place : c.from.result ≡ c.args.node = c.from.ensures ∙ c.get.ensures.number in
     let below : c.args.node < length c.begin-answer.new.state.posts.items =
-    begun_below g.K.Disk.is_honest g.K.Disk.moment g.K.Disk.image g.E.Entropy.left g.Q.Device.told g.X.Wire.frames g.X.Wire.counted c.args.state.now net w c.args.node ready
-    g.K.Disk.faults g.K.Disk.armings g.E.Entropy.faults g.Q.Device.faults g.X.Wire.faults c.begin-answer.new.state c.begin-answer.result h c.requires.fit in
+    begun_below (outside g.K.Disk g.Q.Device g.E.Entropy g.X.Wire) c.args.state.now net w c.args.node ready
+    c.begin-answer.new.state c.begin-answer.result h c.requires.fit in
     let there = read_at c.begin-answer.new.state.posts.items c.from.result c.args.node c.index.result.now place below c.index.ensures ∙ ap Some c.in-On.is in
-    some_left g.K.Disk.is_honest g.K.Disk.moment g.K.Disk.image g.E.Entropy.left g.Q.Device.told g.X.Wire.frames g.X.Wire.counted c.args.state.now net w c.args.node ready
-    g.K.Disk.faults g.K.Disk.armings g.E.Entropy.faults g.Q.Device.faults g.X.Wire.faults c.begin-answer.new.state c.begin-answer.result h is c.in-On.manager there
+    some_left (outside g.K.Disk g.Q.Device g.E.Entropy g.X.Wire) c.args.state.now net w c.args.node ready
+    c.begin-answer.new.state c.begin-answer.result h is c.in-On.manager there
     _ refl refl refl refl c.go_on_all.ensures.wires
 
 pub returns-in-Ok-clause-done : goal.returns-in-Ok-clause-done
@@ -56,9 +57,9 @@ returns-in-Ok-clause-done g c net w ready =
     let is : is_started c.begin-answer.result ≡ true = sym c.is_started.ensures ∙ c.if-not-is_started.false in
     let place : c.from.result ≡ c.args.node = c.from.ensures ∙ c.get.ensures.number in
     let below : c.args.node < length c.begin-answer.new.state.posts.items =
-    begun_below g.K.Disk.is_honest g.K.Disk.moment g.K.Disk.image g.E.Entropy.left g.Q.Device.told g.X.Wire.frames g.X.Wire.counted c.args.state.now net w c.args.node ready
-    g.K.Disk.faults g.K.Disk.armings g.E.Entropy.faults g.Q.Device.faults g.X.Wire.faults c.begin-answer.new.state c.begin-answer.result h c.requires.fit in
+    begun_below (outside g.K.Disk g.Q.Device g.E.Entropy g.X.Wire) c.args.state.now net w c.args.node ready
+    c.begin-answer.new.state c.begin-answer.result h c.requires.fit in
     let there = read_at c.begin-answer.new.state.posts.items c.from.result c.args.node c.index.result.now place below c.index.ensures ∙ ap Some c.in-On.is in
-    all_done g.K.Disk.is_honest g.K.Disk.moment g.K.Disk.image g.E.Entropy.left g.Q.Device.told g.X.Wire.frames g.X.Wire.counted c.args.state.now net w c.args.node ready
-    g.K.Disk.faults g.K.Disk.armings g.E.Entropy.faults g.Q.Device.faults g.X.Wire.faults c.begin-answer.new.state c.begin-answer.result h is c.in-On.manager there
+    all_done (outside g.K.Disk g.Q.Device g.E.Entropy g.X.Wire) c.args.state.now net w c.args.node ready
+    c.begin-answer.new.state c.begin-answer.result h is c.in-On.manager there
     _ refl refl refl refl c.go_on_all.ensures.wires c.in-Ok.ensures.ok

@@ -11,6 +11,7 @@ use Rattle.world_state.proofs.OnePost.{stands_after}
 use Rattle.world_state.proofs.PlanAndNote.{may_plan}
 use Rattle.world_state.proofs.PostTallies.{asked_tallied}
 use Rattle.world_state.proofs.node_tick.plan.Goals as goal
+use Rattle.world_state.specs.Outside.{outside}
 
 pub ask-requires : goal.ask-requires
 ask-requires g c =
@@ -19,7 +20,7 @@ ask-requires g c =
     let as_long = c.args.state.now.posts.ok.0 in
     let there = ap (slice_get c.args.state.now.posts.items) (sym place) ∙ slice_get-get_or c.args.state.now.posts.items c.from.result c.in-Some.post.now (omega (arith, below, as_long)) ∙ ap Some (sym c.in-Some.ensures.value) in
     let a = c.requires.ready in
-    record { asked = (a.0, a.1, c.args.node, may_plan g.K.Disk.is_honest g.K.Disk.moment g.K.Disk.image g.E.Entropy.left g.Q.Device.told g.X.Wire.frames g.X.Wire.counted c.args.state.now a.0 a.1 c.args.node c.in-Some.post.now there a.2.stands) }
+    record { asked = (a.0, a.1, c.args.node, may_plan (outside g.K.Disk g.Q.Device g.E.Entropy g.X.Wire) c.args.state.now a.0 a.1 c.args.node c.in-Some.post.now there a.2.stands) }
 
 pub returns-in-Some-clause-armed : goal.returns-in-Some-clause-armed
 returns-in-Some-clause-armed g c =
@@ -29,9 +30,9 @@ returns-in-Some-clause-armed g c =
     let at = slice_get-get_or c.args.state.now.posts.items c.from.result c.in-Some.post.now (omega (arith, below, as_long)) ∙ ap Some (sym c.in-Some.ensures.value) in
     let there = ap (slice_get c.args.state.now.posts.items) (sym place) ∙ at in
     let a = c.requires.ready in
-    let may = may_plan g.K.Disk.is_honest g.K.Disk.moment g.K.Disk.image g.E.Entropy.left g.Q.Device.told g.X.Wire.frames g.X.Wire.counted c.args.state.now a.0 a.1 c.args.node c.in-Some.post.now there a.2.stands in
-    most_same g.K.Disk.armings c.args.state.now.posts.items c.from.result c.in-Some.post.now c.ask.new.post at
-    (times_same g.K.Disk.armings g.K.Disk.faults g.E.Entropy.faults _ _ c.in-Some.post.now c.ask.new.post (c.ask.ensures a.0 a.1 c.args.node may).counts)
+    let may = may_plan (outside g.K.Disk g.Q.Device g.E.Entropy g.X.Wire) c.args.state.now a.0 a.1 c.args.node c.in-Some.post.now there a.2.stands in
+    most_same g.K.Disk c.args.state.now.posts.items c.from.result c.in-Some.post.now c.ask.new.post at
+    (times_same g.K.Disk g.E.Entropy _ _ c.in-Some.post.now c.ask.new.post (c.ask.ensures a.0 a.1 c.args.node may).counts)
 
 pub returns-in-Some-clause-planned : goal.returns-in-Some-clause-planned
 returns-in-Some-clause-planned g c net w ready =
@@ -39,15 +40,15 @@ returns-in-Some-clause-planned g c net w ready =
     let below = c.in-Some.ensures.variant.0 refl in
     let as_long = c.args.state.now.posts.ok.0 in
     let there = ap (slice_get c.args.state.now.posts.items) (sym place) ∙ slice_get-get_or c.args.state.now.posts.items c.from.result c.in-Some.post.now (omega (arith, below, as_long)) ∙ ap Some (sym c.in-Some.ensures.value) in
-    let may = may_plan g.K.Disk.is_honest g.K.Disk.moment g.K.Disk.image g.E.Entropy.left g.Q.Device.told g.X.Wire.frames g.X.Wire.counted c.args.state.now net w c.args.node c.in-Some.post.now there ready.stands in
+    let may = may_plan (outside g.K.Disk g.Q.Device g.E.Entropy g.X.Wire) c.args.state.now net w c.args.node c.in-Some.post.now there ready.stands in
     let asked = c.ask.ensures net w c.args.node may in
     let change = with_post c.args.state.now c.args.node c.from.result c.in-Some.post.now c.ask.new.post place there in
     record {
       environment = asked.environment;
       may = asked.may;
       said = asked.said;
-      stands = stands_after g.K.Disk.is_honest g.K.Disk.moment g.K.Disk.image g.E.Entropy.left g.Q.Device.told g.X.Wire.frames g.X.Wire.counted c.args.state.now _ net w c.args.node c.in-Some.post.now c.ask.new.post change ready.stands
+      stands = stands_after (outside g.K.Disk g.Q.Device g.E.Entropy g.X.Wire) c.args.state.now _ net w c.args.node c.in-Some.post.now c.ask.new.post change ready.stands
           (Ask c.args.node Plan asked.environment) asked.may (asks_post net.site c.args.node Plan asked.environment) asked.stands;
-      tallied = asked_tallied g.K.Disk.faults g.K.Disk.armings g.E.Entropy.faults g.Q.Device.faults g.X.Wire.faults net.site c.args.state.now _ c.args.node c.in-Some.post.now c.ask.new.post change
-          (has_disks g.K.Disk.is_honest g.K.Disk.moment g.K.Disk.image g.E.Entropy.left g.Q.Device.told g.X.Wire.frames g.X.Wire.counted c.args.state.now net w ready.stands) Plan asked.environment asked.counts;
+      tallied = asked_tallied (outside g.K.Disk g.Q.Device g.E.Entropy g.X.Wire) net.site c.args.state.now _ c.args.node c.in-Some.post.now c.ask.new.post change
+          (has_disks (outside g.K.Disk g.Q.Device g.E.Entropy g.X.Wire) c.args.state.now net w ready.stands) Plan asked.environment asked.counts;
     }

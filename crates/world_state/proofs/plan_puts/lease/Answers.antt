@@ -1,4 +1,4 @@
-use Rattle.std.proofs.Common.{◌≡◌, ℕ, sym, ap, ◌∙◌, Option, Some}
+use Rattle.std.proofs.Common.{◌≡◌, sym, ap, ◌∙◌, Some}
 use Rattle.std.specs.Prelude.{slice_get}
 use Rattle.world_state.proofs.Leases.{manager_lease, no_manager}
 use Rattle.world_state.proofs.plan_puts.lease.Goals as goal
@@ -7,11 +7,11 @@ pub returns-in-Some-On : goal.returns-in-Some-On
 returns-in-Some-On g c net w stands up at from =
     let place : c.from.result ≡ c.args.node = c.from.ensures ∙ c.get.ensures.number in
     let there = ap (slice_get c.args.state.now.posts.items) (sym place) ∙ c.in-Some-On.ensures ∙ ap Some c.in-Some-On.field-0-is in
-    c.lease.ensures ∙ manager_lease g.K.Disk.is_honest g.K.Disk.moment g.K.Disk.image g.E.Entropy.left net w c.args.node c.args.lane stands.running up at from c.in-Some-On.manager
+    c.lease.ensures ∙ manager_lease g.K.Disk g.E.Entropy net w c.args.node c.args.lane stands.running up at from c.in-Some-On.manager
     (stands.posts c.args.node _ there)
 
 pub returns-in-Some-Off : goal.returns-in-Some-Off
 returns-in-Some-Off g c net w stands up at from =
     let place : c.from.result ≡ c.args.node = c.from.ensures ∙ c.get.ensures.number in
     let there = ap (slice_get c.args.state.now.posts.items) (sym place) ∙ c.in-Some-Off.ensures ∙ ap Some c.in-Some-Off.field-0-is in
-    no_manager g.K.Disk.is_honest g.K.Disk.moment g.K.Disk.image g.E.Entropy.left net w c.args.node c.args.lane stands.running up at from _ _ (stands.posts c.args.node _ there)
+    no_manager g.K.Disk g.E.Entropy net w c.args.node c.args.lane stands.running up at from _ _ (stands.posts c.args.node _ there)

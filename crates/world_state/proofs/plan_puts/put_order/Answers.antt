@@ -1,15 +1,15 @@
-use Rattle.std.proofs.Common.{List}
 use Rattle.world_state.specs.Stands.{place_of}
 use Rattle.world_state.proofs.OneSide.{read_at, place_within, with_side, one_with}
 use Rattle.world_state.proofs.Endings.{ok_both, on_err}
 use Rattle.world_state.proofs.Emitting.{may_emit, order_puts_on, order_breaks}
 use Rattle.world_state.proofs.Formed.{order_formed}
 use Rattle.world_state.proofs.plan_puts.put_order.Goals as goal
+use Rattle.world_state.specs.Outside.{outside}
 
 pub spelled_len-size-requires : goal.spelled_len-size-requires
 spelled_len-size-requires g c =
     let a = c.requires.next in
-    order_formed g.K.Disk.is_honest g.K.Disk.moment g.K.Disk.image g.E.Entropy.left g.Q.Device.told g.X.Wire.frames g.X.Wire.counted a.0 a.1 c.args.node c.args.order.now a.2 c.args.state.now
+    order_formed (outside g.K.Disk g.Q.Device g.E.Entropy g.X.Wire) a.0 a.1 c.args.node c.args.order.now a.2 c.args.state.now
     c.args.progress.now.placings a.3
 
 pub emit-sent-requires : goal.emit-sent-requires
@@ -22,7 +22,7 @@ emit-sent-requires g c =
       asked = (
         a.0,
         a.1,
-        may_emit g.K.Disk.is_honest g.K.Disk.moment g.K.Disk.image g.E.Entropy.left g.Q.Device.told g.X.Wire.frames g.X.Wire.counted a.0 a.1 c.args.node c.args.order.now a.2
+        may_emit (outside g.K.Disk g.Q.Device g.E.Entropy g.X.Wire) a.0 a.1 c.args.node c.args.order.now a.2
             c.args.state.now c.args.progress.now.placings h c.index_mut.result.now there c.lease-end.result
             (c.lease-end.ensures a.0 a.1 h.stands h.up h.sends.each.0.site h.sends.each.0.lane),
       );
@@ -35,11 +35,11 @@ returns-clause-ok g c =
     (place_within net.site c.args.order.now.lane _ h.sends.each.0.site h.stands.sides) c.index_mut.ensures.value in
     let one = one_with c.args.state.now c.args.order.now.lane c.lane_place.result c.index_mut.result.now c.emit-sent.new.side c.lane_place.ensures
     (place_within net.site c.args.order.now.lane _ h.sends.each.0.site h.stands.sides) c.index_mut.ensures.value in
-    let may = may_emit g.K.Disk.is_honest g.K.Disk.moment g.K.Disk.image g.E.Entropy.left g.Q.Device.told g.X.Wire.frames g.X.Wire.counted net w c.args.node c.args.order.now es
+    let may = may_emit (outside g.K.Disk g.Q.Device g.E.Entropy g.X.Wire) net w c.args.node c.args.order.now es
     c.args.state.now c.args.progress.now.placings h c.index_mut.result.now there c.lease-end.result
     (c.lease-end.ensures net w h.stands h.up h.sends.each.0.site h.sends.each.0.lane) in
-    order_puts_on g.K.Disk.is_honest g.K.Disk.moment g.K.Disk.image g.E.Entropy.left g.Q.Device.told g.X.Wire.frames g.X.Wire.counted net w c.args.node c.args.order.now es
-    c.args.state.now c.args.progress.now.placings h g.K.Disk.faults g.K.Disk.armings g.E.Entropy.faults g.Q.Device.faults g.X.Wire.faults
+    order_puts_on (outside g.K.Disk g.Q.Device g.E.Entropy g.X.Wire) net w c.args.node c.args.order.now es
+    c.args.state.now c.args.progress.now.placings h
     (with_side c.args.state.now c.lane_place.result c.emit-sent.new.side) c.index_mut.result.now c.emit-sent.new.side one c.emit-sent.result (c.emit-sent.ensures.emitted net w may) c.emit-sent.ensures.cause c.emit-sent.ensures.calm
     c.put_item-item.result c.offset.result c.spelled_len-size.result _ c.put_item-item.ensures c.offset.ensures c.spelled_len-size.ensures.length c.answer.ensures
     c.order_placing.result c.order_placing.ensures c.args.progress.now.items c.add.new.progress.items c.add.new.progress.placings items noted)
@@ -52,10 +52,10 @@ returns-clause-err g c =
     (place_within net.site c.args.order.now.lane _ h.sends.each.0.site h.stands.sides) c.index_mut.ensures.value in
     let one = one_with c.args.state.now c.args.order.now.lane c.lane_place.result c.index_mut.result.now c.emit-sent.new.side c.lane_place.ensures
     (place_within net.site c.args.order.now.lane _ h.sends.each.0.site h.stands.sides) c.index_mut.ensures.value in
-    let may = may_emit g.K.Disk.is_honest g.K.Disk.moment g.K.Disk.image g.E.Entropy.left g.Q.Device.told g.X.Wire.frames g.X.Wire.counted net w c.args.node c.args.order.now es
+    let may = may_emit (outside g.K.Disk g.Q.Device g.E.Entropy g.X.Wire) net w c.args.node c.args.order.now es
     c.args.state.now c.args.progress.now.placings h c.index_mut.result.now there c.lease-end.result
     (c.lease-end.ensures net w h.stands h.up h.sends.each.0.site h.sends.each.0.lane) in
-    order_breaks g.K.Disk.is_honest g.K.Disk.moment g.K.Disk.image g.E.Entropy.left g.Q.Device.told g.X.Wire.frames g.X.Wire.counted net w c.args.node c.args.order.now es
-    c.args.state.now c.args.progress.now.placings h g.K.Disk.faults g.K.Disk.armings g.E.Entropy.faults g.Q.Device.faults g.X.Wire.faults
+    order_breaks (outside g.K.Disk g.Q.Device g.E.Entropy g.X.Wire) net w c.args.node c.args.order.now es
+    c.args.state.now c.args.progress.now.placings h
     (with_side c.args.state.now c.lane_place.result c.emit-sent.new.side) c.index_mut.result.now c.emit-sent.new.side one c.emit-sent.result (c.emit-sent.ensures.emitted net w may) c.emit-sent.ensures.cause c.emit-sent.ensures.calm
     c.put_item-item.result c.offset.result c.spelled_len-size.result _ c.put_item-item.ensures c.offset.ensures c.spelled_len-size.ensures.length c.answer.ensures)

@@ -12,4 +12,4 @@ returns-in-Some g c net w stands =
     let there = ap (slice_get c.args.state.now.lanes.items) (sym c.lane_place.ensures) ∙ c.in-Some.ensures in
     let at = subst (λ (s : Site). is_lane s c.args.lane ≡ true) (sym stands.sited) c.requires in
     let side = stands.lanes c.args.lane c.in-Some.side.now at there in
-    c.counts.ensures net w stands.running (subst (λ (l : Lane). LaneStands g.X.Wire.frames g.X.Wire.counted net w l c.in-Some.side.now) (sym side.lane) side) ∙ ap (ledger w) side.lane
+    c.counts.ensures net w stands.running (subst (λ (l : Lane). LaneStands g.X.Wire net w l c.in-Some.side.now) (sym side.lane) side) ∙ ap (ledger w) side.lane

@@ -8,14 +8,15 @@ use Rattle.world_state.specs.Tallied.{Tallied}
 use Rattle.kme_shared.specs.declared.run_state.Running.{Running}
 use Rattle.kme_shared.proofs.Carried.{ok_out, err_out}
 use Rattle.kme_shared.proofs.run_state.RunningActs.flip.Goals as goal
+use Rattle.world_state.specs.Outside.{outside}
 
 pub returns-clause-done : goal.returns-clause-done
 returns-clause-done g c =
-    ok_out (λ (r : Running g.row.K.Denot g.row.Q.Denot g.row.E.Denot g.row.X.Denot g.K.Disk g.Q.Device g.E.Entropy g.X.Wire). r.state) (Stands g.K.Disk.is_honest g.K.Disk.moment g.K.Disk.image g.E.Entropy.left g.Q.Device.told g.X.Wire.frames g.X.Wire.counted)
-    (Tallied g.K.Disk.faults g.K.Disk.armings g.E.Entropy.faults g.Q.Device.faults g.X.Wire.faults) c.args.self.now _ c.flip.result (Flip c.args.lane c.args.number c.args.bit Fine) tampered c.flip.ensures.done
+    ok_out (λ (r : Running g.row.K.Denot g.row.Q.Denot g.row.E.Denot g.row.X.Denot g.K.Disk g.Q.Device g.E.Entropy g.X.Wire). r.state) (Stands (outside g.K.Disk g.Q.Device g.E.Entropy g.X.Wire))
+    (Tallied (outside g.K.Disk g.Q.Device g.E.Entropy g.X.Wire)) c.args.self.now _ c.flip.result (Flip c.args.lane c.args.number c.args.bit Fine) tampered c.flip.ensures.done
 
 pub returns-clause-left : goal.returns-clause-left
 returns-clause-left g c =
-    err_out (λ (r : Running g.row.K.Denot g.row.Q.Denot g.row.E.Denot g.row.X.Denot g.K.Disk g.Q.Device g.E.Entropy g.X.Wire). r.state) (Stands g.K.Disk.is_honest g.K.Disk.moment g.K.Disk.image g.E.Entropy.left g.Q.Device.told g.X.Wire.frames g.X.Wire.counted)
-    (Tallied g.K.Disk.faults g.K.Disk.armings g.E.Entropy.faults g.Q.Device.faults g.X.Wire.faults) c.args.self.now _
-    (Rests g.K.Disk.is_honest g.K.Disk.moment g.K.Disk.image g.E.Entropy.left g.Q.Device.told g.X.Wire.frames g.X.Wire.counted) c.flip.result (λ net. asks (Flip c.args.lane c.args.number c.args.bit Fine) (λ outcome. [])) c.flip.ensures.left
+    err_out (λ (r : Running g.row.K.Denot g.row.Q.Denot g.row.E.Denot g.row.X.Denot g.K.Disk g.Q.Device g.E.Entropy g.X.Wire). r.state) (Stands (outside g.K.Disk g.Q.Device g.E.Entropy g.X.Wire))
+    (Tallied (outside g.K.Disk g.Q.Device g.E.Entropy g.X.Wire)) c.args.self.now _
+    (Rests (outside g.K.Disk g.Q.Device g.E.Entropy g.X.Wire)) c.flip.result (λ net. asks (Flip c.args.lane c.args.number c.args.bit Fine) (λ outcome. [])) c.flip.ensures.left
