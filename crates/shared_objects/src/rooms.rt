@@ -14,6 +14,13 @@ pub struct Rooms<M: Machine, P> {
     pub passes: Vec<P>,
 }
 
+/// The memory of the workers before they are seated: an empty row for the seats of each of them, and an empty list for their
+/// passes.
+pub struct WorkerRooms<M: Machine, P> {
+    pub rows: Vec<Vec<Post<M>>>,
+    pub passes: Vec<P>,
+}
+
 // Allocates `count` empty rows, each with room for `each` seats.
 fn rows<M: Machine>(alloc: Global, count: usize, each: usize) -> Result<Vec<Vec<Post<M>>>, Memory>
     ensures count { IfOk result (λ rows. vec_len rows ≡ count) }

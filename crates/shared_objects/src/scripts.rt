@@ -13,6 +13,7 @@ ghost use Rattle.shared_objects.specs.Working.{IsReady, HaveWorked};
 ghost use Rattle.shared_objects.specs.Done.{HaveTalked, AreDone};
 
 use crate::errands::Errands;
+use crate::rooms::WorkerRooms;
 use crate::rounds::Rounds;
 use crate::script_pass::Pass;
 use crate::script_rows::{join_workers, seat_workers};
@@ -23,16 +24,13 @@ use qkd_base::Memory;
 use std::alloc::Global;
 use std::sync::Wait;
 use std::thread::Threads;
-use turnstile::{Machine, Turnstile};
+use turnstile::Machine;
 
 // Each worker does its errands from its seats, all workers at the same time. If memory runs out, no call is made.
 fn work_seated<R: Threads + Wait + Sync, G: Gate, M: Machine + Send, T: Errands<M>>(
     rt: &R,
-    alloc: Global,
-    gate: &G,
-    turnstiles: &[Turnstile<M>],
+    rounds: &Rounds<'_, M, T, G>,
     passes: Vec<Pass<M, T::Keep>>,
-    errands: &T,
     jobs: u32,
 ) -> (Result<(), Memory>, Vec<Pass<M, T::Keep>>)
 where
@@ -41,17 +39,11 @@ where
     requires some { 0 < length passes.items }
     requires few { length passes.items ≤ 32 }
     requires ready { (w : ℕ) (pass : _) → slice_get passes.items w ≡ Some pass →
-        IsReady (T.may errands.now) (T.most errands.now) turnstiles.now pass.posts.items pass.keep (jobs_of w (length passes.items) jobs) }
-    ensures { HaveWorked (T.does errands.now) turnstiles.now (is_ok result.0) jobs (map (λ pass. pass.posts.items) passes.items) (map (λ pass. pass.keep) passes.items)
+        IsReady (T.may rounds.now.errands.now) (T.most rounds.now.errands.now) rounds.now.turnstiles.now pass.posts.items pass.keep (jobs_of w (length passes.items) jobs) }
+    ensures { HaveWorked (T.does rounds.now.errands.now) rounds.now.turnstiles.now (is_ok result.0) jobs (map (λ pass. pass.posts.items) passes.items) (map (λ pass. pass.keep) passes.items)
         (map (λ pass. pass.posts.items) result.1.items) (map (λ pass. pass.keep) result.1.items) }
 {
-    let rounds = Rounds {
-        alloc,
-        turnstiles,
-        errands,
-        gate,
-    };
-    match run_block(rt, alloc, &rounds, passes, jobs, gate) {
+    match run_block(rt, rounds.alloc, rounds, passes, jobs, rounds.gate) {
         Ok(BlockEnd { passes, answers: _ }) => (Ok(()), passes),
         Err((memory, passes)) => (Err(memory), passes),
     }
@@ -60,15 +52,11 @@ where
 // Gives the workers their seats, lets them do their errands, and takes the seats back.
 fn work_opened<R: Threads + Wait + Sync, G: Gate, M: Machine + Send, T: Errands<M>>(
     rt: &R,
-    alloc: Global,
-    gate: &G,
-    turnstiles: &[Turnstile<M>],
+    rounds: &Rounds<'_, M, T, G>,
     kept: &mut [Post<M>],
-    mut rows: Vec<Vec<Post<M>>>,
-    mut passes: Vec<Pass<M, T::Keep>>,
+    rooms: WorkerRooms<M, Pass<M, T::Keep>>,
     keeps: Vec<T::Keep>,
     mut back: Vec<T::Keep>,
-    errands: &T,
     jobs: u32,
     calls: u64,
 ) -> (Result<(), Memory>, Vec<T::Keep>)
@@ -77,21 +65,33 @@ where
     M::Reply: Send,
     requires some { 0 < length keeps.items }
     requires few { length keeps.items ≤ 32 }
-    requires may { (w : ℕ) (keep : _) → slice_get keeps.items w ≡ Some keep → T.may errands.now (map opening turnstiles.now) keep (jobs_of w (length keeps.items) jobs) }
-    requires calls { jobs * T.most errands.now ≤ calls }
-    requires rows { vec_len rows ≡ vec_len keeps }
-    requires empty { All (λ row. (row.items ≡ []) × (length turnstiles.now ≤ vec_capacity row)) rows.items }
-    requires none { (passes.items ≡ []) × (back.items ≡ []) }
-    requires room { (vec_len keeps ≤ vec_capacity passes) × (vec_len keeps ≤ vec_capacity back) }
-    requires opened { AllZip (IsOpened (vec_len keeps * calls)) turnstiles.now kept.old }
-    ensures whole { AllZip HoldsAll turnstiles.now kept.new }
-    ensures ok { IfOk result.0 (λ _. (talks : List (List (ℕ × List (Said M.Request M.Reply)))) × HaveTalked (T.does errands.now) jobs keeps.items talks result.1.items
+    requires may { (w : ℕ) (keep : _) → slice_get keeps.items w ≡ Some keep →
+        T.may rounds.now.errands.now (map opening rounds.now.turnstiles.now) keep (jobs_of w (length keeps.items) jobs) }
+    requires calls { jobs * T.most rounds.now.errands.now ≤ calls }
+    requires rows { vec_len rooms.rows ≡ vec_len keeps }
+    requires empty { All (λ row. (row.items ≡ []) × (length rounds.now.turnstiles.now ≤ vec_capacity row)) rooms.rows.items }
+    requires none { (rooms.passes.items ≡ []) × (back.items ≡ []) }
+    requires room { (vec_len keeps ≤ vec_capacity rooms.passes) × (vec_len keeps ≤ vec_capacity back) }
+    requires opened { AllZip (IsOpened (vec_len keeps * calls)) rounds.now.turnstiles.now kept.old }
+    ensures whole { AllZip HoldsAll rounds.now.turnstiles.now kept.new }
+    ensures ok { IfOk result.0 (λ _. (talks : List (List (ℕ × List (Said M.Request M.Reply)))) × HaveTalked (T.does rounds.now.errands.now) jobs keeps.items talks result.1.items
         × ((i : ℕ) (log : List _) → IsWhole (calls_at i kept.new) log → IsMerge (map (said_on i) (map all_said talks)) (placed_from 0 log))) }
     ensures err { IfErr result.0 (λ _. (result.1.items ≡ keeps.items) × ((i : ℕ) (log : List _) → IsWhole (calls_at i kept.new) log → log ≡ [])) }
 {
-    seat_workers(turnstiles, kept, &mut rows, keeps, &mut passes, calls);
-    let (ended, passes) = work_seated(rt, alloc, gate, turnstiles, passes, errands, jobs);
-    join_workers(turnstiles, kept, passes, &mut back);
+    let WorkerRooms {
+        mut rows,
+        mut passes,
+    } = rooms;
+    seat_workers(
+        rounds.turnstiles,
+        kept,
+        &mut rows,
+        keeps,
+        &mut passes,
+        calls,
+    );
+    let (ended, passes) = work_seated(rt, rounds, passes, jobs);
+    join_workers(rounds.turnstiles, kept, passes, &mut back);
     (ended, back)
 }
 
@@ -136,20 +136,16 @@ where
     let all = keeps.len() as u64 * each;
     machines.reverse();
     let (ended, keeps) = match open_all(alloc, &mut machines, &mut turnstiles, &mut kept, all) {
-        Ok(()) => work_opened(
-            rt,
-            alloc,
-            gate,
-            &turnstiles,
-            &mut kept,
-            rows,
-            passes,
-            keeps,
-            back,
-            errands,
-            jobs,
-            each,
-        ),
+        Ok(()) => {
+            let rounds = Rounds {
+                alloc,
+                turnstiles: &turnstiles,
+                errands,
+                gate,
+            };
+            let rooms = WorkerRooms { rows, passes };
+            work_opened(rt, &rounds, &mut kept, rooms, keeps, back, jobs, each)
+        }
         Err(memory) => (Err(memory), keeps),
     };
     close_all(turnstiles, kept, &mut machines);

@@ -13,7 +13,7 @@ ghost use Rattle.shared_objects.specs.Shares.{IsReady, HasWorked};
 
 use crate::gates::{close_all, open_all};
 use crate::pass::{Pass, Post, Shift};
-use crate::rooms::Rooms;
+use crate::rooms::{Rooms, WorkerRooms};
 use crate::rows::{join_workers, seat_workers};
 use crate::stations::Stations;
 use block_run::{BlockEnd, run_block};
@@ -55,8 +55,7 @@ fn work_opened<R: Threads + Wait + Sync, G: Gate, M: Machine + Send>(
     gate: &G,
     turnstiles: &[Turnstile<M>],
     kept: &mut [Post<M>],
-    mut rows: Vec<Vec<Post<M>>>,
-    mut passes: Vec<Pass<M>>,
+    rooms: WorkerRooms<M, Pass<M>>,
     shifts: Vec<Shift<M::Request>>,
     jobs: u32,
 ) -> Result<(), Memory>
@@ -67,15 +66,19 @@ where
     requires few { length shifts.items ≤ 32 }
     requires entries { (w : ℕ) (shift : _) → slice_get shifts.items w ≡ Some shift → length shift.items ≡ length (jobs_of w (length shifts.items) jobs) }
     requires taken { (w : ℕ) (shift : _) → slice_get shifts.items w ≡ Some shift → All (λ entry. IfSome entry (IsTaken M.charter M.takes (map opening turnstiles.now))) shift.items }
-    requires rows { vec_len rows ≡ vec_len shifts }
-    requires empty { All (λ row. (row.items ≡ []) × (length turnstiles.now ≤ vec_capacity row)) rows.items }
-    requires none { passes.items ≡ [] }
-    requires room { vec_len shifts ≤ vec_capacity passes }
+    requires rows { vec_len rooms.rows ≡ vec_len shifts }
+    requires empty { All (λ row. (row.items ≡ []) × (length turnstiles.now ≤ vec_capacity row)) rooms.rows.items }
+    requires none { rooms.passes.items ≡ [] }
+    requires room { vec_len shifts ≤ vec_capacity rooms.passes }
     requires opened { AllZip (IsOpened (vec_len shifts * jobs)) turnstiles.now kept.old }
     ensures whole { AllZip HoldsAll turnstiles.now kept.new }
     ensures ok { IfOk result (λ _. (i : ℕ) (log : List _) → IsWhole (calls_at i kept.new) log → IsMerge (map (requests_on i) (map (λ shift. shift.items) shifts.items)) (map (λ e. e.0) log)) }
     ensures err { IfErr result (λ _. (i : ℕ) (log : List _) → IsWhole (calls_at i kept.new) log → log ≡ []) }
 {
+    let WorkerRooms {
+        mut rows,
+        mut passes,
+    } = rooms;
     seat_workers(
         turnstiles,
         kept,
@@ -129,8 +132,7 @@ where
             gate,
             &turnstiles,
             &mut kept,
-            rows,
-            passes,
+            WorkerRooms { rows, passes },
             shifts,
             jobs,
         ),
