@@ -6,7 +6,9 @@ ghost use Rattle.qkd014_api.specs.Calls.{asked};
 ghost use Rattle.kme_serve.specs.Connection.{IsServed};
 
 use crate::Managers;
+use crate::buffers::Buffers;
 use crate::exchange::exchange;
+use crate::served_node::ServedNode;
 use edge_io::{Ended, Sink, Source};
 use qkd_base::{NodeNo, Octets};
 use qkd014_api::Api;
@@ -39,13 +41,18 @@ pub fn serve_connection<R: Wait, M: Managers, S: Source, W: Sink>(
         (record { left = S.left source.new; taken = W.taken sink.new; read_faults = S.faults source.new; write_faults = W.faults sink.new; pass = pass.new })
         result }
 {
-    let mut kept = Octets::new(alloc);
-    let mut owed = Octets::new(alloc);
+    let served = ServedNode {
+        managers,
+        api,
+        node,
+    };
+    let mut buffers = Buffers {
+        kept: Octets::new(alloc),
+        owed: Octets::new(alloc),
+    };
     let mut count = 0;
     'exchanges: loop {
-        match exchange(
-            rt, alloc, managers, api, pass, node, source, &mut kept, sink, &mut owed, count,
-        ) {
+        match exchange(rt, alloc, &served, pass, source, sink, &mut buffers, count) {
             Ok(()) => count += 1,
             Err(ended) => return ended,
         }

@@ -1,6 +1,7 @@
 //! Connections over HTTP to a node's manager, the listeners that they come from, and a worker for each port.
 #![tactic(auto)]
 
+mod buffers;
 mod connection;
 mod connections;
 mod door;
@@ -14,6 +15,7 @@ mod port_refusal;
 mod refusal;
 mod request_answer;
 mod response_writer;
+mod served_node;
 mod turn;
 mod worker;
 mod worker_jobs;

@@ -11,5 +11,5 @@ exchanges-preserved g c =
       budget = omega (arith, c.in-Ok.ensures.budget, before.budget);
       few = few_more c.exchanges.count stays.exchange.read before.few stays.stays;
       owed = λ some. omega arith;
-      goes_on = λ after ended later. before.goes_on after ended (go_on _ _ _ _ _ c.exchanges.count c.exchanges.kept c.exchange.new.kept c.exchanges.owed c.exchange.new.owed _ _ after ended stays later);
+      goes_on = λ after ended later. before.goes_on after ended (go_on _ _ _ _ _ c.exchanges.count c.exchanges.buffers.kept c.exchange.new.buffers.kept c.exchanges.buffers.owed c.exchange.new.buffers.owed _ _ after ended stays later);
     }
