@@ -8,6 +8,7 @@ ghost use Rattle.kme_shared.specs.Sheets.{IsDealt};
 ghost use Rattle.world_state.specs.Stands.{Stands};
 ghost use Rattle.world_state.specs.Outside.{outside};
 
+use crate::Stage;
 use crate::node_sheets::Sheet;
 use declared_site::Site;
 use disk_model::Disk;
@@ -97,37 +98,41 @@ fn seat_managers<'a, K: Disk + Drop, Q: Device + Drop, E: Entropy + Drop, X: Wir
 /// Makes the desks of all managers and lanes: first those of the managers, in order of node, then those of the lanes, in order of place.
 pub fn sit<'a, K: Disk + Drop, Q: Device + Drop, E: Entropy + Drop, X: Wire + Drop>(
     opening: &Snapshot<State<K, Q, E, X>>,
-    site: &'a Site,
-    up: u32,
-    shares: &'a [Shares],
     posts: &mut Vec<Post<K, E>>,
-    sheets: &mut Vec<Sheet<K, Q, E, X>>,
     lanes: &mut Vec<LaneSide<X>>,
-    used: &mut Vec<Share>,
-    machines: &mut Vec<Seat<'a, K, Q, E, X>>,
-)
-    requires sited { site.now ≡ opening.now.value.site }
-    requires up { up ≡ opening.now.value.up }
+    stage: Stage<'a, K, Q, E, X>,
+) -> Vec<Seat<'a, K, Q, E, X>>
+    requires sited { stage.site.now ≡ opening.now.value.site }
+    requires up { stage.up ≡ opening.now.value.up }
     requires posts { posts.old.items ≡ opening.now.value.posts.items }
     requires lanes { lanes.old.items ≡ opening.now.value.lanes.items }
     requires ready { (net : Network) × (w : World) × IsReady (Stands (outside K.Disk Q.Device E.Entropy X.Wire)) opening.now.value net w }
-    requires shares { length shares.now ≡ length lanes.old.items }
+    requires shares { length stage.shares.now ≡ length lanes.old.items }
     requires nodes { length posts.old.items ≤ 16 }
-    requires sheets { vec_len sheets.old ≡ vec_len posts.old }
-    requires dealt { (v : ℕ) (sheet : _) → slice_get sheets.old.items v ≡ Some sheet → IsDealt opening.now.value shares.now v sheet.issuers.items sheet.opening.value }
-    requires count { vec_len used.old ≡ vec_len lanes.old }
-    requires used { AreUsed lanes.old.items shares.now used.old.items }
-    requires none { machines.old.items ≡ [] }
-    requires room { vec_len posts.old + vec_len lanes.old ≤ vec_capacity machines.old }
+    requires sheets { vec_len stage.sheets ≡ vec_len posts.old }
+    requires dealt { (v : ℕ) (sheet : _) → slice_get stage.sheets.items v ≡ Some sheet → IsDealt opening.now.value stage.shares.now v sheet.issuers.items sheet.opening.value }
+    requires count { vec_len stage.used ≡ vec_len lanes.old }
+    requires used { AreUsed lanes.old.items stage.shares.now stage.used.items }
+    requires none { stage.machines.items ≡ [] }
+    requires room { vec_len posts.old + vec_len lanes.old ≤ vec_capacity stage.machines }
     ensures posts { posts.new.items ≡ [] }
     ensures posts_block { (vec_ptr posts.new ≡ vec_ptr posts.old) × (vec_capacity posts.new ≡ vec_capacity posts.old) }
     ensures lanes { lanes.new.items ≡ [] }
     ensures lanes_block { (vec_ptr lanes.new ≡ vec_ptr lanes.old) × (vec_capacity lanes.new ≡ vec_capacity lanes.old) }
-    ensures seated { HaveSat (λ d. d.opening.value) (λ d. d.node) (λ d. d.up) (λ d. d.post) (λ d. d.shares.now) (λ d. d.side) (λ d. d.shares.now) opening.now.value shares.now machines.new.items }
+    ensures seated { HaveSat (λ d. d.opening.value) (λ d. d.node) (λ d. d.up) (λ d. d.post) (λ d. d.shares.now) (λ d. d.side) (λ d. d.shares.now) opening.now.value stage.entry.shares.now result.items }
 {
-    seat_lanes(shares, lanes, used, machines);
-    seat_managers(opening, site, up, shares, posts, sheets, machines);
+    let Stage {
+        site,
+        up,
+        shares,
+        mut sheets,
+        mut used,
+        mut machines,
+    } = stage;
+    seat_lanes(shares, lanes, &mut used, &mut machines);
+    seat_managers(opening, site, up, shares, posts, &mut sheets, &mut machines);
     machines.reverse();
+    machines
 }
 
 /// Takes all managers and lanes from their desks, and appends them to `posts` and `lanes`.

@@ -14,12 +14,10 @@ ghost use Rattle.kme_shared.specs.Keeping.{IsFresh};
 ghost use Rattle.world_state.specs.Outside.{outside};
 
 use crate::worker_keeps::keeps;
-use crate::{BlockErrands, Room, Seat, Sheet, gather, rise, sheets, sit};
-use declared_site::Site;
+use crate::{BlockErrands, Room, Stage, gather, rise, sheets, sit};
 use disk_model::Disk;
 use edge_io::Gate;
 use lane_sender::LaneSide;
-use lane_shares::{Share, Shares};
 use par_frames::Worked;
 use par_lanes::Lanes;
 use par_managers::{Keep, Opened, open_lanes, shifts};
@@ -36,11 +34,11 @@ use world_state::{Post, State};
 // The most calls that a job makes of one machine: one of a manager, and those of a lane for the frames of a plan.
 const MOST: u64 = 2_097_153;
 
-// The lists from which managers and lanes are put at their desks.
-struct Stage<'a, K: Disk + Drop, Q: Device + Drop, E: Entropy + Drop, X: Wire + Drop> {
-    sheets: Vec<Sheet<K, Q, E, X>>,
-    used: Vec<Share>,
-    machines: Vec<Seat<'a, K, Q, E, X>>,
+// The jobs of a block, what each worker holds before its first, and memory for the results.
+struct Work<'a> {
+    jobs: &'a [Job],
+    keeps: Vec<Keep<'a>>,
+    room: Room,
 }
 
 // The workers do the jobs, in memory that was allocated before.
@@ -57,58 +55,40 @@ fn work_on_stage<
     alloc: Global,
     gate: &G,
     opening: Snapshot<State<K, Q, E, X>>,
-    site: &'a Site,
-    up: u32,
-    shares: &'a [Shares],
     posts: &mut Vec<Post<K, E>>,
     lanes: &mut Vec<LaneSide<X>>,
     stage: Stage<'a, K, Q, E, X>,
-    jobs: &'a [Job],
-    keeps: Vec<Keep<'a>>,
-    room: Room,
+    work: Work<'a>,
 ) -> Result<Worked, Memory>
-    requires some { 0 < length keeps.items }
-    requires few { length keeps.items ≤ 32 }
-    requires jobs { length jobs.now < 2 ^ 32 }
-    requires sited { site.now ≡ opening.value.site }
-    requires up { up ≡ opening.value.up }
+    requires some { 0 < length work.keeps.items }
+    requires few { length work.keeps.items ≤ 32 }
+    requires jobs { length work.jobs.now < 2 ^ 32 }
+    requires sited { stage.site.now ≡ opening.value.site }
+    requires up { stage.up ≡ opening.value.up }
     requires posts { posts.old.items ≡ opening.value.posts.items }
     requires lanes { lanes.old.items ≡ opening.value.lanes.items }
     requires ready { (net : Network) × (w : World) × IsReady (Stands (outside K.Disk Q.Device E.Entropy X.Wire)) opening.value net w }
-    requires shifts { AreShifts (outside K.Disk Q.Device E.Entropy X.Wire) opening.value (length keeps.items) jobs.now (map (λ keep. keep.shift.items) keeps.items) }
-    requires fresh { AllByRecursion (IsFresh shares.now) keeps.items }
-    requires shares { length shares.now ≡ length lanes.old.items }
+    requires shifts { AreShifts (outside K.Disk Q.Device E.Entropy X.Wire) opening.value (length work.keeps.items) work.jobs.now (map (λ keep. keep.shift.items) work.keeps.items) }
+    requires fresh { AllByRecursion (IsFresh stage.shares.now) work.keeps.items }
+    requires shares { length stage.shares.now ≡ length lanes.old.items }
     requires sheets { vec_len stage.sheets ≡ vec_len posts.old }
-    requires dealt { (v : ℕ) (sheet : _) → slice_get stage.sheets.items v ≡ Some sheet → IsDealt opening.value shares.now v sheet.issuers.items sheet.opening.value }
+    requires dealt { (v : ℕ) (sheet : _) → slice_get stage.sheets.items v ≡ Some sheet → IsDealt opening.value stage.shares.now v sheet.issuers.items sheet.opening.value }
     requires count { vec_len stage.used ≡ vec_len lanes.old }
-    requires used { AreUsed lanes.old.items shares.now stage.used.items }
+    requires used { AreUsed lanes.old.items stage.shares.now stage.used.items }
     requires none { stage.machines.items ≡ [] }
     requires seats { vec_len posts.old + vec_len lanes.old ≤ vec_capacity stage.machines }
-    requires empty { (room.replied.items ≡ []) × (room.turns.items ≡ []) × (room.frames.items ≡ []) }
-    requires room { (length jobs.now ≤ vec_capacity room.replied) × (length jobs.now ≤ vec_capacity room.turns) }
+    requires empty { (work.room.replied.items ≡ []) × (work.room.turns.items ≡ []) × (work.room.frames.items ≡ []) }
+    requires room { (length work.jobs.now ≤ vec_capacity work.room.replied) × (length work.jobs.now ≤ vec_capacity work.room.turns) }
     ensures armed { most_armed K.Disk posts.new.items ≡ most_armed K.Disk posts.old.items }
     ensures worked { IfOk result (λ worked. (net : Network) (w : World) → IsReady (Stands (outside K.Disk Q.Device E.Entropy X.Wire)) opening.value net w
         → HasWorked (outside K.Disk Q.Device E.Entropy X.Wire) opening.value (record opening.value { posts = posts.new; lanes = lanes.new }) net w
-        (length keeps.entry.items) jobs.now worked) }
+        (length work.entry.keeps.items) work.entry.jobs.now worked) }
     ensures left { OnErr result ((posts.new ≡ posts.old) × (lanes.new ≡ lanes.old)) }
 {
-    let Stage {
-        mut sheets,
-        mut used,
-        mut machines,
-    } = stage;
+    let Work { jobs, keeps, room } = work;
+    let shares = stage.shares;
     let first = posts.len();
-    sit(
-        &opening,
-        site,
-        up,
-        shares,
-        posts,
-        &mut sheets,
-        lanes,
-        &mut used,
-        &mut machines,
-    );
+    let machines = sit(&opening, posts, lanes, stage);
     let errands = BlockErrands {
         alloc,
         lanes: Lanes { first, shares },
@@ -169,23 +149,22 @@ pub fn work_block<
     let room = Room::new(alloc, jobs.len())?;
     let up = state.up;
     let stage = Stage {
+        site: &state.site,
+        up,
+        shares: &shares,
         sheets,
         used,
         machines,
     };
+    let work = Work { jobs, keeps, room };
     work_on_stage(
         rt,
         alloc,
         gate,
         opening,
-        &state.site,
-        up,
-        &shares,
         &mut state.posts,
         &mut state.lanes,
         stage,
-        jobs,
-        keeps,
-        room,
+        work,
     )
 }

@@ -58,7 +58,7 @@ impl<'a, K: Disk + Drop, Q: Device + Drop, E: Entropy + Drop, X: Wire + Drop> Er
                     },
                 ),
             ) => {
-                let ask = PlanAsk {
+                let request = PlanAsk {
                     place,
                     job,
                     octets,
@@ -69,9 +69,8 @@ impl<'a, K: Disk + Drop, Q: Device + Drop, E: Entropy + Drop, X: Wire + Drop> Er
                     &AtGate { gate },
                     caller,
                     &self.lanes,
-                    machine,
                     place,
-                    ask,
+                    Call { machine, request },
                     &mut keep.granted,
                     &mut keep.log,
                 );

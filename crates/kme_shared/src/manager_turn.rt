@@ -16,7 +16,7 @@ use lane_shares::Share;
 use par_lanes::{Desk, FrameLog, Lanes, Seals, emit_plan};
 use par_managers::{PlanAnswer, Replied};
 use run_ops::Turned;
-use shared_objects::{Calls, Either, call_left};
+use shared_objects::{Call, Calls, Either, call_left};
 use std::sync::Wait;
 use turnstile::Machine;
 
@@ -27,23 +27,23 @@ pub fn turn_and_put<R: Wait, S: Seals, M: Manages, D: Desk, C: Calls<Either<M, D
     seals: &S,
     caller: &mut C,
     lanes: &Lanes<'_>,
-    machine: usize,
     place: usize,
-    request: M::Request,
+    call: Call<M::Request>,
     granted: &mut Vec<Share>,
     log: &mut FrameLog,
 ) -> Replied
     requires placed { C.placed caller.old }
-    requires manager { (m : M) × IsLeft (C.openings caller.old) machine m × M.takes (M.charter m) request × (M.shares m ≡ lanes.now.shares.now)
+    requires manager { (m : M) × IsLeft (C.openings caller.old) call.machine m × M.takes (M.charter m) call.request × (M.shares m ≡ lanes.now.shares.now)
         × AreHome (C.openings caller.old) D.side D.shares lanes.now.first lanes.now.shares.now (M.site m) }
     requires budget { (i : ℕ) → i < length (C.openings caller.old) → 2 ^ 21 + 1 ≤ C.budget caller.old i }
     ensures placed { C.placed caller.new }
-    ensures did { (answer : _) × (result ≡ record { node = machine; at = result.at; turned = record { place = place; reply = answer.reply } })
-        × HasEmitted (C.openings caller.old) D.side lanes.now.first (λ said. C.went caller.old (record { machine = machine; place = result.at; request = Left request; reply = Left answer } ∷ said) caller.new)
+    ensures did { (answer : _) × (result ≡ record { node = call.machine; at = result.at; turned = record { place = place; reply = answer.reply } })
+        × HasEmitted (C.openings caller.old) D.side lanes.now.first (λ said. C.went caller.old (record { machine = call.machine; place = result.at; request = Left call.request; reply = Left answer } ∷ said) caller.new)
         result.turned.place (wanted_put (Replies result.turned.reply)) answer.granted.items log.old granted.new.items log.new }
     ensures few { (i : ℕ) → turns_at i (wanted_put (Replies result.turned.reply)) ≤ 2 ^ 21 }
     ensures fits { AllZip Fits lanes.now.shares.now granted.new.items }
 {
+    let Call { machine, request } = call;
     let (at, answer) = call_left(rt, caller, machine, request);
     let PlanAnswer {
         reply,
