@@ -116,6 +116,10 @@ module _ {K Q E X : Type 0} (outside : Outside K Q E X)
             serves_all outside opening up post said_in (λ m. (site_in m, node m)) turn turns ts kept closed.ended closed.ends under
             all_posts net w stands call_in in_call tell failed connections before back all asked new sited (are ∙ ap (map post) ended) lanes devices links
 
+-- a copy of a state stands where the state does
+pub stands_at : {K Q E X : Type 0} (outside : Outside K Q E X) (s copy : State K Q E X) → copy ≡ s → (net : Network) (w : World) → Stands outside s net w → Stands outside copy net w
+stands_at {K} {Q} {E} {X} outside s copy is net w stands = subst (λ (x : State K Q E X). Stands outside x net w) (sym is) stands
+
 -- the result for the state itself, of which the opening is a copy
 pub of_state : {K Q E X D : Type 0} (outside : Outside K Q E X) (tell : D → Door) (failed : D → ℕ)
     (Done : Type 0) (s copy : State K Q E X) (posts : Vec (Post K E) Global) (connections : ℕ) (before back : List D) (all : Bool) → copy ≡ s →

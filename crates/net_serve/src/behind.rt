@@ -17,12 +17,12 @@ ghost use Rattle.net_serve.specs.BenchServing.{IsBlamed};
 ghost use Rattle.net_serve.specs.declared.stop.ServeStop.TheVariants.{Listen, Stopped};
 ghost use Rattle.world_state.specs.Outside.{outside};
 
-use crate::ServeStop;
 use crate::line::{connections_in_all, write_served};
 use crate::over::serve_nodes;
+use crate::{ServeStop, Service};
 use disk_model::Disk;
 use edge_io::{Listener, Ports, Sink};
-use kme_serve::{Connections, ServeRefusal};
+use kme_serve::ServeRefusal;
 use run_lines::Stop;
 use source_devices::{Device, Entropy, Wire};
 use std::alloc::Global;
@@ -45,9 +45,7 @@ pub(crate) fn serve_behind<
     alloc: Global,
     lines: Result<(), Stop>,
     state: &mut State<K, Q, E, X>,
-    workers: u32,
-    connections: Connections,
-    port: u16,
+    service: Service,
     sink: &mut W,
     ports: &mut P,
 ) -> Result<(), ServeStop>
@@ -58,23 +56,28 @@ where
     requires ready { OnOk lines ((net : Network) × (w : World) × Stands (outside K.Disk Q.Device E.Entropy X.Wire) state.old net w) }
     requires declared { IsDeclared state.old.site }
     requires sized { IsSized state.old }
-    requires workers { (1 ≤ workers) × (workers ≤ 32) }
-    requires connections { connections ≤ endless }
-    requires port { port ≤ 65520 }
-    requires asked { HasRoom P.asked ports.old workers }
-    requires back { HasRoom P.back ports.old workers }
+    requires workers { (1 ≤ service.workers) × (service.workers ≤ 32) }
+    requires connections { service.connections ≤ endless }
+    requires port { service.port ≤ 65520 }
+    requires asked { HasRoom P.asked ports.old service.workers }
+    requires back { HasRoom P.back ports.old service.workers }
     ensures site { state.new.site ≡ state.old.site }
     ensures sized { IsSized state.new }
     ensures ends { (net : Network) (w : World) → MatchResult lines (λ done. Stands (outside K.Disk Q.Device E.Entropy X.Wire) state.old net w) (λ stop. Rests (outside K.Disk Q.Device E.Entropy X.Wire) state.old net w) →
         Ends (outside K.Disk Q.Device E.Entropy X.Wire)
         (λ d. record { port = P.Door.port d; accepted = P.Door.accepted d; finished = P.Door.finished d; waiting = P.Door.waiting d; done = P.Door.done d }) P.Door.faults (IsSome (P.asked ports.old))
-        workers connections port state.old state.new net w (ports_told P.asked P.back P.queues ports.old) (ports_told P.asked P.back P.queues ports.new)
-        (given_to W.taken W.pieces sink.old) (given_to W.taken W.pieces sink.new) (served_text (served_by (Serve workers connections port) (length state.old.site.nodes))) lines result }
+        service.workers service.connections service.port state.old state.new net w (ports_told P.asked P.back P.queues ports.old) (ports_told P.asked P.back P.queues ports.new)
+        (given_to W.taken W.pieces sink.old) (given_to W.taken W.pieces sink.new) (served_text (served_by (Serve service.workers service.connections service.port) (length state.old.site.nodes))) lines result }
     ensures blame { MatchResult lines (λ done. IsBlamed (W.faults sink.old) (W.faults sink.new) result) (λ stop. (result ≡ Err (Stopped stop)) × (sink.new ≡ sink.old)) }
     ensures lined { MatchResult lines (λ done. InLines W.taken W.pieces IsServedLine sink.old sink.new result) (λ stop. (result ≡ Err (Stopped stop)) × (sink.new ≡ sink.old)) }
     ensures listen { result ≡ Err Listen → IsListenFault P.Door.faults (P.faults ports.old) (P.faults ports.new)
         (ports_told P.asked P.back P.queues ports.old) (ports_told P.asked P.back P.queues ports.new) }
 {
+    let Service {
+        workers,
+        connections,
+        port,
+    } = service;
     if let Err(stop) = lines {
         return Err(ServeStop::Stopped(stop));
     }

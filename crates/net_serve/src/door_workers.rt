@@ -9,11 +9,12 @@ ghost use Rattle.kme_serve.specs.Endless.{endless};
 ghost use Rattle.net_serve.specs.Passes.{call_in};
 ghost use Rattle.net_serve.specs.Asked.{HaveAsked, DoorFailed};
 
+use crate::served_doors::ServedDoors;
 use crate::worker_seats::{join_workers, seat_workers};
 use crate::{Pass, ServedManagers, ServedPost};
 use disk_model::Disk;
 use edge_io::Listener;
-use kme_serve::{Connections, ServeRefusal, Worker};
+use kme_serve::{ServeRefusal, Worker};
 use qkd014_api::Api;
 use shared_objects::Post as Kept;
 use source_devices::Entropy;
@@ -21,8 +22,8 @@ use std::alloc::Global;
 use std::sync::Wait;
 use std::thread::Threads;
 
-/// Worker k serves `connections` connections at the door at index k with the manager of node k modulo the number of nodes. All workers run
-/// at the same time if threads can be had. The doors come back in their order. If memory runs out, no manager was asked.
+/// Worker k serves its connections at the door at index k with the manager of node k modulo the number of nodes. All workers run at the
+/// same time if threads can be had. The doors come back in their order. If memory runs out, no manager was asked.
 pub(crate) fn serve_doors<
     R: Threads + Wait + Sync,
     K: Disk + Drop + Send,
@@ -34,8 +35,7 @@ pub(crate) fn serve_doors<
     managers: &ServedManagers<K, E>,
     api: &Api,
     kept: &mut [Kept<ServedPost<K, E>>],
-    doors: Vec<D>,
-    connections: Connections,
+    served: ServedDoors<D>,
     mut workers: Vec<Worker<Pass<ServedPost<K, E>>, D>>,
     back: &mut Vec<D>,
 ) -> Result<(), ServeRefusal>
@@ -47,22 +47,23 @@ where
     requires node { 0 < length managers.now.turnstiles.now }
     requires charters { (v : ℕ) (t : _) → slice_get managers.now.turnstiles.now v ≡ Some t → ((opening t).site.value ≡ managers.now.site.now) × ((opening t).node ≡ v) }
     requires api { (api.now.nodes ≡ managers.now.site.now.nodes) × (api.now.entitlements ≡ managers.now.site.now.entitlements) }
-    requires opened { AllZip (IsOpened (length doors.items * (1000 * connections))) managers.now.turnstiles.now kept.old }
-    requires some { 0 < length doors.items }
-    requires few { length doors.items ≤ 32 }
-    requires connections { connections ≤ endless }
-    requires fresh { (k : ℕ) (d : D) → slice_get doors.items k ≡ Some d → (D.accepted d + connections ≤ 2 ^ 48) × (D.finished d ≤ D.accepted d) }
-    requires workers { (workers.items ≡ []) × (vec_len doors ≤ vec_capacity workers) }
-    requires back { (back.old.items ≡ []) × (vec_len doors ≤ vec_capacity back.old) }
-    ensures doors { length back.new.items ≡ length doors.items }
+    requires opened { AllZip (IsOpened (length served.doors.items * (1000 * served.connections))) managers.now.turnstiles.now kept.old }
+    requires some { 0 < length served.doors.items }
+    requires few { length served.doors.items ≤ 32 }
+    requires connections { served.connections ≤ endless }
+    requires fresh { (k : ℕ) (d : D) → slice_get served.doors.items k ≡ Some d → (D.accepted d + served.connections ≤ 2 ^ 48) × (D.finished d ≤ D.accepted d) }
+    requires workers { (workers.items ≡ []) × (vec_len served.doors ≤ vec_capacity workers) }
+    requires back { (back.old.items ≡ []) × (vec_len served.doors ≤ vec_capacity back.old) }
+    ensures doors { length back.new.items ≡ length served.doors.items }
     ensures whole { AllZip HoldsAll managers.now.turnstiles.now kept.new }
-    ensures memory { result ≡ Err refusals.Memory → (back.new.items ≡ doors.items) × ((v : ℕ) → calls_at v kept.new ≡ []) }
+    ensures memory { result ≡ Err refusals.Memory → (back.new.items ≡ served.doors.items) × ((v : ℕ) → calls_at v kept.new ≡ []) }
     ensures asked { ¬ (result ≡ Err refusals.Memory) → HaveAsked
         (λ d. record { port = D.port d; accepted = D.accepted d; finished = D.finished d; waiting = D.waiting d; done = D.done d }) D.faults
-        managers.now.site.now.nodes managers.now.site.now.entitlements (length managers.now.turnstiles.now) connections doors.items back.new.items
+        managers.now.site.now.nodes managers.now.site.now.entitlements (length managers.now.turnstiles.now) served.connections served.doors.items back.new.items
         (λ v. map call_in (calls_at v kept.new)) (is_ok result) }
-    ensures listen { result ≡ Err refusals.Listen → DoorFailed D.faults doors.items back.new.items }
+    ensures listen { result ≡ Err refusals.Listen → DoorFailed D.faults served.doors.items back.new.items }
 {
+    let ServedDoors { doors, connections } = served;
     let nodes = managers.turnstiles.len() as u8;
     let calls = 1000 * connections.count();
     seat_workers(managers, kept, doors, &mut workers, calls);

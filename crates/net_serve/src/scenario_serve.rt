@@ -14,10 +14,9 @@ ghost use Rattle.net_serve.specs.declared.stop.ServeStop.TheVariants.{Listen};
 ghost use Rattle.world_state.specs.Outside.{outside};
 
 use crate::behind::serve_behind;
-use crate::{ServeStop, law_bench_serves};
+use crate::{ServeStop, Service, law_bench_serves};
 use disk_model::Disk;
 use edge_io::{Gate, Listener, Ports, Sink};
-use kme_serve::Connections;
 use law_run::law_tasks_are_run;
 use net_world::{Bench, Left, law_bench_begins, put_back, run_out};
 use run_lines::Stop;
@@ -27,12 +26,11 @@ use std::alloc::Global;
 use std::sync::Wait;
 use std::thread::Threads;
 
-/// Runs a scenario over a new bench, and reports it to the sink. The given number of workers do its blocks; the gate can hold each of them.
-/// If all lines are done, the managers of its nodes are then served over ports: node v has the port `port` + v. Each worker serves
-/// `connections` connections, in sequence, at a listener of its own, for the node whose number is the worker's modulo the number of nodes.
-/// All listeners are open before a worker accepts, and each port is opened once. In the end the sink takes the number of connections
-/// served. The bench has all its parts back, and the ports all listeners. If memory runs out before the first line, bench, sink and ports
-/// are as they were.
+/// Runs a scenario over a new bench, and reports it to the sink. The service's workers do its blocks; the gate can hold each of them. If all
+/// lines are done, the managers of its nodes are then served over ports. Each worker serves its connections, in sequence, at a listener of
+/// its own, for the node whose number is the worker's modulo the number of nodes. All listeners are open before a worker accepts, and each
+/// port is opened once. In the end the sink takes the number of connections served. The bench has all its parts back, and the ports all
+/// listeners. If memory runs out before the first line, bench, sink and ports are as they were.
 pub fn run_serve<
     R: Threads + Wait + Sync,
     G: Gate,
@@ -47,9 +45,7 @@ pub fn run_serve<
     alloc: Global,
     gate: &G,
     scenario: Scenario,
-    workers: u32,
-    connections: Connections,
-    port: u16,
+    service: Service,
     sink: &mut W,
     bench: &mut Bench<K, Q, E, X>,
     ports: &mut P,
@@ -59,18 +55,18 @@ where
     <P::Door as Listener>::In: Send,
     <P::Door as Listener>::Out: Send,
     requires runnable { IsRunnable scenario }
-    requires workers { (1 ≤ workers) × (workers ≤ 32) }
-    requires connections { connections ≤ endless }
-    requires port { port ≤ 65520 }
+    requires workers { (1 ≤ service.workers) × (service.workers ≤ 32) }
+    requires connections { service.connections ≤ endless }
+    requires port { service.port ≤ 65520 }
     requires fresh { IsNew (outside K.Disk Q.Device E.Entropy X.Wire) bench.old }
     requires unarmed { All (λ k. (K.armings k).count ≡ 0) bench.old.disks.items }
-    requires asked { HasRoom P.asked ports.old workers }
-    requires back { HasRoom P.back ports.old workers }
+    requires asked { HasRoom P.asked ports.old service.workers }
+    requires back { HasRoom P.back ports.old service.workers }
     ensures headline { WasLeft bench.old bench.new sink.old sink.new ports.old ports.new result
         ⊎ HasServedHeadlines (outside K.Disk Q.Device E.Entropy X.Wire)
         (λ d. record { port = P.Door.port d; accepted = P.Door.accepted d; finished = P.Door.finished d; waiting = P.Door.waiting d; done = P.Door.done d }) P.Door.faults (IsSome (P.asked ports.old))
         bench.old bench.new (ports_told P.asked P.back P.queues ports.old) (ports_told P.asked P.back P.queues ports.new)
-        workers connections port scenario (given_to W.taken W.pieces sink.old) (given_to W.taken W.pieces sink.new) (ended result) }
+        service.workers service.connections service.port scenario (given_to W.taken W.pieces sink.old) (given_to W.taken W.pieces sink.new) (ended result) }
     ensures whole { IsWhole bench.new }
     ensures blame { IsBlamed (W.faults sink.old) (W.faults sink.new) result }
     ensures lined { InLines W.taken W.pieces (IsServeLine scenario.site.nodes) sink.old sink.new result }
@@ -80,21 +76,11 @@ where
     law_tasks_are_run();
     law_bench_begins::<K, Q, E, X>();
     law_bench_serves::<K, Q, E, X>();
-    match run_out(rt, alloc, gate, scenario, workers, sink, bench) {
+    match run_out(rt, alloc, gate, scenario, service.workers, sink, bench) {
         Err(_) => Err(ServeStop::Stopped(Stop::Memory)),
         Ok(left) => {
             let Left { mut state, ended } = left;
-            let result = serve_behind(
-                rt,
-                alloc,
-                ended,
-                &mut state,
-                workers,
-                connections,
-                port,
-                sink,
-                ports,
-            );
+            let result = serve_behind(rt, alloc, ended, &mut state, service, sink, ports);
             put_back(state, bench);
             result
         }

@@ -13,8 +13,8 @@ ghost use Rattle.world_state.specs.Outside.{outside};
 use crate::door_workers::serve_doors;
 use crate::lent_managers::{put_back, take_out};
 use crate::room::Room;
+use crate::served_doors::ServedDoors;
 use crate::{ServedManagers, ServedPost};
-use declared_site::Site;
 use disk_model::Disk;
 use edge_io::Listener;
 use kme_serve::{Connections, ServeRefusal};
@@ -25,7 +25,7 @@ use std::alloc::Global;
 use std::snapshot::Snapshot;
 use std::sync::Wait;
 use std::thread::Threads;
-use world_state::{Post, State};
+use world_state::State;
 
 // Serves like `serve`, in memory that was allocated before.
 fn serve_in_room<
@@ -38,10 +38,7 @@ fn serve_in_room<
 >(
     rt: &R,
     alloc: Global,
-    opening: &Snapshot<State<K, Q, E, X>>,
-    site: &Site,
-    up: u32,
-    posts: &mut Vec<Post<K, E>>,
+    state: &mut State<K, Q, E, X>,
     api: &Api,
     doors: Vec<D>,
     connections: Connections,
@@ -50,29 +47,27 @@ fn serve_in_room<
 where
     D::In: Send,
     D::Out: Send,
-    requires sited { site.now ≡ opening.now.value.site }
-    requires up { up ≡ opening.now.value.up }
-    requires posts { posts.old.items ≡ opening.now.value.posts.items }
-    requires ready { (net : Network) × (w : World) × Stands (outside K.Disk Q.Device E.Entropy X.Wire) opening.now.value net w }
-    requires declared { IsDeclared site.now }
-    requires node { 0 < length site.now.nodes }
-    requires api { (api.now.nodes ≡ site.now.nodes) × (api.now.entitlements ≡ site.now.entitlements) }
+    requires ready { (net : Network) × (w : World) × Stands (outside K.Disk Q.Device E.Entropy X.Wire) state.old net w }
+    requires declared { IsDeclared state.old.site }
+    requires node { 0 < length state.old.site.nodes }
+    requires api { (api.now.nodes ≡ state.old.site.nodes) × (api.now.entitlements ≡ state.old.site.entitlements) }
     requires some { 0 < length doors.items }
     requires few { length doors.items ≤ 32 }
     requires connections { connections ≤ endless }
     requires fresh { (k : ℕ) (d : D) → slice_get doors.items k ≡ Some d → (D.accepted d + connections ≤ 2 ^ 48) × (D.finished d ≤ D.accepted d) }
-    requires managers { (room.managers.items ≡ []) × (vec_len posts.old ≤ vec_capacity room.managers) }
-    requires turnstiles { (room.turnstiles.items ≡ []) × (vec_len posts.old ≤ vec_capacity room.turnstiles) }
-    requires kept { (room.kept.items ≡ []) × (vec_len posts.old ≤ vec_capacity room.kept) }
+    requires managers { (room.managers.items ≡ []) × (vec_len state.old.posts ≤ vec_capacity room.managers) }
+    requires turnstiles { (room.turnstiles.items ≡ []) × (vec_len state.old.posts ≤ vec_capacity room.turnstiles) }
+    requires kept { (room.kept.items ≡ []) × (vec_len state.old.posts ≤ vec_capacity room.kept) }
     requires workers { (room.workers.items ≡ []) × (vec_len doors ≤ vec_capacity room.workers) }
     requires back { (room.doors.items ≡ []) × (vec_len doors ≤ vec_capacity room.doors) }
     ensures doors { length result.1.items ≡ length doors.items }
-    ensures armed { most_armed K.Disk posts.new.items ≡ most_armed K.Disk posts.old.items }
-    ensures memory { result.0 ≡ Err refusals.Memory → (posts.new ≡ posts.old) × (result.1.items ≡ doors.items) }
-    ensures served { ¬ (result.0 ≡ Err refusals.Memory) → (net : Network) (w : World) → Stands (outside K.Disk Q.Device E.Entropy X.Wire) opening.now.value net w →
+    ensures site { state.new.site ≡ state.old.site }
+    ensures armed { most_armed K.Disk state.new.posts.items ≡ most_armed K.Disk state.old.posts.items }
+    ensures memory { result.0 ≡ Err refusals.Memory → (state.new ≡ state.old) × (result.1.items ≡ doors.items) }
+    ensures served { ¬ (result.0 ≡ Err refusals.Memory) → (net : Network) (w : World) → Stands (outside K.Disk Q.Device E.Entropy X.Wire) state.old net w →
         Serves (outside K.Disk Q.Device E.Entropy X.Wire)
         (λ d. record { port = D.port d; accepted = D.accepted d; finished = D.finished d; waiting = D.waiting d; done = D.done d }) D.faults
-        opening.now.value (record opening.now.value { posts = posts.new }) net w connections doors.items result.1.items (is_ok result.0) }
+        state.old state.new net w connections doors.items result.1.items (is_ok result.0) }
     ensures listen { result.0 ≡ Err refusals.Listen → DoorFailed D.faults doors.items result.1.items }
 {
     let Room {
@@ -83,29 +78,22 @@ where
         doors: mut back,
     } = room;
     let calls = doors.len() as u64 * (1000 * connections.count());
-    take_out(opening, site, up, posts, &mut managers);
+    let opening = Snapshot::of(&*state);
+    let up = state.up;
+    take_out(&opening, &state.site, up, &mut state.posts, &mut managers);
     let Ok(()) = open_all(alloc, &mut managers, &mut turnstiles, &mut kept, calls) else {
         close_all(turnstiles, kept, &mut managers);
-        put_back(managers, posts);
+        put_back(managers, &mut state.posts);
         return (Err(ServeRefusal::Memory), doors);
     };
-    let served = ServedManagers {
-        site,
+    let lent = ServedManagers {
+        site: &state.site,
         turnstiles: &turnstiles,
     };
-    let ended = serve_doors(
-        rt,
-        alloc,
-        &served,
-        api,
-        &mut kept,
-        doors,
-        connections,
-        workers,
-        &mut back,
-    );
+    let served = ServedDoors { doors, connections };
+    let ended = serve_doors(rt, alloc, &lent, api, &mut kept, served, workers, &mut back);
     close_all(turnstiles, kept, &mut managers);
-    put_back(managers, posts);
+    put_back(managers, &mut state.posts);
     (ended, back)
 }
 
@@ -147,24 +135,11 @@ where
         state.old state.new net w connections doors.items result.1.items (is_ok result.0) }
     ensures listen { result.0 ≡ Err refusals.Listen → DoorFailed D.faults doors.items result.1.items }
 {
-    let opening = Snapshot::of(&*state);
     let Ok(api) = Api::new(alloc, &state.site) else {
         return (Err(ServeRefusal::Memory), doors);
     };
     let Ok(room) = Room::new(alloc, state.posts.len(), doors.len()) else {
         return (Err(ServeRefusal::Memory), doors);
     };
-    let up = state.up;
-    serve_in_room(
-        rt,
-        alloc,
-        &opening,
-        &state.site,
-        up,
-        &mut state.posts,
-        &api,
-        doors,
-        connections,
-        room,
-    )
+    serve_in_room(rt, alloc, state, &api, doors, connections, room)
 }

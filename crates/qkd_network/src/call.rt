@@ -19,6 +19,7 @@ use crate::{Form, Status, read_form};
 use cli_answers::{Question, answer_to};
 use disk_model::Disk;
 use edge_io::{Gate, Listener, Ports, Sink, Source};
+use net_serve::Service;
 use net_world::{Bench, run_load, run_scenario};
 use qkd_base::Texts;
 use source_devices::{Device, Entropy, Wire};
@@ -132,18 +133,12 @@ where
                 port,
             },
         ) => {
-            return serve(
-                rt,
-                alloc,
+            let service = Service {
                 workers,
-                connections_of(connections),
+                connections: connections_of(connections),
                 port,
-                source,
-                sink,
-                bench,
-                ports,
-                gate,
-            );
+            };
+            return serve(rt, alloc, service, source, sink, bench, ports, gate);
         }
         Ok(Form::Quiet { workers }) => {
             return quiet(rt, alloc, workers, source, sink, bench, gate);

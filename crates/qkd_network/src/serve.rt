@@ -18,15 +18,14 @@ use crate::Status;
 use crate::source_scenario::scenario_in;
 use disk_model::Disk;
 use edge_io::{Gate, Listener, Ports, Sink, Source};
-use kme_serve::Connections;
-use net_serve::run_serve;
+use net_serve::{Service, run_serve};
 use net_world::Bench;
 use source_devices::{Device, Entropy, Wire};
 use std::alloc::Global;
 use std::sync::Wait;
 use std::thread::Threads;
 
-// Reads a scenario from the source, runs it over a new bench, and serves its managers over the ports from the given one on.
+// Reads a scenario from the source, runs it over a new bench, and serves its managers over ports.
 pub(crate) fn serve<
     R: Threads + Wait + Sync,
     S: Source,
@@ -40,9 +39,7 @@ pub(crate) fn serve<
 >(
     rt: &R,
     alloc: Global,
-    workers: u32,
-    connections: Connections,
-    port: u16,
+    service: Service,
     source: &mut S,
     sink: &mut W,
     bench: &mut Bench<K, Q, E, X>,
@@ -53,9 +50,9 @@ where
     P::Door: Drop + Send + Sync,
     <P::Door as Listener>::In: Send,
     <P::Door as Listener>::Out: Send,
-    requires workers { (1 ≤ workers) × (workers ≤ 32) }
-    requires connections { connections ≤ endless }
-    requires port { port ≤ 65520 }
+    requires workers { (1 ≤ service.workers) × (service.workers ≤ 32) }
+    requires connections { service.connections ≤ endless }
+    requires port { service.port ≤ 65520 }
     requires fresh { IsNew (outside K.Disk Q.Device E.Entropy X.Wire) bench.old }
     requires unarmed { All (λ k. (K.armings k).count ≡ 0) bench.old.disks.items }
     requires ports { AreFresh P.asked P.back ports.old }
@@ -63,8 +60,8 @@ where
         HasServedHeadlines (outside K.Disk Q.Device E.Entropy X.Wire)
         (telling P.Door.port P.Door.accepted P.Door.finished P.Door.waiting P.Door.done) P.Door.faults (IsSome (P.asked ports.old)) bench.old bench.new
         (ports_told P.asked P.back P.queues ports.old) (ports_told P.asked P.back P.queues ports.new)
-        workers connections port scenario (given_to W.taken W.pieces sink.old) (given_to W.taken W.pieces sink.new) stop
-        × WroteLines W.taken W.pieces (Serve workers connections port) scenario sink.old sink.new stop)
+        service.workers service.connections service.port scenario (given_to W.taken W.pieces sink.old) (given_to W.taken W.pieces sink.new) stop
+        × WroteLines W.taken W.pieces (Serve service.workers service.connections service.port) scenario sink.old sink.new stop)
         result source.old source.new sink.old sink.new (beside bench.old ports.old) (beside bench.new ports.new) }
     ensures whole { IsWhole bench.new }
     ensures read_fault { result ≡ ReadFault → Rose (S.faults source.old) (S.faults source.new) }
@@ -76,16 +73,7 @@ where
     match scenario_in(alloc, source) {
         Err(status) => status,
         Ok(scenario) => Status::of_serve(run_serve(
-            rt,
-            alloc,
-            gate,
-            scenario,
-            workers,
-            connections,
-            port,
-            sink,
-            bench,
-            ports,
+            rt, alloc, gate, scenario, service, sink, bench, ports,
         )),
     }
 }

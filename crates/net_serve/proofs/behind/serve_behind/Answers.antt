@@ -25,8 +25,8 @@ returns-in-Err-clause-ends g c net w left =
     let failed = g.P.Door.Listener.faults in
     let tells = IsSome (g.P.Ports.asked c.args.ports.now) in
     let before : PortsTold g.row.P-Door.Denot = ports_told g.P.Ports.asked g.P.Ports.back g.P.Ports.queues c.args.ports.now in
-    let text = served_text (served_by (Serve c.args.workers c.args.connections c.args.port) (length c.args.state.now.site.nodes)) in
-    ends_with_lines (outside g.K.Disk g.Q.Device g.E.Entropy g.X.Wire) tell failed tells c.args.workers c.args.connections c.args.port
+    let text = served_text (served_by (Serve c.args.service.workers c.args.service.connections c.args.service.port) (length c.args.state.now.site.nodes)) in
+    ends_with_lines (outside g.K.Disk g.Q.Device g.E.Entropy g.X.Wire) tell failed tells c.args.service.workers c.args.service.connections c.args.service.port
     c.args.state.now c.args.state.now net w before before (given_to g.W.Sink.taken g.W.Sink.pieces c.args.sink.now) (given_to g.W.Sink.taken g.W.Sink.pieces c.args.sink.now) text
     c.args.lines c.in-Err.stop c.in-Err.is _ refl refl refl refl (of_some _ _ c.args.lines c.in-Err.stop c.in-Err.is left)
 
@@ -38,11 +38,11 @@ returns-in-Err-Listen-clause-ends g c net w left =
     let tells = IsSome (g.P.Ports.asked c.args.ports.now) in
     let before : PortsTold g.row.P-Door.Denot = ports_told g.P.Ports.asked g.P.Ports.back g.P.Ports.queues c.args.ports.now in
     let after : PortsTold g.row.P-Door.Denot = ports_told g.P.Ports.asked g.P.Ports.back g.P.Ports.queues c.serve_nodes.new.ports in
-    let text = served_text (served_by (Serve c.args.workers c.args.connections c.args.port) (length c.args.state.now.site.nodes)) in
+    let text = served_text (served_by (Serve c.args.service.workers c.args.service.connections c.args.service.port) (length c.args.state.now.site.nodes)) in
     let result : Result (Unit {0}) ServeStop = Err Listen in
     let is : c.serve_nodes.result ≡ Err refusals.Listen = let e = c.in-Err-Listen.is in let f = c.in-Err-Listen.field-0-is in cc in
     let served = c.serve_nodes.ensures.served net w (of_all _ _ c.args.lines c.in_default.field-0 c.in_default.is left) in
-    ends_there (outside g.K.Disk g.Q.Device g.E.Entropy g.X.Wire) tell failed tells c.args.workers c.args.connections c.args.port
+    ends_there (outside g.K.Disk g.Q.Device g.E.Entropy g.X.Wire) tell failed tells c.args.service.workers c.args.service.connections c.args.service.port
     c.args.state.now c.serve_nodes.new.state net w before after (given_to g.W.Sink.taken g.W.Sink.pieces c.args.sink.now) (given_to g.W.Sink.taken g.W.Sink.pieces c.args.sink.now) text
     c.args.lines c.in_default.field-0 c.in_default.is (served_as c.serve_nodes.result) result (sym (ap (λ (r : Result (Unit {0}) ServeRefusal). served_as r) is)) served
     refl
@@ -58,11 +58,11 @@ returns-in-Err-Memory-clause-ends g c net w left =
     let tells = IsSome (g.P.Ports.asked c.args.ports.now) in
     let before : PortsTold g.row.P-Door.Denot = ports_told g.P.Ports.asked g.P.Ports.back g.P.Ports.queues c.args.ports.now in
     let after : PortsTold g.row.P-Door.Denot = ports_told g.P.Ports.asked g.P.Ports.back g.P.Ports.queues c.serve_nodes.new.ports in
-    let text = served_text (served_by (Serve c.args.workers c.args.connections c.args.port) (length c.args.state.now.site.nodes)) in
+    let text = served_text (served_by (Serve c.args.service.workers c.args.service.connections c.args.service.port) (length c.args.state.now.site.nodes)) in
     let result : Result (Unit {0}) ServeStop = Err (Stopped stops.Memory) in
     let is : c.serve_nodes.result ≡ Err refusals.Memory = let e = c.in-Err-Memory.is in let f = c.in-Err-Memory.field-0-is in cc in
     let served = c.serve_nodes.ensures.served net w (of_all _ _ c.args.lines c.in_default.field-0 c.in_default.is left) in
-    ends_there (outside g.K.Disk g.Q.Device g.E.Entropy g.X.Wire) tell failed tells c.args.workers c.args.connections c.args.port
+    ends_there (outside g.K.Disk g.Q.Device g.E.Entropy g.X.Wire) tell failed tells c.args.service.workers c.args.service.connections c.args.service.port
     c.args.state.now c.serve_nodes.new.state net w before after (given_to g.W.Sink.taken g.W.Sink.pieces c.args.sink.now) (given_to g.W.Sink.taken g.W.Sink.pieces c.args.sink.now) text
     c.args.lines c.in_default.field-0 c.in_default.is (served_as c.serve_nodes.result) result (sym (ap (λ (r : Result (Unit {0}) ServeRefusal). served_as r) is)) served
     (first_none (given_to g.W.Sink.taken g.W.Sink.pieces c.args.sink.now) (text ∷ []))
@@ -75,14 +75,14 @@ returns-clause-ends g c net w left =
     let tells = IsSome (g.P.Ports.asked c.args.ports.now) in
     let before : PortsTold g.row.P-Door.Denot = ports_told g.P.Ports.asked g.P.Ports.back g.P.Ports.queues c.args.ports.now in
     let after : PortsTold g.row.P-Door.Denot = ports_told g.P.Ports.asked g.P.Ports.back g.P.Ports.queues c.serve_nodes.new.ports in
-    let text = served_text (served_by (Serve c.args.workers c.args.connections c.args.port) (length c.args.state.now.site.nodes)) in
+    let text = served_text (served_by (Serve c.args.service.workers c.args.service.connections c.args.service.port) (length c.args.state.now.site.nodes)) in
     let is : c.serve_nodes.result ≡ Ok c.in-Ok.field-0 = c.in-Ok.is in
     let served = c.serve_nodes.ensures.served net w (of_all _ _ c.args.lines c.in_default.field-0 c.in_default.is left) in
-    let all = subst (λ (r : Result (Unit {0}) ServeRefusal). IsServed (outside g.K.Disk g.Q.Device g.E.Entropy g.X.Wire) tell failed tells c.args.workers c.args.connections c.args.port
+    let all = subst (λ (r : Result (Unit {0}) ServeRefusal). IsServed (outside g.K.Disk g.Q.Device g.E.Entropy g.X.Wire) tell failed tells c.args.service.workers c.args.service.connections c.args.service.port
     c.args.state.now c.serve_nodes.new.state net w before after (served_as r)) is served in
-    let line = subst (λ (n : ℕ). IsLineTold (ended c.write_served.result) (given_to g.W.Sink.taken g.W.Sink.pieces c.args.sink.now) (given_to g.W.Sink.taken g.W.Sink.pieces c.write_served.new.sink) (served_text n)) (c.connections_in_all-all.ensures c.args.port)
+    let line = subst (λ (n : ℕ). IsLineTold (ended c.write_served.result) (given_to g.W.Sink.taken g.W.Sink.pieces c.args.sink.now) (given_to g.W.Sink.taken g.W.Sink.pieces c.write_served.new.sink) (served_text n)) (c.connections_in_all-all.ensures c.args.service.port)
     c.write_served.ensures.line in
-    ends_at_last (outside g.K.Disk g.Q.Device g.E.Entropy g.X.Wire) tell failed tells c.args.workers c.args.connections c.args.port
+    ends_at_last (outside g.K.Disk g.Q.Device g.E.Entropy g.X.Wire) tell failed tells c.args.service.workers c.args.service.connections c.args.service.port
     c.args.state.now c.serve_nodes.new.state net w before after (given_to g.W.Sink.taken g.W.Sink.pieces c.args.sink.now) (given_to g.W.Sink.taken g.W.Sink.pieces c.write_served.new.sink) text
     c.args.lines c.in_default.field-0 c.in_default.is c.write_served.result all c.write_served.ensures.calm line
 

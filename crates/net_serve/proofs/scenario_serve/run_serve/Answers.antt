@@ -21,7 +21,7 @@ returns-in-Ok-clause-headline g c =
     let after : PortsTold g.row.P-Door.Denot = ports_told g.P.Ports.asked g.P.Ports.back g.P.Ports.queues c.serve_behind-result.new.ports in
     let r = c.in-Ok.ensures.ran in
     inr (headlines (outside g.K.Disk g.Q.Device g.E.Entropy g.X.Wire) tell failed tells
-    c.args.bench.now c.run_out.new.bench c.put_back.new.bench c.in-Ok.left.state c.serve_behind-result.new.state c.args.scenario c.args.workers c.args.connections c.args.port
+    c.args.bench.now c.run_out.new.bench c.put_back.new.bench c.in-Ok.left.state c.serve_behind-result.new.state c.args.scenario c.args.service.workers c.args.service.connections c.args.service.port
     (given_to g.W.Sink.taken g.W.Sink.pieces c.args.sink.now) (given_to g.W.Sink.taken g.W.Sink.pieces c.run_out.new.sink) (given_to g.W.Sink.taken g.W.Sink.pieces c.serve_behind-result.new.sink) before after c.in-Ok.left.ended c.serve_behind-result.result
     c.law_tasks_are_run.ensures.world c.law_bench_begins.ensures.benched c.law_bench_serves.ensures c.requires.fresh c.requires.runnable.site r c.serve_behind-result.ensures.ends c.put_back.ensures)
 

@@ -17,10 +17,10 @@ use Rattle.qkd_network.proofs.serve.serve.Goals as goal
 use Rattle.net_world.specs.New.{outside}
 
 pub run_serve-requires-clause-asked : goal.run_serve-requires-clause-asked
-run_serve-requires-clause-asked g c κs within = room_of_new g.P.Ports.asked c.args.ports.now c.args.workers c.requires.ports.none_asked (omega (arith, c.requires.workers))
+run_serve-requires-clause-asked g c κs within = room_of_new g.P.Ports.asked c.args.ports.now c.args.service.workers c.requires.ports.none_asked (omega (arith, c.requires.workers))
 
 pub run_serve-requires-clause-back : goal.run_serve-requires-clause-back
-run_serve-requires-clause-back g c κs within = room_of_new g.P.Ports.back c.args.ports.now c.args.workers c.requires.ports.none_back (omega (arith, c.requires.workers))
+run_serve-requires-clause-back g c κs within = room_of_new g.P.Ports.back c.args.ports.now c.args.service.workers c.requires.ports.none_back (omega (arith, c.requires.workers))
 
 pub returns-in-Err-clause-outcome : goal.returns-in-Err-clause-outcome
 returns-in-Err-clause-outcome g c =
@@ -29,8 +29,8 @@ returns-in-Err-clause-outcome g c =
     (telling g.P.Door.Listener.port g.P.Door.Listener.accepted g.P.Door.Listener.finished g.P.Door.Listener.waiting g.P.Door.Listener.done) g.P.Door.Listener.faults
     (IsSome (g.P.Ports.asked c.args.ports.now)) c.args.bench.now c.args.bench.now
     (ports_told g.P.Ports.asked g.P.Ports.back g.P.Ports.queues c.args.ports.now) (ports_told g.P.Ports.asked g.P.Ports.back g.P.Ports.queues c.args.ports.now)
-    c.args.workers c.args.connections c.args.port scenario (given_to g.W.Sink.taken g.W.Sink.pieces c.args.sink.now) (given_to g.W.Sink.taken g.W.Sink.pieces c.args.sink.now) stop
-    × WroteLines g.W.Sink.taken g.W.Sink.pieces (Serve c.args.workers c.args.connections c.args.port) scenario c.args.sink.now c.args.sink.now stop)
+    c.args.service.workers c.args.service.connections c.args.service.port scenario (given_to g.W.Sink.taken g.W.Sink.pieces c.args.sink.now) (given_to g.W.Sink.taken g.W.Sink.pieces c.args.sink.now) stop
+    × WroteLines g.W.Sink.taken g.W.Sink.pieces (Serve c.args.service.workers c.args.service.connections c.args.service.port) scenario c.args.sink.now c.args.sink.now stop)
     c.args.source.now c.scenario_in.new.source c.in-Err.status c.args.sink.now (beside c.args.bench.now c.args.ports.now) c.in-Err.ensures.read
 
 pub returns-in-Ok-clause-outcome : goal.returns-in-Ok-clause-outcome
@@ -40,8 +40,8 @@ returns-in-Ok-clause-outcome g c =
     (telling g.P.Door.Listener.port g.P.Door.Listener.accepted g.P.Door.Listener.finished g.P.Door.Listener.waiting g.P.Door.Listener.done) g.P.Door.Listener.faults
     (IsSome (g.P.Ports.asked c.args.ports.now)) c.args.bench.now c.run_serve.new.bench
     (ports_told g.P.Ports.asked g.P.Ports.back g.P.Ports.queues c.args.ports.now) (ports_told g.P.Ports.asked g.P.Ports.back g.P.Ports.queues c.run_serve.new.ports)
-    c.args.workers c.args.connections c.args.port scenario (given_to g.W.Sink.taken g.W.Sink.pieces c.args.sink.now) (given_to g.W.Sink.taken g.W.Sink.pieces c.run_serve.new.sink) stop
-    × WroteLines g.W.Sink.taken g.W.Sink.pieces (Serve c.args.workers c.args.connections c.args.port) scenario c.args.sink.now c.run_serve.new.sink stop)
+    c.args.service.workers c.args.service.connections c.args.service.port scenario (given_to g.W.Sink.taken g.W.Sink.pieces c.args.sink.now) (given_to g.W.Sink.taken g.W.Sink.pieces c.run_serve.new.sink) stop
+    × WroteLines g.W.Sink.taken g.W.Sink.pieces (Serve c.args.service.workers c.args.service.connections c.args.service.port) scenario c.args.sink.now c.run_serve.new.sink stop)
     s c.args.source.now c.scenario_in.new.source c.args.sink.now c.run_serve.new.sink (beside c.args.bench.now c.args.ports.now) (beside c.run_serve.new.bench c.run_serve.new.ports))
     (sym c.of_serve.ensures)
     (serve_ran g.S.Source.left
@@ -49,8 +49,8 @@ returns-in-Ok-clause-outcome g c =
     (telling g.P.Door.Listener.port g.P.Door.Listener.accepted g.P.Door.Listener.finished g.P.Door.Listener.waiting g.P.Door.Listener.done) g.P.Door.Listener.faults
     (IsSome (g.P.Ports.asked c.args.ports.now)) c.args.bench.now c.run_serve.new.bench
     (ports_told g.P.Ports.asked g.P.Ports.back g.P.Ports.queues c.args.ports.now) (ports_told g.P.Ports.asked g.P.Ports.back g.P.Ports.queues c.run_serve.new.ports)
-    c.args.workers c.args.connections c.args.port scenario (given_to g.W.Sink.taken g.W.Sink.pieces c.args.sink.now) (given_to g.W.Sink.taken g.W.Sink.pieces c.run_serve.new.sink) stop
-    × WroteLines g.W.Sink.taken g.W.Sink.pieces (Serve c.args.workers c.args.connections c.args.port) scenario c.args.sink.now c.run_serve.new.sink stop)
+    c.args.service.workers c.args.service.connections c.args.service.port scenario (given_to g.W.Sink.taken g.W.Sink.pieces c.args.sink.now) (given_to g.W.Sink.taken g.W.Sink.pieces c.run_serve.new.sink) stop
+    × WroteLines g.W.Sink.taken g.W.Sink.pieces (Serve c.args.service.workers c.args.service.connections c.args.service.port) scenario c.args.sink.now c.run_serve.new.sink stop)
     c.args.source.now c.scenario_in.new.source c.in-Ok.scenario c.in-Ok.ensures.read c.args.sink.now c.run_serve.new.sink
     (beside c.args.bench.now c.args.ports.now) (beside c.run_serve.new.bench c.run_serve.new.ports) c.run_serve.result
     (with_lines _ _ _ (left_with c.args.bench.now c.run_serve.new.bench c.args.sink.now c.run_serve.new.sink c.args.ports.now c.run_serve.new.ports c.run_serve.result _ c.run_serve.ensures.headline)
